@@ -1,0 +1,12 @@
+pub mod Spans
+pub mod Texts
+pub mod Steps
+pub mod Doubled
+pub mod Counts
+pub mod Cuts
+pub mod Pointers
+pub mod Again
+pub mod Inner
+pub mod Whole
+pub mod Exact
+pub mod Written

@@ -1,0 +1,30 @@
+-- Lines are read as what they compute to, and as nothing else.
+use Rattle.std.proofs.Common.{◌≡◌, ℕ, Bool, true, false, cond, List, [], ◌∷◌, ◌++◌, refl, sym, ap, ◌∙◌, inl, inr, ◌⊎◌, Option, Some, None}
+use Rattle.std.specs.List.{flat_map}
+use Rattle.gedcom_line.specs.Reading.{Parts, is_continuation}
+use Rattle.gedcom_line.specs.Escape.{unescaped}
+use Rattle.gedcom_line.specs.Value.{Meaning, Text, Pointer, meaning, IsPointer, pointer_in}
+use Rattle.gedcom_line.proofs.Pointers.{pointer_is, is_pointer}
+use Rattle.gedcom_tree.specs.Forest.{Item, belongs, adds, IsValue, IsNode, Reads, continued, node_of, forest_of}
+
+pub no_pointer_in : (raw : List ℕ) → ((name : List ℕ) → ¬ (IsPointer raw name)) → pointer_in raw ≡ None
+no_pointer_in raw h = elim (pointer_in raw) as (λ o. pointer_in raw ≡ o → o ≡ None) [
+  | None ↦ λ e. refl
+  | Some name ↦ λ e. absurd (h name (is_pointer raw name e))
+] refl
+
+value_computed : (raw : List ℕ) (more : List Parts) (v : Meaning) → IsValue raw more v → continued (meaning raw) more ≡ v
+value_computed raw more (Text t) h = rw (no_pointer_in raw h.0) (ap Text (sym h.1))
+value_computed raw more (Pointer p) h = rw (pointer_is raw p h.0) refl
+
+node_computed : (l : Parts) (more : List Parts) (i : Item) → IsNode l more i → node_of l more ≡ i
+node_computed l more i h = rw (value_computed l.raw more i.value h.value, sym h.level, sym h.xref, sym h.tag) refl
+
+pub reads_computed : (ls : List Parts) (f : List Item) → Reads ls f → forest_of ls ≡ f
+unfolding forest_of
+reads_computed [] f h = sym h
+reads_computed (l ∷ ls) f (inl h) = rw h.0 (reads_computed ls f h.1)
+reads_computed (l ∷ ls) f (inr h) = rw (h.0, node_computed l (belongs l.level ls) h.1.0 h.1.1.1.1.0, reads_computed ls h.1.1.0 h.1.1.1.1.1) (sym h.1.1.1.0)
+
+pub reads_same : (ls : List Parts) (f g : List Item) → Reads ls f → Reads ls g → f ≡ g
+reads_same ls f g a b = sym (reads_computed ls f a) ∙ reads_computed ls g b

@@ -1,0 +1,265 @@
+-- What the bytes so far decide, and what a whole file is: the computed answers are those of the definitions, both ways.
+use Rattle.std.proofs.Common.{◌≡◌, ℕ, ◌+◌, ◌<◌, ◌≤◌, Bool, true, false, cond, eqb, ltb, ◌&&◌, List, [], ◌∷◌, ◌++◌, length, refl, sym, ap, ◌∙◌, subst, inl, inr, ◌⊎◌, arith, Option, Some, None, Ok, Err, Result}
+use Rattle.std.specs.Prelude.{is_some, find}
+use Rattle.std.specs.List.{list_any}
+use Rattle.std.proofs.lemmas.Bool.{cases_lt, ltb-true}
+use Rattle.gedcom_line.specs.Reading.{Parts}
+use Rattle.gedcom_line.specs.declared.fault.LineKind.{LineKind}
+use Rattle.gedcom_line.specs.declared.fault.LineKind.TheVariants as line
+use Rattle.gedcom_line.proofs.Steps.{both, either}
+use Rattle.gedcom_tree.specs.declared.fault.TreeKind.{TreeKind}
+use Rattle.gedcom_tree.specs.declared.fault.TreeKind.TheVariants.{TooLong, NoHead, NoTrailer, FileTooLarge, OutOfMemory}
+use Rattle.gedcom_tree.specs.Pieces.{file_pieces, all_pieces, skip_mark}
+use Rattle.gedcom_tree.specs.Rules.{Progress, progress_of, is_trailer, breaks, order, first_broken, of_line}
+use Rattle.gedcom_tree.specs.Forest.{Item, Reads, forest_of}
+use Rattle.gedcom_tree.specs.File.{max_line, max_file, IsFaulty, Clean, Fault, FaultIn, overflows, within, extra, OverLimit, Decides, EndsEarly, FaultOf, untrailed, ReadsFile}
+use Rattle.gedcom_tree.specs.Reading.{start, advance, judge, then_run, run, grow, grown, fault_behind, open_fault, decided, Reader, reader_of, ended, finished}
+use Rattle.gedcom_tree.specs.State.{IsOpen, Finishes}
+use Rattle.gedcom_tree.proofs.Cuts.{cases_bool, AllPieces, pieces_whole, all_pieces-push}
+use Rattle.gedcom_tree.specs.Streams.{IsOfFile}
+use Rattle.gedcom_tree.proofs.Judged.{judge_long}
+use Rattle.gedcom_tree.proofs.Runs.{Ran, ran, clean_run, fault_run, run-push}
+use Rattle.gedcom_tree.proofs.Limits.{no_extra, within_small, extra_small, extra_large}
+use Rattle.gedcom_tree.proofs.Computed.{reads_computed, reads_same}
+use Rattle.gedcom_tree.proofs.Plain.{clean_plain, untrailed_plain, plain_reads, clean_grown, grown-append, grown_cons, grown_nil, forest_nil}
+
+some_is : (x y : Fault) → Some x ≡ Some y → x ≡ y
+some_is x y e = cc
+
+-- what is decided, from what the pieces that have ended leave
+open_decides : (b : List ℕ) (r : Result Progress Fault) → Ran [] (file_pieces (within b)).ended r → (f : Fault) → open_fault (file_pieces (within b)).open_ (extra b) r ≡ Some f → Decides b f
+open_decides b (Err g) h f e = inl (subst (FaultIn [] (file_pieces (within b)).ended) (some_is g f e) h)
+open_decides b (Ok q) h f e = elim (cases_bool (overflows (file_pieces (within b)).open_ (extra b))) [
+  | inl o ↦
+      let at : fault_behind q.count TooLong ≡ f = some_is (fault_behind q.count TooLong) f (rw o at e) in
+      inr (record { lines = h.0; clean = h.1.0; at = sym (ap (λ (g : Fault). g.at) at) ∙ ap (λ (p : Progress). Some (p.count + 1)) h.1.1; kind = inl (sym (ap (λ (g : Fault). g.kind) at), o) })
+  | inr o ↦ elim (cases_bool (is_some (extra b))) [
+    | inl x ↦
+        let at : fault_behind q.count FileTooLarge ≡ f = some_is (fault_behind q.count FileTooLarge) f (rw (o, x) at e) in
+        inr (record { lines = h.0; clean = h.1.0; at = sym (ap (λ (g : Fault). g.at) at) ∙ ap (λ (p : Progress). Some (p.count + 1)) h.1.1; kind = inr (sym (ap (λ (g : Fault). g.kind) at), (o, x)) })
+    | inr x ↦ let bad : None ≡ Some f = rw (o, x) at e in absurd cc
+  ]
+]
+
+pub decided_is : (b : List ℕ) (f : Fault) → decided b ≡ Some f → Decides b f
+unfolding decided
+decided_is b f e = open_decides b (run start (file_pieces (within b)).ended) (ran [] (file_pieces (within b)).ended (pieces_whole (skip_mark (within b))).0) f e
+
+over_kind : (b : List ℕ) (f : Fault) (n : ℕ) → f.at ≡ Some (n + 1) → ((f.kind ≡ TooLong) × (overflows (file_pieces (within b)).open_ (extra b) ≡ true)) ⊎ ((f.kind ≡ FileTooLarge) × ((overflows (file_pieces (within b)).open_ (extra b) ≡ false) × (is_some (extra b) ≡ true))) → (p : Progress) → p.count ≡ n → open_fault (file_pieces (within b)).open_ (extra b) (Ok p) ≡ Some f
+over_kind b f n at (inl h) p c = rw (h.1, c, ← h.0, ← at) refl
+over_kind b f n at (inr h) p c = rw (h.1.0, h.1.1, c, ← h.0, ← at) refl
+
+pub is_decided : (b : List ℕ) (f : Fault) → Decides b f → decided b ≡ Some f
+unfolding decided
+is_decided b f (inl h) = rw (fault_run [] (file_pieces (within b)).ended f h) refl
+is_decided b f (inr h) =
+    ap (open_fault (file_pieces (within b)).open_ (extra b)) (clean_run [] (file_pieces (within b)).ended h.lines h.clean)
+    ∙ over_kind b f (length h.lines) h.at h.kind (progress_of h.lines) refl
+
+pub undecided : (b : List ℕ) → decided b ≡ None → IsOpen b
+undecided b e = λ f h. let k : decided b ≡ Some f = is_decided b f h in absurd cc
+
+pub decided_one : (b : List ℕ) (f g : Fault) → Decides b f → Decides b g → f ≡ g
+decided_one b f g x y =
+    let p : decided b ≡ Some f = is_decided b f x in
+    let q : decided b ≡ Some g = is_decided b g y in
+    some_is f g (sym p ∙ q)
+
+-- bytes that decide nothing are not too many
+open_small : (rest : List ℕ) (next : Option ℕ) (r : Result Progress Fault) → open_fault rest next r ≡ None → is_some next ≡ false
+open_small rest next (Err f) e = absurd cc
+open_small rest next (Ok p) e = elim (cases_bool (overflows rest next)) [
+  | inl o ↦ let bad : Some (fault_behind p.count TooLong) ≡ None = rw o at e in absurd cc
+  | inr o ↦ elim (cases_bool (is_some next)) [
+    | inl x ↦ let bad : Some (fault_behind p.count FileTooLarge) ≡ None = rw (o, x) at e in absurd cc
+    | inr x ↦ x
+  ]
+]
+
+pub decided_small : (b : List ℕ) → decided b ≡ None → length b ≤ max_file
+unfolding decided
+decided_small b e = no_extra b (open_small (file_pieces (within b)).open_ (extra b) (run start (file_pieces (within b)).ended) e)
+
+-- a whole file
+whole_pieces : (b : List ℕ) → AllPieces (all_pieces b)
+whole_pieces b = let w = pieces_whole (skip_mark b) in all_pieces-push (file_pieces b).ended (file_pieces b).open_ w.0 w.1
+
+pub finished_is : (b : List ℕ) → finished (reader_of b) ≡ ended (grown [] (all_pieces b)) (run start (all_pieces b))
+unfolding finished reader_of
+finished_is b =
+    let ps : List (List ℕ) = (file_pieces b).ended in
+    let o : List ℕ = (file_pieces b).open_ in
+    let g : grown [] (ps ++ o ∷ []) ≡ grow (grown [] ps) o = grown-append [] ps (o ∷ []) ∙ grown_cons (grown [] ps) o [] ∙ grown_nil (grow (grown [] ps) o) in
+    rw (g, run-push start ps o) refl
+
+-- the nodes of clean pieces
+grown_forest : (ps : List (List ℕ)) (lines : List Parts) → Clean [] ps lines → grown [] ps ≡ forest_of (untrailed lines)
+grown_forest ps lines h = ap (λ (x : List Item). grown x ps) (sym forest_nil) ∙ clean_grown [] ps lines h
+
+clean_reads : (ps : List (List ℕ)) (lines : List Parts) → Clean [] ps lines → Reads (untrailed lines) (grown [] ps)
+clean_reads ps lines h = subst (Reads (untrailed lines)) (sym (grown_forest ps lines h)) (plain_reads (untrailed lines) (untrailed_plain lines (clean_plain [] ps lines tt h)))
+
+-- what a whole file is
+abbrev pub IsRead : List ℕ → Result (List Item) Fault → Type 0
+IsRead b (Ok f) = ReadsFile b f
+IsRead b (Err f) = FaultOf b f
+
+run_finishes : (b : List ℕ) → length b ≤ max_file → (r : Result Progress Fault) → Ran [] (all_pieces b) r → IsRead b (ended (grown [] (all_pieces b)) r)
+run_finishes b s (Err f) h = inr (s, inl h)
+run_finishes b s (Ok q) h = elim (cases_bool (list_any is_trailer h.0)) [
+  | inl e ↦
+      let d : q.done ≡ true = ap (λ (p : Progress). p.done) h.1.1 ∙ e in
+      rw d (record { size = s; lines = h.0; clean = h.1.0; ended = e; forest = clean_reads (all_pieces b) h.0 h.1.0 })
+  | inr e ↦
+      let d : q.done ≡ false = ap (λ (p : Progress). p.done) h.1.1 ∙ e in
+      let c : q.count ≡ length h.0 = ap (λ (p : Progress). p.count) h.1.1 in
+      rw (d, c) (inr (s, inr (record { lines = h.0; clean = h.1.0; unended = e; kind = refl; at = refl })))
+]
+
+pub is_read : (b : List ℕ) → length b ≤ max_file → IsRead b (finished (reader_of b))
+is_read b s = rw (finished_is b) (run_finishes b s (run start (all_pieces b)) (ran [] (all_pieces b) (whole_pieces b)))
+
+read_finishes : (b : List ℕ) (r : Result (List Item) Fault) → IsRead b r → Finishes b r
+read_finishes b (Ok f) h = h
+read_finishes b (Err f) h = inr h
+
+pub finishes : (b : List ℕ) → length b ≤ max_file → Finishes b (finished (reader_of b))
+finishes b s = read_finishes b (finished (reader_of b)) (is_read b s)
+
+pub reads_finished : (b : List ℕ) (f : List Item) → ReadsFile b f → finished (reader_of b) ≡ Ok f
+reads_finished b f h =
+    let items : grown [] (all_pieces b) ≡ f = grown_forest (all_pieces b) h.lines h.clean ∙ reads_computed (untrailed h.lines) f h.forest in
+    finished_is b ∙ ap (ended (grown [] (all_pieces b))) (clean_run [] (all_pieces b) h.lines h.clean) ∙ rw (h.ended, items) refl
+
+fault_finished : (b : List ℕ) (e : Fault) → FaultIn [] (all_pieces b) e ⊎ EndsEarly b e → finished (reader_of b) ≡ Err e
+fault_finished b e (inl h) = finished_is b ∙ ap (ended (grown [] (all_pieces b))) (fault_run [] (all_pieces b) e h)
+fault_finished b e (inr h) = finished_is b ∙ ap (ended (grown [] (all_pieces b))) (clean_run [] (all_pieces b) h.lines h.clean) ∙ rw (h.unended, ← h.kind, ← h.at) refl
+
+-- no file reads as two forests, none reads as one and has a fault, and none has two
+pub file_same : (b : List ℕ) (f g : List Item) → ReadsFile b f → ReadsFile b g → f ≡ g
+file_same b f g x y =
+    let p : finished (reader_of b) ≡ Ok f = reads_finished b f x in
+    let q : finished (reader_of b) ≡ Ok g = reads_finished b g y in
+    cc
+
+pub file_apart : (b : List ℕ) (f : List Item) (e : Fault) → ReadsFile b f → FaultOf b e → ⊥
+file_apart b f e x (inl y) = let k : length b ≤ max_file = x.size in omega (arith, y.0)
+file_apart b f e x (inr y) =
+    let p : finished (reader_of b) ≡ Ok f = reads_finished b f x in
+    let q : finished (reader_of b) ≡ Err e = fault_finished b e y.1 in
+    absurd cc
+
+pub fault_one : (b : List ℕ) (d e : Fault) → FaultOf b d → FaultOf b e → d ≡ e
+fault_one b d e (inl x) (inl y) = decided_one b d e x.1 y.1
+fault_one b d e (inl x) (inr y) = absurd (omega (arith, x.0, y.0))
+fault_one b d e (inr x) (inl y) = absurd (omega (arith, x.0, y.0))
+fault_one b d e (inr x) (inr y) =
+    let p : finished (reader_of b) ≡ Err d = fault_finished b d x.1 in
+    let q : finished (reader_of b) ≡ Err e = fault_finished b e y.1 in
+    cc
+
+-- a fault that bytes decide which are not too many is the file's
+seen_err : (b : List ℕ) (f : Fault) → run start (file_pieces b).ended ≡ Err f → finished (reader_of b) ≡ Err f
+unfolding finished reader_of
+seen_err b f e = rw e refl
+
+seen_long : (b : List ℕ) (q : Progress) → run start (file_pieces b).ended ≡ Ok q → max_line < length (file_pieces b).open_ → finished (reader_of b) ≡ Err (fault_behind q.count TooLong)
+unfolding finished reader_of
+seen_long b q e l = rw (e, judge_long q (file_pieces b).open_ l) refl
+
+pub no_overflow : (rest : List ℕ) → overflows rest None ≡ true → max_line < length rest
+no_overflow rest h = elim (either (ltb max_line (length rest)) (eqb (length rest) max_line && false) h) [
+  | inl a ↦ ltb-true max_line (length rest) a
+  | inr a ↦ absurd (let k = both (eqb (length rest) max_line) false a in let bad : false ≡ true = k.1 in cc)
+]
+
+small_run : (b : List ℕ) (f : Fault) → length b ≤ max_file → (r : Result Progress Fault) → run start (file_pieces b).ended ≡ r → open_fault (file_pieces b).open_ None r ≡ Some f → finished (reader_of b) ≡ Err f
+small_run b f s (Err g) e h = seen_err b g e ∙ ap (λ (x : Fault). Err x) (some_is g f h)
+small_run b f s (Ok q) e h = elim (cases_bool (overflows (file_pieces b).open_ None)) [
+  | inl o ↦
+      let k : fault_behind q.count TooLong ≡ f = some_is (fault_behind q.count TooLong) f (rw o at h) in
+      seen_long b q e (no_overflow (file_pieces b).open_ o) ∙ ap (λ (x : Fault). Err x) k
+  | inr o ↦ absurd (let bad : None ≡ Some f = rw o at h in cc)
+]
+
+small_decided : (b : List ℕ) (f : Fault) → length b ≤ max_file → decided b ≡ Some f → finished (reader_of b) ≡ Err f
+unfolding decided
+small_decided b f s e =
+    small_run b f s (run start (file_pieces b).ended) refl (ap (λ (x : List ℕ). open_fault (file_pieces x).open_ None (run start (file_pieces x).ended)) (sym (within_small b s)) ∙ ap (λ (o : Option ℕ). open_fault (file_pieces (within b)).open_ o (run start (file_pieces (within b)).ended)) (sym (extra_small b s)) ∙ e)
+
+pub decides_fault : (b : List ℕ) (f : Fault) → Decides b f → FaultOf b f
+decides_fault b f h = elim (cases_lt max_file (length b)) [
+  | inl lt ↦ inl (lt, h)
+  | inr le ↦ subst (IsRead b) (small_decided b f le (is_decided b f h)) (is_read b le)
+]
+
+-- a refusal of judging speaks of the file
+abbrev AllOfFile : List TreeKind → Type 0
+AllOfFile [] = Unit {0}
+AllOfFile (k ∷ ks) = IsOfFile k × AllOfFile ks
+
+kind_is : (x y : TreeKind) → Some x ≡ Some y → x ≡ y
+kind_is x y e = cc
+
+found_in : (test : TreeKind → Bool) (ks : List TreeKind) → AllOfFile ks → (k : TreeKind) → find test ks ≡ Some k → IsOfFile k
+found_in test [] a k h = absurd cc
+found_in test (j ∷ js) a k h = elim (cases_bool (test j)) [
+  | inl e ↦ subst IsOfFile (kind_is j k (rw e at h)) a.0
+  | inr e ↦ found_in test js a.1 k (rw e at h)
+]
+
+all_of_file : AllOfFile order
+all_of_file = (tt, (tt, (tt, (tt, (tt, (tt, (tt, tt)))))))
+
+order_of_file : (q : Progress) (p : List ℕ) (l : Parts) (k : TreeKind) → first_broken q p l ≡ Some k → IsOfFile k
+order_of_file q p l k h = found_in (breaks q p l) order all_of_file k h
+
+line_of_file : (j : LineKind) → IsOfFile (of_line j)
+line_of_file line.NotUtf8 = tt
+line_of_file line.BadLevel = tt
+line_of_file line.BadXref = tt
+line_of_file line.BadTag = tt
+line_of_file line.Nul = tt
+
+faulty_of_file : (before : List Parts) (p : List ℕ) (k : TreeKind) → IsFaulty before p k → IsOfFile k
+faulty_of_file before p k (inl h) = subst IsOfFile (sym h.0) tt
+faulty_of_file before p k (inr (s, inl h)) = subst IsOfFile (sym h.1.1) (line_of_file h.0)
+faulty_of_file before p k (inr (s, inr h)) = order_of_file (progress_of before) p h.0 k h.1.1
+
+over_of_file : (b : List ℕ) (f : Fault) → OverLimit b f → IsOfFile f.kind
+over_of_file b f h = elim h.kind [ inl k ↦ subst IsOfFile (sym k.0) tt | inr k ↦ subst IsOfFile (sym k.0) tt ]
+
+pub decides_of_file : (b : List ℕ) (f : Fault) → Decides b f → IsOfFile f.kind
+decides_of_file b f (inl h) = faulty_of_file h.lines h.bad f.kind h.kind
+decides_of_file b f (inr h) = over_of_file b f h
+
+early_of_file : (n : Bool) → IsOfFile (cond n NoHead NoTrailer)
+early_of_file true = tt
+early_of_file false = tt
+
+pub fault_of_file : (b : List ℕ) (f : Fault) → FaultOf b f → IsOfFile f.kind
+fault_of_file b f (inl h) = decides_of_file b f h.1
+fault_of_file b f (inr (s, inl h)) = faulty_of_file h.lines h.bad f.kind h.kind
+fault_of_file b f (inr (s, inr h)) = subst IsOfFile (sym h.kind) (early_of_file (eqb (length h.lines) 0))
+
+-- each file reads as a forest or has a fault
+large_open : (rest : List ℕ) (next : Option ℕ) (r : Result Progress Fault) → is_some next ≡ true → (f : Fault) × (open_fault rest next r ≡ Some f)
+large_open rest next (Err f) h = (f, refl)
+large_open rest next (Ok p) h = elim (cases_bool (overflows rest next)) [
+  | inl o ↦ (fault_behind p.count TooLong, rw o refl)
+  | inr o ↦ (fault_behind p.count FileTooLarge, rw (o, h) refl)
+]
+
+large_decided : (b : List ℕ) → max_file < length b → (f : Fault) × (decided b ≡ Some f)
+unfolding decided
+large_decided b lt = large_open (file_pieces (within b)).open_ (extra b) (run start (file_pieces (within b)).ended) (ap is_some (sym (extra_large b lt)))
+
+read_either : (b : List ℕ) (r : Result (List Item) Fault) → IsRead b r → ((f : List Item) × ReadsFile b f) ⊎ ((e : Fault) × FaultOf b e)
+read_either b (Ok f) h = inl (f, h)
+read_either b (Err e) h = inr (e, h)
+
+pub file_either : (b : List ℕ) → ((f : List Item) × ReadsFile b f) ⊎ ((e : Fault) × FaultOf b e)
+file_either b = elim (cases_lt max_file (length b)) [
+  | inl lt ↦ let d = large_decided b lt in inr (d.0, inl (lt, decided_is b d.0 d.1))
+  | inr le ↦ read_either b (finished (reader_of b)) (is_read b le)
+]

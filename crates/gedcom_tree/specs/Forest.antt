@@ -1,0 +1,98 @@
+-- The forest that the lines of a file are, and the lines of a forest (The GEDCOM Standard Release 5.5.1, chapter 1: levels,
+-- CONC and CONT).
+use Rattle.std.specs.Prelude.{◌≡◌, ◌⊎◌, ℕ, ◌+◌, Bool, true, false, ◌&&◌, ◌==◌, nat_lt, if◌then◌else◌, List, [], ◌∷◌, ◌++◌, map, Option, Some, None, codes}
+use Rattle.std.specs.List.{flat_map}
+use Rattle.std.specs.Str.{bytes_eq}
+use Rattle.gedcom_line.specs.Reading.{Parts, is_continuation}
+use Rattle.gedcom_line.specs.Escape.{escaped, unescaped}
+use Rattle.gedcom_line.specs.Value.{Meaning, Text, Pointer, meaning, IsPointer}
+use Rattle.gedcom_line.specs.Split.{Part, canonical}
+use Rattle.gedcom_line.specs.declared.splitting.Mark.{Mark}
+use Rattle.gedcom_line.specs.declared.splitting.Mark.TheVariants.{Conc, Cont}
+
+-- a node of a forest, with its depth; a forest is the list of its nodes in order
+pub record Item : Type 0 where
+  pub level : ℕ
+  pub xref : Option (List ℕ)
+  pub tag : List ℕ
+  pub value : Meaning
+
+-- Among the lines behind a line of the level, those that continue it: CONC and CONT one level below, up to the next line
+-- that is not deeper.
+abbrev pub belongs : ℕ → List Parts → List Parts
+belongs level [] = []
+belongs level (l ∷ ls) =
+    if nat_lt level l.level
+    then (if is_continuation l.tag && l.level == level + 1 then l ∷ belongs level ls else belongs level ls) else []
+
+-- what a continuation adds to a text: CONT a line break, CONC nothing, and then its value
+abbrev pub adds : Parts → List ℕ
+adds l = (if bytes_eq l.tag (codes "CONT") then 10 ∷ [] else []) ++ unescaped l.raw
+
+-- a text is that of its line and of the lines that continue it, each unescaped by itself; a pointer is not continued
+abbrev pub IsValue : List ℕ → List Parts → Meaning → Type 0
+IsValue raw more (Text t) = ((name : List ℕ) → ¬ (IsPointer raw name)) × (t ≡ unescaped raw ++ flat_map adds more)
+IsValue raw more (Pointer p) = IsPointer raw p × (more ≡ [])
+
+-- the line l, continued by more, is the node i
+pub record IsNode (l : Parts) (more : List Parts) (i : Item) : Type 0 where
+  pub level : i.level ≡ l.level
+  pub xref : i.xref ≡ l.xref
+  pub tag : i.tag ≡ l.tag
+  pub value : IsValue l.raw more i.value
+
+-- the lines are the nodes of the forest in order, with continuation lines among their children
+abbrev pub Reads : List Parts → List Item → Type 0
+Reads [] f = f ≡ []
+Reads (l ∷ ls) f =
+    ((is_continuation l.tag ≡ true) × Reads ls f)
+    ⊎ ((is_continuation l.tag ≡ false) × ((i : Item) × ((rest : List Item) × ((f ≡ i ∷ rest) × (IsNode l (belongs l.level ls) i × Reads ls rest)))))
+
+-- The same by computing.
+
+abbrev pub continued : Meaning → List Parts → Meaning
+continued (Text raw) more = Text (unescaped raw ++ flat_map adds more)
+continued (Pointer p) more = Pointer p
+
+abbrev pub node_of : Parts → List Parts → Item
+node_of l more = record { level = l.level; xref = l.xref; tag = l.tag; value = continued (meaning l.raw) more }
+
+unfoldable pub forest_of : List Parts → List Item
+forest_of [] = []
+forest_of (l ∷ ls) = if is_continuation l.tag then forest_of ls else node_of l (belongs l.level ls) ∷ forest_of ls
+
+-- The lines of a forest.
+
+abbrev pub mark_tag : Mark → List ℕ
+mark_tag Conc = codes "CONC"
+mark_tag Cont = codes "CONT"
+
+abbrev pub part_line : ℕ → Part → Parts
+part_line level p = record { level = level; xref = None; tag = mark_tag p.mark; raw = escaped p.text }
+
+abbrev pub first_text : List Part → List ℕ
+first_text [] = []
+first_text (p ∷ ps) = p.text
+
+abbrev pub rest_parts : List Part → List Part
+rest_parts [] = []
+rest_parts (p ∷ ps) = ps
+
+-- the value of the node's own line, and the parts that its continuations have, by the canonical split
+abbrev pub own_raw : Meaning → List ℕ
+own_raw (Text t) = escaped (first_text (canonical t))
+own_raw (Pointer p) = p
+
+abbrev pub more_parts : Meaning → List Part
+more_parts (Text t) = rest_parts (canonical t)
+more_parts (Pointer p) = []
+
+abbrev pub own_line : Item → Parts
+own_line i = record { level = i.level; xref = i.xref; tag = i.tag; raw = own_raw i.value }
+
+-- a node's line, and its continuations before all other children
+abbrev pub node_lines : Item → List Parts
+node_lines i = own_line i ∷ map (part_line (i.level + 1)) (more_parts i.value)
+
+unfoldable pub lines_of : List Item → List Parts
+lines_of f = flat_map node_lines f

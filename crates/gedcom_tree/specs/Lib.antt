@@ -1,0 +1,13 @@
+pub mod Pieces
+pub mod Forest
+pub mod Rules
+pub mod File
+pub mod Reading
+pub mod Views
+pub mod State
+pub mod Flat
+pub mod Devices
+pub mod Counts
+pub mod Depth
+pub mod Text
+pub mod Streams

@@ -1,0 +1,35 @@
+-- A file cut at each CR and LF (The GEDCOM Standard Release 5.5.1, chapter 1: each of CR, LF, CR LF and LF CR ends a line;
+-- a piece of white space alone is no line, so it is enough to cut at each of the two).
+use Rattle.std.specs.Prelude.{ℕ, Bool, ◌&&◌, ◌==◌, if◌then◌else◌, List, [], ◌∷◌, ◌++◌}
+use Rattle.gedcom_line.specs.Words.{is_end}
+
+-- the pieces that a terminator ends, in order, and what stands after the last terminator
+pub record Pieces : Type 0 where
+  pub ended : List (List ℕ)
+  pub open_ : List ℕ
+
+-- one more character in front
+abbrev pub onto_first : ℕ → List (List ℕ) → List ℕ → Pieces
+onto_first b [] rest = record { ended = []; open_ = b ∷ rest }
+onto_first b (p ∷ ps) rest = record { ended = (b ∷ p) ∷ ps; open_ = rest }
+
+unfoldable pub pieces : List ℕ → Pieces
+pieces [] = record { ended = []; open_ = [] }
+pieces (b ∷ bs) =
+    if is_end b then record { ended = [] ∷ (pieces bs).ended; open_ = (pieces bs).open_ }
+    else onto_first b (pieces bs).ended (pieces bs).open_
+
+-- the bytes without a byte order mark of UTF-8 at their very start
+abbrev pub skip_mark : List ℕ → List ℕ
+skip_mark [] = []
+skip_mark (a ∷ []) = a ∷ []
+skip_mark (a ∷ b ∷ []) = a ∷ b ∷ []
+skip_mark (a ∷ b ∷ c ∷ bs) = if a == 239 && b == 187 && c == 191 then bs else a ∷ b ∷ c ∷ bs
+
+-- the pieces of a file
+abbrev pub file_pieces : List ℕ → Pieces
+file_pieces b = pieces (skip_mark b)
+
+-- all of them: a last piece without a terminator counts
+abbrev pub all_pieces : List ℕ → List (List ℕ)
+all_pieces b = (file_pieces b).ended ++ (file_pieces b).open_ ∷ []

@@ -1,0 +1,49 @@
+-- What is said of files that come from a reader and go to a writer.
+use Rattle.std.specs.Prelude.{◌≡◌, ◌⊎◌, ℕ, List, ◌++◌, Option, IfSome, Result, Ok, Err}
+use Rattle.std.specs.Io.KnownBytes.{Appends, Keeps}
+use Rattle.gedcom_tree.specs.declared.fault.TreeKind.{TreeKind}
+use Rattle.gedcom_tree.specs.declared.fault.TreeKind.TheVariants.{OutOfMemory, ReadFailed, WriteFailed}
+use Rattle.gedcom_tree.specs.File.{Fault, FaultOf, ReadsFile}
+use Rattle.gedcom_tree.specs.Forest.{Item}
+use Rattle.gedcom_tree.specs.Text.{text}
+use Rattle.gedcom_tree.specs.Devices.{AppendsBeginning}
+
+-- the writer has got a front of the bytes, and the rest is put by
+pub record Handed (old new : Option (List ℕ)) (bytes rest : List ℕ) : Type 0 where
+  pub front : List ℕ
+  pub taken : Appends old new front
+  pub parts : front ++ rest ≡ bytes
+
+-- why something was not written: memory, or the writer, which has failed in this call
+abbrev pub NotWritten : Type 0 → Fault → Type 0
+NotWritten Failed f = (f.kind ≡ OutOfMemory) ⊎ ((f.kind ≡ WriteFailed) × Failed)
+
+-- a refusal that speaks of a line of the file
+abbrev pub IsOfFile : TreeKind → Type 0
+IsOfFile OutOfMemory = ⊥
+IsOfFile ReadFailed = ⊥
+IsOfFile WriteFailed = ⊥
+IsOfFile _ = Unit {0}
+
+-- why no forest was read: memory, or the reader, which has failed in this call, or the fault of the bytes
+abbrev pub NotRead : Option (List ℕ) → Type 0 → Fault → Type 0
+NotRead known Failed f =
+    (f.kind ≡ OutOfMemory) ⊎ (((f.kind ≡ ReadFailed) × Failed) ⊎ (IsOfFile f.kind × IfSome known (λ b. FaultOf b f)))
+
+-- the forest of bytes, or why there is none
+abbrev pub ReadAs : List ℕ → Result (List Item) Fault → Type 0
+ReadAs bytes (Ok f) = ReadsFile bytes f
+ReadAs bytes (Err f) = (f.kind ≡ OutOfMemory) ⊎ (IsOfFile f.kind × FaultOf bytes f)
+
+-- the bytes read as a forest, whose text the writer has got
+pub record Normalised (known old new : Option (List ℕ)) : Type 0 where
+  pub forest : List Item
+  pub read : IfSome known (λ b. ReadsFile b forest)
+  pub written : Appends old new (text forest)
+
+-- the bytes read as a forest, of whose text the writer has got a beginning
+pub record Begun (known old new : Option (List ℕ)) (Failed : Type 0) (f : Fault) : Type 0 where
+  pub forest : List Item
+  pub read : IfSome known (λ b. ReadsFile b forest)
+  pub why : NotWritten Failed f
+  pub written : AppendsBeginning old new (text forest)

@@ -1,0 +1,235 @@
+//! The text of a forest.
+
+ghost use Rattle.std.specs.Prelude.{◌≡◌, ◌⊎◌, ◌++◌, ◌+◌, ◌<◌, ◌≤◌, ◌∷◌, [], true, OnOk, OnErr, IfErr, string_bytes, option_map, map, length};
+ghost use Rattle.std.specs.List.{flat_map, list_all};
+ghost use Rattle.std.specs.Io.KnownBytes.{Appends};
+ghost use Rattle.gedcom_line.specs.Escape.{escaped};
+ghost use Rattle.gedcom_line.specs.Value.{Text};
+ghost use Rattle.gedcom_line.specs.Split.{part};
+ghost use Rattle.gedcom_tree.specs.Forest.{part_line, mark_tag as tag_of_mark};
+ghost use Rattle.gedcom_tree.specs.Text.{line_text, node_text, text, trailer, IsLow};
+ghost use Rattle.gedcom_tree.specs.Flat.{flat, flats, said};
+ghost use Rattle.gedcom_tree.specs.Devices.{Rose, AppendsBeginning};
+ghost use Rattle.gedcom_tree.specs.Streams.{Handed, NotWritten};
+ghost use Rattle.gedcom_tree.specs.Views.{fault_view};
+
+use crate::device::Device;
+use crate::fault::{TreeFault, TreeKind};
+use crate::forest::Forest;
+use crate::node::{Node, NodeValue};
+use crate::transfer::{TransferError, write_bytes};
+use gedcom_line::{Mark, TextPart, escape, split_text, write_line};
+use std::alloc::{AllocError, Global};
+use std::io::Write;
+
+/// So many bytes of text are put together before the writer gets them.
+const BUFFER: usize = 65_536;
+
+/// The tag of a continuation.
+fn mark_tag(mark: Mark) -> &'static str
+    ensures { result.now ≡ tag_of_mark mark }
+{
+    match mark {
+        Mark::Conc => "CONC",
+        Mark::Cont => "CONT",
+    }
+}
+
+/// Appends a line whose value is the text.
+fn push_part(
+    alloc: Global,
+    out: &mut String,
+    level: u8,
+    xref: Option<&str>,
+    tag: &str,
+    value: &str,
+) -> Result<(), AllocError>
+    ensures {
+        OnOk result (string_bytes out.new ≡ string_bytes out.old ++ line_text (record {
+        level = level; xref = option_map (λ s. s.now) xref.entry; tag = tag.now; raw = escaped value.now })) }
+{
+    let raw = escape(alloc, value)?;
+    write_line(out, level, xref, tag, &raw)
+}
+
+/// Appends the continuations.
+fn push_more(
+    alloc: Global,
+    out: &mut String,
+    level: u8,
+    more: &[TextPart<'_>],
+) -> Result<(), AllocError>
+    ensures {
+        OnOk result (string_bytes out.new
+        ≡ string_bytes out.old ++ flat_map line_text (map (part_line level) (map part more.now))) }
+{
+    for piece in more {
+        push_part(alloc, out, level, None, mark_tag(piece.mark), piece.text)?;
+    }
+    Ok(())
+}
+
+/// Appends a line with a text, and its continuations.
+fn push_text(
+    alloc: Global,
+    out: &mut String,
+    level: u8,
+    xref: Option<&str>,
+    tag: &str,
+    value: &str,
+) -> Result<(), AllocError>
+    requires { level ≤ 98 }
+    ensures {
+        OnOk result (string_bytes out.new ≡ string_bytes out.old ++ node_text (record {
+        level = level; xref = option_map (λ s. s.now) xref.entry; tag = tag.now; value = Text value.now })) }
+{
+    let parts = split_text(alloc, value)?;
+    match parts.as_slice() {
+        [first, more @ ..] => {
+            push_part(alloc, out, level, xref, tag, first.text)?;
+            push_more(alloc, out, level + 1, more)
+        }
+        [] => push_part(alloc, out, level, xref, tag, ""),
+    }
+}
+
+/// Appends the node's line with its continuations.
+fn push_own(alloc: Global, out: &mut String, level: u8, node: &Node) -> Result<(), AllocError>
+    requires { level ≤ 98 }
+    ensures {
+        OnOk result (string_bytes out.new ≡ string_bytes out.old ++ node_text (said level node.now)) }
+{
+    match &node.value {
+        NodeValue::Text(value) => {
+            push_text(alloc, out, level, node.xref.as_deref(), &node.tag, value)
+        }
+        NodeValue::Pointer(name) => {
+            write_line(out, level, node.xref.as_deref(), &node.tag, name)
+        }
+    }
+}
+
+/// Appends the node and all below it.
+fn push_node(alloc: Global, out: &mut String, level: u8, node: &Node) -> Result<(), AllocError>
+    requires { IsLow (flat node.now level) }
+    ensures {
+        OnOk result (string_bytes out.new
+        ≡ string_bytes out.old ++ flat_map node_text (flat node.now level)) }
+{
+    push_own(alloc, out, level, node)?;
+    for child in &node.children {
+        push_node(alloc, out, level + 1, child)?;
+    }
+    Ok(())
+}
+
+/// Hands the buffer to the writer, and empties it.
+fn hand_over<W: Write + Device>(
+    writer: &mut W,
+    before: u64,
+    out: &mut String,
+) -> Result<(), TreeFault>
+    ensures ok {
+        OnOk result (Appends (W.contents writer.old) (W.contents writer.new) (string_bytes out.old)
+        × (string_bytes out.new ≡ [])) }
+    ensures err {
+        IfErr result (λ f. NotWritten (Rose before (W.failed writer.new)) (fault_view f)
+        × AppendsBeginning (W.contents writer.old) (W.contents writer.new) (string_bytes out.old)) }
+{
+    let handed = write_bytes(writer, before, out.as_bytes());
+    out.clear();
+    match handed {
+        Ok(()) => Ok(()),
+        Err(TransferError::OutOfMemory) => Err(TreeFault {
+            kind: TreeKind::OutOfMemory,
+            at: None,
+        }),
+        Err(TransferError::Failed) => Err(TreeFault {
+            kind: TreeKind::WriteFailed,
+            at: None,
+        }),
+    }
+}
+
+/// Adds a node to the buffer, and hands it over where it is full.
+fn put_node<W: Write + Device>(
+    alloc: Global,
+    writer: &mut W,
+    before: u64,
+    out: &mut String,
+    node: &Node,
+) -> Result<(), TreeFault>
+    requires { IsLow (flat node.now 0) }
+    ensures ok {
+        OnOk result (Handed (W.contents writer.old) (W.contents writer.new)
+        (string_bytes out.old ++ flat_map node_text (flat node.now 0)) (string_bytes out.new)) }
+    ensures err {
+        IfErr result (λ f. NotWritten (Rose before (W.failed writer.new)) (fault_view f)
+        × AppendsBeginning (W.contents writer.old) (W.contents writer.new)
+        (string_bytes out.old ++ flat_map node_text (flat node.now 0))) }
+{
+    if push_node(alloc, out, 0, node).is_err() {
+        return Err(TreeFault {
+            kind: TreeKind::OutOfMemory,
+            at: None,
+        });
+    }
+    if out.len() < BUFFER {
+        return Ok(());
+    }
+    hand_over(writer, before, out)
+}
+
+/// Writes the nodes of level 0 with all below them, and the trailer.
+fn write_nodes<W: Write + Device>(
+    alloc: Global,
+    nodes: &[Node],
+    writer: &mut W,
+    before: u64,
+) -> Result<(), TreeFault>
+    requires { IsLow (flats 0 nodes.now) }
+    ensures ok {
+        OnOk result (Appends (W.contents writer.old) (W.contents writer.new)
+        (flat_map node_text (flats 0 nodes.now) ++ line_text trailer)) }
+    ensures err {
+        IfErr result (λ f. NotWritten (Rose before (W.failed writer.new)) (fault_view f)
+        × AppendsBeginning (W.contents writer.old) (W.contents writer.new)
+        (flat_map node_text (flats 0 nodes.now) ++ line_text trailer)) }
+{
+    let mut out = String::new(alloc);
+    for node in nodes {
+        match put_node(alloc, writer, before, &mut out, node) {
+            Ok(()) => {}
+            Err(fault) => return Err(fault),
+        }
+    }
+    match write_line(&mut out, 0, None, "TRLR", "") {
+        Ok(()) => hand_over(writer, before, &mut out),
+        Err(_) => Err(TreeFault {
+            kind: TreeKind::OutOfMemory,
+            at: None,
+        }),
+    }
+}
+
+/// Writes the one text of the forest: its lines in canonical form, and the trailer.
+///
+/// The only faults are `OutOfMemory` and `WriteFailed`; the latter comes only where the writer's count of
+/// failures has risen in this call.
+pub fn write_forest<W: Write + Device>(
+    alloc: Global,
+    forest: &Forest,
+    writer: &mut W,
+) -> Result<(), TreeFault>
+    ensures written {
+        OnOk result (Appends (W.contents writer.old) (W.contents writer.new) (text forest.now)) }
+
+    // At a fault a beginning of the text was written.
+    ensures begun {
+        OnErr result (AppendsBeginning (W.contents writer.old) (W.contents writer.new) (text forest.now)) }
+    ensures fault {
+        IfErr result (λ f. NotWritten (Rose (W.failed writer.old) (W.failed writer.new)) (fault_view f)) }
+{
+    let before = writer.failures();
+    write_nodes(alloc, forest.nodes(), writer, before)
+}

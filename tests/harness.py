@@ -1,0 +1,150 @@
+"""What the end-to-end tests share: a run of a command, what came of it, and what is expected."""
+
+from __future__ import annotations
+
+import os
+import subprocess
+import threading
+from collections.abc import Callable, Iterable
+from dataclasses import dataclass
+
+ROOT = os.path.dirname(os.path.dirname(os.path.abspath(__file__)))
+LIMIT = 60  # seconds for one run
+SHOWN = 200  # characters of a text in a message
+
+# The refusals that a run may print today (docs/REFUSALS.md).
+REFUSALS = {
+    1: "OutOfMemory",
+    10: "NotUtf8",
+    11: "BadLevel",
+    12: "BadXref",
+    13: "BadTag",
+    14: "TooLong",
+    15: "Nul",
+    20: "LevelJump",
+    21: "NoHead",
+    22: "NoTrailer",
+    23: "AfterTrailer",
+    24: "BadContinuation",
+    27: "FileTooLarge",
+    29: "Charset",
+    94: "ReadFailed",
+    95: "WriteFailed",
+}
+
+
+class Failed(Exception):
+    """A test did not go as expected; the text says how."""
+
+
+@dataclass(frozen=True)
+class Case:
+    """A test: its name, a sentence, and what it does, which raises Failed."""
+
+    name: str
+    test: Callable[[], None]
+
+
+@dataclass(frozen=True)
+class Tools:
+    """The commands under test, as words."""
+
+    parish: tuple[str, ...]
+    pieces: tuple[str, ...] | None
+    """The program that feeds the reader in pieces, or None where there is none."""
+
+
+@dataclass(frozen=True)
+class Outcome:
+    """How a run ended.  A status below 0 is the signal that ended it."""
+
+    out: bytes
+    err: bytes
+    status: int
+    took_all: bool = True
+    """Whether the run read, or let the pipe hold, all that it was offered."""
+
+
+def shown(data: bytes) -> str:
+    text = repr(data)[1:]
+    return text if len(text) <= SHOWN else f"{text[:SHOWN]}.. ({len(data)} bytes)"
+
+
+def named(number: int, line: int | None = None) -> str:
+    """A refusal as it is told: number, name and, where it has one, its line."""
+    return f"{number} {REFUSALS[number]}" + ("" if line is None else f" at line {line}")
+
+
+def refused(number: int, line: int | None = None) -> Outcome:
+    """What a run that is refused before it writes comes to."""
+    return Outcome(b"", f"parish: {named(number, line)}\n".encode(), 1)
+
+
+def written(out: bytes) -> Outcome:
+    return Outcome(out, b"", 0)
+
+
+class _Feeder(threading.Thread):
+    """Writes pieces to a pipe until they end or nobody reads any more."""
+
+    def __init__(self, pipe, pieces: Iterable[bytes]):
+        super().__init__(daemon=True)
+        self.pipe, self.pieces, self.took_all = pipe, pieces, False
+
+    def run(self):
+        try:
+            with self.pipe:
+                for piece in self.pieces:
+                    self.pipe.write(piece)
+            self.took_all = True
+        except BrokenPipeError:
+            pass
+
+
+def run(command, words=(), given=b"", *, limit=LIMIT, **how) -> Outcome:
+    """Runs a command on what it is given: bytes, or pieces that are written one after the other.
+
+    `how` goes to Popen: stdin, stdout, cwd, env, pass_fds.
+    """
+    how = {"stdin": subprocess.PIPE, "stdout": subprocess.PIPE, "stderr": subprocess.PIPE, **how}
+    process = subprocess.Popen([*command, *words], **how)
+    feeder = None
+    if how["stdin"] == subprocess.PIPE:
+        feeder = _Feeder(process.stdin, (given,) if isinstance(given, bytes) else given)
+        process.stdin = None
+        feeder.start()
+    try:
+        out, err = process.communicate(timeout=limit)
+    except subprocess.TimeoutExpired:
+        process.kill()
+        process.communicate()
+        raise Failed(f"it had not ended after {limit} seconds") from None
+    if feeder:
+        feeder.join()
+    return Outcome(out or b"", err or b"", process.returncode, not feeder or feeder.took_all)
+
+
+def difference(wanted: bytes, got: bytes) -> str:
+    """Two texts that differ; of long ones, from a little before the place where they do."""
+    at = len(os.path.commonprefix([wanted, got]))
+    start = max(0, at - SHOWN // 10) if max(len(wanted), len(got)) > SHOWN else 0
+    place = f"from byte {start + 1}: " if start else ""
+    return f"{place}wanted {shown(wanted[start:])}, got {shown(got[start:])}"
+
+
+def expect(got: Outcome, wanted: Outcome) -> None:
+    """The three parts of a run, byte for byte."""
+    parts = (
+        ("standard output", wanted.out, got.out),
+        ("standard error", wanted.err, got.err),
+    )
+    wrong = [f"{name}: {difference(a, b)}" for name, a, b in parts if a != b]
+    if got.status != wanted.status:
+        wrong.append(f"status: wanted {wanted.status}, got {got.status}")
+    if wrong:
+        raise Failed("; ".join(wrong))
+
+
+def demand(holds: bool, message: str) -> None:
+    if not holds:
+        raise Failed(message)

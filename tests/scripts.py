@@ -1,0 +1,305 @@
+"""The commands `./parish` and `./test`, in a small copy with an `rt` that proves nothing.
+
+The copy has the two commands, their sum of the sources, and crates of one file each.  Its `rt`
+"builds" by copying a script, and notes each call.
+"""
+
+from __future__ import annotations
+
+import os
+import shutil
+import stat
+import tempfile
+import threading
+from dataclasses import dataclass
+
+from harness import ROOT, Case, Outcome, demand, expect, run, shown
+
+# All that the two commands may call beside rt.
+NEEDED = "bash dirname env grep mktemp python3 readlink rm sed sh tail tee".split()
+# What their stand-ins call.
+NEEDED_HERE = "cat chmod cp mkdir mv sleep".split()
+
+RT = """#!/bin/sh
+# Stands in for the toolchain: $RT_SAYS has what each call does.
+echo "$*" >>"$RT_CALLS"
+case $1 in
+version) echo "kit ${KIT:-1}" ;;
+run)
+    [ "$PWD" = "$COPY/crates/parish" ] || exit 9
+    cat # must find nothing: standard input is the program's
+    [ ! -e "$COPY/fails" ] || { echo 'rt: not proved' >&2; exit 1; }
+    sleep 0.2
+    mkdir -p out && cat src/main.rt >out/new && chmod +x out/new && mv out/new out/parish
+    echo 'parish 1'
+    ;;
+ci)
+    [ ! -e "$COPY/fails" ] || { echo '3 passed, 1 failed'; exit 1; }
+    out=crates/parish/out
+    rm -rf $out && mkdir $out && cp crates/parish/src/main.rt $out/parish && chmod +x $out/parish
+    echo 'rt: ok'
+    echo '3 passed, 0 failed'
+    [ ! -e "$COPY/lies" ] || exit 1
+    ;;
+esac
+"""
+
+PROGRAM = """#!/bin/sh
+echo "words: $*"
+pwd
+cat
+echo told >&2
+exit 7
+"""
+
+RUNNER = "print('2 passed, 0 failed')\n"
+
+
+@dataclass
+class Copy:
+    """The copy, and the environment in which its commands run."""
+
+    folder: str
+    env: dict
+
+    def path(self, *names):
+        return os.path.join(self.folder, *names)
+
+    def write(self, name, text, executable=False):
+        path = self.path(*name.split("/"))
+        os.makedirs(os.path.dirname(path), exist_ok=True)
+        with open(path, "w", encoding="utf-8") as file:
+            file.write(text)
+        if executable:
+            os.chmod(path, os.stat(path).st_mode | stat.S_IXUSR)
+
+    def run(self, name, *words, given=b"", **how):
+        return run((self.path(name),), words, given, **{"env": self.env, **how})
+
+    def calls(self, verb):
+        """How often rt was called so."""
+        try:
+            with open(self.env["RT_CALLS"], encoding="utf-8") as calls:
+                return sum(line.split()[0] == verb for line in calls)
+        except FileNotFoundError:
+            return 0
+
+
+def copied(folder):
+    folder = os.path.realpath(folder)
+    tools = os.path.join(folder, "tools")
+    os.makedirs(tools)
+    for name in (*NEEDED, *NEEDED_HERE):
+        found = shutil.which(name)
+        demand(found is not None, f"there is no {name}")
+        os.symlink(os.path.realpath(found), os.path.join(tools, name))
+    copy = Copy(
+        os.path.join(folder, "copy"),
+        {
+            "PATH": tools,
+            "COPY": os.path.join(folder, "copy"),
+            "RT_CALLS": os.path.join(folder, "calls"),
+            "TMPDIR": folder,
+        },
+    )
+    os.makedirs(copy.path("tests"))
+    for name in ("parish", "test", "tests/sources_sum"):
+        shutil.copy(os.path.join(ROOT, name), copy.path(name))
+    copy.write("crates.txt", "# a comment: here\nlow:\nother: low\nparish: low clap\n")
+    for crate in ("low", "other"):
+        copy.write(f"crates/{crate}/src/lib.rt", "")
+    copy.write("crates/parish/src/main.rt", PROGRAM)
+    copy.write("tests/run.py", RUNNER)
+    with open(os.path.join(tools, "rt"), "w", encoding="utf-8") as file:
+        file.write(RT)
+    os.chmod(os.path.join(tools, "rt"), 0o755)
+    return copy
+
+
+PASSED_ON = "words: norm a  b\n{cwd}\ninput"
+
+
+def passes_on(copy, **how):
+    """A run of ./parish: the words, the folder, the input and the status are the program's."""
+    cwd = copy.path("tests")
+    got = copy.run("parish", "norm", "a  b", given=b"input", cwd=cwd, **how)
+    wanted = PASSED_ON.format(cwd=cwd).encode()
+    expect(Outcome(got.out, b"", got.status), Outcome(wanted, b"", 7))
+    return got.err
+
+
+def demand_silent(err):
+    demand(err == b"told\n", f"standard error: wanted the program's alone, got {shown(err)}")
+
+
+def last_line(got):
+    return got.out.splitlines()[-1:]
+
+
+def made_once(copy):
+    err = passes_on(copy)
+    demand(b"minutes" in err.splitlines()[0], f"it does not say how long it takes: {shown(err)}")
+    demand(b"parish 1\n" in err, "what rt writes does not go to standard error")
+    demand_silent(passes_on(copy))
+    demand(copy.calls("run") == 1, "it was made again")
+
+
+def made_again_after_an_edit(copy):
+    passes_on(copy)
+    made = 1
+    for file, text in (
+        ("crates/low/src/lib.rt", "// new"),
+        ("crates/low/specs/New.antt", ""),
+        ("crates/parish/proofs/main/Answers.antt", "--"),
+        ("crates/parish/src/main.rt", PROGRAM + "# new"),
+        ("crates.txt", "low:\nparish: low\n"),
+    ):
+        copy.write(file, text)
+        passes_on(copy)
+        made += 1
+        demand(copy.calls("run") == made, f"not made again after an edit of {file}")
+    os.rename(copy.path("crates/low/specs/New.antt"), copy.path("crates/low/specs/Old.antt"))
+    passes_on(copy)
+    demand(copy.calls("run") == made + 1, "not made again after a file has another name")
+    copy.env["KIT"] = "2"
+    passes_on(copy)
+    demand(copy.calls("run") == made + 2, "not made again for another kit")
+
+
+def not_made_again(copy):
+    passes_on(copy)
+    for file in ("crates/other/src/lib.rt", "crates/low/must-fail/a.edit", "README.md"):
+        copy.write(file, "new")
+        demand_silent(passes_on(copy))
+    demand(copy.calls("run") == 1, "made again though nothing of it has changed")
+
+
+def made_again_where_another_build_left_it(copy):
+    passes_on(copy)
+    copy.write("crates/parish/out/parish", "#!/bin/sh\necho of other sources\n", executable=True)
+    passes_on(copy)
+    os.remove(copy.path("crates/parish/out/parish"))
+    passes_on(copy)
+    demand(copy.calls("run") == 3, "an executable of other sources was run")
+
+
+def not_proved(copy):
+    passes_on(copy)
+    copy.write("fails", "")
+    copy.write("crates/low/src/lib.rt", "wrong")
+    for _ in range(2):
+        got = copy.run("parish", "norm", given=b"input")
+        demand(got.status == 3, f"status: wanted 3, got {got.status}")
+        demand(got.out == b"", f"standard output: wanted nothing, got {shown(got.out)}")
+        demand(got.err.endswith(b"as said above\n"), f"standard error: {shown(got.err)}")
+    os.remove(copy.path("fails"))
+    passes_on(copy)
+
+
+def no_toolchain(copy):
+    os.remove(os.path.join(copy.env["PATH"], "rt"))
+    got = copy.run("parish", "norm", given=b"input")
+    demand((got.status, got.out) == (3, b""), f"wanted status 3 and no output, got {got}")
+    demand(got.err.count(b"\n") == 1 and b"rt" in got.err, f"standard error: {shown(got.err)}")
+
+
+def two_at_a_time(copy):
+    whys = []
+
+    def one():
+        try:
+            passes_on(copy)
+        except Exception as error:  # told by the test, not by the thread
+            whys.append(str(error))
+
+    threads = [threading.Thread(target=one) for _ in range(4)]
+    for thread in threads:
+        thread.start()
+    for thread in threads:
+        thread.join()
+    demand(not whys, "; ".join(whys))
+    demand_silent(passes_on(copy))
+
+
+def by_a_link(copy):
+    os.symlink(copy.path("parish"), copy.path("link"))
+    got = copy.run("link", "norm")
+    demand(got.out.startswith(b"words: norm\n"), f"standard output: {shown(got.out)}")
+
+
+def closed_streams(copy):
+    passes_on(copy)
+    for closed in ("<&-", ">&-", "2>&-"):
+        words = ("sh", "-c", f'exec "$@" {closed}', "sh", copy.path("parish"), "norm")
+        got = run(words, env=copy.env)
+        # its `echo` and `cat` may fail; its status is its own
+        demand(got.status == 7, f"{closed}: status: wanted 7, got {got.status}")
+
+
+def all_tests(copy):
+    got = copy.run("test")
+    demand(got.status == 0, f"status: wanted 0, got {got.status}, {shown(got.out)}")
+    demand(last_line(got) == [b"5 passed, 0 failed"], f"the last line: {last_line(got)}")
+    demand_silent(passes_on(copy))
+    demand(copy.calls("run") == 0, "./parish made again what ./test had left")
+
+
+def all_tests_with_dates(copy):
+    copy.write("crates.txt", "low:\ndate_lines: low\nparish: low\n")
+    got = copy.run("test")
+    demand(got.status == 1, f"without tests/dates: wanted 1, got {got.status}")
+    copy.write("tests/dates/run.py", "print('4 passed, 0 failed')\n")
+    got = copy.run("test")
+    demand(got.status == 0, f"status: wanted 0, got {got.status}, {shown(got.out)}")
+    demand(last_line(got) == [b"9 passed, 0 failed"], f"the last line: {last_line(got)}")
+
+
+def tests_that_fail(copy):
+    for text, end in (
+        ("print('1 passed, 2 failed'); exit(1)\n", b"4 passed, 2 failed"),
+        ("print('2 passed, 0 failed'); exit(1)\n", b"5 passed, 1 failed"),
+        ("print('0 passed, 0 failed')\n", b"3 passed, 1 failed"),
+        ("print('nothing')\n", b"3 passed, 1 failed"),
+    ):
+        copy.write("tests/run.py", text)
+        got = copy.run("test")
+        demand((got.status, last_line(got)) == (1, [end]), f"{text}: got {shown(got.out)}")
+
+
+def proofs_that_fail(copy):
+    copy.write("tests/run.py", "print('it ran')\n")
+    for file, end in (("lies", b"3 passed, 1 failed"), ("fails", b"3 passed, 1 failed")):
+        copy.write(file, "")
+        got = copy.run("test")
+        demand((got.status, last_line(got)) == (1, [end]), f"{file}: got {shown(got.out)}")
+        demand(b"it ran" not in got.out, "the tests over the executable ran without proofs")
+    os.remove(os.path.join(copy.env["PATH"], "rt"))
+    got = copy.run("test")
+    demand((got.status, last_line(got)) == (1, [b"0 passed, 1 failed"]), f"no rt: {shown(got.out)}")
+
+
+SCRIPTS = (
+    ("./parish makes the program once and passes all on", made_once),
+    ("./parish makes the program again after an edit", made_again_after_an_edit),
+    ("./parish makes nothing again where the program is the same", not_made_again),
+    ("./parish runs no executable of other sources", made_again_where_another_build_left_it),
+    ("./parish ends with 3 where the program is not proved", not_proved),
+    ("./parish ends with 3 where there is no toolchain", no_toolchain),
+    ("./parish may run several at a time", two_at_a_time),
+    ("./parish may be called by a link", by_a_link),
+    ("./parish passes closed streams on", closed_streams),
+    ("./test adds its parts and leaves the program made", all_tests),
+    ("./test runs the tests of dates where that crate is listed", all_tests_with_dates),
+    ("./test fails where its second part fails", tests_that_fail),
+    ("./test runs no second part where the first fails", proofs_that_fail),
+)
+
+
+def in_a_copy(test):
+    with tempfile.TemporaryDirectory() as folder:
+        test(copied(folder))
+
+
+def cases(_tools):
+    for name, test in SCRIPTS:
+        yield Case(f"scripts: {name}", lambda test=test: in_a_copy(test))

@@ -1,0 +1,198 @@
+"""Streams and words as users meet them: full devices, readers that leave, closed streams."""
+
+from __future__ import annotations
+
+import os
+import subprocess
+import tempfile
+
+from files import HEAD, TRLR, between
+from harness import Case, Outcome, Tools, demand, expect, refused, run, shown, written
+
+SMALL = between(b"1 A")
+LARGE = between(*[b"1 A"] * 200_000)  # its canonical text is far above what a pipe holds
+OFFERED = 4 * 67_108_864  # bytes of an endless input, beyond any that is read
+
+
+def endlessly(front, piece):
+    """An input without an end; it is given up after four times what a file may have."""
+    yield front
+    for _ in range(OFFERED // len(piece)):
+        yield piece
+
+
+def with_streams(tools, redirections, given=SMALL):
+    """`norm` as a shell starts it with redirections, such as `<&-`."""
+    return run(("sh", "-c", f'exec "$@" {redirections}', "sh", *tools.parish, "norm"), (), given)
+
+
+def full_device(tools):
+    expect(with_streams(tools, ">/dev/full"), refused(95))
+
+
+def full_device_large(tools):
+    expect(with_streams(tools, ">/dev/full", LARGE), refused(95))
+
+
+def reader_that_leaves(tools):
+    """What `parish norm < large | head -1` does: the status of the first command is looked at."""
+    with tempfile.TemporaryFile() as large:
+        large.write(LARGE)
+        large.seek(0)
+        process = subprocess.Popen(
+            [*tools.parish, "norm"],
+            stdin=large,
+            stdout=subprocess.PIPE,
+            stderr=subprocess.PIPE,
+        )
+        first = process.stdout.readline()
+        process.stdout.close()
+        err = process.stderr.read()
+        process.stderr.close()
+        status = process.wait()
+    expect(Outcome(first, err, status), Outcome(HEAD, refused(95).err, 1))
+
+
+def reader_that_never_came(tools):
+    reading, writing = os.pipe()
+    os.close(reading)
+    try:
+        expect(run(tools.parish, ("norm",), SMALL, stdout=writing), refused(95))
+    finally:
+        os.close(writing)
+
+
+def folder_as_input(tools):
+    folder = os.open("/", os.O_RDONLY)
+    try:
+        expect(run(tools.parish, ("norm",), stdin=folder), refused(94))
+    finally:
+        os.close(folder)
+
+
+def input_for_writing_only(tools):
+    with tempfile.NamedTemporaryFile() as file:
+        expect(with_streams(tools, f"0>{file.name}"), refused(94))
+
+
+def closed_input(tools):
+    expect(with_streams(tools, "<&-"), refused(94))
+
+
+def closed_output(tools):
+    expect(with_streams(tools, ">&-"), refused(95))
+
+
+def closed_output_of_a_refused_file(tools):
+    expect(with_streams(tools, ">&-", HEAD), refused(22, 2))
+
+
+def errors_that_cannot_be_told(tools):
+    for redirection in ("2>&-", "2>/dev/full"):
+        expect(with_streams(tools, redirection, HEAD), Outcome(b"", b"", 1))
+        expect(with_streams(tools, f"--frobnicate {redirection}"), Outcome(b"", b"", 2))
+
+
+def no_input(tools):
+    expect(run(tools.parish, ("norm",), stdin=subprocess.DEVNULL), refused(21, 1))
+
+
+def input_byte_by_byte(tools):
+    """A slow writer: each read gets what is there."""
+    pieces = (SMALL[at : at + 1] for at in range(len(SMALL)))
+    expect(run(tools.parish, ("norm",), pieces), written(SMALL))
+
+
+def endless_file(tools):
+    # the limit is 1,024 times 65,536: of the lines of 65,536 bytes behind the header 1,023 end
+    # before it, so that 1,024 lines stand before the byte that passes it
+    line = b" " * (65_536 - 4) + b"1 A\n"
+    got = run(tools.parish, ("norm",), endlessly(HEAD, line))
+    expect(got, refused(27, 1_025))
+    demand(not got.took_all, "it read on behind the limit of a file")
+
+
+def endless_line(tools):
+    got = run(tools.parish, ("norm",), endlessly(HEAD + b"1 ", b"T" * 65_536))
+    expect(got, refused(14, 2))
+    demand(not got.took_all, "it read on behind the limit of a line")
+
+
+def endless_blank_lines(tools):
+    got = run(tools.parish, ("norm",), endlessly(HEAD + TRLR, b"\n" * 65_536))
+    expect(got, refused(27, 3))
+    demand(not got.took_all, "it read on behind the limit of a file")
+
+
+def told(tools, *words):
+    """Words that are answered on standard output."""
+    got = run(tools.parish, words)
+    demand(got.status == 0, f"status: wanted 0, got {got.status}")
+    demand(got.err == b"", f"standard error: wanted nothing, got {shown(got.err)}")
+    demand(got.out.endswith(b"\n"), f"standard output: wanted lines, got {shown(got.out)}")
+    return got.out
+
+
+def help_of_all(tools):
+    demand(b"norm" in told(tools, "--help"), "the help names no command")
+
+
+def help_of_norm(tools):
+    demand(b"norm" in told(tools, "norm", "--help"), "the help of norm does not name it")
+
+
+def version(tools):
+    said = told(tools, "--version")
+    demand(said.startswith(b"parish "), f"the version does not name parish: {shown(said)}")
+
+
+def refuses_words(*words):
+    def test(tools):
+        got = run(tools.parish, words, SMALL)
+        demand(got.status == 2, f"status: wanted 2, got {got.status}")
+        demand(got.out == b"", f"standard output: wanted nothing, got {shown(got.out)}")
+        demand(got.err != b"", "standard error: wanted a line, got nothing")
+
+    return test
+
+
+def another_folder(tools):
+    with tempfile.TemporaryDirectory() as folder:
+        expect(run(tools.parish, ("norm",), SMALL, cwd=folder), written(SMALL))
+        demand(not os.listdir(folder), "norm left a file in its folder")
+
+
+STREAMS = (
+    ("a full device as standard output is 95", full_device),
+    ("a full device and a large file is 95", full_device_large),
+    ("a reader that leaves early is 95, and no signal", reader_that_leaves),
+    ("a pipe that nobody reads is 95, and no signal", reader_that_never_came),
+    ("a folder as standard input is 94", folder_as_input),
+    ("a standard input that is for writing only is 94", input_for_writing_only),
+    ("a closed standard input is 94", closed_input),
+    ("a closed standard output is 95", closed_output),
+    ("a refused file needs no standard output", closed_output_of_a_refused_file),
+    ("a refusal that cannot be told has its status", errors_that_cannot_be_told),
+    ("an empty device as standard input is an empty file", no_input),
+    ("an input that comes byte by byte", input_byte_by_byte),
+    ("an endless file ends at the limit of a file", endless_file),
+    ("an endless line ends at the limit of a line", endless_line),
+    ("endless blank lines end at the limit of a file", endless_blank_lines),
+    ("--help", help_of_all),
+    ("norm --help", help_of_norm),
+    ("--version", version),
+    ("no words", refuses_words()),
+    ("an unknown command", refuses_words("frobnicate")),
+    ("an empty word", refuses_words("")),
+    ("an unknown option", refuses_words("--frobnicate")),
+    ("an unknown option of norm", refuses_words("norm", "--frobnicate")),
+    ("a word too many", refuses_words("norm", "file.ged")),
+    ("a word that is not UTF-8", refuses_words(b"\xff")),
+    ("a word of norm that is not UTF-8", refuses_words("norm", b"a\xff")),
+    ("another folder", another_folder),
+)
+
+
+def cases(tools: Tools):
+    for name, test in STREAMS:
+        yield Case(f"streams: {name}", lambda test=test: test(tools))
