@@ -1,7 +1,7 @@
 -- A line that breaks no rule finds a place among the open nodes, and is one node more.
-use Rattle.std.proofs.Common.{◌≡◌, ℕ, ◌+◌, ◌<◌, ◌≤◌, Bool, true, false, cond, eqb, ltb, not, ◌&&◌, List, [], ◌∷◌, ◌++◌, refl, sym, ap, ◌∙◌, inl, inr, ◌⊎◌, arith, Option, Some, None, Ok, Err, Result}
+use Rattle.std.proofs.Common.{◌≡◌, ℕ, ◌+◌, ◌≤◌, Bool, true, false, cond, eqb, not, List, [], ◌∷◌, ◌++◌, refl, sym, ap, inl, inr, arith, Some, None, Ok}
 use Rattle.std.proofs.lemmas.Bool.{eqb-true, ltb-false}
-use Rattle.gedcom_line.specs.Reading.{Parts, reading}
+use Rattle.gedcom_line.specs.Reading.{Parts}
 use Rattle.gedcom_line.proofs.Steps.{both}
 use Rattle.gedcom_tree.specs.Rules.{Progress, is_head, is_trailer, first_broken}
 use Rattle.gedcom_tree.specs.Forest.{Item, node_of}

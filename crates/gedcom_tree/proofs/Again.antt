@@ -1,5 +1,5 @@
 -- The text of a forest is read as that forest.
-use Rattle.std.proofs.Common.{◌≡◌, ℕ, zero, suc, ◌+◌, ◌-◌, ◌<◌, ◌≤◌, Bool, true, false, cond, eqb, ltb, leb, not, ◌&&◌, ◌||◌, List, [], ◌∷◌, ◌++◌, length, get_or, map, refl, sym, ap, ◌∙◌, subst, inl, inr, ◌⊎◌, arith, append_assoc, append-nil, length-append, Option, Some, None, codes}
+use Rattle.std.proofs.Common.{◌≡◌, ℕ, ◌+◌, ◌-◌, ◌<◌, ◌≤◌, Bool, true, false, eqb, ltb, leb, not, ◌&&◌, ◌||◌, List, [], ◌∷◌, ◌++◌, length, get_or, map, refl, sym, ap, ◌∙◌, subst, arith, append_assoc, append-nil, length-append, Option, Some, None, codes}
 use Rattle.std.specs.Prelude.{is_some}
 use Rattle.std.specs.List.{flat_map, list_all, list_any}
 use Rattle.std.specs.Str.{bytes_eq}
@@ -8,25 +8,21 @@ use Rattle.std.proofs.lemmas.Bool.{eqb-true, leb-true, ltb-true, le-ltb}
 use Rattle.std.proofs.lemmas.Bool.Decides.{nat_tests}
 use Rattle.std.proofs.lemmas.List.Sums.{AllPass-from_list_all}
 use Rattle.std.proofs.Math.Seq.{get_or-append_right}
-use Rattle.gedcom_line.specs.Words.{is_word, is_digit}
+use Rattle.gedcom_line.specs.Words.{is_word}
 use Rattle.gedcom_line.specs.Reading.{Parts, is_continuation}
-use Rattle.gedcom_line.specs.Line.{IsNumber, IsContinuation}
-use Rattle.gedcom_line.specs.Spelling.{spelling, xref_text, raw_text, IsXref, IsInner, IsLine}
+use Rattle.gedcom_line.specs.Spelling.{spelling, IsXref, IsInner, IsLine}
 use Rattle.gedcom_line.specs.Value.{Meaning, Text, Pointer, meaning}
-use Rattle.gedcom_line.specs.Escape.{escaped}
-use Rattle.gedcom_line.specs.Split.{canonical}
-use Rattle.gedcom_line.proofs.Steps.{both, eqb_false, not_false}
+use Rattle.gedcom_line.proofs.Steps.{both, not_false}
 use Rattle.gedcom_line.proofs.Again.{level_digits, inner_nil}
 use Rattle.gedcom_line.proofs.Cuts.{canonical_nil}
 use Rattle.gedcom_tree.specs.Pieces.{all_pieces}
-use Rattle.gedcom_tree.specs.Rules.{Progress, progress_of, is_head, is_trailer, ends_in_space, first_broken}
-use Rattle.gedcom_tree.specs.File.{max_line, max_file, Clean, untrailed, ReadsFile}
-use Rattle.gedcom_tree.specs.Forest.{Item, own_line, node_lines, lines_of, Reads, forest_of, node_of, continued, own_raw, more_parts}
+use Rattle.gedcom_tree.specs.Rules.{Progress, is_head, is_trailer, ends_in_space, first_broken}
+use Rattle.gedcom_tree.specs.File.{max_line, max_file, Clean, ReadsFile}
+use Rattle.gedcom_tree.specs.Forest.{Item, own_line, lines_of, Reads, continued, own_raw, more_parts}
 use Rattle.gedcom_tree.specs.Reading.{start, after}
-use Rattle.gedcom_tree.specs.Text.{trailer, is_tag, is_empty, is_node, begins, rises, names_no_set, behind_first, IsForest, line_text, text}
-use Rattle.gedcom_tree.proofs.Cuts.{cases_bool}
+use Rattle.gedcom_tree.specs.Text.{trailer, is_empty, is_node, rises, names_no_set, IsForest, line_text, text}
 use Rattle.gedcom_tree.proofs.Lines.{Keeps, keeps_clean, lines_pieces, text_lines}
-use Rattle.gedcom_tree.proofs.Plain.{IsPlain, AllPlain, plain_reads, untrailed-push, no_pointer_nil}
+use Rattle.gedcom_tree.proofs.Plain.{AllPlain, plain_reads, untrailed-push, no_pointer_nil}
 use Rattle.gedcom_tree.proofs.Shaped.{leaf_of, forest_plain, counted}
 
 -- what a node of a forest says

@@ -1,11 +1,9 @@
 -- Lines are read as what they compute to, and as nothing else.
-use Rattle.std.proofs.Common.{◌≡◌, ℕ, Bool, true, false, cond, List, [], ◌∷◌, ◌++◌, refl, sym, ap, ◌∙◌, inl, inr, ◌⊎◌, Option, Some, None}
-use Rattle.std.specs.List.{flat_map}
-use Rattle.gedcom_line.specs.Reading.{Parts, is_continuation}
-use Rattle.gedcom_line.specs.Escape.{unescaped}
+use Rattle.std.proofs.Common.{◌≡◌, ℕ, List, [], ◌∷◌, refl, sym, ap, ◌∙◌, inl, inr, Some, None}
+use Rattle.gedcom_line.specs.Reading.{Parts}
 use Rattle.gedcom_line.specs.Value.{Meaning, Text, Pointer, meaning, IsPointer, pointer_in}
 use Rattle.gedcom_line.proofs.Pointers.{pointer_is, is_pointer}
-use Rattle.gedcom_tree.specs.Forest.{Item, belongs, adds, IsValue, IsNode, Reads, continued, node_of, forest_of}
+use Rattle.gedcom_tree.specs.Forest.{Item, belongs, IsValue, IsNode, Reads, continued, node_of, forest_of}
 
 pub no_pointer_in : (raw : List ℕ) → ((name : List ℕ) → ¬ (IsPointer raw name)) → pointer_in raw ≡ None
 no_pointer_in raw h = elim (pointer_in raw) as (λ o. pointer_in raw ≡ o → o ≡ None) [

@@ -1,12 +1,12 @@
 -- A file's first piece, and the rest.
-use Rattle.std.proofs.Common.{◌≡◌, ℕ, zero, suc, ◌+◌, ◌<◌, ◌≤◌, Bool, true, false, cond, not, ◌||◌, List, [], ◌∷◌, ◌++◌, length, ◌-◌, take, drop, length-drop, refl, sym, ap, ◌∙◌, arith, inl, inr, ◌⊎◌}
-use Rattle.std.specs.List.{prefix_len, list_all, list_any}
+use Rattle.std.proofs.Common.{◌≡◌, ℕ, suc, ◌+◌, ◌<◌, ◌≤◌, Bool, true, false, not, List, [], ◌∷◌, ◌++◌, length, ◌-◌, take, drop, length-drop, refl, ◌∙◌, arith, inl, inr, ◌⊎◌}
+use Rattle.std.specs.List.{prefix_len, list_all}
 use Rattle.std.proofs.Math.Numerals.{one-add}
 use Rattle.std.proofs.lemmas.List.{take_all}
 use Rattle.gedcom_line.specs.Words.{is_end}
 use Rattle.gedcom_line.specs.Line.{IsPiece}
 use Rattle.gedcom_line.proofs.Steps.{both, not_false, all_front}
-use Rattle.gedcom_tree.specs.Pieces.{Pieces, pieces, onto_first}
+use Rattle.gedcom_tree.specs.Pieces.{pieces, onto_first}
 
 pub cases_bool : (b : Bool) → (b ≡ true) ⊎ (b ≡ false)
 cases_bool true = inl refl

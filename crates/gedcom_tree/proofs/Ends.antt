@@ -8,19 +8,19 @@ use Rattle.gedcom_line.specs.declared.fault.LineKind.{LineKind}
 use Rattle.gedcom_line.specs.declared.fault.LineKind.TheVariants as line
 use Rattle.gedcom_line.proofs.Steps.{both, either}
 use Rattle.gedcom_tree.specs.declared.fault.TreeKind.{TreeKind}
-use Rattle.gedcom_tree.specs.declared.fault.TreeKind.TheVariants.{TooLong, NoHead, NoTrailer, FileTooLarge, OutOfMemory}
+use Rattle.gedcom_tree.specs.declared.fault.TreeKind.TheVariants.{TooLong, NoHead, NoTrailer, FileTooLarge}
 use Rattle.gedcom_tree.specs.Pieces.{file_pieces, all_pieces, skip_mark}
 use Rattle.gedcom_tree.specs.Rules.{Progress, progress_of, is_trailer, breaks, order, first_broken, of_line}
 use Rattle.gedcom_tree.specs.Forest.{Item, Reads, forest_of}
 use Rattle.gedcom_tree.specs.File.{max_line, max_file, IsFaulty, Clean, Fault, FaultIn, overflows, within, extra, OverLimit, Decides, EndsEarly, FaultOf, untrailed, ReadsFile}
-use Rattle.gedcom_tree.specs.Reading.{start, advance, judge, then_run, run, grow, grown, fault_behind, open_fault, decided, Reader, reader_of, ended, finished}
+use Rattle.gedcom_tree.specs.Reading.{start, run, grow, grown, fault_behind, open_fault, decided, reader_of, ended, finished}
 use Rattle.gedcom_tree.specs.State.{IsOpen, Finishes}
 use Rattle.gedcom_tree.proofs.Cuts.{cases_bool, AllPieces, pieces_whole, all_pieces-push}
 use Rattle.gedcom_tree.specs.Streams.{IsOfFile}
 use Rattle.gedcom_tree.proofs.Judged.{judge_long}
 use Rattle.gedcom_tree.proofs.Runs.{Ran, ran, clean_run, fault_run, run-push}
 use Rattle.gedcom_tree.proofs.Limits.{no_extra, within_small, extra_small, extra_large}
-use Rattle.gedcom_tree.proofs.Computed.{reads_computed, reads_same}
+use Rattle.gedcom_tree.proofs.Computed.{reads_computed}
 use Rattle.gedcom_tree.proofs.Plain.{clean_plain, untrailed_plain, plain_reads, clean_grown, grown-append, grown_cons, grown_nil, forest_nil}
 
 some_is : (x y : Fault) → Some x ≡ Some y → x ≡ y

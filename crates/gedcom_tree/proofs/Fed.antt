@@ -1,5 +1,5 @@
 -- A reader that is fed more bytes: what they leave depends on what the bytes before them left alone.
-use Rattle.std.proofs.Common.{◌≡◌, ℕ, suc, ◌+◌, ◌-◌, ◌<◌, ◌≤◌, Bool, true, false, cond, min, List, [], ◌∷◌, ◌++◌, length, take, length-append, refl, sym, ap, ◌∙◌, subst, inl, inr, ◌⊎◌, arith, Option, Some, None, Ok, Err, Result}
+use Rattle.std.proofs.Common.{◌≡◌, ℕ, suc, ◌+◌, ◌-◌, ◌≤◌, min, List, [], ◌++◌, length, take, length-append, refl, sym, ap, ◌∙◌, subst, inl, inr, ◌⊎◌, arith, Option, Some, None, Ok, Err, Result}
 use Rattle.std.specs.Option.{option_map}
 use Rattle.std.specs.Prelude.{slice_get}
 use Rattle.std.proofs.lemmas.List.{length-take-le, take_all, take_min}
@@ -7,9 +7,8 @@ use Rattle.std.proofs.Math.Seq.{take-append-add}
 use Rattle.gedcom_tree.specs.declared.fault.TreeFault.{TreeFault}
 use Rattle.gedcom_tree.specs.declared.fault.TreeKind.TheVariants.{OutOfMemory}
 use Rattle.gedcom_tree.specs.Pieces.{pieces, file_pieces}
-use Rattle.gedcom_tree.specs.Rules.{Progress}
 use Rattle.gedcom_tree.specs.Forest.{Item}
-use Rattle.gedcom_tree.specs.File.{Fault, max_file, within, extra, Decides, FaultOf, ReadsFile}
+use Rattle.gedcom_tree.specs.File.{Fault, max_file, within, extra, Decides, FaultOf}
 use Rattle.gedcom_tree.specs.Reading.{start, then_run, run, grown, open_fault, decided, Reader, reader_of, finished}
 use Rattle.gedcom_tree.specs.State.{Holds, IsOpen, Finishes}
 use Rattle.gedcom_tree.specs.Views.{fault_view}

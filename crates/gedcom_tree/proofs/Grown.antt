@@ -1,9 +1,8 @@
 -- A node with one more child has that child's nodes at the end of its own.
-use Rattle.std.proofs.Common.{◌≡◌, ℕ, zero, suc, ◌+◌, ◌<◌, ◌≤◌, List, [], ◌∷◌, ◌++◌, map, length, get_or, set, refl, sym, ap, ◌∙◌, append_assoc, arith, string_bytes}
-use Rattle.std.specs.Option.{option_map}
+use Rattle.std.proofs.Common.{◌≡◌, ℕ, zero, suc, ◌+◌, List, [], ◌∷◌, ◌++◌, map, length, get_or, set, refl, sym, ap, ◌∙◌, append_assoc, arith}
 use Rattle.std.proofs.lemmas.List.{append-nil, map-append}
 use Rattle.gedcom_tree.specs.Forest.{Item}
-use Rattle.gedcom_tree.specs.Flat.{flat, flats, flat_step, all_at, value_said, said, flat_open, built}
+use Rattle.gedcom_tree.specs.Flat.{flat, flats, flat_step, all_at, said, flat_open, built}
 use Rattle.gedcom_tree.specs.declared.node.Node.{Node}
 use Rattle.gedcom_tree.specs.declared.node.Node.TheViews.{out-Node, roll-Node, out-roll-Node}
 use Rattle.gedcom_tree.specs.declared.node.Node.TheOpen.{Node-F}

@@ -1,5 +1,5 @@
 -- A writer that gets a text in parts, with a buffer in between.
-use Rattle.std.proofs.Common.{◌≡◌, ℕ, suc, ◌+◌, ◌<◌, ◌≤◌, Bool, true, leb, List, [], ◌∷◌, ◌++◌, length, get_or, take, drop, length-append, refl, sym, ap, ◌∙◌, subst, arith, append_assoc, add-one, drop-cons, append-nil, Option, Some, None, Ok, Err, Result}
+use Rattle.std.proofs.Common.{◌≡◌, ℕ, suc, ◌+◌, ◌<◌, ◌≤◌, Bool, true, leb, List, [], ◌∷◌, ◌++◌, length, get_or, take, drop, length-append, refl, sym, ap, ◌∙◌, subst, arith, append_assoc, add-one, drop-cons, append-nil, Option, Ok, Err, Result}
 use Rattle.std.specs.Prelude.{IfErr, OnErr}
 use Rattle.std.proofs.Math.ListN.{drop_of_length-le}
 use Rattle.std.specs.List.{flat_map, list_all}
@@ -30,9 +30,9 @@ going_on a b c whole out t rest more left g e h = record {
   front = g.front ++ h.front;
   taken = Appends-trans a b c g.front h.front g.taken h.taken;
   parts =
-    append_assoc g.front h.front (more ++ left)
-    ∙ ap (λ (x : List ℕ). g.front ++ x) (sym (append_assoc h.front more left) ∙ ap (λ (x : List ℕ). x ++ left) h.parts ∙ append_assoc out t left ∙ ap (λ (x : List ℕ). out ++ x) (sym e))
-    ∙ g.parts;
+      append_assoc g.front h.front (more ++ left)
+      ∙ ap (λ (x : List ℕ). g.front ++ x) (sym (append_assoc h.front more left) ∙ ap (λ (x : List ℕ). x ++ left) h.parts ∙ append_assoc out t left ∙ ap (λ (x : List ℕ). out ++ x) (sym e))
+      ∙ g.parts;
 }
 
 pub going_stops : (a b c : Option (List ℕ)) (whole out t rest left : List ℕ) → Going a b whole out rest → rest ≡ t ++ left → AppendsBeginning b c (out ++ t) → AppendsBeginning a c whole

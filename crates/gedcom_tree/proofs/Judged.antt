@@ -1,15 +1,14 @@
 -- What judging a piece answers is what the definitions of a fault and of a line that breaks no rule say.
-use Rattle.std.proofs.Common.{◌≡◌, ℕ, ◌+◌, ◌<◌, ◌≤◌, Bool, true, false, cond, ltb, ◌||◌, List, [], ◌∷◌, length, refl, sym, ap, ◌∙◌, subst, inl, inr, ◌⊎◌, Option, Some, None, Ok, Err, Result}
-use Rattle.std.specs.Prelude.{find}
+use Rattle.std.proofs.Common.{◌≡◌, ℕ, ◌<◌, ◌≤◌, List, length, refl, sym, ap, ◌∙◌, subst, inl, inr, Option, Some, None, Ok, Err, Result}
 use Rattle.std.proofs.lemmas.Bool.{lt-ltb, le-ltb, cases_lt}
-use Rattle.gedcom_line.specs.Reading.{Parts, reading, is_continuation}
+use Rattle.gedcom_line.specs.Reading.{Parts, reading}
 use Rattle.gedcom_line.specs.Line.{IsPiece, IsBlank, Line}
 use Rattle.gedcom_line.specs.declared.fault.LineKind.{LineKind}
 use Rattle.gedcom_line.proofs.Whole.{reading_line, line_reading, reading_blank, blank_reading, reading_fault, fault_reading}
 use Rattle.gedcom_tree.specs.declared.fault.TreeKind.{TreeKind}
 use Rattle.gedcom_tree.specs.declared.fault.TreeKind.TheVariants.{TooLong}
 use Rattle.gedcom_tree.specs.Rules.{Progress, progress_of, first_broken, of_line}
-use Rattle.gedcom_tree.specs.File.{max_line, IsFaulty, IsNoLine, BreaksFirst}
+use Rattle.gedcom_tree.specs.File.{max_line, IsFaulty}
 use Rattle.gedcom_tree.specs.Reading.{judge, judge_read, kept}
 
 pub judge_long : (q : Progress) (p : List ℕ) → max_line < length p → judge q p ≡ Err TooLong

@@ -1,17 +1,16 @@
 -- The text of lines is cut into these lines again.
-use Rattle.std.proofs.Common.{◌≡◌, ℕ, ◌+◌, ◌<◌, ◌≤◌, Bool, true, false, cond, eqb, ◌&&◌, ◌||◌, List, [], ◌∷◌, ◌++◌, length, map, refl, sym, ap, ◌∙◌, subst, inl, inr, ◌⊎◌, append_assoc, append-nil, Option, Some, None}
-use Rattle.std.specs.List.{flat_map, list_all}
-use Rattle.std.specs.Fmt.{decimal}
+use Rattle.std.proofs.Common.{◌≡◌, ℕ, ◌≤◌, List, [], ◌∷◌, ◌++◌, length, map, refl, sym, ap, ◌∙◌, subst, inl, inr, append_assoc, append-nil, None}
+use Rattle.std.specs.List.{flat_map}
 use Rattle.std.proofs.lemmas.Fmt.{decimal_digit}
 use Rattle.std.proofs.Common.{arith}
 use Rattle.std.proofs.lemmas.List.Concat.{flat_map-append}
 use Rattle.gedcom_line.specs.Words.{is_end}
 use Rattle.gedcom_line.specs.Reading.{Parts}
-use Rattle.gedcom_line.specs.Line.{IsPiece, Line}
+use Rattle.gedcom_line.specs.Line.{IsPiece}
 use Rattle.gedcom_line.specs.Spelling.{spelling, xref_text, raw_text, IsLine}
 use Rattle.gedcom_line.proofs.Steps.{neither}
 use Rattle.gedcom_line.proofs.Again.{line_again, spelling_inner, inner_piece}
-use Rattle.gedcom_tree.specs.Pieces.{Pieces, pieces, onto_first, skip_mark, file_pieces, all_pieces}
+use Rattle.gedcom_tree.specs.Pieces.{Pieces, pieces, skip_mark, file_pieces, all_pieces}
 use Rattle.gedcom_tree.specs.Rules.{Progress, progress_of, first_broken}
 use Rattle.gedcom_tree.specs.File.{max_line, Clean}
 use Rattle.gedcom_tree.specs.Forest.{Item, node_lines, lines_of}

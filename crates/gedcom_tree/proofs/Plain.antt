@@ -1,22 +1,21 @@
 -- Lines of a level and a tag alone, as the first path has them: what they keep, and the forest that they are.
-use Rattle.std.proofs.Common.{◌≡◌, ℕ, zero, suc, ◌+◌, ◌<◌, ◌≤◌, Bool, true, false, cond, eqb, ltb, not, ◌&&◌, ◌||◌, List, [], ◌∷◌, ◌++◌, length, take, refl, sym, ap, ◌∙◌, subst, inl, inr, ◌⊎◌, arith, Option, Some, None, Ok, Err, Result}
+use Rattle.std.proofs.Common.{◌≡◌, ℕ, zero, suc, ◌+◌, Bool, true, false, cond, eqb, ltb, not, ◌&&◌, ◌||◌, List, [], ◌∷◌, ◌++◌, length, take, refl, sym, ap, ◌∙◌, subst, inl, inr, arith, Some, None}
 use Rattle.std.specs.Prelude.{find, is_some, codes}
 use Rattle.std.specs.Str.{bytes_eq}
-use Rattle.std.specs.List.{list_all, list_any, prefix_len, flat_map}
+use Rattle.std.specs.List.{list_any, prefix_len}
 use Rattle.std.proofs.Math.Numerals.{one-add}
 use Rattle.std.proofs.lemmas.Bool.{eqb-true}
 use Rattle.std.proofs.lemmas.List.{append-nil}
-use Rattle.gedcom_line.specs.Reading.{Parts, reading, is_continuation}
+use Rattle.gedcom_line.specs.Reading.{Parts, is_continuation}
 use Rattle.gedcom_line.specs.Line.{Line, IsBlank}
-use Rattle.gedcom_line.specs.Value.{Meaning, Text, Pointer, meaning, IsPointer, pointer_in}
-use Rattle.gedcom_line.proofs.Steps.{neither, not_false}
+use Rattle.gedcom_line.specs.Value.{meaning, pointer_in}
+use Rattle.gedcom_line.proofs.Steps.{neither}
 use Rattle.gedcom_line.proofs.Pointers.{pointer_is}
 use Rattle.gedcom_line.proofs.Whole.{line_reading, blank_reading}
-use Rattle.gedcom_tree.specs.declared.fault.TreeKind.{TreeKind}
 use Rattle.gedcom_tree.specs.declared.fault.TreeKind.TheVariants.{BadXref, BadTag, LevelJump, NoHead, AfterTrailer, BadContinuation, Charset}
-use Rattle.gedcom_tree.specs.Rules.{Progress, progress_of, is_head, is_trailer, ends_in_space, breaks, order, first_broken}
-use Rattle.gedcom_tree.specs.File.{max_line, Clean, untrailed}
-use Rattle.gedcom_tree.specs.Forest.{Item, belongs, adds, IsValue, IsNode, Reads, continued, node_of, forest_of}
+use Rattle.gedcom_tree.specs.Rules.{Progress, progress_of, is_head, is_trailer, ends_in_space, breaks, first_broken}
+use Rattle.gedcom_tree.specs.File.{Clean, untrailed}
+use Rattle.gedcom_tree.specs.Forest.{Item, belongs, IsValue, Reads, continued, node_of, forest_of}
 use Rattle.gedcom_tree.specs.Reading.{grow, grow_read, grown}
 use Rattle.gedcom_tree.proofs.Cuts.{cases_bool}
 

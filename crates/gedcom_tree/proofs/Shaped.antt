@@ -1,28 +1,25 @@
 -- The forest that a file reads as is one: it begins with HEAD, its levels rise one by one, and its nodes can be written.
-use Rattle.std.proofs.Common.{◌≡◌, ℕ, zero, suc, ◌+◌, ◌<◌, ◌≤◌, Bool, true, false, cond, eqb, ltb, leb, not, ◌&&◌, ◌||◌, List, [], ◌∷◌, ◌++◌, length, map, refl, sym, ap, ◌∙◌, subst, inl, inr, ◌⊎◌, arith, append_assoc, Option, Some, None, codes}
-use Rattle.std.specs.Prelude.{is_some}
+use Rattle.std.proofs.Common.{◌≡◌, ℕ, ◌+◌, ◌≤◌, Bool, true, false, eqb, ltb, leb, not, ◌&&◌, List, [], ◌∷◌, ◌++◌, length, map, refl, sym, ◌∙◌, subst, inl, inr, arith, append_assoc, codes}
 use Rattle.std.specs.List.{list_all, list_any}
 use Rattle.std.specs.Str.{bytes_eq}
-use Rattle.std.specs.Cmp.Derive.{both_true}
 use Rattle.std.proofs.lemmas.Bool.{eqb-true, ltb-false, le-leb, lt-ltb}
 use Rattle.std.proofs.lemmas.List.{append-nil}
 use Rattle.std.proofs.lemmas.Slice.Eq.{bytes_eq-Decides}
-use Rattle.gedcom_line.specs.Words.{is_word}
 use Rattle.gedcom_line.specs.Reading.{Parts, is_continuation}
-use Rattle.gedcom_line.specs.Line.{Line, IsContinuation}
+use Rattle.gedcom_line.specs.Line.{IsContinuation}
 use Rattle.gedcom_line.specs.Spelling.{IsLine}
-use Rattle.gedcom_line.specs.Value.{Meaning, Text, Pointer, meaning, pointer_in}
+use Rattle.gedcom_line.specs.Value.{meaning}
 use Rattle.gedcom_line.proofs.Steps.{both, eqb_false}
 use Rattle.gedcom_line.proofs.Written.{line_parts}
-use Rattle.gedcom_tree.specs.Rules.{Progress, progress_of, is_head, is_trailer, first_broken}
+use Rattle.gedcom_tree.specs.Rules.{Progress, progress_of, is_head, is_trailer}
 use Rattle.gedcom_tree.specs.File.{Clean, untrailed, ReadsFile}
 use Rattle.gedcom_tree.specs.Forest.{Item, belongs, continued, node_of, forest_of}
 use Rattle.gedcom_tree.specs.Reading.{start, after}
-use Rattle.gedcom_tree.specs.Text.{is_tag, is_empty, is_node, begins, rises, names_no_set, behind_first, IsForest}
+use Rattle.gedcom_tree.specs.Text.{is_empty, is_node, rises, names_no_set, IsForest}
 use Rattle.gedcom_tree.proofs.Cuts.{cases_bool}
 use Rattle.gedcom_tree.proofs.Runs.{progress-push}
 use Rattle.gedcom_tree.proofs.Computed.{reads_computed}
-use Rattle.gedcom_tree.proofs.Plain.{Unbroken, unbroken, IsPlain, AllPlain, unbroken_plain, clean_plain, untrailed_plain, untrailed_cons, untrailed_trailer, no_pointer_nil}
+use Rattle.gedcom_tree.proofs.Plain.{Unbroken, unbroken, AllPlain, unbroken_plain, clean_plain, untrailed_plain, untrailed_cons, untrailed_trailer, no_pointer_nil}
 
 -- what lines keep, behind what the lines before them left
 abbrev pub Fits : Progress → List Parts → Type 0

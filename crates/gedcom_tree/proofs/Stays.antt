@@ -1,16 +1,14 @@
 -- A fault that bytes decide is that of each file that begins with them.
-use Rattle.std.proofs.Common.{◌≡◌, ℕ, zero, suc, ◌+◌, ◌-◌, ◌<◌, ◌≤◌, Bool, true, false, cond, eqb, ltb, ◌&&◌, ◌||◌, List, [], ◌∷◌, ◌++◌, length, take, length-append, refl, sym, ap, ◌∙◌, subst, inl, inr, ◌⊎◌, arith, append_assoc, Option, Some, None, Ok, Err, Result}
-use Rattle.std.specs.Prelude.{slice_get, is_some}
-use Rattle.std.proofs.lemmas.Bool.{cases_lt, cases_eq, lt-ltb}
-use Rattle.std.proofs.lemmas.List.{take-append-le}
+use Rattle.std.proofs.Common.{◌≡◌, ℕ, suc, ◌-◌, ◌<◌, ◌≤◌, List, [], ◌∷◌, ◌++◌, length, take, refl, sym, ap, ◌∙◌, inl, inr, ◌⊎◌, arith, Option, Some, None, Ok, Err, Result}
+use Rattle.std.proofs.lemmas.Bool.{cases_lt, lt-ltb}
 use Rattle.gedcom_line.specs.Words.{is_end}
 use Rattle.gedcom_line.specs.Line.{IsPiece}
-use Rattle.gedcom_line.proofs.Steps.{neither, eqb_false}
+use Rattle.gedcom_line.proofs.Steps.{neither}
 use Rattle.gedcom_tree.specs.Pieces.{Pieces, pieces, onto_first, skip_mark, file_pieces}
 use Rattle.gedcom_tree.specs.Rules.{Progress}
 use Rattle.gedcom_tree.specs.declared.fault.TreeKind.TheVariants.{TooLong}
 use Rattle.gedcom_tree.specs.File.{max_line, max_file, Fault, overflows, within, extra, Decides, FaultOf}
-use Rattle.gedcom_tree.specs.Reading.{start, judge, advance, then_run, run, fault_behind, open_fault, decided}
+use Rattle.gedcom_tree.specs.Reading.{start, run, fault_behind, open_fault, decided}
 use Rattle.gedcom_tree.proofs.Cuts.{cases_bool, pieces_whole}
 use Rattle.gedcom_tree.proofs.Judged.{judge_long}
 use Rattle.gedcom_tree.proofs.Runs.{run-append, run_err, run_nil}

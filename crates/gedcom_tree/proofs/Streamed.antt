@@ -1,5 +1,5 @@
 -- What is read of a front of a file that is one byte longer than a file may be is what the file is.
-use Rattle.std.proofs.Common.{◌≡◌, ℕ, suc, ◌+◌, ◌<◌, ◌≤◌, Bool, true, leb, min, List, [], ◌∷◌, ◌++◌, length, take, refl, sym, ap, ◌∙◌, subst, inl, inr, ◌⊎◌, arith, Option, Some, None, Ok, Err, Result}
+use Rattle.std.proofs.Common.{◌≡◌, ℕ, suc, ◌≤◌, true, leb, List, [], ◌∷◌, ◌++◌, length, take, refl, sym, ap, ◌∙◌, subst, inl, inr, ◌⊎◌, arith, Option, Some, None, Ok, Err, Result}
 use Rattle.std.specs.Prelude.{IfSome, IfOk, IfErr}
 use Rattle.gedcom_tree.specs.Views.{fault_view, outcome}
 use Rattle.gedcom_tree.specs.declared.fault.TreeFault.{TreeFault}
@@ -9,9 +9,8 @@ use Rattle.gedcom_line.proofs.Steps.{both}
 use Rattle.gedcom_tree.specs.declared.fault.TreeKind.TheVariants.{OutOfMemory, ReadFailed}
 use Rattle.gedcom_tree.specs.Forest.{Item}
 use Rattle.gedcom_tree.specs.File.{max_file, Fault, Decides, FaultOf, ReadsFile}
-use Rattle.gedcom_tree.specs.Reading.{decided}
 use Rattle.gedcom_tree.specs.State.{Finishes}
-use Rattle.gedcom_tree.specs.Streams.{IsOfFile, NotRead, ReadAs}
+use Rattle.gedcom_tree.specs.Streams.{NotRead, ReadAs}
 use Rattle.gedcom_tree.specs.Text.{is_node, IsForest, IsLow, text, node_text, line_text, trailer}
 use Rattle.gedcom_tree.proofs.Fed.{decided_front}
 use Rattle.gedcom_tree.proofs.Ends.{decided_is, is_decided, decides_fault, decides_of_file, fault_of_file}

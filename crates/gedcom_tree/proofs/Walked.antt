@@ -1,5 +1,5 @@
 -- What a walk over the pieces of a file finds is what the file is read as.
-use Rattle.std.proofs.Common.{◌≡◌, ℕ, ◌+◌, Bool, true, false, cond, List, [], ◌∷◌, ◌++◌, refl, sym, ap, ◌∙◌, subst, inl, inr, ◌⊎◌, Option, Some, None, Ok, Err, Result}
+use Rattle.std.proofs.Common.{◌≡◌, ℕ, true, List, [], ◌∷◌, refl, sym, ap, ◌∙◌, inl, inr, ◌⊎◌, Ok, Err, Result}
 use Rattle.gedcom_tree.specs.Pieces.{pieces, skip_mark, file_pieces}
 use Rattle.gedcom_tree.specs.Rules.{Progress}
 use Rattle.gedcom_tree.specs.Forest.{Item}

@@ -1,5 +1,5 @@
 -- How many nodes are open behind lines: one of each level down to that of the last line.
-use Rattle.std.specs.Prelude.{◌≡◌, ℕ, ◌+◌, ◌==◌, Bool, false, if◌then◌else◌}
+use Rattle.std.specs.Prelude.{◌≡◌, ℕ, ◌+◌, ◌==◌, false, if◌then◌else◌}
 use Rattle.gedcom_tree.specs.Rules.{Progress}
 
 abbrev pub depth : Progress → ℕ

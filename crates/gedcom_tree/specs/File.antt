@@ -7,8 +7,8 @@ use Rattle.gedcom_line.specs.Line.{IsBlank, Line, Fault as LineFaultIs}
 use Rattle.gedcom_line.specs.declared.fault.LineKind.{LineKind}
 use Rattle.gedcom_tree.specs.declared.fault.TreeKind.{TreeKind}
 use Rattle.gedcom_tree.specs.declared.fault.TreeKind.TheVariants.{TooLong, NoHead, NoTrailer, FileTooLarge}
-use Rattle.gedcom_tree.specs.Pieces.{pieces, skip_mark, file_pieces, all_pieces}
-use Rattle.gedcom_tree.specs.Rules.{Progress, progress_of, is_trailer, first_broken, of_line}
+use Rattle.gedcom_tree.specs.Pieces.{file_pieces, all_pieces}
+use Rattle.gedcom_tree.specs.Rules.{progress_of, is_trailer, first_broken, of_line}
 use Rattle.gedcom_tree.specs.Forest.{Item, Reads}
 
 -- the most bytes between two terminators, a byte order mark not counted
@@ -77,8 +77,8 @@ pub record OverLimit (b : List ℕ) (f : Fault) : Type 0 where
   pub clean : Clean [] (file_pieces (within b)).ended lines
   pub at : f.at ≡ Some (length lines + 1)
   pub kind :
-    ((f.kind ≡ TooLong) × (overflows (file_pieces (within b)).open_ (extra b) ≡ true))
-    ⊎ ((f.kind ≡ FileTooLarge) × ((overflows (file_pieces (within b)).open_ (extra b) ≡ false) × (is_some (extra b) ≡ true)))
+      ((f.kind ≡ TooLong) × (overflows (file_pieces (within b)).open_ (extra b) ≡ true))
+      ⊎ ((f.kind ≡ FileTooLarge) × ((overflows (file_pieces (within b)).open_ (extra b) ≡ false) × (is_some (extra b) ≡ true)))
 
 -- The bytes so far decide the fault, however they go on. A piece is judged where it ends, within the most bytes of a file.
 abbrev pub Decides : List ℕ → Fault → Type 0

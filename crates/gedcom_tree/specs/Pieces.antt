@@ -1,6 +1,6 @@
 -- A file cut at each CR and LF (The GEDCOM Standard Release 5.5.1, chapter 1: each of CR, LF, CR LF and LF CR ends a line;
 -- a piece of white space alone is no line, so it is enough to cut at each of the two).
-use Rattle.std.specs.Prelude.{ℕ, Bool, ◌&&◌, ◌==◌, if◌then◌else◌, List, [], ◌∷◌, ◌++◌}
+use Rattle.std.specs.Prelude.{ℕ, ◌&&◌, ◌==◌, if◌then◌else◌, List, [], ◌∷◌, ◌++◌}
 use Rattle.gedcom_line.specs.Words.{is_end}
 
 -- the pieces that a terminator ends, in order, and what stands after the last terminator

@@ -1,10 +1,10 @@
 -- How a file is judged and read, one piece after another: the same as File says, by computing.
-use Rattle.std.specs.Prelude.{◌≡◌, ℕ, ◌+◌, Bool, true, false, not, ◌&&◌, ◌||◌, ◌==◌, nat_lt, if◌then◌else◌, List, [], ◌∷◌, ◌++◌, length, Option, Some, None, Result, Ok, Err, is_some}
+use Rattle.std.specs.Prelude.{ℕ, ◌+◌, false, not, ◌&&◌, ◌||◌, ◌==◌, nat_lt, if◌then◌else◌, List, [], ◌∷◌, ◌++◌, length, Option, Some, None, Result, Ok, Err, is_some}
 use Rattle.gedcom_line.specs.Reading.{Parts, reading}
 use Rattle.gedcom_line.specs.declared.fault.LineKind.{LineKind}
 use Rattle.gedcom_tree.specs.declared.fault.TreeKind.{TreeKind}
 use Rattle.gedcom_tree.specs.declared.fault.TreeKind.TheVariants.{TooLong, NoHead, NoTrailer, FileTooLarge}
-use Rattle.gedcom_tree.specs.Pieces.{Pieces, file_pieces}
+use Rattle.gedcom_tree.specs.Pieces.{file_pieces}
 use Rattle.gedcom_tree.specs.Rules.{Progress, is_trailer, first_broken, of_line}
 use Rattle.gedcom_tree.specs.Forest.{Item, node_of}
 use Rattle.gedcom_tree.specs.File.{Fault, max_line, overflows, within, extra}

@@ -3,7 +3,7 @@
 -- Level 0 HEAD first and level 0 TRLR last, a level at most one above that of the line before, the character set of the
 -- header: The GEDCOM Standard Release 5.5.1, chapter 1 (levels) and chapter 2 (header and trailer record). The limits and
 -- the order are the project's own (docs/FORMATS.md).
-use Rattle.std.specs.Prelude.{◌≡◌, ℕ, ◌+◌, ◌-◌, Bool, true, false, not, ◌&&◌, ◌||◌, ◌==◌, nat_lt, List, [], ◌∷◌, length, slice_index, Option, Some, None, is_some, find, codes}
+use Rattle.std.specs.Prelude.{ℕ, ◌+◌, ◌-◌, Bool, false, not, ◌&&◌, ◌||◌, ◌==◌, nat_lt, List, [], ◌∷◌, length, slice_index, Option, is_some, find, codes}
 use Rattle.std.specs.List.{list_all, list_any}
 use Rattle.std.specs.Str.{bytes_eq}
 use Rattle.gedcom_line.specs.Reading.{Parts, is_continuation}

@@ -1,6 +1,6 @@
 -- What is said of files that come from a reader and go to a writer.
 use Rattle.std.specs.Prelude.{◌≡◌, ◌⊎◌, ℕ, List, ◌++◌, Option, IfSome, Result, Ok, Err}
-use Rattle.std.specs.Io.KnownBytes.{Appends, Keeps}
+use Rattle.std.specs.Io.KnownBytes.{Appends}
 use Rattle.gedcom_tree.specs.declared.fault.TreeKind.{TreeKind}
 use Rattle.gedcom_tree.specs.declared.fault.TreeKind.TheVariants.{OutOfMemory, ReadFailed, WriteFailed}
 use Rattle.gedcom_tree.specs.File.{Fault, FaultOf, ReadsFile}

@@ -22,11 +22,9 @@ fn line_len(bytes: &[u8]) -> usize
 
 /// The first piece that a terminator ends, and what follows the terminator.
 pub(crate) fn cut(bytes: &[u8]) -> Option<(&[u8], &[u8])>
-    ensures ended {
-        MatchOption result ((pieces bytes.now).ended ≡ [])
+    ensures ended { MatchOption result ((pieces bytes.now).ended ≡ [])
         (λ x. (pieces bytes.now).ended ≡ x.0.now ∷ (pieces x.1.now).ended) }
-    ensures open_ {
-        MatchOption result ((pieces bytes.now).open_ ≡ bytes.now)
+    ensures open_ { MatchOption result ((pieces bytes.now).open_ ≡ bytes.now)
         (λ x. (pieces bytes.now).open_ ≡ (pieces x.1.now).open_) }
     ensures piece { MatchOption result (IsPiece bytes.now) (λ x. IsPiece x.0.now) }
     ensures shorter { MatchOption result (Unit {0}) (λ x. length x.1.now < length bytes.now) }

@@ -31,8 +31,7 @@ impl Growing {
     /// Puts the last open node below the one before it, or at level 0.
     fn close(&mut self) -> Result<(), AllocError>
         requires { 0 < length self.old.path.items }
-        ensures same {
-            OnOk result (built self.new.roots.items self.new.path.items
+        ensures same { OnOk result (built self.new.roots.items self.new.path.items
             ≡ built self.old.roots.items self.old.path.items) }
         ensures shorter { OnOk result (length self.new.path.items + 1 ≡ length self.old.path.items) }
     {
@@ -49,8 +48,7 @@ impl Growing {
     /// Closes the nodes of a level and above.
     fn close_to(&mut self, level: usize) -> Result<(), AllocError>
         requires { level ≤ length self.old.path.items }
-        ensures same {
-            OnOk result (built self.new.roots.items self.new.path.items
+        ensures same { OnOk result (built self.new.roots.items self.new.path.items
             ≡ built self.old.roots.items self.old.path.items) }
         ensures depth { OnOk result (length self.new.path.items ≡ level) }
     {
@@ -64,8 +62,7 @@ impl Growing {
     pub(crate) fn add(&mut self, level: usize, node: Node) -> Result<(), AllocError>
         requires level { level ≤ length self.old.path.items }
         requires leaf { (out-Node node).children.items ≡ [] }
-        ensures added {
-            OnOk result (built self.new.roots.items self.new.path.items
+        ensures added { OnOk result (built self.new.roots.items self.new.path.items
             ≡ built self.old.roots.items self.old.path.items ++ said level node ∷ []) }
         ensures depth { OnOk result (length self.new.path.items ≡ level + 1) }
     {

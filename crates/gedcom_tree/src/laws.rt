@@ -12,8 +12,7 @@ pub fn a_file_is_one_thing()
     ensures one { (b : List ℕ) (f g : List Item) → ReadsFile b f → ReadsFile b g → f ≡ g }
     ensures fault { (b : List ℕ) (d e : Fault) → FaultOf b d → FaultOf b e → d ≡ e }
     ensures apart { (b : List ℕ) (f : List Item) (e : Fault) → ReadsFile b f → FaultOf b e → ⊥ }
-    ensures either {
-        (b : List ℕ) → ((f : List Item) × ReadsFile b f) ⊎ ((e : Fault) × FaultOf b e) }
+    ensures either { (b : List ℕ) → ((f : List Item) × ReadsFile b f) ⊎ ((e : Fault) × FaultOf b e) }
 {}
 
 /// A fault that bytes decide is that of each file that begins with them.

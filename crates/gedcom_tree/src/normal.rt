@@ -19,10 +19,8 @@ use std::io::{Read, Write};
 
 /// The bytes of a file, and one more where it is too large.
 fn read_bytes<R: Read + Device>(alloc: Global, reader: &mut R) -> Result<Vec<u8>, TreeFault>
-    ensures bytes {
-        IfOk result (λ all. IfSome (R.remaining reader.old) (λ known. all.items ≡ take 67_108_865 known)) }
-    ensures fault {
-        IfErr result (λ f. (f.kind ≡ TreeKind.OutOfMemory)
+    ensures bytes { IfOk result (λ all. IfSome (R.remaining reader.old) (λ known. all.items ≡ take 67_108_865 known)) }
+    ensures fault { IfErr result (λ f. (f.kind ≡ TreeKind.OutOfMemory)
         ⊎ ((f.kind ≡ TreeKind.ReadFailed) × Rose (R.failed reader.old) (R.failed reader.new))) }
 {
     let before = reader.failures();
@@ -56,8 +54,7 @@ fn forest_of(alloc: Global, bytes: &[u8]) -> Result<Forest, TreeFault>
 /// a file may have is read at the most, so an endless input ends.
 pub fn read_forest<R: Read + Device>(alloc: Global, reader: &mut R) -> Result<Forest, TreeFault>
     ensures read { IfOk result (λ f. IfSome (R.remaining reader.old) (λ b. ReadsFile b f)) }
-    ensures fault {
-        IfErr result (λ f. NotRead (R.remaining reader.old)
+    ensures fault { IfErr result (λ f. NotRead (R.remaining reader.old)
         (Rose (R.failed reader.old) (R.failed reader.new)) (fault_view f)) }
 {
     let bytes = match read_bytes(alloc, reader) {
@@ -74,13 +71,11 @@ pub fn normalise<R: Read + Device, W: Write + Device>(
     reader: &mut R,
     writer: &mut W,
 ) -> Result<(), TreeFault>
-    ensures done {
-        OnOk result (Normalised (R.remaining reader.old)
+    ensures done { OnOk result (Normalised (R.remaining reader.old)
         (W.contents writer.old) (W.contents writer.new)) }
 
     // Either no forest was read and nothing is written, or a beginning of its text is.
-    ensures fault {
-        IfErr result (λ f. (NotRead (R.remaining reader.old)
+    ensures fault { IfErr result (λ f. (NotRead (R.remaining reader.old)
         (Rose (R.failed reader.old) (R.failed reader.new)) (fault_view f)
         × Keeps (W.contents writer.old) (W.contents writer.new))
         ⊎ Begun (R.remaining reader.old) (W.contents writer.old) (W.contents writer.new)

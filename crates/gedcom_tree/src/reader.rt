@@ -18,8 +18,7 @@ use std::marker::Model;
 /// Judges each line that a terminator ends. At `Ok`, what the lines leave, and what follows them.
 fn judge_all(bytes: &[u8]) -> Result<(Seen, &[u8]), TreeFault>
     requires { length bytes.now ≤ 67_108_864 }
-    ensures value {
-        MatchResult result
+    ensures value { MatchResult result
         (λ x. run start (pieces bytes.now).ended ≡ Ok (progress x.0))
         (λ f. run start (pieces bytes.now).ended ≡ Err (fault_view f)) }
     ensures open_ { IfOk result (λ x. (pieces bytes.now).open_ ≡ x.1.now) }
@@ -99,11 +98,9 @@ fn first_fault(bytes: &[u8]) -> Option<TreeFault>
 /// Adds the piece to the bytes, and judges them all. Behind a fault the bytes are gone.
 fn add(bytes: &mut Vec<u8>, piece: &[u8]) -> Result<(), TreeFault>
     requires { length bytes.old.items ≤ 67_108_864 }
-    ensures ok {
-        OnOk result ((bytes.new.items ≡ bytes.old.items ++ piece.now)
+    ensures ok { OnOk result ((bytes.new.items ≡ bytes.old.items ++ piece.now)
         × (decided bytes.new.items ≡ None)) }
-    ensures fault {
-        IfErr result (λ f. (f.kind ≡ TreeKind.OutOfMemory)
+    ensures fault { IfErr result (λ f. (f.kind ≡ TreeKind.OutOfMemory)
         ⊎ (decided (bytes.old.items ++ piece.now) ≡ Some (fault_view f))) }
     ensures small { length bytes.new.items ≤ 67_108_864 }
 {
@@ -158,10 +155,8 @@ impl TreeReader {
     /// Takes the next piece of the file, of any length. A fault is answered as soon as the bytes fed
     /// decide it, and again at each later call.
     pub fn feed(&mut self, piece: &[u8]) -> Result<(), TreeFault>
-        ensures fed {
-            (b : List ℕ) → Holds self.old b → Takes self.new (b ++ piece.now) (fault_of result) }
-        ensures again {
-            MatchOption self.old.answer (Unit {0})
+        ensures fed { (b : List ℕ) → Holds self.old b → Takes self.new (b ++ piece.now) (fault_of result) }
+        ensures again { MatchOption self.old.answer (Unit {0})
             (λ f. (fault_of result ≡ Some f) × (self.new ≡ self.old)) }
     {
         if let Some(fault) = self.fault {

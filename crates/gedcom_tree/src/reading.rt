@@ -29,12 +29,10 @@ fn add_line(
     line: &LineRef<'_>,
 ) -> Result<(), AllocError>
     requires { line.now.level ≤ length growing.old.path.items }
-    ensures added {
-        OnOk result (built growing.new.roots.items growing.new.path.items
+    ensures added { OnOk result (built growing.new.roots.items growing.new.path.items
         ≡ (if trailer_test (parts line.now) then built growing.old.roots.items growing.old.path.items
         else built growing.old.roots.items growing.old.path.items ++ node_of_line (parts line.now) [] ∷ [])) }
-    ensures depth {
-        OnOk result (trailer_test (parts line.now) ≡ false
+    ensures depth { OnOk result (trailer_test (parts line.now) ≡ false
         → length growing.new.path.items ≡ line.now.level + 1) }
 {
     if is_trailer(line) {
@@ -54,13 +52,11 @@ fn add_piece(
     requires piece { IsPiece piece.now }
     requires count { seen.count + 1 < 2 ^ 32 }
     requires deep { IsDeep (progress seen) (length growing.old.path.items) }
-    ensures seen {
-        MatchResult result
+    ensures seen { MatchResult result
         (λ s. advance (progress seen) (judged (progress seen) piece.now) ≡ Ok (progress s))
         (λ f. (f.kind ≡ TreeKind.OutOfMemory)
         ⊎ (advance (progress seen) (judged (progress seen) piece.now) ≡ Err (fault_view f))) }
-    ensures grown {
-        OnOk result (built growing.new.roots.items growing.new.path.items
+    ensures grown { OnOk result (built growing.new.roots.items growing.new.path.items
         ≡ grow (built growing.old.roots.items growing.old.path.items) piece.now) }
     ensures deep { IfOk result (λ s. IsDeep (progress s) (length growing.new.path.items)) }
     ensures count { IfOk result (λ s. s.count ≤ seen.count + 1) }
@@ -81,8 +77,7 @@ fn add_piece(
 /// The end of the input: the trailer stands, or it is missing.
 fn end(seen: Seen) -> Result<(), TreeFault>
     requires { seen.count + 1 < 2 ^ 32 }
-    ensures {
-        MatchResult result (λ _. (progress seen).done ≡ true)
+    ensures { MatchResult result (λ _. (progress seen).done ≡ true)
         (λ f. ended [] (Ok (progress seen)) ≡ Err (fault_view f)) }
 {
     if seen.is_done {
@@ -102,8 +97,7 @@ fn end(seen: Seen) -> Result<(), TreeFault>
 /// The nodes of level 0 of the forest that the bytes are, or their fault.
 pub(crate) fn read_all(alloc: Global, bytes: &[u8]) -> Result<Vec<Node>, TreeFault>
     requires { length bytes.now ≤ 67_108_864 }
-    ensures {
-        MatchResult result
+    ensures { MatchResult result
         (λ nodes. finished (reader_of bytes.now) ≡ Ok (flats 0 nodes.items))
         (λ f. (f.kind ≡ TreeKind.OutOfMemory)
         ⊎ (finished (reader_of bytes.now) ≡ Err (fault_view f))) }

@@ -44,9 +44,12 @@ fn push_part(
     tag: &str,
     value: &str,
 ) -> Result<(), AllocError>
-    ensures {
-        OnOk result (string_bytes out.new ≡ string_bytes out.old ++ line_text (record {
-        level = level; xref = option_map (λ s. s.now) xref.entry; tag = tag.now; raw = escaped value.now })) }
+    ensures { OnOk result (string_bytes out.new ≡ string_bytes out.old ++ line_text (record {
+      level = level;
+      xref = option_map (λ s. s.now) xref.entry;
+      tag = tag.now;
+      raw = escaped value.now;
+    })) }
 {
     let raw = escape(alloc, value)?;
     write_line(out, level, xref, tag, &raw)
@@ -59,8 +62,7 @@ fn push_more(
     level: u8,
     more: &[TextPart<'_>],
 ) -> Result<(), AllocError>
-    ensures {
-        OnOk result (string_bytes out.new
+    ensures { OnOk result (string_bytes out.new
         ≡ string_bytes out.old ++ flat_map line_text (map (part_line level) (map part more.now))) }
 {
     for piece in more {
@@ -79,9 +81,12 @@ fn push_text(
     value: &str,
 ) -> Result<(), AllocError>
     requires { level ≤ 98 }
-    ensures {
-        OnOk result (string_bytes out.new ≡ string_bytes out.old ++ node_text (record {
-        level = level; xref = option_map (λ s. s.now) xref.entry; tag = tag.now; value = Text value.now })) }
+    ensures { OnOk result (string_bytes out.new ≡ string_bytes out.old ++ node_text (record {
+      level = level;
+      xref = option_map (λ s. s.now) xref.entry;
+      tag = tag.now;
+      value = Text value.now;
+    })) }
 {
     let parts = split_text(alloc, value)?;
     match parts.as_slice() {
@@ -96,8 +101,7 @@ fn push_text(
 /// Appends the node's line with its continuations.
 fn push_own(alloc: Global, out: &mut String, level: u8, node: &Node) -> Result<(), AllocError>
     requires { level ≤ 98 }
-    ensures {
-        OnOk result (string_bytes out.new ≡ string_bytes out.old ++ node_text (said level node.now)) }
+    ensures { OnOk result (string_bytes out.new ≡ string_bytes out.old ++ node_text (said level node.now)) }
 {
     match &node.value {
         NodeValue::Text(value) => {
@@ -112,8 +116,7 @@ fn push_own(alloc: Global, out: &mut String, level: u8, node: &Node) -> Result<(
 /// Appends the node and all below it.
 fn push_node(alloc: Global, out: &mut String, level: u8, node: &Node) -> Result<(), AllocError>
     requires { IsLow (flat node.now level) }
-    ensures {
-        OnOk result (string_bytes out.new
+    ensures { OnOk result (string_bytes out.new
         ≡ string_bytes out.old ++ flat_map node_text (flat node.now level)) }
 {
     push_own(alloc, out, level, node)?;
@@ -129,11 +132,9 @@ fn hand_over<W: Write + Device>(
     before: u64,
     out: &mut String,
 ) -> Result<(), TreeFault>
-    ensures ok {
-        OnOk result (Appends (W.contents writer.old) (W.contents writer.new) (string_bytes out.old)
+    ensures ok { OnOk result (Appends (W.contents writer.old) (W.contents writer.new) (string_bytes out.old)
         × (string_bytes out.new ≡ [])) }
-    ensures err {
-        IfErr result (λ f. NotWritten (Rose before (W.failed writer.new)) (fault_view f)
+    ensures err { IfErr result (λ f. NotWritten (Rose before (W.failed writer.new)) (fault_view f)
         × AppendsBeginning (W.contents writer.old) (W.contents writer.new) (string_bytes out.old)) }
 {
     let handed = write_bytes(writer, before, out.as_bytes());
@@ -160,11 +161,9 @@ fn put_node<W: Write + Device>(
     node: &Node,
 ) -> Result<(), TreeFault>
     requires { IsLow (flat node.now 0) }
-    ensures ok {
-        OnOk result (Handed (W.contents writer.old) (W.contents writer.new)
+    ensures ok { OnOk result (Handed (W.contents writer.old) (W.contents writer.new)
         (string_bytes out.old ++ flat_map node_text (flat node.now 0)) (string_bytes out.new)) }
-    ensures err {
-        IfErr result (λ f. NotWritten (Rose before (W.failed writer.new)) (fault_view f)
+    ensures err { IfErr result (λ f. NotWritten (Rose before (W.failed writer.new)) (fault_view f)
         × AppendsBeginning (W.contents writer.old) (W.contents writer.new)
         (string_bytes out.old ++ flat_map node_text (flat node.now 0))) }
 {
@@ -188,11 +187,9 @@ fn write_nodes<W: Write + Device>(
     before: u64,
 ) -> Result<(), TreeFault>
     requires { IsLow (flats 0 nodes.now) }
-    ensures ok {
-        OnOk result (Appends (W.contents writer.old) (W.contents writer.new)
+    ensures ok { OnOk result (Appends (W.contents writer.old) (W.contents writer.new)
         (flat_map node_text (flats 0 nodes.now) ++ line_text trailer)) }
-    ensures err {
-        IfErr result (λ f. NotWritten (Rose before (W.failed writer.new)) (fault_view f)
+    ensures err { IfErr result (λ f. NotWritten (Rose before (W.failed writer.new)) (fault_view f)
         × AppendsBeginning (W.contents writer.old) (W.contents writer.new)
         (flat_map node_text (flats 0 nodes.now) ++ line_text trailer)) }
 {
@@ -221,14 +218,11 @@ pub fn write_forest<W: Write + Device>(
     forest: &Forest,
     writer: &mut W,
 ) -> Result<(), TreeFault>
-    ensures written {
-        OnOk result (Appends (W.contents writer.old) (W.contents writer.new) (text forest.now)) }
+    ensures written { OnOk result (Appends (W.contents writer.old) (W.contents writer.new) (text forest.now)) }
 
     // At a fault a beginning of the text was written.
-    ensures begun {
-        OnErr result (AppendsBeginning (W.contents writer.old) (W.contents writer.new) (text forest.now)) }
-    ensures fault {
-        IfErr result (λ f. NotWritten (Rose (W.failed writer.old) (W.failed writer.new)) (fault_view f)) }
+    ensures begun { OnErr result (AppendsBeginning (W.contents writer.old) (W.contents writer.new) (text forest.now)) }
+    ensures fault { IfErr result (λ f. NotWritten (Rose (W.failed writer.old) (W.failed writer.new)) (fault_view f)) }
 {
     let before = writer.failures();
     write_nodes(alloc, forest.nodes(), writer, before)

@@ -1,5 +1,4 @@
-use Rattle.std.proofs.Common.{◌≡◌, take, drop, length, ◌+◌, ◌-◌, arith, ap, ◌∙◌, sym, ◌∷◌}
-use Rattle.gedcom_tree.specs.Pieces.{pieces}
+use Rattle.std.proofs.Common.{◌+◌, arith}
 use Rattle.gedcom_tree.proofs.Cuts.{none_ended, first_ended, whole_rest, first_piece, only_piece}
 use Rattle.gedcom_tree.proofs.cutting.cut.Goals as goal
 

@@ -1,5 +1,4 @@
-use Rattle.std.proofs.Common.{◌≡◌, ◌+◌, ◌-◌, ◌++◌, ℕ, List, length, min, suc, take, arith, sym, ap, ◌∙◌, inr}
-use Rattle.gedcom_tree.specs.File.{max_file}
+use Rattle.std.proofs.Common.{◌≡◌, ◌-◌, ◌++◌, ℕ, List, length, min, take, arith, sym, ap, ◌∙◌, inr}
 use Rattle.gedcom_tree.specs.Reading.{decided}
 use Rattle.gedcom_tree.proofs.Fed.{added_decides, added_all}
 use Rattle.gedcom_tree.proofs.Ends.{decided_small}

@@ -1,4 +1,4 @@
-use Rattle.std.proofs.Common.{◌≤◌, arith, sym}
+use Rattle.std.proofs.Common.{arith, sym}
 use Rattle.gedcom_tree.proofs.Limits.{within_small, extra_small, within_large, extra_large, large_length}
 use Rattle.gedcom_tree.proofs.reader.limited.Goals as goal
 

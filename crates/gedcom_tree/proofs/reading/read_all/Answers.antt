@@ -1,11 +1,9 @@
-use Rattle.std.proofs.Common.{◌≡◌, ◌⊎◌, ◌∙◌, [], refl, sym, ap, arith, inl, inr, length, Ok}
-use Rattle.gedcom_tree.specs.Pieces.{pieces, skip_mark}
+use Rattle.std.proofs.Common.{◌∙◌, sym, ap, arith, inr, length}
 use Rattle.gedcom_tree.specs.Flat.{built}
-use Rattle.gedcom_tree.specs.Reading.{start}
 use Rattle.gedcom_tree.specs.Views.{progress, fault_view}
 use Rattle.gedcom_tree.specs.Depth.{depth}
 use Rattle.gedcom_tree.proofs.Marks.{skip_le}
-use Rattle.gedcom_tree.proofs.Walked.{Walk, walk_begin, walk_step, walk_fault, walk_last, walk_ok, walk_end, or_err}
+use Rattle.gedcom_tree.proofs.Walked.{walk_begin, walk_step, walk_fault, walk_last, walk_ok, walk_end, or_err}
 use Rattle.gedcom_tree.proofs.reading.read_all.Goals as goal
 
 pub loop-piece-init : goal.loop-piece-init

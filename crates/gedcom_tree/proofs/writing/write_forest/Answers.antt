@@ -1,4 +1,3 @@
-use Rattle.std.proofs.Common.{◌≡◌}
 use Rattle.gedcom_tree.specs.Flat.{flats}
 use Rattle.gedcom_tree.proofs.Handing.{on_err, begins_same}
 use Rattle.gedcom_tree.proofs.Streamed.{forest_low, text_is}

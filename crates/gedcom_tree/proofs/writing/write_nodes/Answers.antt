@@ -1,7 +1,5 @@
-use Rattle.std.proofs.Common.{◌≡◌, ◌++◌, List, ℕ, refl, inl, length, drop, ◌+◌, ◌<◌, ◌≤◌, arith}
-use Rattle.std.specs.List.{flat_map}
-use Rattle.gedcom_tree.specs.Flat.{flat, flats}
-use Rattle.gedcom_tree.specs.Text.{node_text, line_text, trailer}
+use Rattle.std.proofs.Common.{refl, inl, arith}
+use Rattle.gedcom_tree.specs.Text.{line_text, trailer}
 use Rattle.gedcom_tree.proofs.Handing.{going_on, going_stops, going_rests, node_next, node_last, low_next, if_err, begins_same}
 use Rattle.gedcom_tree.proofs.writing.write_nodes.Goals as goal
 

@@ -1,0 +1,15 @@
+use Rattle.std.proofs.Common.{◌≡◌}
+use Rattle.gedcom_date.specs.Words.{views}
+use Rattle.gedcom_date.specs.Told.{told}
+use Rattle.gedcom_date.specs.Reading.{told_of}
+use Rattle.gedcom_date.proofs.Common.{same_some}
+use Rattle.gedcom_date.proofs.Dates.{ordered_same}
+use Rattle.gedcom_date.proofs.forms.period.Goals as goal
+
+pub returns-clause-every : goal.returns-clause-every
+returns-clause-every c = λ d e hd he xd xe ordered.
+    let a = told c.in_ok-date.field-0 in
+    let b = told c.in_ok-date-2.field-0 in
+    let x : a ≡ d = same_some (told_of (views c.args.front.now)) a d c.in_ok-date.ensures.found hd in
+    let y : b ≡ e = same_some (told_of (views c.args.back.now)) b e c.in_ok-date-2.ensures.found he in
+    c.new.ensures.every (ordered_same a b d e x y ordered)

@@ -1,0 +1,9 @@
+use Rattle.gedcom_date.proofs.Civil.{civil_number}
+use Rattle.gedcom_date.proofs.Consecutive.{julian_rule}
+use Rattle.gedcom_date.proofs.laws.the_formulas_count.Goals as goal
+
+pub returns-clause-gregorian : goal.returns-clause-gregorian
+returns-clause-gregorian c = civil_number
+
+pub returns-clause-julian : goal.returns-clause-julian
+returns-clause-julian c = julian_rule

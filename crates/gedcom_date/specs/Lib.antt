@@ -1,0 +1,14 @@
+pub mod Calendars
+pub mod Props
+pub mod Told
+pub mod Within
+pub mod Form
+pub mod Spelling
+pub mod Words
+pub mod Grammar
+pub mod Facts
+pub mod View
+pub mod Found
+pub mod Days
+pub mod Reading
+pub mod Laws

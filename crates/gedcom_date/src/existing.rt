@@ -1,0 +1,49 @@
+//! Which days, months and years a calendar has.
+
+ghost use Rattle.std.specs.Prelude.{◌↔◌, ◌≤ℤ◌, IsTrue, pos, negsuc};
+ghost use Rattle.gedcom_date.specs.Calendars.{HasDay, IsCounted, IsExtent};
+
+use crate::calendar::{Calendar, Extent, Year};
+use crate::days::{counted_year, last_of_month};
+use jiff::civil::Date;
+
+/// Whether the calendar has that day, month or year.
+pub(crate) fn has_extent(calendar: Calendar, extent: Extent) -> bool
+    ensures { IsTrue result ↔ IsExtent calendar extent }
+{
+    match extent {
+        Extent::BeforeChrist(year) => 1 <= year && year <= 9999,
+        Extent::Whole(year) => has_year(year),
+        Extent::Month(month, year) => has_year(year) && 1 <= month && month <= 12,
+        Extent::Day(day, month, year) => {
+            has_year(year) && has_day(calendar, counted_year(year), month, day)
+        }
+    }
+}
+
+/// Whether it is a year from 1 to 9999, the later one too.
+fn has_year(year: Year) -> bool
+    ensures { IsTrue result ↔ IsCounted year }
+{
+    match year {
+        Year::Single(year) => 1 <= year && year <= 9999,
+        Year::Double(year) => 1 <= year && year <= 9998,
+    }
+}
+
+/// Whether the calendar has the day.
+fn has_day(calendar: Calendar, year: i16, month: u8, day: u8) -> bool
+    requires low { negsuc 9998 ≤ℤ year }
+    requires high { year ≤ℤ pos 9999 }
+    ensures { IsTrue result ↔ HasDay calendar year month day }
+{
+    if month > 12 || day > 31 {
+        return false;
+    }
+    match calendar {
+        Calendar::Gregorian => Date::new(year, month as i8, day as i8).is_ok(),
+        Calendar::Julian => {
+            1 <= month && 1 <= day && day <= last_of_month(calendar, year, month)
+        }
+    }
+}

@@ -1,0 +1,140 @@
+//! What a command line does, over any streams, and its exit status.
+
+ghost use Rattle.std.specs.Prelude.{◌≡◌, ◌≢◌, ◌≤◌, if◌then◌else◌, is_ok, OnOk};
+ghost use Rattle.std.specs.IoError.{error_kind};
+ghost use Rattle.gedcom_tree.specs.Streams.{Normalised};
+ghost use Rattle.parish.specs.Ends.{Unfinished};
+
+use gedcom_tree::{Device, TransferError, TreeFault, TreeKind, normalise, write_bytes};
+use std::alloc::Global;
+use std::io;
+use std::io::{Cursor, ErrorKind, Read, Write};
+use words::{Asked, Refused, read_words};
+
+/// The work is done.
+const DONE: u8 = 0;
+
+/// A refusal, told on the stream of faults.
+const REFUSED: u8 = 1;
+
+/// The words were refused.
+const WORDS_REFUSED: u8 = 2;
+
+/// More bytes than the longest line of a refusal has: that of 25 at line 4,294,967,295 has 54.
+const LINE: usize = 64;
+
+const OUT_OF_MEMORY: TreeFault = TreeFault {
+    kind: TreeKind::OutOfMemory,
+    at: None,
+};
+
+const WRITE_FAILED: TreeFault = TreeFault {
+    kind: TreeKind::WriteFailed,
+    at: None,
+};
+
+/// Does what the words ask for, the program's name first, and gives the exit status.
+///
+/// Results go to `output`, a refusal goes to `faults` as one line. Where `faults` fails too, the
+/// status tells alone. Where the words are refused nothing is read, and nothing written elsewhere.
+pub fn command<R: Read + Device, W: Write + Device, F: Write + Device>(
+    alloc: Global,
+    words: &[String],
+    input: &mut R,
+    output: &mut W,
+    faults: &mut F,
+) -> u8
+    ensures status { result ≤ 2 }
+    ensures done { result ≡ 0 → faults.new ≡ faults.old }
+    ensures words { result ≡ 2 → (input.new ≡ input.old) × (output.new ≡ output.old) }
+{
+    match read_words(alloc, words) {
+        Ok(Asked::Norm) => norm(alloc, input, output, faults),
+        Ok(Asked::Show { text }) => status_of(show(output, &text), faults),
+        Err(Refused::Words { text }) => refuse_words(faults, &text),
+        Err(Refused::OutOfMemory) => refuse(faults, OUT_OF_MEMORY),
+    }
+}
+
+/// `norm`: the file of the input, canonical, on the output.
+pub fn norm<R: Read + Device, W: Write + Device, F: Write + Device>(
+    alloc: Global,
+    input: &mut R,
+    output: &mut W,
+    faults: &mut F,
+) -> u8
+    ensures status { result ≤ 1 }
+    ensures done { result ≡ 0 → faults.new ≡ faults.old }
+    ensures written { result ≡ 0 → Normalised (R.remaining input.old)
+        (W.contents output.old) (W.contents output.new) }
+    ensures refused { result ≡ 1 → Unfinished (R.remaining input.old)
+        (W.contents output.old) (W.contents output.new) }
+{
+    status_of(normalise(alloc, input, output), faults)
+}
+
+/// The exit status of a command line that could not be read, because of a word that is not UTF-8
+/// or want of memory.
+pub fn refuse_command_line<F: Write + Device>(error: &io::Error, faults: &mut F) -> u8
+    ensures memory { error_kind error.now ≡ ErrorKind.OutOfMemory → result ≡ 1 }
+    ensures words { error_kind error.now ≢ ErrorKind.OutOfMemory → result ≡ 2 }
+{
+    if error.kind() == ErrorKind::OutOfMemory {
+        refuse(faults, OUT_OF_MEMORY)
+    } else {
+        refuse_words(faults, NOT_UTF8)
+    }
+}
+
+const NOT_UTF8: &str = "\
+error: a word of the command line is not UTF-8
+
+For more information, try '--help'.
+";
+
+/// Writes a text that was asked for.
+fn show<W: Write + Device>(output: &mut W, text: &str) -> Result<(), TreeFault> {
+    let before = output.failures();
+    match write_bytes(output, before, text.as_bytes()) {
+        Ok(()) => Ok(()),
+        Err(TransferError::OutOfMemory) => Err(OUT_OF_MEMORY),
+        Err(TransferError::Failed) => Err(WRITE_FAILED),
+    }
+}
+
+/// The status of what was done, and the line of its refusal.
+fn status_of<F: Write + Device>(outcome: Result<(), TreeFault>, faults: &mut F) -> u8
+    ensures status { result ≡ (if is_ok outcome then 0 else 1) }
+    ensures done { OnOk outcome (faults.new ≡ faults.old) }
+{
+    match outcome {
+        Ok(()) => DONE,
+        Err(fault) => refuse(faults, fault),
+    }
+}
+
+/// Tells a refusal: `parish: <no.> <Name>`, with ` at line <n>` where it has one. It takes no
+/// memory, and the line is given to the writer whole.
+fn refuse<F: Write + Device>(faults: &mut F, fault: TreeFault) -> u8
+    ensures { result ≡ 1 }
+{
+    let mut line = Cursor::new([0u8; LINE]);
+    let _ = writeln!(line, "parish: {fault}");
+    let bytes = line.get_ref().as_slice();
+    let length = bytes.len().min(line.position() as usize);
+    let before = faults.failures();
+    let _ = write_bytes(faults, before, &bytes[..length]);
+    REFUSED
+}
+
+/// Tells that the words were refused.
+fn refuse_words<F: Write + Device>(faults: &mut F, text: &str) -> u8
+    ensures { result ≡ 2 }
+{
+    let before = faults.failures();
+    let _ = write_bytes(faults, before, text.as_bytes());
+    WORDS_REFUSED
+}
+
+#[cfg(test)]
+mod tests;

@@ -1,0 +1,62 @@
+//! What a command line asks for.
+
+use crate::commands::parish_command;
+use clap::error::ErrorKind;
+use clap::{ArgMatches, Error};
+use std::alloc::{AllocError, Global};
+
+/// What a command line asks for.
+#[derive(Debug, Drop)]
+pub enum Asked {
+    /// `norm`: the forest of standard input, canonical, on standard output.
+    Norm,
+    /// `--help` or `--version`, of the program or of a command: the text for standard output.
+    Show { text: String },
+}
+
+/// Why a command line asks for nothing.
+#[derive(Debug, Drop)]
+pub enum Refused {
+    /// A growth was refused.
+    OutOfMemory,
+    /// The words were refused: the text for standard error, which says why and shows the usage.
+    Words { text: String },
+}
+
+impl From<AllocError> for Refused {
+    fn from(_error: AllocError) -> Refused {
+        Refused::OutOfMemory
+    }
+}
+
+/// What the words ask for. The first word is the program's own name, and is not looked at.
+pub fn read_words(alloc: Global, words: &[String]) -> Result<Asked, Refused> {
+    let command = parish_command(alloc)?;
+    match command.try_get_matches_from(words) {
+        Ok(found) => command_found(alloc, &found),
+        Err(error) => text_shown(alloc, &error),
+    }
+}
+
+/// The command that was found, by its name. `clap` lets no other name through.
+fn command_found(alloc: Global, found: &ArgMatches<'_>) -> Result<Asked, Refused> {
+    match found.subcommand_name() {
+        Some("norm") => Ok(Asked::Norm),
+        _ => Err(Refused::Words {
+            text: "error: no such command\n".to_string(alloc)?,
+        }),
+    }
+}
+
+/// The text of what `clap` calls an error: help, a version or refused words.
+fn text_shown(alloc: Global, error: &Error) -> Result<Asked, Refused> {
+    if error.kind() == ErrorKind::OutOfMemory {
+        return Err(Refused::OutOfMemory);
+    }
+    let text = format!(in alloc; "{error}")?;
+    if error.use_stderr() {
+        Err(Refused::Words { text })
+    } else {
+        Ok(Asked::Show { text })
+    }
+}

@@ -1,0 +1,45 @@
+//! Command lines as they are given.
+
+use crate::{Asked, Refused, read_words};
+use std::alloc::{AllocError, Global};
+
+/// The exit status and the text of a command line; no status where it asks for work.
+fn outcome(alloc: Global, line: &[&str]) -> Result<(Option<u8>, String), AllocError> {
+    let mut words = Vec::new(alloc);
+    for word in line {
+        words.push(word.to_string(alloc)?)?;
+    }
+    Ok(match read_words(alloc, &words) {
+        Ok(Asked::Norm) => (None, String::new(alloc)),
+        Ok(Asked::Show { text }) => (Some(0), text),
+        Err(Refused::OutOfMemory) => (Some(1), String::new(alloc)),
+        Err(Refused::Words { text }) => (Some(2), text),
+    })
+}
+
+#[test]
+fn words_ask_for_work_or_a_text_or_are_refused(rt: HostRuntime) -> Result<(), AllocError> {
+    let lines: [(&[&str], Option<u8>, &str); 14] = [
+        (&["parish", "norm"], None, ""),
+        (&["", "norm"], None, ""),
+        (&["parish", "--version"], Some(0), "parish 0.1.0\n"),
+        (&["parish", "--help"], Some(0), "\n  norm  Write the"),
+        (&["other", "-h"], Some(0), "\nUsage: parish <COMMAND>\n"),
+        (&["parish", "norm", "--help"], Some(0), "parish norm <"),
+        (&["parish"], Some(2), "\nUsage: parish <COMMAND>\n"),
+        (&[], Some(2), "\nUsage: parish <COMMAND>\n"),
+        (&["parish", ""], Some(2), "''"),
+        (&["parish", "Norm"], Some(2), "'Norm'"),
+        (&["parish", "help"], Some(2), "'help'"),
+        (&["parish", "norm", "x"], Some(2), "'x'"),
+        (&["parish", "norm", "--file"], Some(2), "'--file'"),
+        (&["parish", "--norm"], Some(2), "'--norm'"),
+    ];
+    for (line, status, part) in lines {
+        let (found, text) = outcome(rt.alloc(), line)?;
+        assert_eq!(rt; found, status, "{line:?}");
+        assert!(rt; text.contains(part), "{line:?}: {text}");
+        assert!(rt; text.is_empty() || text.ends_with('\n'), "{line:?}");
+    }
+    Ok(())
+}

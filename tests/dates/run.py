@@ -1,0 +1,49 @@
+"""Runs date_lines on the tables beside this file: python3 tests/dates/run.py.
+
+One line a failed case, and last `N passed, M failed`; status 0 only if none failed. Each canonical text
+is also given again, and must be answered as it stands with the same days.
+"""
+
+import pathlib
+import subprocess
+import sys
+
+HERE = pathlib.Path(__file__).resolve().parent
+PROGRAM = HERE.parents[1] / "crates/date_lines/out/date_lines"
+
+
+def rows(name):
+    lines = (HERE / name).read_text(encoding="utf-8").split("\n")
+    return [line.split("\t") for line in lines if line and not line.startswith("#")]
+
+
+def answers(texts):
+    data = "".join(text + "\n" for text in texts).encode("utf-8")
+    out = subprocess.run([str(PROGRAM)], input=data, stdout=subprocess.PIPE, check=True, timeout=50).stdout
+    return out.decode("utf-8").split("\n")[:-1]
+
+
+def cases():
+    """A name, a text and the wanted line of each case."""
+    for name in ("rows.tsv", "sample.tsv"):
+        for text, written, lo, hi in rows(name):
+            yield name, text, "\t".join([written, lo, hi])
+            yield name + ", written again", written, "\t".join([written, lo, hi])
+    for text, lo, hi, source in rows("published.tsv"):
+        yield source, text, "\t".join([text, lo, hi])
+
+
+def main():
+    made = list(cases())
+    got = answers([text for _, text, _ in made])
+    failed = abs(len(got) - len(made))
+    for (name, text, wanted), line in zip(made, got):
+        if line != wanted:
+            failed += 1
+            print(f"failed: {name}: {text!r} gives {line!r}, and {wanted!r} was wanted")
+    print(f"{len(made) - failed} passed, {failed} failed")
+    return 1 if failed else 0
+
+
+if __name__ == "__main__":
+    sys.exit(main())
