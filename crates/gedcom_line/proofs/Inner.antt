@@ -11,7 +11,7 @@ use Rattle.std.proofs.lemmas.List.Sums.{split_at_first, prefix_len_stops, AllPas
 use Rattle.std.proofs.lemmas.Str.{IsUtf8-append, IsUtf8-nil, IsUtf8-encode, IsUtf8-take, IsUtf8-drop, inside_one, encode_ascii, IsCharBoundary-before_ascii, IsCharBoundary-after_ascii, IsUtf8-from_ascii}
 use Rattle.std.proofs.lemmas.Str.Ascii.{IsAscii-cons, IsAscii-nil}
 use Rattle.gedcom_line.specs.Escape.{NoAt, escaped_from, escaped}
-use Rattle.gedcom_line.specs.Split.{is_short, cut_len, parts_by, segment_parts, Part, marked, canonical, is_lf, NoLf}
+use Rattle.gedcom_line.specs.Split.{EachPart, is_short, cut_len, parts_by, segment_parts, Part, marked, canonical, is_lf, NoLf}
 use Rattle.gedcom_line.specs.Spelling.{is_inner, is_textual, IsInner}
 use Rattle.gedcom_line.specs.declared.splitting.Mark.{Mark}
 use Rattle.gedcom_line.specs.declared.splitting.Mark.TheVariants.{Conc, Cont}
@@ -76,10 +76,6 @@ all-drop p (suc n) (x ∷ xs) h =
 abbrev pub Each : (List ℕ → Type 0) → List (List ℕ) → Type 0
 Each P [] = Unit {0}
 Each P (x ∷ xs) = P x × Each P xs
-
-abbrev pub EachPart : (List ℕ → Type 0) → List Part → Type 0
-EachPart P [] = Unit {0}
-EachPart P (x ∷ xs) = P x.text × EachPart P xs
 
 each_marked : (P : List ℕ → Type 0) (m : Mark) (ps : List (List ℕ)) → Each P ps → EachPart P (marked m ps)
 each_marked P m [] h = tt

@@ -1,5 +1,6 @@
 -- What a value stands for: a text as it is written is never a cross reference, and a cross reference is one.
 use Rattle.std.proofs.Common.{◌≡◌, ℕ, ◌+◌, Bool, true, false, cond, eqb, ltb, ◌&&◌, not, List, [], ◌∷◌, ◌++◌, length, take, drop, refl, sym, ap, ◌∙◌, subst, inl, inr, arith, Option, Some, None, length-append}
+use Rattle.std.specs.Option.{option_map_or}
 use Rattle.std.specs.List.{position_or_len, before_first, after_first, prefix_len, list_all}
 use Rattle.std.proofs.lemmas.Bool.{eqb-true, lt-ltb, ltb-true}
 use Rattle.std.proofs.lemmas.List.{take_at}
@@ -10,7 +11,7 @@ use Rattle.gedcom_line.specs.Line.{Spans}
 use Rattle.gedcom_line.specs.Past.{past_char}
 use Rattle.gedcom_line.specs.Reading.{skip, is_name}
 use Rattle.gedcom_line.specs.Escape.{begins_escape, escaped_from, escaped}
-use Rattle.gedcom_line.specs.Value.{pointer_at, pointer_from, pointer_in, IsPointer}
+use Rattle.gedcom_line.specs.Value.{Meaning, Text, Pointer, meaning, pointer_at, pointer_from, pointer_in, IsPointer}
 use Rattle.gedcom_line.proofs.Steps.{spans_only, spans_made, bind_some, some_is, past_at, at_parts, name_is, all_front, before_len, is_name_of, ref_front}
 use Rattle.gedcom_line.proofs.Doubled.{cases_bool, begins_made, marks_begin, marks_pair}
 
@@ -107,3 +108,18 @@ is_pointer raw name e =
       | inl n ↦ absurd (let bad : None ≡ Some a.0 = sym n.0 ∙ a.1 in cc)
       | inr y ↦ pointer_made raw name (take (prefix_len is_space raw) raw) (skip is_space raw) y.0 s y.1.1 (ap (λ (x : List ℕ). pointer_at (skip is_space raw) x) (some_is y.0 a.0 (sym y.1.0 ∙ a.1)) ∙ a.2)
     ]
+
+-- both ways for what a value stands for
+pub pointer_meant : (raw name : List ℕ) → IsPointer raw name → meaning raw ≡ Pointer name
+pointer_meant raw name p = rw (pointer_is raw name p) refl
+
+abbrev pointed : Meaning → Option (List ℕ)
+pointed (Text t) = None
+pointed (Pointer p) = Some p
+
+pointed_meaning : (raw : List ℕ) (o : Option (List ℕ)) → pointed (option_map_or Pointer o (Text raw)) ≡ o
+pointed_meaning raw None = refl
+pointed_meaning raw (Some n) = refl
+
+pub meant_pointer : (raw name : List ℕ) → meaning raw ≡ Pointer name → IsPointer raw name
+meant_pointer raw name e = is_pointer raw name (sym (pointed_meaning raw (pointer_in raw)) ∙ ap pointed e)

@@ -22,6 +22,7 @@ escaped_from inside (c ∷ cs) =
     else (if begins_escape cs then 64 ∷ escaped_from true cs else 64 ∷ 64 ∷ escaped_from false cs))
     else c ∷ escaped_from inside cs
 
+-- a text as it is written
 abbrev pub escaped : List ℕ → List ℕ
 escaped t = escaped_from false t
 
@@ -30,6 +31,8 @@ abbrev pub unescaped : List ℕ → List ℕ
 unescaped [] = []
 unescaped (c ∷ []) = c ∷ []
 unescaped (c ∷ d ∷ cs) = if c == 64 && d == 64 then 64 ∷ unescaped cs else c ∷ unescaped (d ∷ cs)
+
+-- The same by computing.
 
 -- what follows the second @ of a pair, or all where there is none
 abbrev pub past_pair : List ℕ → List ℕ

@@ -19,7 +19,7 @@ pub record Spans (p : ℕ → Bool) (text front rest : List ℕ) : Type 0 where
   pub passes : list_all p front ≡ true
   pub stops : Stops p rest
 
--- one or two digits spell the number; the digit d has the code 48 + d
+-- one or two digits spell the number; the digit d has the code 48 + d, and 528 is 10 * 48 + 48
 abbrev pub IsNumber : List ℕ → ℕ → Type 0
 IsNumber [] n = ⊥
 IsNumber (a ∷ []) n = n + 48 ≡ a

@@ -100,6 +100,11 @@ NoLf xs = (i : ℕ) → i < length xs → slice_index xs i ≢ 10
 unfoldable pub canonical : List ℕ → List Part
 canonical t = flat_map (λ s. marked Cont (segment_parts s)) (slice_split is_lf t)
 
+-- the text of each part
+abbrev pub EachPart : (List ℕ → Type 0) → List Part → Type 0
+EachPart P [] = Unit {0}
+EachPart P (x ∷ xs) = P x.text × EachPart P xs
+
 -- what stands before a part in the text
 abbrev pub between : Mark → List ℕ
 between Conc = []
@@ -108,6 +113,7 @@ between Cont = 10 ∷ []
 abbrev pub added : Part → List ℕ
 added p = between p.mark ++ p.text
 
+-- the texts of the parts, with a line end before each but the first that has a line of its own
 abbrev pub joined : List Part → List ℕ
 joined [] = []
 joined (p ∷ ps) = p.text ++ flat_map added ps

@@ -4,7 +4,7 @@ use Rattle.std.specs.List.{list_all, position_or_len, before_first, after_first}
 use Rattle.std.specs.Option.{option_map_or}
 use Rattle.gedcom_line.specs.Words.{is_space, is_at}
 use Rattle.gedcom_line.specs.Past.{past_char}
-use Rattle.gedcom_line.specs.Reading.{skip, is_name, ◌>>=◌}
+use Rattle.gedcom_line.specs.Reading.{Parts, is_continuation, skip, is_name, ◌>>=◌}
 use Rattle.gedcom_line.specs.Line.{IsName}
 use Rattle.gedcom_line.specs.declared.values.Value.{Value}
 use Rattle.gedcom_line.specs.declared.values.Value.TheVariants as value
@@ -37,8 +37,13 @@ pointer_from t = past_char 64 t >>= λ inner. pointer_at t inner
 unfoldable pub pointer_in : List ℕ → Option (List ℕ)
 pointer_in raw = pointer_from (skip is_space raw)
 
+-- what a text behind a tag stands for, where it goes on with no value
 abbrev pub meaning : List ℕ → Meaning
 meaning raw = option_map_or Pointer (pointer_in raw) (Text raw)
+
+-- what the value of a line stands for: what goes on with a value is always a text
+abbrev pub value_of : Parts → Meaning
+value_of l = if is_continuation l.tag then Text l.raw else meaning l.raw
 
 -- what a value of the code says
 abbrev pub meant : Value → Meaning

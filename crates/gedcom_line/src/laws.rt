@@ -1,13 +1,14 @@
 //! Laws of lines, over the definitions that the contracts cite.
 
-ghost use Rattle.std.specs.Prelude.{◌≡◌, ℕ, List};
+ghost use Rattle.std.specs.Prelude.{◌≡◌, ℕ, List, true};
+ghost use Rattle.std.specs.List.{list_all};
 ghost use Rattle.std.specs.Str.{IsUtf8};
 ghost use Rattle.gedcom_line.specs.Escape.{escaped, unescaped};
 ghost use Rattle.gedcom_line.specs.Reading.{Parts as LineParts};
-ghost use Rattle.gedcom_line.specs.Split.{Parts, canonical, joined, segment_parts};
-ghost use Rattle.gedcom_line.specs.Value.{Text, meaning};
+ghost use Rattle.gedcom_line.specs.Split.{EachPart, Parts, canonical, joined, segment_parts};
+ghost use Rattle.gedcom_line.specs.Value.{Text, Pointer, IsPointer, meaning};
 ghost use Rattle.gedcom_line.specs.Line.{Line};
-ghost use Rattle.gedcom_line.specs.Spelling.{spelling, IsLine};
+ghost use Rattle.gedcom_line.specs.Spelling.{spelling, is_textual, IsInner, IsLine};
 
 /// Bytes spell one line at most, and what is written of a line that the grammar has is read as that
 /// line: level, cross reference, tag and value.
@@ -23,8 +24,16 @@ pub fn a_value_is_read_again()
     ensures text { (t : List ℕ) → meaning (escaped t) ≡ Text (escaped t) }
 {}
 
-/// The parts of a text joined give the text, and those of a segment are cut where the rule says.
+/// A value stands for a cross reference exactly where it is one, spaces at its ends apart.
+pub fn a_pointer_is_a_cross_reference()
+    ensures found { (raw name : List ℕ) → IsPointer raw name → meaning raw ≡ Pointer name }
+    ensures is { (raw name : List ℕ) → meaning raw ≡ Pointer name → IsPointer raw name }
+{}
+
+/// The parts of a text joined give the text, those of a segment are cut where the rule says, and the parts
+/// of a text without CR and U+0000 can each stand on a line.
 pub fn a_text_is_split_and_joined()
     ensures joins { (t : List ℕ) → joined (canonical t) ≡ t }
     ensures parts { (s : List ℕ) → IsUtf8 s → Parts s (segment_parts s) }
+    ensures lines { (t : List ℕ) → IsUtf8 t → list_all is_textual t ≡ true → EachPart IsInner (canonical t) }
 {}

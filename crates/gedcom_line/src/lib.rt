@@ -19,7 +19,7 @@ mod values;
 pub use escapes::{escape, unescape};
 pub use fault::{LineFault, LineKind};
 pub use line::{LineRef, read_line, write_line};
-pub use splitting::{Mark, TextPart, is_short, split_text};
+pub use splitting::{Mark, TextPart, split_text};
 pub use values::Value;
 
 #[cfg(test)]

@@ -93,7 +93,7 @@ fn left_over(text: &str) -> Option<usize>
 }
 
 /// Whether the text has as it is written at most 200 characters.
-pub fn is_short(text: &str) -> bool
+fn is_short(text: &str) -> bool
     ensures { result ≡ short_test text.now }
 {
     window(text) == text.len() && left_over(text).is_some()

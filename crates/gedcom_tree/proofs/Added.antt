@@ -1,7 +1,7 @@
 -- A line that breaks no rule finds a place among the open nodes, and is one node more.
 use Rattle.std.proofs.Common.{◌≡◌, ℕ, ◌+◌, ◌≤◌, Bool, true, false, cond, eqb, not, List, [], ◌∷◌, ◌++◌, refl, sym, ap, inl, inr, arith, Some, None, Ok}
 use Rattle.std.proofs.lemmas.Bool.{eqb-true, ltb-false}
-use Rattle.gedcom_line.specs.Reading.{Parts}
+use Rattle.gedcom_line.specs.Reading.{Parts, is_continuation}
 use Rattle.gedcom_line.proofs.Steps.{both}
 use Rattle.gedcom_tree.specs.Rules.{Progress, is_head, is_trailer, first_broken}
 use Rattle.gedcom_tree.specs.Forest.{Item, node_of}
@@ -33,6 +33,9 @@ unbroken_fits q p l n h d =
 
 pub judged_fits : (q : Progress) (p : List ℕ) (l : Parts) (n : ℕ) → judge q p ≡ Ok (Some l) → IsDeep q n → l.level ≤ n
 judged_fits q p l n h d = unbroken_fits q p l n (judge_some q p l h).1 d
+
+pub judged_own : (q : Progress) (p : List ℕ) (l : Parts) → judge q p ≡ Ok (Some l) → is_continuation l.tag ≡ false
+judged_own q p l h = (unbroken q p l (judge_some q p l h).1).own
 
 pub grown_none : (q : Progress) (p : List ℕ) (items : List Item) → judge q p ≡ Ok None → items ≡ grow items p
 unfolding grow

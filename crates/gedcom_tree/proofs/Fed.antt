@@ -8,7 +8,7 @@ use Rattle.gedcom_tree.specs.declared.fault.TreeFault.{TreeFault}
 use Rattle.gedcom_tree.specs.declared.fault.TreeKind.TheVariants.{OutOfMemory}
 use Rattle.gedcom_tree.specs.Pieces.{pieces, file_pieces}
 use Rattle.gedcom_tree.specs.Forest.{Item}
-use Rattle.gedcom_tree.specs.File.{Fault, max_file, within, extra, Decides, FaultOf}
+use Rattle.gedcom_tree.specs.File.{IsLineless, Fault, max_file, within, extra, Decides, FaultOf}
 use Rattle.gedcom_tree.specs.Reading.{start, then_run, run, grown, open_fault, decided, Reader, reader_of, finished}
 use Rattle.gedcom_tree.specs.State.{Holds, IsOpen, Finishes}
 use Rattle.gedcom_tree.specs.Views.{fault_view}
@@ -108,7 +108,7 @@ fed_ok bytes new piece b o e h s k =
     let none : decided (b ++ piece) ≡ None = sym (same_decided bytes b piece same s) ∙ ap decided (sym k.0) ∙ k.1 in
     (seen_plain new o e ∙ ap reader_of k.0 ∙ same_further bytes b piece same, undecided (b ++ piece) none)
 
-pub fed_fault : (bytes piece b : List ℕ) (o : Option TreeFault) (f : Fault) → o ≡ None → seen_as bytes o ≡ reader_of b → length bytes ≤ max_file → (f.kind ≡ OutOfMemory) ⊎ (decided (bytes ++ piece) ≡ Some f) → (f.kind ≡ OutOfMemory) ⊎ Decides (b ++ piece) f
+pub fed_fault : (bytes piece b : List ℕ) (o : Option TreeFault) (f : Fault) → o ≡ None → seen_as bytes o ≡ reader_of b → length bytes ≤ max_file → IsLineless OutOfMemory f ⊎ (decided (bytes ++ piece) ≡ Some f) → IsLineless OutOfMemory f ⊎ Decides (b ++ piece) f
 fed_fault bytes piece b o f e h s (inl m) = inl m
 fed_fault bytes piece b o f e h s (inr k) =
     let same : reader_of bytes ≡ reader_of b = sym (seen_plain bytes o e) ∙ h in
@@ -128,9 +128,9 @@ kept_forest bytes read f r s e = reads_forest bytes f (subst (Finishes bytes) (a
 pub kept_finishes : (bytes read b : List ℕ) (o : Option TreeFault) (r : Result (List Item) Fault) → o ≡ None → seen_as bytes o ≡ reader_of b → length bytes ≤ max_file → read ≡ bytes → finished (reader_of read) ≡ r → Finishes b r
 kept_finishes bytes read b o r e h s same f = subst (Finishes b) (ap (λ (x : List ℕ). finished (reader_of x)) (sym same) ∙ f) (held_finishes bytes b o e h s)
 
-kept_or : (bytes read b : List ℕ) (o : Option TreeFault) (f : Fault) → o ≡ None → seen_as bytes o ≡ reader_of b → length bytes ≤ max_file → read ≡ bytes → finished (reader_of read) ≡ Err f → (f.kind ≡ OutOfMemory) ⊎ FaultOf b f
+kept_or : (bytes read b : List ℕ) (o : Option TreeFault) (f : Fault) → o ≡ None → seen_as bytes o ≡ reader_of b → length bytes ≤ max_file → read ≡ bytes → finished (reader_of read) ≡ Err f → IsLineless OutOfMemory f ⊎ FaultOf b f
 kept_or bytes read b o f e h s same k = kept_finishes bytes read b o (Err f) e h s same k
 
-pub kept_fault : (bytes read b : List ℕ) (o : Option TreeFault) (f : Fault) → o ≡ None → seen_as bytes o ≡ reader_of b → length bytes ≤ max_file → read ≡ bytes → (f.kind ≡ OutOfMemory) ⊎ (finished (reader_of read) ≡ Err f) → (f.kind ≡ OutOfMemory) ⊎ FaultOf b f
+pub kept_fault : (bytes read b : List ℕ) (o : Option TreeFault) (f : Fault) → o ≡ None → seen_as bytes o ≡ reader_of b → length bytes ≤ max_file → read ≡ bytes → IsLineless OutOfMemory f ⊎ (finished (reader_of read) ≡ Err f) → IsLineless OutOfMemory f ⊎ FaultOf b f
 kept_fault bytes read b o f e h s same (inl m) = inl m
 kept_fault bytes read b o f e h s same (inr k) = kept_or bytes read b o f e h s same k

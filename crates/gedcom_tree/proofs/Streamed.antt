@@ -8,10 +8,11 @@ use Rattle.std.proofs.lemmas.List.{length-take, take_all}
 use Rattle.gedcom_line.proofs.Steps.{both}
 use Rattle.gedcom_tree.specs.declared.fault.TreeKind.TheVariants.{OutOfMemory, ReadFailed}
 use Rattle.gedcom_tree.specs.Forest.{Item}
-use Rattle.gedcom_tree.specs.File.{max_file, Fault, Decides, FaultOf, ReadsFile}
+use Rattle.gedcom_tree.specs.File.{max_file, Fault, IsLineless, Decides, FaultOf, ReadsFile}
 use Rattle.gedcom_tree.specs.State.{Finishes}
 use Rattle.gedcom_tree.specs.Streams.{NotRead, ReadAs}
 use Rattle.gedcom_tree.specs.Text.{is_node, IsForest, IsLow, text, node_text, line_text, trailer}
+use Rattle.gedcom_tree.proofs.Shaped.{reads_forest}
 use Rattle.gedcom_tree.proofs.Fed.{decided_front}
 use Rattle.gedcom_tree.proofs.Ends.{decided_is, is_decided, decides_fault, decides_of_file, fault_of_file}
 
@@ -20,7 +21,7 @@ finishes_read b (Ok f) h = h
 finishes_read b (Err f) (inl m) = inl m
 finishes_read b (Err f) (inr h) = inr (fault_of_file b f h, h)
 
-pub decides_read : (b : List ℕ) (f : Fault) → (f.kind ≡ OutOfMemory) ⊎ Decides b f → ReadAs b (Err f)
+pub decides_read : (b : List ℕ) (f : Fault) → IsLineless OutOfMemory f ⊎ Decides b f → ReadAs b (Err f)
 decides_read b f (inl m) = inl m
 decides_read b f (inr h) = inr (decides_of_file b f h, decides_fault b f h)
 
@@ -54,7 +55,7 @@ pub known_refused : (known : Option (List ℕ)) (bytes : List ℕ) (Failed : Typ
 known_refused known bytes Failed f e (inl m) = inl m
 known_refused known bytes Failed f e (inr h) = inr (inr (h.0, known_fault known bytes f e h.1))
 
-pub unread_refused : (known : Option (List ℕ)) (Failed : Type 0) (f : Fault) → (f.kind ≡ OutOfMemory) ⊎ ((f.kind ≡ ReadFailed) × Failed) → NotRead known Failed f
+pub unread_refused : (known : Option (List ℕ)) (Failed : Type 0) (f : Fault) → IsLineless OutOfMemory f ⊎ (IsLineless ReadFailed f × Failed) → NotRead known Failed f
 unread_refused known Failed f (inl m) = inl m
 unread_refused known Failed f (inr h) = inr (inl h)
 
@@ -81,3 +82,7 @@ forest_read known kept bytes (Err f) e s h = tt
 pub forest_refused : (known : Option (List ℕ)) (Failed : Type 0) (kept bytes : List ℕ) (r : Result (List Item) TreeFault) → IfSome known (λ b. kept ≡ take (suc max_file) b) → bytes ≡ kept → ReadAs bytes (outcome r) → IfErr r (λ f. NotRead known Failed (fault_view f))
 forest_refused known Failed kept bytes (Ok f) e s h = tt
 forest_refused known Failed kept bytes (Err f) e s h = known_refused known kept Failed (fault_view f) e (subst (λ (x : List ℕ). ReadAs x (Err (fault_view f))) s h)
+
+pub forest_shaped : (bytes : List ℕ) (r : Result (List Item) TreeFault) → ReadAs bytes (outcome r) → IfOk r (λ f. IsForest f)
+forest_shaped bytes (Ok f) h = reads_forest bytes f h
+forest_shaped bytes (Err f) h = tt

@@ -11,9 +11,9 @@ abbrev pub AppendsBeginning : Option (List ℕ) → Option (List ℕ) → List �
 AppendsBeginning old new bytes = (n : ℕ) × (n ≤ length bytes) × Appends old new (take n bytes)
 
 -- one read gave n bytes, which a list of bytes got at its end: none only where none were left
-pub record Gave (old new : Option (List ℕ)) (had has : List ℕ) (n : ℕ) : Type 0 where
+pub record Gave (old new : Option (List ℕ)) (before after : List ℕ) (n : ℕ) : Type 0 where
   pub bytes : List ℕ
   pub count : length bytes ≡ n
   pub lost : Consumes old new bytes
-  pub added : has ≡ had ++ bytes
+  pub added : after ≡ before ++ bytes
   pub end : n ≡ 0 → IsAtEnd new

@@ -44,6 +44,10 @@ pub record Fault : Type 0 where
   pub kind : TreeKind
   pub at : Option ℕ
 
+-- a refusal that speaks of no line
+abbrev pub IsLineless : TreeKind → Fault → Type 0
+IsLineless k f = (f.kind ≡ k) × (f.at ≡ None)
+
 -- the first faulty piece
 pub record FaultIn (before : List Parts) (ps : List (List ℕ)) (f : Fault) : Type 0 where
   pub front : List (List ℕ)

@@ -34,6 +34,8 @@ flats level ns = all_at level (map flat ns)
 abbrev pub said : ℕ → Node → Item
 said level n = record { level = level; xref = option_map string_bytes (out-Node n).xref; tag = string_bytes (out-Node n).tag; value = value_said (out-Node n).value }
 
+-- The same while a forest is put together.
+
 -- nodes of which each is the last child of the one before it, whose later children are still to come
 abbrev pub flat_open : ℕ → List Node → List Item
 flat_open level [] = []

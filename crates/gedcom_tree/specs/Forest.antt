@@ -63,10 +63,12 @@ forest_of (l ∷ ls) = if is_continuation l.tag then forest_of ls else node_of l
 
 -- The lines of a forest.
 
+-- the tag of a continuation
 abbrev pub mark_tag : Mark → List ℕ
 mark_tag Conc = codes "CONC"
 mark_tag Cont = codes "CONT"
 
+-- the line of a continuation: its text is escaped by itself
 abbrev pub part_line : ℕ → Part → Parts
 part_line level p = record { level = level; xref = None; tag = mark_tag p.mark; raw = escaped p.text }
 
@@ -87,6 +89,7 @@ abbrev pub more_parts : Meaning → List Part
 more_parts (Text t) = rest_parts (canonical t)
 more_parts (Pointer p) = []
 
+-- the line that a node begins with
 abbrev pub own_line : Item → Parts
 own_line i = record { level = i.level; xref = i.xref; tag = i.tag; raw = own_raw i.value }
 
@@ -94,5 +97,6 @@ own_line i = record { level = i.level; xref = i.xref; tag = i.tag; raw = own_raw
 abbrev pub node_lines : Item → List Parts
 node_lines i = own_line i ∷ map (part_line (i.level + 1)) (more_parts i.value)
 
+-- the lines of a forest, one node after another
 unfoldable pub lines_of : List Item → List Parts
 lines_of f = flat_map node_lines f

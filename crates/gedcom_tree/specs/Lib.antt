@@ -1,5 +1,6 @@
 pub mod Pieces
 pub mod Forest
+pub mod Refusals
 pub mod Rules
 pub mod File
 pub mod Reading

@@ -12,9 +12,11 @@ use Rattle.gedcom_line.specs.declared.fault.LineKind.TheVariants as line
 use Rattle.gedcom_tree.specs.declared.fault.TreeKind.{TreeKind}
 use Rattle.gedcom_tree.specs.declared.fault.TreeKind.TheVariants.{NotUtf8, BadLevel, BadXref, BadTag, Nul, LevelJump, NoHead, AfterTrailer, BadContinuation, Charset}
 
+-- level 0 HEAD
 abbrev pub is_head : Parts → Bool
 is_head l = l.level == 0 && bytes_eq l.tag (codes "HEAD")
 
+-- level 0 TRLR
 abbrev pub is_trailer : Parts → Bool
 is_trailer l = l.level == 0 && bytes_eq l.tag (codes "TRLR")
 

@@ -1,6 +1,6 @@
 -- A reader of a file in pieces: what it owes for the bytes that it has been fed.
 use Rattle.std.specs.Prelude.{◌≡◌, ◌⊎◌, List, ℕ, Option, Some, None, Result, Ok, Err}
-use Rattle.gedcom_tree.specs.File.{Fault, Decides, FaultOf, ReadsFile}
+use Rattle.gedcom_tree.specs.File.{Fault, IsLineless, Decides, FaultOf, ReadsFile}
 use Rattle.gedcom_tree.specs.Forest.{Item}
 use Rattle.gedcom_tree.specs.Reading.{Reader, reader_of}
 use Rattle.gedcom_tree.specs.declared.fault.TreeKind.TheVariants.{OutOfMemory}
@@ -17,9 +17,9 @@ IsOpen b = (f : Fault) → ¬ (Decides b f)
 -- reader keeps. Memory may be wanting.
 abbrev pub Takes : Reader → List ℕ → Option Fault → Type 0
 Takes new b None = Holds new b × IsOpen b
-Takes new b (Some f) = (new.answer ≡ Some f) × ((f.kind ≡ OutOfMemory) ⊎ Decides b f)
+Takes new b (Some f) = (new.answer ≡ Some f) × (IsLineless OutOfMemory f ⊎ Decides b f)
 
 -- What `finish` answers where these were the bytes fed: the forest that they read as, or their fault. Memory may be wanting.
 abbrev pub Finishes : List ℕ → Result (List Item) Fault → Type 0
 Finishes b (Ok f) = ReadsFile b f
-Finishes b (Err f) = (f.kind ≡ OutOfMemory) ⊎ FaultOf b f
+Finishes b (Err f) = IsLineless OutOfMemory f ⊎ FaultOf b f

@@ -62,6 +62,8 @@ pub record IsForest (f : List Item) : Type 0 where
   pub levels : rises 0 (behind_first f) ≡ true
   pub header : names_no_set true (behind_first f) ≡ true
 
+-- The same by computing.
+
 -- no level is above 98
 abbrev pub IsLow : List Item → Type 0
 IsLow f = list_all (λ i. nat_le i.level 98) f ≡ true

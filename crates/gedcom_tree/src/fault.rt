@@ -1,6 +1,7 @@
 //! Why bytes are no forest, and the table of refusals of files.
 
 ghost use Rattle.std.specs.Prelude.{◌≡◌, Some};
+ghost use Rattle.gedcom_tree.specs.Refusals.{number_of, name_of};
 ghost use Rattle.gedcom_tree.specs.declared.fault.TreeKind.TheVariants as kinds;
 
 use std::alloc::AllocError;
@@ -53,7 +54,9 @@ pub enum TreeKind {
 
 impl TreeKind {
     /// The refusal's number.
-    pub fn number(self) -> u8 {
+    pub fn number(self) -> u8
+        ensures { result ≡ number_of self }
+    {
         match self {
             TreeKind::OutOfMemory => 1,
             TreeKind::NotUtf8 => 10,
@@ -79,7 +82,9 @@ impl TreeKind {
     }
 
     /// The refusal's name, as it is printed.
-    pub fn name(self) -> &'static str {
+    pub fn name(self) -> &'static str
+        ensures { result.now ≡ name_of self }
+    {
         match self {
             TreeKind::OutOfMemory => "OutOfMemory",
             TreeKind::NotUtf8 => "NotUtf8",

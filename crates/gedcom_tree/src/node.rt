@@ -1,7 +1,7 @@
 //! A line of a forest, with the lines below it.
 
-ghost use Rattle.std.specs.Prelude.{◌≡◌, [], IfOk, option_map, string_bytes};
-ghost use Rattle.gedcom_line.specs.Reading.{parts};
+ghost use Rattle.std.specs.Prelude.{◌≡◌, false, [], IfOk, option_map, string_bytes};
+ghost use Rattle.gedcom_line.specs.Reading.{is_continuation, parts};
 ghost use Rattle.gedcom_line.specs.Value.{meaning};
 ghost use Rattle.gedcom_tree.specs.Forest.{continued, node_of as node_of_line};
 ghost use Rattle.gedcom_tree.specs.Flat.{value_said, said};
@@ -32,6 +32,7 @@ pub struct Node {
 }
 
 fn value_of(alloc: Global, line: &LineRef<'_>) -> Result<NodeValue, AllocError>
+    requires { is_continuation line.now.tag.now ≡ false }
     ensures { IfOk result (λ v. value_said v ≡ continued (meaning line.now.raw.now) []) }
 {
     match line.value() {
@@ -49,8 +50,9 @@ fn xref_of(alloc: Global, xref: Option<&str>) -> Result<Option<String>, AllocErr
     }
 }
 
-/// The node of a line, with no children yet. `number` is the line's in the file.
+/// The node of a line that continues no other, with no children yet. `number` is the line's in the file.
 pub(crate) fn node_of(alloc: Global, line: &LineRef<'_>, number: u32) -> Result<Node, AllocError>
+    requires { is_continuation line.now.tag.now ≡ false }
     ensures said { IfOk result (λ n. said line.now.level n ≡ node_of_line (parts line.now) []) }
     ensures leaf { IfOk result (λ n. (out-Node n).children.items ≡ []) }
 {

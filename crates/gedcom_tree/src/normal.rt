@@ -2,7 +2,8 @@
 
 ghost use Rattle.std.specs.Prelude.{◌≡◌, ◌⊎◌, take, IfOk, IfErr, OnOk, IfSome};
 ghost use Rattle.std.specs.Io.KnownBytes.{Keeps};
-ghost use Rattle.gedcom_tree.specs.File.{ReadsFile};
+ghost use Rattle.gedcom_tree.specs.File.{IsLineless, ReadsFile};
+ghost use Rattle.gedcom_tree.specs.Text.{IsForest};
 ghost use Rattle.gedcom_tree.specs.Devices.{Rose};
 ghost use Rattle.gedcom_tree.specs.Streams.{NotRead, Normalised, Begun, ReadAs};
 ghost use Rattle.gedcom_tree.specs.Views.{fault_view, outcome};
@@ -20,8 +21,8 @@ use std::io::{Read, Write};
 /// The bytes of a file, and one more where it is too large.
 fn read_bytes<R: Read + Device>(alloc: Global, reader: &mut R) -> Result<Vec<u8>, TreeFault>
     ensures bytes { IfOk result (λ all. IfSome (R.remaining reader.old) (λ known. all.items ≡ take 67_108_865 known)) }
-    ensures fault { IfErr result (λ f. (f.kind ≡ TreeKind.OutOfMemory)
-        ⊎ ((f.kind ≡ TreeKind.ReadFailed) × Rose (R.failed reader.old) (R.failed reader.new))) }
+    ensures fault { IfErr result (λ f. IsLineless TreeKind.OutOfMemory (fault_view f)
+        ⊎ (IsLineless TreeKind.ReadFailed (fault_view f) × Rose (R.failed reader.old) (R.failed reader.new))) }
 {
     let before = reader.failures();
     match read_up_to(alloc, reader, before, MAX_FILE + 1) {
@@ -51,8 +52,9 @@ fn forest_of(alloc: Global, bytes: &[u8]) -> Result<Forest, TreeFault>
 /// Reads a whole file: its forest.
 ///
 /// `ReadFailed` comes only where the reader's count of failures has risen in this call. One byte more than
-/// a file may have is read at the most, so an endless input ends.
+/// a file may have is read at the most, so an endless input ends (tested, not in the contract).
 pub fn read_forest<R: Read + Device>(alloc: Global, reader: &mut R) -> Result<Forest, TreeFault>
+    ensures forest { IfOk result (λ f. IsForest f) }
     ensures read { IfOk result (λ f. IfSome (R.remaining reader.old) (λ b. ReadsFile b f)) }
     ensures fault { IfErr result (λ f. NotRead (R.remaining reader.old)
         (Rose (R.failed reader.old) (R.failed reader.new)) (fault_view f)) }

@@ -6,6 +6,7 @@ ghost use Rattle.gedcom_tree.specs.Flat.{flats};
 ghost use Rattle.gedcom_tree.specs.File.{extra, overflows as overflow_test, within};
 ghost use Rattle.gedcom_tree.specs.Reading.{run, start, decided, open_fault as fault_of_open};
 ghost use Rattle.gedcom_tree.specs.Views.{progress, fault_view};
+ghost use Rattle.gedcom_tree.specs.File.{IsLineless};
 
 use crate::cutting::{cut, is_end, skip_mark};
 use crate::fault::{TreeFault, TreeKind};
@@ -100,7 +101,7 @@ fn add(bytes: &mut Vec<u8>, piece: &[u8]) -> Result<(), TreeFault>
     requires { length bytes.old.items ≤ 67_108_864 }
     ensures ok { OnOk result ((bytes.new.items ≡ bytes.old.items ++ piece.now)
         × (decided bytes.new.items ≡ None)) }
-    ensures fault { IfErr result (λ f. (f.kind ≡ TreeKind.OutOfMemory)
+    ensures fault { IfErr result (λ f. IsLineless TreeKind.OutOfMemory (fault_view f)
         ⊎ (decided (bytes.old.items ++ piece.now) ≡ Some (fault_view f))) }
     ensures small { length bytes.new.items ≤ 67_108_864 }
 {

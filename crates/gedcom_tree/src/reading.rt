@@ -2,13 +2,14 @@
 
 ghost use Rattle.std.specs.Prelude.{◌≡◌, ◌⊎◌, ◌+◌, ◌<◌, ◌≤◌, ◌^◌, ◌++◌, ◌∷◌, [], true, false, Ok, Err, MatchResult, IfOk, OnOk, length, if◌then◌else◌};
 ghost use Rattle.gedcom_line.specs.Line.{IsPiece};
-ghost use Rattle.gedcom_line.specs.Reading.{parts};
+ghost use Rattle.gedcom_line.specs.Reading.{is_continuation, parts};
 ghost use Rattle.gedcom_tree.specs.Flat.{flats, built};
 ghost use Rattle.gedcom_tree.specs.Forest.{node_of as node_of_line};
 ghost use Rattle.gedcom_tree.specs.Rules.{is_trailer as trailer_test};
 ghost use Rattle.gedcom_tree.specs.Reading.{after as after_line, judge as judged, advance, grow, ended, reader_of, finished};
 ghost use Rattle.gedcom_tree.specs.Views.{progress, fault_view};
 ghost use Rattle.gedcom_tree.specs.Depth.{IsDeep};
+ghost use Rattle.gedcom_tree.specs.File.{IsLineless};
 
 use crate::cutting::{cut, skip_mark};
 use crate::fault::{TreeFault, TreeKind};
@@ -28,7 +29,8 @@ fn add_line(
     number: u32,
     line: &LineRef<'_>,
 ) -> Result<(), AllocError>
-    requires { line.now.level ≤ length growing.old.path.items }
+    requires level { line.now.level ≤ length growing.old.path.items }
+    requires own { is_continuation line.now.tag.now ≡ false }
     ensures added { OnOk result (built growing.new.roots.items growing.new.path.items
         ≡ (if trailer_test (parts line.now) then built growing.old.roots.items growing.old.path.items
         else built growing.old.roots.items growing.old.path.items ++ node_of_line (parts line.now) [] ∷ [])) }
@@ -54,7 +56,7 @@ fn add_piece(
     requires deep { IsDeep (progress seen) (length growing.old.path.items) }
     ensures seen { MatchResult result
         (λ s. advance (progress seen) (judged (progress seen) piece.now) ≡ Ok (progress s))
-        (λ f. (f.kind ≡ TreeKind.OutOfMemory)
+        (λ f. IsLineless TreeKind.OutOfMemory (fault_view f)
         ⊎ (advance (progress seen) (judged (progress seen) piece.now) ≡ Err (fault_view f))) }
     ensures grown { OnOk result (built growing.new.roots.items growing.new.path.items
         ≡ grow (built growing.old.roots.items growing.old.path.items) piece.now) }
@@ -99,7 +101,7 @@ pub(crate) fn read_all(alloc: Global, bytes: &[u8]) -> Result<Vec<Node>, TreeFau
     requires { length bytes.now ≤ 67_108_864 }
     ensures { MatchResult result
         (λ nodes. finished (reader_of bytes.now) ≡ Ok (flats 0 nodes.items))
-        (λ f. (f.kind ≡ TreeKind.OutOfMemory)
+        (λ f. IsLineless TreeKind.OutOfMemory (fault_view f)
         ⊎ (finished (reader_of bytes.now) ≡ Err (fault_view f))) }
 {
     let mut seen = Seen::new();

@@ -25,6 +25,27 @@ fn levels_and_line_ends_are_read_and_written_in_one_way(rt: HostRuntime) -> Resu
 }
 
 #[test]
+fn nodes_know_the_lines_that_they_come_from(rt: HostRuntime) -> Result<(), Fail> {
+    let mut reader = TreeReader::new(rt.alloc());
+    let fed = reader.feed(b"0 HEAD\n\n1 A\n2 B\n \n1 C\n0 D\n0 TRLR");
+    assert!(rt; fed.is_ok());
+    let forest = reader.finish().map_err(|_| "a forest")?;
+    let [head, last] = forest.nodes() else {
+        return Err(Fail::from("two nodes"));
+    };
+    assert_eq!(rt; (head.line, last.line), (1, 5));
+    let [a, c] = head.children.as_slice() else {
+        return Err(Fail::from("two children"));
+    };
+    assert_eq!(rt; (a.line, c.line), (2, 4));
+    let [b] = a.children.as_slice() else {
+        return Err(Fail::from("one child"));
+    };
+    assert_eq!(rt; b.line, 3);
+    Ok(())
+}
+
+#[test]
 fn a_fault_has_its_line(rt: HostRuntime) {
     for (bytes, kind, line) in [
         (b"".as_slice(), TreeKind::NoHead, 1),

@@ -1,7 +1,9 @@
 //! What a command line does, over any streams, and its exit status.
 
-ghost use Rattle.std.specs.Prelude.{◌≡◌, ◌≢◌, ◌≤◌, if◌then◌else◌, is_ok, OnOk};
+ghost use Rattle.std.specs.Prelude.{◌≡◌, ◌≢◌, ◌≤◌, if◌then◌else◌, is_ok, OnOk, OnErr};
+ghost use Rattle.std.specs.Io.KnownBytes.{Appends};
 ghost use Rattle.std.specs.IoError.{error_kind};
+ghost use Rattle.gedcom_tree.specs.Devices.{AppendsBeginning};
 ghost use Rattle.gedcom_tree.specs.Streams.{Normalised};
 ghost use Rattle.parish.specs.Ends.{Unfinished};
 
@@ -92,8 +94,13 @@ error: a word of the command line is not UTF-8
 For more information, try '--help'.
 ";
 
-/// Writes a text that was asked for.
-fn show<W: Write + Device>(output: &mut W, text: &str) -> Result<(), TreeFault> {
+/// Writes a text that was asked for. At an error a beginning of it was written.
+fn show<W: Write + Device>(output: &mut W, text: &str) -> Result<(), TreeFault>
+    ensures ok { OnOk result
+        (Appends (W.contents output.old) (W.contents output.new) text.now) }
+    ensures err { OnErr result
+        (AppendsBeginning (W.contents output.old) (W.contents output.new) text.now) }
+{
     let before = output.failures();
     match write_bytes(output, before, text.as_bytes()) {
         Ok(()) => Ok(()),

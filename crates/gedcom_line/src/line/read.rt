@@ -97,7 +97,7 @@ fn tag_of(text: &str) -> Option<(&str, &str)>
 }
 
 /// Whether the tag carries its value on to the line one level up.
-fn is_continuation(tag: &str) -> bool
+pub(crate) fn is_continuation(tag: &str) -> bool
     ensures { result ≡ continuation_test tag.now }
 {
     tag == "CONC" || tag == "CONT"

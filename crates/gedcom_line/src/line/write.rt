@@ -25,7 +25,8 @@ fn push_raw(out: &mut String, raw: &str) -> Result<(), AllocError>
     write!(out, " {raw}")
 }
 
-/// Writes a line with its LF, `raw` as it stands.
+/// Writes a line with its LF behind `out`, `raw` as it stands. Where memory is refused, `out` may hold a
+/// beginning of the line.
 #[tactic(auto, unfolding(crate::specs::Spelling::spelling))]
 pub fn write_line(
     out: &mut String,

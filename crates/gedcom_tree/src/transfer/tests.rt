@@ -136,6 +136,27 @@ fn want_of_memory_is_not_blamed_on_the_device(rt: HostRuntime) {
     assert_eq!(rt; result.err(), Some(TransferError::OutOfMemory));
 }
 
+/// A writer that cannot flush.
+#[derive(Drop)]
+struct Stuck;
+
+impl Write for Stuck {
+    fn write(&mut self, buf: &[u8]) -> io::Result<usize> {
+        Ok(buf.len())
+    }
+
+    fn flush(&mut self) -> io::Result<()> {
+        Err(io::Error::from(ErrorKind::Other))
+    }
+}
+
+#[test]
+fn a_flush_that_fails_is_counted(rt: HostRuntime) {
+    let mut counted = Counted::new(Stuck);
+    assert!(rt; counted.flush().is_err());
+    assert_eq!(rt; counted.failures(), 1);
+}
+
 /// A writer that takes no byte, and counts no failure.
 #[derive(Drop)]
 struct Full;

@@ -22,4 +22,4 @@ returns-in-Ok-write_line-clause-err g c =
     c.hand_over.ensures.err
 
 pub returns-clause-err : goal.returns-clause-err
-returns-clause-err g c = (inl refl, going_rests _ _ _ _ _ c.loop-node.invariant.going)
+returns-clause-err g c = (inl (refl, refl), going_rests _ _ _ _ _ c.loop-node.invariant.going)
