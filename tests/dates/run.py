@@ -33,14 +33,26 @@ def cases():
         yield source, text, "\t".join([text, lo, hi])
 
 
+def long_cases():
+    """A spelling of 1,048,576 bytes, one that is longer, and a text whose spelling is longer than it."""
+    days = "-98615\t-98251"
+    most = 1_048_576 - len("INT 1700 ()")
+    fits = "INT 1700 (" + "x" * most + ")"
+    over = "INT 1700 (" + "x" * (most + 1) + ")"
+    joined = "INT 1700(" + "x" * (most + 1) + ")"
+    yield "the longest spelling", fits, f"{fits}\t{days}"
+    yield "a spelling that is too long", over, f"{over}\t-\t-"
+    yield "a text whose spelling is too long", joined, f"{joined}\t-\t-"
+
+
 def main():
-    made = list(cases())
+    made = list(cases()) + list(long_cases())
     got = answers([text for _, text, _ in made])
     failed = abs(len(got) - len(made))
     for (name, text, wanted), line in zip(made, got):
         if line != wanted:
             failed += 1
-            print(f"failed: {name}: {text!r} gives {line!r}, and {wanted!r} was wanted")
+            print(f"failed: {name}: {text[:100]!r} gives {line[-100:]!r}, and {wanted[-100:]!r} was wanted")
     print(f"{len(made) - failed} passed, {failed} failed")
     return 1 if failed else 0
 

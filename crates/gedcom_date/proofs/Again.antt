@@ -7,7 +7,7 @@ use Rattle.std.proofs.lemmas.Bool.Decides.{nat_tests}
 use Rattle.std.proofs.lemmas.Fmt.{decimal_digit, decimal_step}
 use Rattle.std.proofs.lemmas.List.Splits.{length-slice_split}
 use Rattle.gedcom_date.specs.Words.{words, filled, is_space, Without}
-use Rattle.gedcom_date.specs.Calendars.{IsCounted, IsExtent, HasDay, counted}
+use Rattle.gedcom_date.specs.Calendars.{last_month, IsCounted, IsExtent, HasDay, counted}
 use Rattle.gedcom_date.specs.Told.{Told, Exists}
 use Rattle.gedcom_date.specs.Form.{Form, OnDate, NearDate, BeforeDate, AfterDate, BetweenDates, SinceDate, UntilDate, FromToDates, InterpretedDate, PhraseAlone, VerbatimText}
 use Rattle.gedcom_date.specs.Spelling.{month_name, two_digits, year_text, extent_text, date_text, told_text, approximation_text, phrase_text, spelling}
@@ -158,7 +158,7 @@ roman_back (suc (suc (suc (suc (suc (suc (suc (suc (suc (suc (suc zero))))))))))
 roman_back (suc (suc (suc (suc (suc (suc (suc (suc (suc (suc (suc (suc zero)))))))))))) h = refl
 roman_back (suc (suc (suc (suc (suc (suc (suc (suc (suc (suc (suc (suc (suc n))))))))))))) h = absurd (omega (arith, h.1))
 
-month_back : (c : Calendar) (m : ℕ) → IsInRange 1 12 m → IsMonthWord c (month_name c m) m
+month_back : (c : Calendar) (m : ℕ) → IsInRange 1 (last_month c) m → IsMonthWord c (month_name c m) m
 month_back Gregorian m h = (month_name Gregorian m, h.0, roman_back m h, refl)
 month_back Julian m h = (month_name Julian m, h.0, roman_back m h, refl)
 
@@ -178,6 +178,10 @@ roman_word (suc (suc (suc (suc (suc (suc (suc (suc (suc (suc (suc zero))))))))))
 roman_word (suc (suc (suc (suc (suc (suc (suc (suc (suc (suc (suc (suc zero)))))))))))) h = (omega arith, refl)
 roman_word (suc (suc (suc (suc (suc (suc (suc (suc (suc (suc (suc (suc (suc n))))))))))))) h = absurd (omega (arith, h.1))
 
+month_word : (c : Calendar) (m : ℕ) → IsInRange 1 (last_month c) m → IsWord (month_name c m)
+month_word Gregorian m h = roman_word m h
+month_word Julian m h = roman_word m h
+
 -- a month has less than a hundred days
 day_short : (c : Calendar) (y : Year) (d m : ℕ) → HasDay c (counted y) m d → d < 100
 day_short c y d m h = omega (arith, month_days_bounds c (counted y) m, h.1.1)
@@ -190,11 +194,11 @@ extent_back c (BeforeChrist n) h =
     (decimal n, codes "B.C.", inl e, is, refl)
 extent_back c (Whole y) h = (year_text y, one_word (year_text y) (year_word y h), year_back y h)
 extent_back c (Month m y) h =
-    let e = word_more (month_name c m) (year_text y) (roman_word m h.1) ∙ ap (λ (l : List (List ℕ)). month_name c m ∷ l) (one_word (year_text y) (year_word y h.0)) in
+    let e = word_more (month_name c m) (year_text y) (month_word c m h.1) ∙ ap (λ (l : List (List ℕ)). month_name c m ∷ l) (one_word (year_text y) (year_word y h.0)) in
     (month_name c m, year_text y, e, month_back c m h.1, year_back y h.0)
 extent_back c (Day d m y) h =
     let is = day_number_of d h.1.1.0 (day_short c y d m h.1) in
-    let front = word_more (decimal d) (month_name c m) (number_word 2 (decimal d) d is) ∙ ap (λ (l : List (List ℕ)). decimal d ∷ l) (one_word (month_name c m) (roman_word m h.1.0)) in
+    let front = word_more (decimal d) (month_name c m) (number_word 2 (decimal d) d is) ∙ ap (λ (l : List (List ℕ)). decimal d ∷ l) (one_word (month_name c m) (month_word c m h.1.0)) in
     let whole = words_append (decimal d ++ 32 ∷ month_name c m) (year_text y) ∙ ap (λ (l : List (List ℕ)). l ++ words (year_text y)) front ∙ ap (λ (l : List (List ℕ)). decimal d ∷ month_name c m ∷ l) (one_word (year_text y) (year_word y h.0)) in
     (decimal d, month_name c m, year_text y, whole, is, month_back c m h.1.0, year_back y h.0)
 

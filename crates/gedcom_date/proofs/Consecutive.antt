@@ -1,11 +1,11 @@
 -- Days follow one another: the next day has the next number, and each number is one day.
 use Rattle.std.proofs.Common.{◌≡◌, ◌⊎◌, inl, inr, ℕ, zero, suc, ◌+◌, ◌*◌, ◌-◌, ◌/◌, ◌<◌, ◌≤◌, refl, ap, sym, subst, ◌∙◌, arith, ℤ, pos, negsuc, unsigned_abs, ◌+ℤ◌, ◌-ℤ◌, ◌<ℤ◌, ◌≤ℤ◌}
 use Rattle.jiff_core.proofs.SignedLemmas.{signed_arith}
-use Rattle.gedcom_date.specs.Calendars.{month_days, days_of_months, days_of_years, day_count, day_zero, day_number, HasDay}
+use Rattle.gedcom_date.specs.Calendars.{last_month, month_days, days_of_months, days_of_years, day_count, day_zero, day_number, HasDay}
 use Rattle.gedcom_date.specs.Laws.{IsNext, IsReckoned}
 use Rattle.gedcom_date.specs.declared.calendar.Calendar.{Calendar}
 use Rattle.gedcom_date.specs.declared.calendar.Calendar.TheVariants.{Julian}
-use Rattle.gedcom_date.proofs.Counts.{month_days_bounds, month_days_last, days_of_months_more, days_of_months_mono, day_count-in_year, year_holds, day_count-first, days_of_years-suc}
+use Rattle.gedcom_date.proofs.Counts.{month_days_bounds, some_month, days_of_months_more, days_of_months_mono, day_count-in_year, year_holds, day_count-first, days_of_years-suc}
 use Rattle.gedcom_date.proofs.Julians.{years_closed, zero_closed}
 
 -- a year from -10000 on, counted from there
@@ -16,7 +16,7 @@ whole (negsuc n) h = absurd (omega (arith, signed_arith))
 shift : (x : ℤ) → IsReckoned x → x +ℤ pos 10000 ≡ pos (unsigned_abs (x +ℤ pos 10000))
 shift x h = whole (x +ℤ pos 10000) (omega (arith, signed_arith))
 
-year_turn : (c : Calendar) (x : ℤ) → IsReckoned x → day_count c (x +ℤ pos 1) 1 1 ≡ day_count c x 1 1 + days_of_months c x 12
+year_turn : (c : Calendar) (x : ℤ) → IsReckoned x → day_count c (x +ℤ pos 1) 1 1 ≡ day_count c x 1 1 + days_of_months c x (last_month c)
 year_turn c x h =
     let n = unsigned_abs (x +ℤ pos 10000) in
     let here = shift x h in
@@ -32,8 +32,8 @@ next_month c x k e low first last =
     let back : k + 1 - 1 ≡ k = omega arith in
     omega (arith, day_count-in_year c x k e, rw back at (day_count-in_year c x (k + 1) 1), days_of_months_more c x k low)
 
-next_year : (c : Calendar) (x : ℤ) (e : ℕ) → IsReckoned x → 1 ≤ e → e ≡ month_days c x 12 → day_count c (x +ℤ pos 1) 1 1 ≡ day_count c x 12 e + 1
-next_year c x e h first last = omega (arith, year_turn c x h, day_count-in_year c x 12 e, days_of_months_more c x 12 (omega arith))
+next_year : (c : Calendar) (x : ℤ) (e : ℕ) → IsReckoned x → 1 ≤ e → e ≡ month_days c x (last_month c) → day_count c (x +ℤ pos 1) 1 1 ≡ day_count c x (last_month c) e + 1
+next_year c x e h first last = omega (arith, year_turn c x h, day_count-in_year c x (last_month c) e, days_of_months_more c x (last_month c) (some_month c))
 
 count_next : (c : Calendar) (x : ℤ) (k e : ℕ) (y : ℤ) (m d : ℕ) → IsReckoned x → HasDay c x k e → IsNext c x k e y m d → day_count c y m d ≡ day_count c x k e + 1
 count_next c x k e y m d r has (inl n) = rw (n.0, n.1, n.2) (next_day c x k e has.1.0)
@@ -62,7 +62,7 @@ years_apart c x k e y m d r s has later h =
     let b = unsigned_abs (y +ℤ pos 10000) in
     let low : suc a ≤ b = omega (arith, signed_arith, shift x r, shift y s) in
     let there : (x +ℤ pos 1) +ℤ pos 10000 ≡ pos (suc a) = omega (arith, signed_arith, shift x r) in
-    omega (arith, (year_holds c x k e has).1, (year_holds c y m d later).0, next_year c x 31 r (omega arith) (sym (month_days_last c x)), day_count-first c (x +ℤ pos 1) (suc a) there, day_count-first c y b (shift y s), years_mono c (suc a) b low)
+    omega (arith, (year_holds c x k e has).1, (year_holds c y m d later).0, next_year c x (month_days c x (last_month c)) r (omega (arith, month_days_bounds c x (last_month c))) refl, day_count-first c (x +ℤ pos 1) (suc a) there, day_count-first c y b (shift y s), years_mono c (suc a) b low)
 
 order : (a b : ℤ) → (a <ℤ b) ⊎ ((a ≡ b) ⊎ (b <ℤ a))
 order a b = grind (arith, signed_arith)
@@ -100,7 +100,7 @@ record Counted (c : Calendar) (k : ℕ) : Type 0 where
   has : HasDay c year month day
   count : day_count c year month day ≡ k
 
-first_of : (c : Calendar) (y : ℤ) (m : ℕ) → 1 ≤ m → m ≤ 12 → HasDay c y m 1
+first_of : (c : Calendar) (y : ℤ) (m : ℕ) → 1 ≤ m → m ≤ last_month c → HasDay c y m 1
 first_of c y m low high = ((low, high), (omega arith, omega (arith, month_days_bounds c y m)))
 
 first_count : (c : Calendar) → day_count c (negsuc 9999) 1 1 ≡ 0
@@ -110,16 +110,16 @@ first_count c = day_count-first c (negsuc 9999) 0 refl
 follow : (c : Calendar) (k : ℕ) → Counted c k → Counted c (suc k)
 follow c k at = elim (less at.day (month_days c at.year at.month)) [
   | inl l ↦ record { year = at.year; month = at.month; day = at.day + 1; reckoned = at.reckoned; has = (at.has.0, (omega arith, omega arith)); count = omega (arith, next_day c at.year at.month at.day at.has.1.0, at.count) }
-  | inr (inl s) ↦ elim (less at.month 12) [
+  | inr (inl s) ↦ elim (less at.month (last_month c)) [
     | inl l ↦ record { year = at.year; month = at.month + 1; day = 1; reckoned = at.reckoned; has = first_of c at.year (at.month + 1) (omega arith) (omega arith); count = omega (arith, next_month c at.year at.month at.day at.has.0.0 at.has.1.0 s, at.count) }
-    | inr (inl t) ↦ record { year = at.year +ℤ pos 1; month = 1; day = 1; reckoned = omega (arith, signed_arith, at.reckoned); has = first_of c (at.year +ℤ pos 1) 1 (omega arith) (omega arith); count = omega (arith, next_year c at.year at.day at.reckoned at.has.1.0 (s ∙ ap (month_days c at.year) t), rw t at at.count) }
+    | inr (inl t) ↦ record { year = at.year +ℤ pos 1; month = 1; day = 1; reckoned = omega (arith, signed_arith, at.reckoned); has = first_of c (at.year +ℤ pos 1) 1 (omega arith) (some_month c); count = omega (arith, next_year c at.year at.day at.reckoned at.has.1.0 (s ∙ ap (month_days c at.year) t), rw t at at.count) }
     | inr (inr l) ↦ absurd (omega (arith, at.has.0.1))
   ]
   | inr (inr l) ↦ absurd (omega (arith, at.has.1.1))
 ]
 
 counted : (c : Calendar) (k : ℕ) → Counted c k
-counted c zero = record { year = negsuc 9999; month = 1; day = 1; reckoned = omega (arith, signed_arith); has = first_of c (negsuc 9999) 1 (omega arith) (omega arith); count = first_count c }
+counted c zero = record { year = negsuc 9999; month = 1; day = 1; reckoned = omega (arith, signed_arith); has = first_of c (negsuc 9999) 1 (omega arith) (some_month c); count = first_count c }
 counted c (suc k) = follow c k (counted c k)
 
 pub number_every : (c : Calendar) (n : ℤ) → day_number c (negsuc 9999) 1 1 ≤ℤ n → (y : ℤ) × (m : ℕ) × (d : ℕ) × IsReckoned y × HasDay c y m d × (n ≡ day_number c y m d)

@@ -1,9 +1,9 @@
 -- The first and the last day of a date.
 use Rattle.std.proofs.Common.{◌≡◌, ◌⊎◌, inl, inr, ℕ, ◌+◌, ◌≤◌, refl, arith, ℤ, pos, ◌-ℤ◌, Some}
-use Rattle.gedcom_date.specs.Calendars.{month_days, day_count, day_number, HasDay, IsExtent, Covers, counted, opening}
+use Rattle.gedcom_date.specs.Calendars.{last_month, month_days, day_count, day_number, HasDay, IsExtent, Covers, counted, opening}
 use Rattle.gedcom_date.specs.Within.{IsIn}
 use Rattle.gedcom_date.specs.Days.{IsLeast, IsGreatest}
-use Rattle.gedcom_date.proofs.Counts.{year_holds, month_holds, next_year, number_le, month_days_bounds, month_days_last}
+use Rattle.gedcom_date.proofs.Counts.{year_holds, month_holds, next_year, number_le, month_days_bounds, some_month, end_count}
 use Rattle.gedcom_date.specs.declared.calendar.Calendar.{Calendar}
 use Rattle.gedcom_date.specs.Told.{Told}
 use Rattle.gedcom_date.specs.declared.calendar.Year.{Year}
@@ -25,16 +25,20 @@ greatest_at date r y m d has covers e after = (
 
 -- each month has a first day, each December a last one
 new_year : (c : Calendar) (y : ℤ) → HasDay c y 1 1
-new_year c y = ((omega arith, omega arith), (omega arith, omega (arith, month_days_bounds c y 1)))
+new_year c y = ((omega arith, some_month c), (omega arith, omega (arith, month_days_bounds c y 1)))
 
-year_end : (c : Calendar) (y : ℤ) → HasDay c y 12 31
-year_end c y = ((omega arith, omega arith), (omega arith, omega (arith, month_days_last c y)))
+year_end : (c : Calendar) (y : ℤ) → HasDay c y (last_month c) (month_days c y (last_month c))
+year_end c y = ((some_month c, omega arith), (omega (arith, month_days_bounds c y (last_month c)), omega arith))
+
+-- the number of the last day of a year
+abbrev pub end_number : Calendar → ℤ → ℤ
+end_number c y = day_number c y (last_month c) (month_days c y (last_month c))
 
 pub least_before : (date : Told) (r : ℤ) (n : ℕ) → date.extent ≡ BeforeChrist n → r ≡ day_number date.calendar (pos 1 -ℤ pos n) 1 1 → IsLeast (IsIn date) (Some r)
 least_before date r n is e = least_at date r (pos 1 -ℤ pos n) 1 1 (new_year date.calendar (pos 1 -ℤ pos n)) (rw is refl) e (λ z k f has cov. let at = rw is at cov in rw at ((year_holds date.calendar (pos 1 -ℤ pos n) k f (rw at at has)).0))
 
-pub greatest_before : (date : Told) (r : ℤ) (n : ℕ) → date.extent ≡ BeforeChrist n → r ≡ day_number date.calendar (pos 1 -ℤ pos n) 12 31 → IsGreatest (IsIn date) (Some r)
-greatest_before date r n is e = greatest_at date r (pos 1 -ℤ pos n) 12 31 (year_end date.calendar (pos 1 -ℤ pos n)) (rw is refl) e (λ z k f has cov. let at = rw is at cov in rw at ((year_holds date.calendar (pos 1 -ℤ pos n) k f (rw at at has)).1))
+pub greatest_before : (date : Told) (r : ℤ) (n : ℕ) → date.extent ≡ BeforeChrist n → r ≡ end_number date.calendar (pos 1 -ℤ pos n) → IsGreatest (IsIn date) (Some r)
+greatest_before date r n is e = greatest_at date r (pos 1 -ℤ pos n) (last_month date.calendar) (month_days date.calendar (pos 1 -ℤ pos n) (last_month date.calendar)) (year_end date.calendar (pos 1 -ℤ pos n)) (rw is refl) e (λ z k f has cov. let at = rw is at cov in rw at ((year_holds date.calendar (pos 1 -ℤ pos n) k f (rw at at has)).1))
 
 pub least_month : (date : Told) (r : ℤ) (m : ℕ) (year : Year) → date.extent ≡ Month m year → IsExtent date.calendar date.extent → r ≡ day_number date.calendar (counted year) m 1 → IsLeast (IsIn date) (Some r)
 least_month date r m year is ex e = let has = rw is at ex in least_at date r (counted year) m 1 (has.1, (omega arith, omega (arith, month_days_bounds date.calendar (counted year) m))) (rw is (refl, refl)) e (λ z k f day cov. let at = rw is at cov in rw (at.0, at.1) (month_holds date.calendar (counted year) m 1 f day.1.0))
@@ -49,20 +53,20 @@ pub greatest_day : (date : Told) (r : ℤ) (d m : ℕ) (year : Year) → date.ex
 greatest_day date r d m year is ex e = let has = rw is at ex in greatest_at date r (counted year) m d has.1 (rw is (refl, refl, refl)) e (λ z k f _ cov. let at = rw is at cov in rw (at.0, at.1, at.2) (omega arith))
 
 -- the days of a year, double or not
-both : (c : Calendar) (year : Year) (y : ℤ) (m d : ℕ) → HasDay c y m d → (y ≡ opening year) ⊎ (y ≡ counted year) → (day_count c (opening year) 1 1 ≤ day_count c y m d) × (day_count c y m d ≤ day_count c (counted year) 12 31)
+both : (c : Calendar) (year : Year) (y : ℤ) (m d : ℕ) → HasDay c y m d → (y ≡ opening year) ⊎ (y ≡ counted year) → (day_count c (opening year) 1 1 ≤ day_count c y m d) × (day_count c y m d ≤ end_count c (counted year))
 both c (Single n) y m d has (inl e) = rw e (year_holds c (pos n) m d (rw e at has))
 both c (Single n) y m d has (inr e) = rw e (year_holds c (pos n) m d (rw e at has))
 both c (Double n) y m d has (inl e) = rw e (
     let h = year_holds c (pos n) m d (rw e at has) in
-    let after = year_holds c (pos (n + 1)) 12 31 (year_end c (pos (n + 1))) in
+    let after = year_holds c (pos (n + 1)) (last_month c) (month_days c (pos (n + 1)) (last_month c)) (year_end c (pos (n + 1))) in
     (omega arith, omega (arith, next_year c n)))
 both c (Double n) y m d has (inr e) = rw e (
     let h = year_holds c (pos (n + 1)) m d (rw e at has) in
-    let before = year_holds c (pos n) 12 31 (year_end c (pos n)) in
+    let before = year_holds c (pos n) (last_month c) (month_days c (pos n) (last_month c)) (year_end c (pos n)) in
     (omega (arith, next_year c n), omega arith))
 
 pub least_year : (date : Told) (r : ℤ) (year : Year) → date.extent ≡ Whole year → r ≡ day_number date.calendar (opening year) 1 1 → IsLeast (IsIn date) (Some r)
 least_year date r year is e = least_at date r (opening year) 1 1 (new_year date.calendar (opening year)) (rw is (inl refl)) e (λ z k f has cov. (both date.calendar year z k f has (rw is at cov)).0)
 
-pub greatest_year : (date : Told) (r : ℤ) (year : Year) → date.extent ≡ Whole year → r ≡ day_number date.calendar (counted year) 12 31 → IsGreatest (IsIn date) (Some r)
-greatest_year date r year is e = greatest_at date r (counted year) 12 31 (year_end date.calendar (counted year)) (rw is (inr refl)) e (λ z k f has cov. (both date.calendar year z k f has (rw is at cov)).1)
+pub greatest_year : (date : Told) (r : ℤ) (year : Year) → date.extent ≡ Whole year → r ≡ end_number date.calendar (counted year) → IsGreatest (IsIn date) (Some r)
+greatest_year date r year is e = greatest_at date r (counted year) (last_month date.calendar) (month_days date.calendar (counted year) (last_month date.calendar)) (year_end date.calendar (counted year)) (rw is (inr refl)) e (λ z k f has cov. (both date.calendar year z k f has (rw is at cov)).1)

@@ -19,3 +19,4 @@ pub mod Fitting
 pub mod Again
 pub mod Written
 pub mod Consecutive
+pub mod Deciding

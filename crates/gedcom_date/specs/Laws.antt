@@ -1,7 +1,7 @@
 -- The laws of days and of values.
 use Rattle.std.specs.Prelude.{◌≡◌, ◌⊎◌, ℕ, ◌+◌, ◌-◌, ◌*◌, ◌/◌, ◌≤◌, ℤ, pos, negsuc, ◌+ℤ◌, ◌-ℤ◌, ◌≤ℤ◌, List}
 use Rattle.jiff_core.specs.Calendar.{days_from_civil}
-use Rattle.gedcom_date.specs.Calendars.{HasDay, month_days, days_of_months, day_number}
+use Rattle.gedcom_date.specs.Calendars.{HasDay, last_month, month_days, days_of_months, day_number}
 use Rattle.gedcom_date.specs.Form.{Form}
 use Rattle.gedcom_date.specs.Grammar.{Says}
 use Rattle.gedcom_date.specs.declared.calendar.Calendar.{Calendar}
@@ -13,7 +13,7 @@ abbrev pub IsNext : Calendar → ℤ → ℕ → ℕ → ℤ → ℕ → ℕ →
 IsNext c x k e y m d =
     ((y ≡ x) × (m ≡ k) × (d ≡ e + 1))
     ⊎ ((y ≡ x) × (m ≡ k + 1) × (e ≡ month_days c x k) × (d ≡ 1))
-    ⊎ ((y ≡ x +ℤ pos 1) × (k ≡ 12) × (m ≡ 1) × (e ≡ month_days c x k) × (d ≡ 1))
+    ⊎ ((y ≡ x +ℤ pos 1) × (k ≡ last_month c) × (m ≡ 1) × (e ≡ month_days c x k) × (d ≡ 1))
 
 -- the days are counted from the year -10000 on, which is 10001 B.C.
 abbrev pub IsReckoned : ℤ → Type 0
@@ -47,6 +47,10 @@ abbrev pub JulianCounts : Type 0
 JulianCounts =
     (y m d : ℕ) → 1 ≤ y → 1 ≤ d
     → day_number Julian (pos y) m d ≡ pos (365 * (y - 1) + (y - 1) / 4 + (days_of_months Julian (pos y) (m - 1) + d)) -ℤ pos 719165
+
+-- each text has a value
+abbrev pub IsSomeValue : Type 0
+IsSomeValue = (text : List ℕ) → (f : Form) × Says text f
 
 -- no text has two values
 abbrev pub IsOneValue : Type 0

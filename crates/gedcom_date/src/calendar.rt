@@ -50,7 +50,8 @@ pub struct CalendarDate {
 impl CalendarDate {
     /// The date of a calendar; none where the calendar does not have that day, month or year.
     pub fn new(calendar: Calendar, extent: Extent) -> Option<CalendarDate>
-        ensures found { IfSome result (λ date. (date.calendar ≡ calendar) × (date.extent ≡ extent)) }
+        ensures found { IfSome result (λ date.
+            (date.calendar ≡ calendar) × (date.extent ≡ extent)) }
         ensures every { IsExtent calendar extent → IsSome result }
     {
         if has_extent(calendar, extent) {

@@ -1,7 +1,7 @@
 //! The days that a date may mean.
 
 ghost use Rattle.std.specs.Prelude.{◌≡◌, ◌≤◌, ◌<◌, ◌-◌, ◌<ℤ◌, ◌≤ℤ◌, ◌+ℤ◌, ◌-ℤ◌, ◌%◌, ◌==◌, ◌&&◌, nat_lt, if◌then◌else◌, pos, negsuc, ℤ, ℕ};
-ghost use Rattle.gedcom_date.specs.Calendars.{HasDay, IsCounted, leap, day_number, month_days, counted, opening, days_before_month};
+ghost use Rattle.gedcom_date.specs.Calendars.{HasDay, last_month, IsCounted, leap, day_number, month_days, counted, opening, days_before_month};
 ghost use Rattle.jiff_core.specs.Calendar.{days_from_civil};
 ghost use Rattle.gedcom_date.specs.Told.{told};
 ghost use Rattle.gedcom_date.specs.View.{view};
@@ -84,8 +84,8 @@ pub(crate) fn last_day(date: &CalendarDate) -> i32
 {
     let calendar = date.calendar;
     match date.extent {
-        Extent::BeforeChrist(year) => number(calendar, before_christ(year), 12, 31),
-        Extent::Whole(year) => number(calendar, counted_year(year), 12, 31),
+        Extent::BeforeChrist(year) => year_end(calendar, before_christ(year)),
+        Extent::Whole(year) => year_end(calendar, counted_year(year)),
         Extent::Month(month, year) => {
             let year = counted_year(year);
             number(calendar, year, month, last_of_month(calendar, year, month))
@@ -154,6 +154,28 @@ pub(crate) fn last_of_month(calendar: Calendar, year: i16, month: u8) -> u8
         4 | 6 | 9 | 11 => 30,
         _ => 31,
     }
+}
+
+/// How many months a year has.
+pub(crate) fn last_month(calendar: Calendar) -> u8
+    ensures { result ≡ last_month calendar }
+{
+    match calendar {
+        Calendar::Gregorian | Calendar::Julian => 12,
+    }
+}
+
+/// The number of the last day of a year.
+fn year_end(calendar: Calendar, year: i16) -> i32
+    requires low { negsuc 9998 ≤ℤ year }
+    requires high { year ≤ℤ pos 9999 }
+    ensures value { result ≡ day_number calendar year (last_month calendar)
+        (month_days calendar year (last_month calendar)) }
+    ensures low { negsuc 4999999 ≤ℤ result }
+    ensures high { result ≤ℤ pos 5000000 }
+{
+    let month = last_month(calendar);
+    number(calendar, year, month, last_of_month(calendar, year, month))
 }
 
 /// The number of a day that the calendar has.

@@ -4,7 +4,7 @@ ghost use Rattle.std.specs.Prelude.{◌↔◌, ◌≤ℤ◌, IsTrue, pos, negsuc
 ghost use Rattle.gedcom_date.specs.Calendars.{HasDay, IsCounted, IsExtent};
 
 use crate::calendar::{Calendar, Extent, Year};
-use crate::days::{counted_year, last_of_month};
+use crate::days::{counted_year, last_month, last_of_month};
 use jiff::civil::Date;
 
 /// Whether the calendar has that day, month or year.
@@ -14,7 +14,7 @@ pub(crate) fn has_extent(calendar: Calendar, extent: Extent) -> bool
     match extent {
         Extent::BeforeChrist(year) => 1 <= year && year <= 9999,
         Extent::Whole(year) => has_year(year),
-        Extent::Month(month, year) => has_year(year) && 1 <= month && month <= 12,
+        Extent::Month(month, year) => has_year(year) && 1 <= month && month <= last_month(calendar),
         Extent::Day(day, month, year) => {
             has_year(year) && has_day(calendar, counted_year(year), month, day)
         }
@@ -37,13 +37,12 @@ fn has_day(calendar: Calendar, year: i16, month: u8, day: u8) -> bool
     requires high { year ≤ℤ pos 9999 }
     ensures { IsTrue result ↔ HasDay calendar year month day }
 {
-    if month > 12 || day > 31 {
-        return false;
-    }
     match calendar {
-        Calendar::Gregorian => Date::new(year, month as i8, day as i8).is_ok(),
+        Calendar::Gregorian => {
+            month <= 12 && day <= 31 && Date::new(year, month as i8, day as i8).is_ok()
+        }
         Calendar::Julian => {
-            1 <= month && 1 <= day && day <= last_of_month(calendar, year, month)
+            1 <= month && month <= 12 && 1 <= day && day <= last_of_month(calendar, year, month)
         }
     }
 }

@@ -153,7 +153,8 @@ fn keyword_value(keyword: Keyword, words: &[&str]) -> Option<DateValue>
 
 /// The value of the words behind `BET`.
 fn between_value(words: &[&str]) -> Option<DateValue>
-    ensures found { IfSome result (Holds (two_dates BetweenDates (parted is_and (views words.now)))) }
+    ensures found { IfSome result
+        (Holds (two_dates BetweenDates (parted is_and (views words.now)))) }
     ensures every { FindsEach (two_dates BetweenDates (parted is_and (views words.now))) result }
 {
     let (front, back) = part(words, "AND")?;
@@ -162,8 +163,10 @@ fn between_value(words: &[&str]) -> Option<DateValue>
 
 /// The value of the words behind `FROM`.
 fn from_value(words: &[&str]) -> Option<DateValue>
-    ensures found { IfSome result (Holds (from_form (parted is_to (views words.now)) (views words.now))) }
-    ensures every { FindsEach (from_form (parted is_to (views words.now)) (views words.now)) result }
+    ensures found { IfSome result
+        (Holds (from_form (parted is_to (views words.now)) (views words.now))) }
+    ensures every { FindsEach
+        (from_form (parted is_to (views words.now)) (views words.now)) result }
 {
     match part(words, "TO") {
         Some((front, back)) => Some(DateValue::FromTo(period(front, back)?)),

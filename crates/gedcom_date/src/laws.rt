@@ -1,6 +1,6 @@
 //! Laws of dates, over the definitions that the contracts cite.
 
-ghost use Rattle.gedcom_date.specs.Laws.{IsConsecutive, IsApart, IsComplete, CivilCounts, JulianCounts, IsOneValue};
+ghost use Rattle.gedcom_date.specs.Laws.{IsConsecutive, IsApart, IsComplete, CivilCounts, JulianCounts, IsSomeValue, IsOneValue};
 ghost use Rattle.gedcom_date.specs.Spelling.{spelling};
 ghost use Rattle.gedcom_date.specs.Grammar.{Says};
 ghost use Rattle.gedcom_date.specs.View.{view};
@@ -21,8 +21,9 @@ pub fn the_formulas_count()
     ensures julian { JulianCounts }
 {}
 
-/// A text has one value at most, and what is written of a value is read as the same value.
+/// Each text has one value, and what is written of a value is read as the same value.
 pub fn a_text_has_one_value()
+    ensures some { IsSomeValue }
     ensures one { IsOneValue }
     ensures again { (value : DateValue) → Says (spelling (view value)) (view value) }
 {}

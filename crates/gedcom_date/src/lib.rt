@@ -1,4 +1,12 @@
 //! Dates of GEDCOM 5.5.1, chapter 2, DATE_VALUE: read, written, and the days that they may mean.
+//!
+//! It stands on `jiff`, by whose calls Gregorian dates are checked and counted, and on no crate of
+//! this repository.
+//!
+//! Callers may rely on: each text has one value, and one that fits no form is kept as it stands;
+//! what is written is read as the same value; a value that is there is a good one, so that `span`
+//! and `write_date` ask for nothing; `span` takes no memory. Days are numbered from 1970-01-01,
+//! day 0. Our rules beside the standard's are in docs/FORMATS.md.
 #![tactic(auto)]
 
 mod approximation;

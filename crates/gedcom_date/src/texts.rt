@@ -24,8 +24,8 @@ pub struct Interpreted {
 }
 
 impl Interpreted {
-    /// A date and a phrase; none where their spelling has more than 1,048,576 bytes. Takes memory to
-    /// spell the date.
+    /// A date and a phrase; none where their spelling has more than 1,048,576 bytes. Takes memory
+    /// to spell the date.
     pub fn new(
         alloc: Global,
         date: CalendarDate,

@@ -15,8 +15,8 @@ use crate::texts::Interpreted;
 use crate::value::DateValue;
 use std::alloc::{AllocError, Global};
 
-/// The canonical spelling of a value: upper case, single spaces, no leading zeros, no escape for the
-/// Gregorian calendar. A `Verbatim` is written as its text.
+/// The canonical spelling of a value: upper case, single spaces, no leading zeros, no escape for
+/// the Gregorian calendar. A `Verbatim` is written as its text.
 pub fn write_date(alloc: Global, value: &DateValue) -> Result<String, DateFault>
     ensures canonical { IfOk result (λ text. string_bytes text ≡ spelling (view value.now)) }
     ensures again { IfOk result (λ text. Says (string_bytes text) (view value.now)) }
