@@ -1,0 +1,22 @@
+//! The vocabulary of the archive: what a text, a tag, a refusal and the name of a person are.
+//!
+//! It stands on `caseless` of the kit, and on no other crate of the repository.
+//!
+//! Callers may rely on: a `Text` and a `Tag` are made only where the string is one, so what holds one need
+//! not look again; the number and the name of each refusal stand in `RefusalKind` alone; `display`,
+//! `surname` and `surname_key` are functions of the bytes of a name.
+#![tactic(auto)]
+
+mod cutting;
+mod naming;
+mod refusal;
+mod tag;
+mod text;
+
+pub use naming::{display, surname, surname_key};
+pub use refusal::{Refusal, RefusalKind, RefusalText, Unit};
+pub use tag::Tag;
+pub use text::Text;
+
+#[cfg(test)]
+mod tests;
