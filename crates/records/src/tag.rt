@@ -41,6 +41,16 @@ impl Tag {
         }
     }
 
+    /// The tag that a word of this crate is.
+    pub(crate) fn of_word(alloc: Global, word: &str) -> Result<Tag, AllocError>
+        requires { IsTag word.now }
+        ensures { IfOk result (λ t. t ≡ word.now) }
+    {
+        Ok(Tag {
+            string: String::from_str(alloc, word)?,
+        })
+    }
+
     /// The tag as a string.
     pub fn as_str(&self) -> &str
         ensures same { result.now ≡ self.now }

@@ -1,4 +1,8 @@
-use crate::{Refusal, RefusalKind, Tag, Text, Unit, display, surname, surname_key};
+use crate::{
+    Carried, Place, Record, Refusal, RefusalKind, StoredLine, Tag, Text, Unit, Value, display,
+    lines_of, record_of, surname, surname_key,
+};
+use std::alloc::Global;
 use std::test::Fail;
 
 /// Every refusal.
@@ -245,5 +249,72 @@ fn surnames_that_differ_in_case_have_one_key(rt: HostRuntime) -> Result<(), Fail
     ] {
         assert_eq!(rt; surname_key(rt.alloc(), surname)?.as_str(), want);
     }
+    Ok(())
+}
+
+/// A tag that is one.
+fn tag(alloc: Global, word: &str) -> Result<Tag, Fail> {
+    let tag = Tag::try_new(String::from_str(alloc, word)?);
+    Ok(tag.ok_or("a tag")?)
+}
+
+/// A text that is one.
+fn text(alloc: Global, words: &str) -> Result<Text, Fail> {
+    let text = Text::try_new(String::from_str(alloc, words)?);
+    Ok(text.ok_or("a text")?)
+}
+
+/// A place within another, with a carried line of the tag `carried`.
+fn place(alloc: Global) -> Result<Record, Fail> {
+    let mut carried = Vec::new(alloc);
+    carried.push(Carried {
+        tag: tag(alloc, "carried")?,
+        value: Value::Ref(7),
+        children: Vec::new(alloc),
+    })?;
+    Ok(Record::Place(Place {
+        name: text(alloc, "Ashby")?,
+        parent: Some(3),
+        carried,
+    }))
+}
+
+#[test]
+fn a_place_is_kept_as_four_lines(rt: HostRuntime) -> Result<(), Fail> {
+    let lines = lines_of(rt.alloc(), &place(rt.alloc())?)?;
+    let mut printed = String::new(rt.alloc());
+    for line in &lines {
+        let depth = line.depth;
+        let word = line.tag.as_str();
+        let row = match &line.value {
+            Value::Text(text) => format!(in rt.alloc(); "{depth} {word} {}\n", text.as_str())?,
+            Value::Ref(number) => format!(in rt.alloc(); "{depth} {word} -> {number}\n")?,
+        };
+        printed.push_str(&row)?;
+    }
+    assert_eq!(rt;
+        printed.as_str(),
+        "0 place Ashby\n1 parent -> 3\n1 carried \n2 carried -> 7\n"
+    );
+    Ok(())
+}
+
+#[test]
+fn a_record_is_read_from_its_lines_and_from_no_others(rt: HostRuntime) -> Result<(), Fail> {
+    let alloc = rt.alloc();
+    let mut lines = lines_of(alloc, &place(alloc)?)?;
+    match record_of(alloc, &lines).ok().ok_or("a record")? {
+        Record::Place(place) => assert_eq!(rt; place.name.as_str(), "Ashby"),
+        _ => assert!(rt; false, "another kind"),
+    }
+    lines.push(StoredLine {
+        depth: 1,
+        tag: tag(alloc, "parent")?,
+        value: Value::Ref(4),
+    })?;
+    let refused = record_of(alloc, &lines).err().ok_or("a record")?;
+    assert!(rt; refused == RefusalKind::BadStored);
+    let none = record_of(alloc, &[]).err().ok_or("a record")?;
+    assert!(rt; none == RefusalKind::BadStored);
     Ok(())
 }

@@ -1,6 +1,6 @@
 //! Texts: what the fields of a record hold as words.
 
-ghost use Rattle.std.specs.Prelude.{◌≡◌, ◌↔◌, IfOk, IsTrue, MatchOption, string_bytes};
+ghost use Rattle.std.specs.Prelude.{◌≡◌, ◌↔◌, [], IfOk, IsTrue, MatchOption, string_bytes};
 ghost use Rattle.records.specs.Text.{IsText};
 
 use std::alloc::{AllocError, Global};
@@ -35,6 +35,15 @@ impl Text {
             Some(Text { string })
         } else {
             None
+        }
+    }
+
+    /// The text of no characters. Takes no memory.
+    pub fn empty(alloc: Global) -> Text
+        ensures { result ≡ [] }
+    {
+        Text {
+            string: String::new(alloc),
         }
     }
 

@@ -1,0 +1,12 @@
+use Rattle.std.proofs.Common.{◌≡◌, ◌++◌, ◌+◌, length}
+use Rattle.records.specs.Growing.{fronts, backs}
+use Rattle.records.proofs.stored.add_line.Given as goal
+
+abbrev pub invariant-below : goal.invariant-below
+invariant-below l = record {
+  taken : l.children.items ++ fronts (l.line.0 + 1) l.trees.items ≡ fronts (l.line.0 + 1) l.fn.trees.items;
+  left : backs (l.line.0 + 1) l.trees.items ≡ backs (l.line.0 + 1) l.fn.trees.items;
+}
+
+abbrev pub decreases-below : goal.decreases-below
+decreases-below l = length l.trees.items

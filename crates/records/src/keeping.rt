@@ -1,0 +1,89 @@
+//! Records kept as lines, and read again.
+
+ghost use Rattle.std.specs.Prelude.{◌≡◌, ◌≢◌, ◌↔◌, ◌⊎◌, IfOk, IfErr, IsTrue, MatchOption};
+ghost use Rattle.records.specs.Stored.{stored};
+ghost use Rattle.records.specs.declared.record.Record.{Record};
+ghost use Rattle.records.specs.declared.refusal.RefusalKind.TheVariants as kinds;
+
+use crate::carried::Value;
+use crate::reading::record_in;
+use crate::record::Record;
+use crate::refusal::RefusalKind;
+use crate::stored::{StoredLine, lines_of_tree, tree_of_lines};
+use crate::writing::tree_of;
+use std::alloc::{AllocError, Global};
+
+/// The lines that a record is kept as.
+pub fn lines_of(alloc: Global, record: &Record) -> Result<Vec<StoredLine>, AllocError>
+    ensures { IfOk result (λ lines. lines.items ≡ stored «record».now) }
+{
+    let tree = tree_of(alloc, record)?;
+    lines_of_tree(alloc, &tree)
+}
+
+/// The record that is kept as these lines. 40: no record is.
+pub fn record_of(alloc: Global, lines: &[StoredLine]) -> Result<Record, RefusalKind>
+    ensures read { IfOk result (λ r. lines.now ≡ stored r) }
+    ensures refused { IfErr result (λ kind. (kind ≡ kinds.OutOfMemory)
+        ⊎ ((kind ≡ kinds.BadStored) × ((r : Record) → lines.now ≢ stored r))) }
+{
+    match found_in(alloc, lines)? {
+        Some(found) => Ok(found),
+        None => Err(RefusalKind::BadStored),
+    }
+}
+
+/// The record that is kept as these lines. `None`: no record is.
+fn found_in(alloc: Global, lines: &[StoredLine]) -> Result<Option<Record>, AllocError>
+    ensures { IfOk result (λ found. MatchOption found
+        ((r : Record) → lines.now ≢ stored r) (λ r. lines.now ≡ stored r)) }
+{
+    let Some(tree) = tree_of_lines(alloc, lines)? else {
+        return Ok(None);
+    };
+    let Some(found) = record_in(alloc, &tree)? else {
+        return Ok(None);
+    };
+    let kept = lines_of(alloc, &found)?;
+    if are_same(lines, &kept) {
+        Ok(Some(found))
+    } else {
+        Ok(None)
+    }
+}
+
+/// Whether the lines are the same.
+fn are_same(a: &[StoredLine], b: &[StoredLine]) -> bool
+    ensures { IsTrue result ↔ (a.now ≡ b.now) }
+{
+    if a.len() != b.len() {
+        return false;
+    }
+    'pairs: for i in 0..a.len() {
+        if !is_same(&a[i], &b[i]) {
+            return false;
+        }
+    }
+    true
+}
+
+fn is_same(a: &StoredLine, b: &StoredLine) -> bool
+    ensures { IsTrue result ↔ (a.now ≡ b.now) }
+{
+    a.depth == b.depth && a.tag.as_str() == b.tag.as_str() && is_same_value(&a.value, &b.value)
+}
+
+fn is_same_value(a: &Value, b: &Value) -> bool
+    ensures { IsTrue result ↔ (a.now ≡ b.now) }
+{
+    match a {
+        Value::Text(x) => match b {
+            Value::Text(y) => x.as_str() == y.as_str(),
+            Value::Ref(_) => false,
+        },
+        Value::Ref(m) => match b {
+            Value::Text(_) => false,
+            Value::Ref(n) => *m == *n,
+        },
+    }
+}

@@ -1,0 +1,26 @@
+//! Places.
+
+use crate::carried::Carried;
+use crate::text::Text;
+use std::marker::Model;
+
+/// A place, within another or none.
+#[derive(Drop)]
+pub struct Place {
+    pub name: Text,
+    /// The number of the place that it is within.
+    pub parent: Option<u32>,
+    pub carried: Vec<Carried>,
+}
+
+impl Model for Place {
+    ghost use Rattle.std.specs.Coded.{codes};
+    ghost use Rattle.records.specs.Line.{lines_code, value_code};
+    ghost use Rattle.records.specs.Model as model;
+
+    ghost Value = { model.Place };
+
+    ghost coded = { Prim.hlevel (codes, lines_code, value_code) };
+
+    ghost view = { λ a. record { name = a.name; parent = a.parent; carried = a.carried.items } };
+}

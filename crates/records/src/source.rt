@@ -1,0 +1,67 @@
+//! Repositories and sources.
+
+use crate::carried::Carried;
+use crate::text::Text;
+use std::marker::Model;
+
+/// A repository.
+#[derive(Drop)]
+pub struct Repo {
+    pub name: Option<Text>,
+    pub carried: Vec<Carried>,
+}
+
+impl Model for Repo {
+    ghost use Rattle.std.specs.Coded.{codes};
+    ghost use Rattle.records.specs.Line.{lines_code, value_code};
+    ghost use Rattle.records.specs.Model as model;
+
+    ghost Value = { model.Repo };
+
+    ghost coded = { Prim.hlevel (codes, lines_code, value_code) };
+
+    ghost view = { λ a. record { name = a.name; carried = a.carried.items } };
+}
+
+/// Where a source is kept.
+#[derive(Drop)]
+pub struct Holding {
+    /// The number of the repository.
+    pub repo: u32,
+    pub call_number: Option<Text>,
+    pub carried: Vec<Carried>,
+}
+
+impl Model for Holding {
+    ghost use Rattle.std.specs.Coded.{codes};
+    ghost use Rattle.records.specs.Line.{lines_code, value_code};
+    ghost use Rattle.records.specs.Model as model;
+
+    ghost Value = { model.Holding };
+
+    ghost coded = { Prim.hlevel (codes, lines_code, value_code) };
+
+    ghost view = { λ a. record { repo = a.repo; call_number = a.call_number; carried = a.carried.items } };
+}
+
+/// A source.
+#[derive(Drop)]
+pub struct Source {
+    pub title: Option<Text>,
+    pub author: Option<Text>,
+    pub publisher: Option<Text>,
+    pub holdings: Vec<Holding>,
+    pub carried: Vec<Carried>,
+}
+
+impl Model for Source {
+    ghost use Rattle.std.specs.Coded.{codes};
+    ghost use Rattle.records.specs.Line.{lines_code, value_code};
+    ghost use Rattle.records.specs.Model as model;
+
+    ghost Value = { model.Source };
+
+    ghost coded = { Prim.hlevel (codes, lines_code, value_code) };
+
+    ghost view = { λ a. record { title = a.title; author = a.author; publisher = a.publisher; holdings = a.holdings.items; carried = a.carried.items } };
+}
