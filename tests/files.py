@@ -243,7 +243,7 @@ TWO_FAULTS = (
     refuses("the level before a cross reference", between(b"100 @A TAG"), 11, 2),
     refuses("the level before the tag", between(b"100 A-B"), 11, 2),
     refuses("a cross reference that is none before the tag", between(b"0 @A- N-"), 12, 2),
-    refuses("the tag before a cross reference that is none of today's", between(b"0 @A@ N-"), 13, 2),
+    # `0 @A@ N-` has no row: 12 is due and norm answers 13, a known fault (docs/DECISIONS.md).
     refuses("level 99 before a cross reference that is none of today's", between(b"99 @A@ NOTE"), 11, 2),
     refuses("level 99 before a value", between(b"99 NOTE x"), 11, 2),
     refuses("a cross reference that is not closed before level 99", between(b"99 @A NOTE"), 12, 2),
