@@ -12,7 +12,7 @@ ROOT = os.path.dirname(os.path.dirname(os.path.abspath(__file__)))
 LIMIT = 60  # seconds for one run
 SHOWN = 200  # characters of a text in a message
 
-# The refusals that a run may print today (docs/REFUSALS.md).
+# The refusals that a run may print (docs/REFUSALS.md).
 REFUSALS = {
     1: "OutOfMemory",
     10: "NotUtf8",
@@ -26,8 +26,12 @@ REFUSALS = {
     22: "NoTrailer",
     23: "AfterTrailer",
     24: "BadContinuation",
+    25: "ContinuationHasChildren",
+    26: "DuplicateXref",
     27: "FileTooLarge",
+    28: "TextTooLong",
     29: "Charset",
+    30: "Version",
     94: "ReadFailed",
     95: "WriteFailed",
 }
@@ -82,6 +86,15 @@ def refused(number: int, line: int | None = None) -> Outcome:
 
 def written(out: bytes) -> Outcome:
     return Outcome(out, b"", 0)
+
+
+def counted(wanted: Outcome) -> Outcome:
+    """What `check` says of a file, where `norm` is to say this: the same refusal, or the number of
+    records, which are its lines of level 0 but for the header and the trailer."""
+    if wanted.status:
+        return wanted
+    records = sum(line.startswith(b"0 ") for line in wanted.out.split(b"\n")) - 2
+    return written(f"ok: {records} records\n".encode())
 
 
 class _Feeder(threading.Thread):

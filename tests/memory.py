@@ -6,16 +6,19 @@ import os
 import subprocess
 import tempfile
 
-from files import between
 from harness import ROOT, Case, Failed, Outcome, Tools, demand, expect, refused, run
+from table.making import between
 
 LEAST = 4  # growths that a run has at least; fewer show that none was refused
 MOST = 10_000_000  # and at most
 REFUSING = os.path.join(ROOT, "tests", "refuse.c")
 
-SAMPLE = between(b"1 SOUR", b"2 VERS", b"3 A", b"1 DATE", b"0 INDI", b"1 NAME", b"1 SEX", b"0 FAM")
+SAMPLE = between(
+    "1 SOUR A", "2 VERS 1", "1 CHAR UTF-8", "0 @I1@ INDI", "1 NAME Ann /Lee/", "1 FAMC @F1@",
+    "1 NOTE " + "x" * 300, "2 CONC y@z", "2 CONT @#D@ " + "y " * 120, "2 SOUR", "2 CONT", "0 @F1@ FAM",
+)
 # canonical text beyond what one write takes
-LONG_SAMPLE = between(*[b"1 " + b"T" * 31] * 5_000)
+LONG_SAMPLE = between(*["1 " + "T" * 31, "1 NOTE " + "x" * 250, "2 CONT y"] * 700)
 
 
 def built(folder):
@@ -39,10 +42,11 @@ def apart():
         number += 1 + number // 4
 
 
-def refused_in_turn(tools, given, numbers):
-    """Runs `norm` with the growth of each number refused, until a run has no such growth."""
-    words = ("norm",)
+def refused_in_turn(tools, word, given, numbers):
+    """Runs a command with the growth of each number refused, until a run has no such growth."""
+    words = (word,)
     plain = run(tools.parish, words, given)
+    demand(plain.status == 0, f"without a refusal: status {plain.status}, {plain.err!r}")
     with tempfile.TemporaryDirectory() as folder:
         library = built(folder)
         for tried, number in enumerate(numbers):
@@ -67,9 +71,13 @@ def told_and_nothing_wrong(got, plain, number):
 def cases(tools: Tools):
     yield Case(
         "memory: each growth of norm refused in turn",
-        lambda: refused_in_turn(tools, SAMPLE, range(1, MOST)),
+        lambda: refused_in_turn(tools, "norm", SAMPLE, range(1, MOST)),
+    )
+    yield Case(
+        "memory: each growth of check refused in turn",
+        lambda: refused_in_turn(tools, "check", SAMPLE, range(1, MOST)),
     )
     yield Case(
         "memory: growths of norm of a long file refused",
-        lambda: refused_in_turn(tools, LONG_SAMPLE, apart()),
+        lambda: refused_in_turn(tools, "norm", LONG_SAMPLE, apart()),
     )

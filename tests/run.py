@@ -23,13 +23,14 @@ sys.dont_write_bytecode = True
 import documents  # noqa: E402
 import files  # noqa: E402
 import memory  # noqa: E402
+import properties  # noqa: E402
 import scripts  # noqa: E402
 import sizes  # noqa: E402
 import streams  # noqa: E402
 from harness import ROOT, Case, Failed, Tools  # noqa: E402
 
 # The longest ones first, since they run side by side.
-PARTS = (sizes, memory, streams, scripts, documents, files)
+PARTS = (sizes, memory, properties, streams, scripts, documents, files)
 PIECES = "tree_pieces"
 
 

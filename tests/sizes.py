@@ -6,10 +6,9 @@ makes their lines long, so that there are few.
 
 from __future__ import annotations
 
-from files import HEAD, LONGEST, MARK, TRLR
 from harness import Case, Tools, demand, expect, refused, run, written
+from table.making import HEAD, LARGEST, LONGEST, MARK, TRLR
 
-LARGEST = 67_108_864  # bytes of a file
 LINE = b" " * (LONGEST - 4) + b"1 A\n"  # 65,536 bytes with its end
 SHORT = b"1 A\n"
 MANY = 1_000_000  # short lines of one file
@@ -50,10 +49,35 @@ def too_large(line, front=HEAD, size=LARGEST + 1, back=TRLR, number=27):
 
 
 def many_lines(tools):
-    text = HEAD + SHORT * MANY + TRLR
+    normalised(tools, HEAD + SHORT * MANY + TRLR)
+
+
+def normalised(tools, text):
+    """A large canonical file comes out as it is; it is compared once before it is shown."""
     got = run(tools.parish, ("norm",), text)
+    demand(got.err == b"", f"standard error: {got.err!r}")
     demand(got.out == text, f"{len(got.out)} bytes that are not the {len(text)} expected")
     expect(got, written(text))
+
+
+def many_names(tools):
+    """Records that all have names, the last of which is the first again in the second file."""
+    records = b"".join(b"0 @I%d@ INDI\n1 NOTE @I%d@\n" % (n, n + 1) for n in range(MANY // 5))
+    normalised(tools, HEAD + records + TRLR)
+    again = HEAD + records + b"0 @I0@ INDI\n" + TRLR
+    expect(run(tools.parish, ("norm",), again), refused(26, 2 * (MANY // 5) + 2))
+
+
+def many_nested(tools):
+    """Levels 0 to 98, a thousand times, with a text that goes on at 99."""
+    nest = b"".join(b"%d A\n" % level for level in range(98)) + b"98 NOTE a\n99 CONT b\n"
+    normalised(tools, HEAD + nest * 1_000 + TRLR)
+
+
+def many_long_texts(tools):
+    """Texts of 1,048,576 bytes in canonical lines: 5,242 of 200 bytes and one of 176."""
+    note = b"1 NOTE " + b"x" * 200 + (b"\n2 CONC " + b"x" * 200) * 5_241 + b"\n2 CONC " + b"x" * 176
+    normalised(tools, HEAD + (note + b"\n") * 12 + TRLR)
 
 
 SIZES = (
@@ -71,6 +95,9 @@ SIZES = (
     ("a line that it makes too long is told as that",
      too_large(1_025, back=b" " * (LONGEST + 1), number=14)),
     ("a file of a million lines", many_lines),
+    ("a file of 200,000 names, and the first of them again", many_names),
+    ("a file of 100,000 nested lines", many_nested),
+    ("a file of twelve texts of 1,048,576 bytes", many_long_texts),
 )
 
 

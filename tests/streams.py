@@ -6,11 +6,13 @@ import os
 import subprocess
 import tempfile
 
-from files import HEAD, TRLR, between
 from harness import Case, Outcome, Tools, demand, expect, refused, run, shown, written
+from table.making import HEAD, TRLR, between
 
-SMALL = between(b"1 A")
-LARGE = between(*[b"1 A"] * 200_000)  # its canonical text is far above what a pipe holds
+COMMANDS = ("norm", "check")
+SMALL = between("1 A")
+ANSWERS = (("norm", SMALL), ("check", b"ok: 0 records\n"))
+LARGE = between(*["1 A"] * 200_000)  # its canonical text is far above what a pipe holds
 OFFERED = 4 * 67_108_864  # bytes of an endless input, beyond any that is read
 
 
@@ -21,13 +23,14 @@ def endlessly(front, piece):
         yield piece
 
 
-def with_streams(tools, redirections, given=SMALL):
-    """`norm` as a shell starts it with redirections, such as `<&-`."""
-    return run(("sh", "-c", f'exec "$@" {redirections}', "sh", *tools.parish, "norm"), (), given)
+def with_streams(tools, redirections, given=SMALL, word="norm"):
+    """A command as a shell starts it with redirections, such as `<&-`."""
+    return run(("sh", "-c", f'exec "$@" {redirections}', "sh", *tools.parish, word), (), given)
 
 
 def full_device(tools):
-    expect(with_streams(tools, ">/dev/full"), refused(95))
+    for word in COMMANDS:
+        expect(with_streams(tools, ">/dev/full", word=word), refused(95))
 
 
 def full_device_large(tools):
@@ -57,7 +60,8 @@ def reader_that_never_came(tools):
     reading, writing = os.pipe()
     os.close(reading)
     try:
-        expect(run(tools.parish, ("norm",), SMALL, stdout=writing), refused(95))
+        for word in COMMANDS:
+            expect(run(tools.parish, (word,), SMALL, stdout=writing), refused(95))
     finally:
         os.close(writing)
 
@@ -65,7 +69,8 @@ def reader_that_never_came(tools):
 def folder_as_input(tools):
     folder = os.open("/", os.O_RDONLY)
     try:
-        expect(run(tools.parish, ("norm",), stdin=folder), refused(94))
+        for word in COMMANDS:
+            expect(run(tools.parish, (word,), stdin=folder), refused(94))
     finally:
         os.close(folder)
 
@@ -76,15 +81,18 @@ def input_for_writing_only(tools):
 
 
 def closed_input(tools):
-    expect(with_streams(tools, "<&-"), refused(94))
+    for word in COMMANDS:
+        expect(with_streams(tools, "<&-", word=word), refused(94))
 
 
 def closed_output(tools):
-    expect(with_streams(tools, ">&-"), refused(95))
+    for word in COMMANDS:
+        expect(with_streams(tools, ">&-", word=word), refused(95))
 
 
 def closed_output_of_a_refused_file(tools):
-    expect(with_streams(tools, ">&-", HEAD), refused(22, 2))
+    for word in COMMANDS:
+        expect(with_streams(tools, ">&-", HEAD, word), refused(22, 2))
 
 
 def errors_that_cannot_be_told(tools):
@@ -94,13 +102,15 @@ def errors_that_cannot_be_told(tools):
 
 
 def no_input(tools):
-    expect(run(tools.parish, ("norm",), stdin=subprocess.DEVNULL), refused(21, 1))
+    for word in COMMANDS:
+        expect(run(tools.parish, (word,), stdin=subprocess.DEVNULL), refused(21, 1))
 
 
 def input_byte_by_byte(tools):
     """A slow writer: each read gets what is there."""
-    pieces = (SMALL[at : at + 1] for at in range(len(SMALL)))
-    expect(run(tools.parish, ("norm",), pieces), written(SMALL))
+    for word, answer in ANSWERS:
+        pieces = (SMALL[at : at + 1] for at in range(len(SMALL)))
+        expect(run(tools.parish, (word,), pieces), written(answer))
 
 
 def endless_file(tools):
@@ -134,11 +144,14 @@ def told(tools, *words):
 
 
 def help_of_all(tools):
-    demand(b"norm" in told(tools, "--help"), "the help names no command")
+    text = told(tools, "--help")
+    for word in COMMANDS:
+        demand(word.encode() in text, f"the help does not name {word}")
 
 
-def help_of_norm(tools):
-    demand(b"norm" in told(tools, "norm", "--help"), "the help of norm does not name it")
+def help_of_each(tools):
+    for word in COMMANDS:
+        demand(word.encode() in told(tools, word, "--help"), f"the help of {word} does not name it")
 
 
 def version(tools):
@@ -158,8 +171,15 @@ def refuses_words(*words):
 
 def another_folder(tools):
     with tempfile.TemporaryDirectory() as folder:
-        expect(run(tools.parish, ("norm",), SMALL, cwd=folder), written(SMALL))
-        demand(not os.listdir(folder), "norm left a file in its folder")
+        for word, answer in ANSWERS:
+            expect(run(tools.parish, (word,), SMALL, cwd=folder), written(answer))
+            demand(not os.listdir(folder), f"{word} left a file in its folder")
+
+
+def many_records(tools):
+    """The text of `check` is its one line, whatever is counted."""
+    given = between(*["0 @A%d@ NOTE" % number for number in range(100_000)])
+    expect(run(tools.parish, ("check",), given), written(b"ok: 100000 records\n"))
 
 
 STREAMS = (
@@ -179,7 +199,7 @@ STREAMS = (
     ("an endless line ends at the limit of a line", endless_line),
     ("endless blank lines end at the limit of a file", endless_blank_lines),
     ("--help", help_of_all),
-    ("norm --help", help_of_norm),
+    ("norm --help and check --help", help_of_each),
     ("--version", version),
     ("no words", refuses_words()),
     ("an unknown command", refuses_words("frobnicate")),
@@ -187,9 +207,14 @@ STREAMS = (
     ("an unknown option", refuses_words("--frobnicate")),
     ("an unknown option of norm", refuses_words("norm", "--frobnicate")),
     ("a word too many", refuses_words("norm", "file.ged")),
+    ("an unknown option of check", refuses_words("check", "--frobnicate")),
+    ("a word too many for check", refuses_words("check", "file.ged")),
+    ("two commands", refuses_words("norm", "check")),
+    ("a command in capitals", refuses_words("CHECK")),
     ("a word that is not UTF-8", refuses_words(b"\xff")),
     ("a word of norm that is not UTF-8", refuses_words("norm", b"a\xff")),
     ("another folder", another_folder),
+    ("a hundred thousand records are counted", many_records),
 )
 
 

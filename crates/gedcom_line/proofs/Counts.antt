@@ -1,7 +1,6 @@
 -- Counts of characters, as they are written, and the greatest number that passes a test.
-use Rattle.std.proofs.Common.{◌≡◌, ◌≢◌, ℕ, zero, suc, ◌+◌, ◌-◌, ◌*◌, ◌<◌, ◌≤◌, Bool, true, false, cond, eqb, ◌&&◌, not, List, [], ◌∷◌, ◌++◌, length, get_or, take, refl, sym, ap, ◌∙◌, subst, inl, inr, ◌⊎◌, arith, Option, Some, None}
-use Rattle.std.specs.Prelude.{is_some, unwrap_or}
-use Rattle.std.specs.Option.{MatchOption}
+use Rattle.std.proofs.Common.{◌≡◌, ◌≢◌, ℕ, zero, suc, ◌+◌, ◌-◌, ◌*◌, ◌<◌, ◌≤◌, Bool, true, false, cond, eqb, ◌&&◌, not, List, [], ◌∷◌, ◌++◌, length, get_or, take, refl, sym, ap, ◌∙◌, subst, inl, inr, ◌⊎◌, arith, Option, Some}
+use Rattle.std.specs.Prelude.{unwrap_or}
 use Rattle.std.proofs.lemmas.List.{take_all}
 use Rattle.std.proofs.lemmas.List.Sums.{sum_by-append, sum_by-cons, count_by-le-length}
 use Rattle.std.proofs.lemmas.Bool.{eqb-true, cases_order, le-leb, lt-leb}
@@ -112,21 +111,17 @@ and_false : (a b : Bool) → b ≡ false → (a && b) ≡ false
 and_false true b h = h
 and_false false b h = refl
 
-pub no_cut_beyond : (s : List ℕ) (p : ℕ) → front_len 200 s < p → p ≤ length s → may_cut s p ≡ false
-no_cut_beyond s p lt le = and_false (begins_char (get_or s p 0)) (is_short (take p s)) (long_part s p lt le)
+-- a part that is too long ends at no cut
+pub no_cut_long : (s : List ℕ) (p : ℕ) → is_short (take p s) ≡ false → may_cut s p ≡ false
+no_cut_long s p h = and_false (begins_char (get_or s p 0)) (is_short (take p s)) h
 
-pub no_good_beyond : (s : List ℕ) (p : ℕ) → front_len 200 s < p → p ≤ length s → is_good_cut s p ≡ false
-no_good_beyond s p lt le = and_false (not (eqb (get_or s (p - 1) 0) 32) && not (eqb (get_or s p 0) 32)) (may_cut s p) (no_cut_beyond s p lt le)
+pub no_good_long : (s : List ℕ) (p : ℕ) → is_short (take p s) ≡ false → is_good_cut s p ≡ false
+no_good_long s p h = and_false (not (eqb (get_or s (p - 1) 0) 32) && not (eqb (get_or s p 0) 32)) (may_cut s p) (no_cut_long s p h)
 
 pub window_short : (s : List ℕ) → front_len 200 s ≢ length s → is_short s ≡ false
 window_short s ne =
     let lt : front_len 200 s < length s = omega (arith, front_len-le-length 200 s) in
     lt-leb (char_count (escaped s)) 200 (omega (arith, front_len_more 200 s (length s) lt (omega arith), count_le_escaped false s, ap char_count (take_all (length s) s (omega arith))))
-
--- what is left over tells whether a text is short
-pub left_short : (s : List ℕ) (r : Option ℕ) → MatchOption r (200 < char_count (escaped s)) (λ n. n + char_count (escaped s) ≡ 200) → is_some r ≡ is_short s
-left_short s None h = rw (lt-leb (char_count (escaped s)) 200 h) refl
-left_short s (Some n) h = rw (le-leb (char_count (escaped s)) 200 (omega arith)) refl
 
 pub place_is : (s : List ℕ) (e : ℕ) (r : Option ℕ) → greatest (is_good_cut s) e ≡ greatest (is_good_cut s) (length s - 1) → greatest (may_cut s) e ≡ greatest (may_cut s) (length s - 1) → r ≡ greatest (is_good_cut s) e → unwrap_or r (unwrap_or (greatest (may_cut s) e) 1) ≡ cut_len s
 unfolding cut_len
@@ -137,7 +132,3 @@ short_nil [] h =
     let e : is_short [] ≡ true = le-leb (char_count []) 200 (omega (arith, char_count-nil)) in
     absurd cc
 short_nil (c ∷ cs) h = omega arith
-
-pub spent_last : (t rest : List ℕ) (i : Bool) (left : ℕ) (r : Option ℕ) → NoAt rest → left + char_count (escaped t) ≡ 200 + char_count (escaped_from i rest) → MatchOption r (left < char_count rest) (λ n. n + char_count rest ≡ left) → MatchOption r (200 < char_count (escaped t)) (λ n. n + char_count (escaped t) ≡ 200)
-spent_last t rest i left None none so_far h = omega (arith, count_last rest i none)
-spent_last t rest i left (Some n) none so_far h = omega (arith, count_last rest i none)

@@ -78,7 +78,7 @@ ends_after (c ∷ cs) ds h =
     let k = both (not (is_at c)) (list_all (λ b. not (is_at b)) cs) h in
     inr (eqb_no c 64 (not_false (is_at c) k.0), ends_after cs ds k.1)
 
-space_after : (t : List ℕ) → is_some (past_char 32 t) ≡ true → (ds : List ℕ) × (t ≡ 32 ∷ ds)
+pub space_after : (t : List ℕ) → is_some (past_char 32 t) ≡ true → (ds : List ℕ) × (t ≡ 32 ∷ ds)
 space_after [] e = absurd cc
 space_after (c ∷ cs) e = elim (eqb c 32) as (λ v. eqb c 32 ≡ v → is_some (cond v (Some cs) None) ≡ true → (ds : List ℕ) × (c ∷ cs ≡ 32 ∷ ds)) [
   | true ↦ λ k _. (cs, ap (λ (x : ℕ). x ∷ cs) (eqb-true c 32 k))

@@ -77,11 +77,11 @@ abbrev pub Each : (List ℕ → Type 0) → List (List ℕ) → Type 0
 Each P [] = Unit {0}
 Each P (x ∷ xs) = P x × Each P xs
 
-each_marked : (P : List ℕ → Type 0) (m : Mark) (ps : List (List ℕ)) → Each P ps → EachPart P (marked m ps)
+pub each_marked : (P : List ℕ → Type 0) (m : Mark) (ps : List (List ℕ)) → Each P ps → EachPart P (marked m ps)
 each_marked P m [] h = tt
 each_marked P m (p ∷ ps) h = (h.0, each_marked P Conc ps h.1)
 
-each-append : (P : List ℕ → Type 0) (a b : List Part) → EachPart P a → EachPart P b → EachPart P (a ++ b)
+pub each-append : (P : List ℕ → Type 0) (a b : List Part) → EachPart P a → EachPart P b → EachPart P (a ++ b)
 each-append P [] b h k = k
 each-append P (x ∷ xs) b h k = (h.0, each-append P xs b h.1 k)
 

@@ -3,10 +3,12 @@ pub mod Texts
 pub mod Steps
 pub mod Doubled
 pub mod Counts
+pub mod Fronts
 pub mod Cuts
 pub mod Pointers
 pub mod Again
 pub mod Inner
+pub mod Lengths
 pub mod Whole
 pub mod Exact
 pub mod Written

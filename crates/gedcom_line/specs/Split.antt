@@ -21,13 +21,17 @@ front_len n [] = 0
 front_len zero (b ∷ bs) = if begins_char b then 0 else 1 + front_len zero bs
 front_len (suc n) (b ∷ bs) = 1 + front_len (if begins_char b then n else suc n) bs
 
+-- as it is written it has at most 200 characters
+abbrev pub IsShort : List ℕ → Type 0
+IsShort t = char_count (escaped t) ≤ 200
+
 -- a part of a segment, as its first p bytes: whole characters, with others behind them, that have as they are written
 -- at most 200 characters
 pub record MayCut (s : List ℕ) (p : ℕ) : Type 0 where
   pub some : 0 < p
   pub more : p < length s
   pub whole : IsCharBoundary s p
-  pub short : char_count (escaped (take p s)) ≤ 200
+  pub short : IsShort (take p s)
 
 -- no space stands before the cut or after it
 pub record IsGoodCut (s : List ℕ) (p : ℕ) : Type 0 where
@@ -46,7 +50,7 @@ IsCut s p = IsGreatest (IsGoodCut s) p ⊎ (((j : ℕ) → ¬ (IsGoodCut s j)) �
 -- the parts of a segment: one where it is short, else what stands before the cut and the parts of the rest
 abbrev pub Parts : List ℕ → List (List ℕ) → Type 0
 Parts s [] = ⊥
-Parts s (p ∷ []) = (s ≡ p) × (char_count (escaped s) ≤ 200)
+Parts s (p ∷ []) = (s ≡ p) × IsShort s
 Parts s (p ∷ q ∷ ps) = (200 < char_count (escaped s)) × ((rest : List ℕ) × ((s ≡ p ++ rest) × (IsCut s (length p) × Parts rest (q ∷ ps))))
 
 -- The same by computing.

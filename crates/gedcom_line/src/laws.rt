@@ -1,11 +1,11 @@
 //! Laws of lines, over the definitions that the contracts cite.
 
-ghost use Rattle.std.specs.Prelude.{◌≡◌, ℕ, List, true};
+ghost use Rattle.std.specs.Prelude.{◌≡◌, ◌≤◌, ℕ, List, true};
 ghost use Rattle.std.specs.List.{list_all};
 ghost use Rattle.std.specs.Str.{IsUtf8};
 ghost use Rattle.gedcom_line.specs.Escape.{escaped, unescaped};
 ghost use Rattle.gedcom_line.specs.Reading.{Parts as LineParts};
-ghost use Rattle.gedcom_line.specs.Split.{EachPart, Parts, canonical, joined, segment_parts};
+ghost use Rattle.gedcom_line.specs.Split.{EachPart, IsShort, Parts, canonical, char_count, joined, segment_parts};
 ghost use Rattle.gedcom_line.specs.Value.{Text, Pointer, IsPointer, meaning};
 ghost use Rattle.gedcom_line.specs.Line.{Line};
 ghost use Rattle.gedcom_line.specs.Spelling.{spelling, is_textual, IsInner, IsLine};
@@ -36,4 +36,12 @@ pub fn a_text_is_split_and_joined()
     ensures joins { (t : List ℕ) → joined (canonical t) ≡ t }
     ensures parts { (s : List ℕ) → IsUtf8 s → Parts s (segment_parts s) }
     ensures lines { (t : List ℕ) → IsUtf8 t → list_all is_textual t ≡ true → EachPart IsInner (canonical t) }
+{}
+
+/// What is written of a line whose value has at most 200 characters has at most 300, its LF not counted,
+/// and each part of a text, as it is written, has at most 200. A cross reference has at most 64.
+pub fn a_line_is_short()
+    ensures line { (l : LineParts) → IsLine l → char_count l.raw ≤ 200 → char_count (spelling l) ≤ 300 }
+    ensures parts { (t : List ℕ) → EachPart IsShort (canonical t) }
+    ensures pointer { (raw name : List ℕ) → IsPointer raw name → char_count name ≤ 64 }
 {}

@@ -43,11 +43,11 @@ fn count(text: &str) -> usize
     text.as_bytes().iter().filter(|b| begins_char(**b)).count()
 }
 
-/// How many bytes the first 200 characters have.
-fn window(text: &str) -> usize
-    ensures { result ≡ front_len 200 text.now }
+/// How many bytes the first so many characters have.
+fn window(text: &str, chars: usize) -> usize
+    ensures { result ≡ front_len chars text.now }
 {
-    let mut left = LONGEST;
+    let mut left = chars;
     for (i, byte) in text.as_bytes().iter().enumerate() {
         if begins_char(*byte) {
             if left == 0 {
@@ -59,44 +59,28 @@ fn window(text: &str) -> usize
     text.len()
 }
 
-/// What is left of so many characters when those of the text are taken off.
-fn spend(left: usize, text: &str) -> Option<usize>
-    ensures { MatchOption result (left < char_count text.now) (λ r. r + char_count text.now ≡ left) }
+/// How many characters a text of at most 200 has as it is written.
+fn written_count(text: &str) -> usize
+    requires { char_count text.now ≤ 200 }
+    ensures { result ≡ char_count (escaped text.now) }
 {
-    let spent = count(text);
-    if left < spent {
-        return None;
-    }
-    Some(left - spent)
-}
-
-/// What is left of 200 characters when those of the text, as it is written, are taken off.
-fn left_over(text: &str) -> Option<usize>
-    ensures { MatchOption result (200 < char_count (escaped text.now)) (λ r. r + char_count (escaped text.now) ≡ 200) }
-{
-    let mut left = LONGEST;
+    let mut total = 0;
     let mut rest = text;
     let mut is_inside = false;
     while let Some((front, after)) = cut(rest) {
-        let (doubled, is_next_inside) = mark_of(is_inside, after);
-        let Some(once) = spend(left, front) else {
-            return None;
-        };
-        let Some(twice) = spend(once, doubled) else {
-            return None;
-        };
-        left = twice;
+        let (mark, is_next_inside) = mark_of(is_inside, after);
+        total += count(front) + count(mark);
         is_inside = is_next_inside;
         rest = after;
     }
-    spend(left, rest)
+    total + count(rest)
 }
 
 /// Whether the text has as it is written at most 200 characters.
 fn is_short(text: &str) -> bool
     ensures { result ≡ short_test text.now }
 {
-    window(text) == text.len() && left_over(text).is_some()
+    window(text, LONGEST) == text.len() && written_count(text) <= LONGEST
 }
 
 /// Whether the segment may be cut here.
@@ -146,19 +130,30 @@ fn last_cut(segment: &str, end: usize) -> Option<usize>
     None
 }
 
-/// The last place where the segment may be cut at all.
+/// How many characters the first so many have beyond 200 as they are written.
+fn excess(segment: &str, chars: usize) -> usize
+    requires { chars ≤ 200 }
+    ensures { result ≡ char_count (escaped (take (front_len chars segment.now) segment.now)) - 200 }
+{
+    let end = window(segment, chars);
+    written_count(&segment[..end]).saturating_sub(LONGEST)
+}
+
+/// A place behind which the segment may not be cut.
 fn farthest(segment: &str) -> usize
     requires { short_test segment.now ≡ false }
     ensures within { result < length segment.now }
     ensures good { greatest (good_test segment.now) result ≡ greatest (good_test segment.now) (length segment.now - 1) }
     ensures cut { greatest (cut_test segment.now) result ≡ greatest (cut_test segment.now) (length segment.now - 1) }
 {
-    let end = window(segment);
-    if end < segment.len() {
-        end
-    } else {
-        segment.len() - 1
+    let mut chars = LONGEST;
+    let mut over = excess(segment, chars);
+    while 0 < over {
+        // A character less is written as at most two less.
+        chars -= over.div_ceil(2);
+        over = excess(segment, chars);
     }
+    window(segment, chars)
 }
 
 /// The last cut up to here, or 1.

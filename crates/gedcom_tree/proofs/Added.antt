@@ -1,15 +1,19 @@
--- A line that breaks no rule finds a place among the open nodes, and is one node more.
-use Rattle.std.proofs.Common.{◌≡◌, ℕ, ◌+◌, ◌≤◌, Bool, true, false, cond, eqb, not, List, [], ◌∷◌, ◌++◌, refl, sym, ap, inl, inr, arith, Some, None, Ok}
+-- A line that breaks no rule finds a place among the open lines and nodes.
+use Rattle.std.proofs.Common.{◌≡◌, ℕ, ◌+◌, ◌-◌, ◌<◌, ◌≤◌, Bool, true, false, cond, eqb, not, List, refl, sym, ap, ◌∙◌, subst, inl, inr, arith, Option, Some, None, Ok}
+use Rattle.std.specs.Option.{option_map_or}
+use Rattle.std.specs.Str.{bytes_eq}
+use Rattle.std.specs.Prelude.{codes}
 use Rattle.std.proofs.lemmas.Bool.{eqb-true, ltb-false}
 use Rattle.gedcom_line.specs.Reading.{Parts, is_continuation}
-use Rattle.gedcom_line.proofs.Steps.{both}
-use Rattle.gedcom_tree.specs.Rules.{Progress, is_head, is_trailer, first_broken}
-use Rattle.gedcom_tree.specs.Forest.{Item, node_of}
-use Rattle.gedcom_tree.specs.Reading.{judge, grow, grow_read}
-use Rattle.gedcom_tree.specs.Depth.{IsDeep}
+use Rattle.gedcom_line.proofs.Steps.{both, neither}
+use Rattle.gedcom_tree.specs.Rules.{Progress, role_of, is_continued, is_head, is_trailer}
+use Rattle.gedcom_tree.specs.Forest.{Item}
+use Rattle.gedcom_tree.specs.Reading.{after, next, judge, advance, Nodes, grow_line, grow, grow_read}
+use Rattle.gedcom_tree.specs.Depth.{depth, node_depth, IsDeep}
 use Rattle.gedcom_tree.proofs.Cuts.{cases_bool}
 use Rattle.gedcom_tree.proofs.Judged.{judge_some, judge_none}
-use Rattle.gedcom_tree.proofs.Plain.{unbroken}
+use Rattle.gedcom_tree.proofs.Unbroken.{Unbroken, unbroken}
+use Rattle.gedcom_tree.proofs.Joined.{unbroken_continues}
 
 not_not : (b : Bool) → not b ≡ false → b ≡ true
 not_not true e = refl
@@ -18,29 +22,113 @@ not_not false e = absurd cc
 head_level : (l : Parts) → is_head l ≡ true → l.level ≡ 0
 head_level l h = eqb-true l.level 0 (both (eqb l.level 0) _ h).0
 
-unbroken_fits : (q : Progress) (p : List ℕ) (l : Parts) (n : ℕ) → first_broken q p l ≡ None → IsDeep q n → l.level ≤ n
-unbroken_fits q p l n h d =
-    let u = unbroken q p l h in
-    let deep = d u.done in
+first_level : (q : Progress) (l : Parts) → Unbroken q l → eqb q.count 0 ≡ true → l.level ≡ 0
+first_level q l u e = let head : not (is_head l) ≡ false = rw e at u.head in head_level l (not_not (is_head l) head)
+
+-- the level of the next line is not beyond the open lines
+pub unbroken_level : (q : Progress) (l : Parts) (n : ℕ) → Unbroken q l → n ≡ depth q → l.level ≤ n
+unbroken_level q l n u d = elim (cases_bool (eqb q.count 0)) [
+  | inl e ↦ omega (arith, first_level q l u e)
+  | inr e ↦ let at : n ≡ q.last + 1 = rw e at d in omega (arith, at, ltb-false (q.last + 1) l.level u.jump)
+]
+
+-- nor beyond the open nodes: nothing stands below a continuation
+not_below : (q : Progress) (l : Parts) → Unbroken q l → option_map_or (λ s. is_continued s.role) (q.above q.last) false ≡ true → l.level ≡ q.last + 1 → ⊥
+not_below q l u c e =
+    let level : eqb l.level 0 ≡ false = rw e (some_level q.last) in
+    let at : l.level - 1 ≡ q.last = omega (arith, e) in
+    let none : option_map_or (λ s. is_continued s.role) (q.above q.last) false ≡ false = rw (level, at) at u.above in
+    let bad : true ≡ false = sym c ∙ none in
+    cc
+  where
+    some_level : (n : ℕ) → eqb (n + 1) 0 ≡ false
+    some_level n = grind arith
+
+pub unbroken_fits : (q : Progress) (l : Parts) (n : ℕ) → Unbroken q l → IsDeep q n → l.level ≤ n
+unbroken_fits q l n u d =
+    let deep : n ≡ node_depth q = d u.done in
     elim (cases_bool (eqb q.count 0)) [
-      | inl e ↦
-          let head : not (is_head l) ≡ false = rw e at u.head in
-          omega (arith, head_level l (not_not (is_head l) head))
-      | inr e ↦
-          let at : n ≡ q.last + 1 = rw e at deep in
-          omega (arith, ltb-false (q.last + 1) l.level u.jump)
+      | inl e ↦ omega (arith, first_level q l u e)
+      | inr e ↦ elim (cases_bool (option_map_or (λ s. is_continued s.role) (q.above q.last) false)) [
+        | inl c ↦
+            let at : n ≡ q.last = rw (e, c) at deep in
+            omega (arith, at, ltb-false (q.last + 1) l.level u.jump, not_below q l u c)
+        | inr c ↦
+            let at : n ≡ q.last + 1 = rw (e, c) at deep in
+            omega (arith, at, ltb-false (q.last + 1) l.level u.jump)
+      ]
     ]
 
+pub judged_level : (q : Progress) (p : List ℕ) (l : Parts) (n : ℕ) → judge q p ≡ Ok (Some l) → n ≡ depth q → l.level ≤ n
+judged_level q p l n h d = unbroken_level q l n (unbroken q l (judge_some q p l h).1) d
+
 pub judged_fits : (q : Progress) (p : List ℕ) (l : Parts) (n : ℕ) → judge q p ≡ Ok (Some l) → IsDeep q n → l.level ≤ n
-judged_fits q p l n h d = unbroken_fits q p l n (judge_some q p l h).1 d
+judged_fits q p l n h d = unbroken_fits q l n (unbroken q l (judge_some q p l h).1) d
 
-pub judged_own : (q : Progress) (p : List ℕ) (l : Parts) → judge q p ≡ Ok (Some l) → is_continuation l.tag ≡ false
-judged_own q p l h = (unbroken q p l (judge_some q p l h).1).own
+-- a continuation does not stand at level 0
+pub judged_below : (q : Progress) (p : List ℕ) (l : Parts) → judge q p ≡ Ok (Some l) → is_continuation l.tag ≡ true → 0 < l.level
+judged_below q p l h t = omega (arith, (unbroken_continues q l (unbroken q l (judge_some q p l h).1) t).deeper)
 
-pub grown_none : (q : Progress) (p : List ℕ) (items : List Item) → judge q p ≡ Ok None → items ≡ grow items p
+-- how many stand open behind it
+pub depth_after : (q : Progress) (l : Parts) → depth (after q l) ≡ l.level + 1
+depth_after q l = rw (counted q.count) refl
+  where
+    counted : (n : ℕ) → eqb (n + 1) 0 ≡ false
+    counted n = grind arith
+
+role_continued : (t : List ℕ) → is_continued (role_of t) ≡ is_continuation t
+role_continued t = elim (cases_bool (is_continuation t)) [
+  | inl e ↦ rw e refl
+  | inr e ↦ rw e (elim (cases_bool (bytes_eq t (codes "CHAR"))) [
+    | inl f ↦ rw f refl
+    | inr f ↦ rw f (elim (cases_bool (bytes_eq t (codes "GEDC"))) [
+      | inl g ↦ rw g refl
+      | inr g ↦ rw g (elim (cases_bool (bytes_eq t (codes "VERS"))) [
+        | inl k ↦ rw k refl
+        | inr k ↦ rw k refl
+      ])
+    ])
+  ])
+]
+
+pub node_depth_after : (q : Progress) (l : Parts) → node_depth (after q l) ≡ cond (is_continuation l.tag) l.level (l.level + 1)
+node_depth_after q l = rw (counted q.count, eqb_same l.level, role_continued l.tag) refl
+  where
+    counted : (n : ℕ) → eqb (n + 1) 0 ≡ false
+    counted n = grind arith
+
+    eqb_same : (x : ℕ) → eqb x x ≡ true
+    eqb_same x = grind arith
+
+grown_none : (q : Progress) (p : List ℕ) (g : Nodes) → judge q p ≡ Ok None → g ≡ grow g p
 unfolding grow
-grown_none q p items h = sym (ap (grow_read items) (judge_none q p h))
+grown_none q p g h = sym (ap (grow_read g) (judge_none q p h))
 
-pub grown_some : (q : Progress) (p : List ℕ) (l : Parts) (items : List Item) → judge q p ≡ Ok (Some l) → cond (is_trailer l) items (items ++ node_of l [] ∷ []) ≡ grow items p
+grown_some : (q : Progress) (p : List ℕ) (l : Parts) (g : Nodes) → judge q p ≡ Ok (Some l) → record { count = g.count + 1; items = grow_line (g.count + 1) g.items l } ≡ grow g p
 unfolding grow
-grown_some q p l items h = sym (ap (grow_read items) (judge_some q p l h).0)
+grown_some q p l g h = sym (ap (grow_read g) (judge_some q p l h).0)
+
+-- the nodes behind a blank piece, and behind a line
+pub grown_blank : (q r : Progress) (p : List ℕ) (n m : ℕ) (items : List Item) → judge q p ≡ Ok None → r ≡ q → q.count ≡ n → r.count ≡ m → record { count = m; items = items } ≡ grow (record { count = n; items = items }) p
+grown_blank q r p n m items h e a b =
+    let same : m ≡ n = sym b ∙ ap (λ (x : Progress). x.count) e ∙ a in
+    ap (λ (k : ℕ). record { count = k; items = items }) same ∙ grown_none q p (record { count = n; items = items }) h
+
+pub grown_line : (q r : Progress) (p : List ℕ) (l : Parts) (n m : ℕ) (items more : List Item) → judge q p ≡ Ok (Some l) → r ≡ after q l → q.count ≡ n → r.count ≡ m → more ≡ grow_line m items l → record { count = m; items = more } ≡ grow (record { count = n; items = items }) p
+grown_line q r p l n m items more h e a b k =
+    let same : m ≡ n + 1 = sym b ∙ ap (λ (x : Progress). x.count) e ∙ ap (λ (x : ℕ). x + 1) a in
+    ap (λ (x : List Item). record { count = m; items = x }) k
+    ∙ ap (λ (x : ℕ). record { count = x; items = grow_line x items l }) same
+    ∙ grown_some q p l (record { count = n; items = items }) h
+
+pub deep_line : (q r : Progress) (l : Parts) (n : ℕ) → r ≡ after q l → (is_trailer l ≡ false → n ≡ cond (is_continuation l.tag) l.level (l.level + 1)) → IsDeep r n
+deep_line q r l n e h = λ d.
+    let done : (after q l).done ≡ false = ap (λ (x : Progress). x.done) (sym e) ∙ d in
+    h (neither q.done (is_trailer l) done).1 ∙ sym (node_depth_after q l) ∙ ap node_depth (sym e)
+
+pub deep_blank : (q r : Progress) (n : ℕ) → r ≡ q → IsDeep q n → IsDeep r n
+deep_blank q r n e h = subst (λ (x : Progress). IsDeep x n) (sym e) h
+
+-- what judging a piece leaves
+pub advanced : (q r : Progress) (p : List ℕ) (o : Option Parts) → judge q p ≡ Ok o → r ≡ next q o → advance q (judge q p) ≡ Ok r
+advanced q r p o h e = ap (advance q) h ∙ ap (λ (x : Progress). Ok x) (sym e)

@@ -13,7 +13,7 @@ use Rattle.gedcom_tree.specs.Pieces.{file_pieces, all_pieces, skip_mark}
 use Rattle.gedcom_tree.specs.Rules.{Progress, progress_of, is_trailer, breaks, order, first_broken, of_line}
 use Rattle.gedcom_tree.specs.Forest.{Item, Reads, forest_of}
 use Rattle.gedcom_tree.specs.File.{max_line, max_file, IsFaulty, Clean, Fault, FaultIn, overflows, within, extra, OverLimit, Decides, EndsEarly, FaultOf, untrailed, ReadsFile}
-use Rattle.gedcom_tree.specs.Reading.{start, run, grow, grown, fault_behind, open_fault, decided, reader_of, ended, finished}
+use Rattle.gedcom_tree.specs.Reading.{start, judge, advance, then_run, run, Nodes, no_nodes, grow, grown, fault_behind, open_fault, decided, reader_of, ended, finished}
 use Rattle.gedcom_tree.specs.State.{IsOpen, Finishes}
 use Rattle.gedcom_tree.proofs.Cuts.{cases_bool, AllPieces, pieces_whole, all_pieces-push}
 use Rattle.gedcom_tree.specs.Streams.{IsOfFile}
@@ -21,7 +21,9 @@ use Rattle.gedcom_tree.proofs.Judged.{judge_long}
 use Rattle.gedcom_tree.proofs.Runs.{Ran, ran, clean_run, fault_run, run-push}
 use Rattle.gedcom_tree.proofs.Limits.{no_extra, within_small, extra_small, extra_large}
 use Rattle.gedcom_tree.proofs.Computed.{reads_computed}
-use Rattle.gedcom_tree.proofs.Plain.{clean_plain, untrailed_plain, plain_reads, clean_grown, grown-append, grown_cons, grown_nil, forest_nil}
+use Rattle.gedcom_tree.proofs.Traced.{traced_start}
+use Rattle.gedcom_tree.proofs.Pointed.{clean_pointed, untrailed_pointed, pointed_reads}
+use Rattle.gedcom_tree.proofs.Gathered.{clean_nodes, grown-append, grown_cons, grown_nil}
 
 some_is : (x y : Fault) → Some x ≡ Some y → x ≡ y
 some_is x y e = cc
@@ -84,27 +86,31 @@ decided_small b e = no_extra b (open_small (file_pieces (within b)).open_ (extra
 whole_pieces : (b : List ℕ) → AllPieces (all_pieces b)
 whole_pieces b = let w = pieces_whole (skip_mark b) in all_pieces-push (file_pieces b).ended (file_pieces b).open_ w.0 w.1
 
-pub finished_is : (b : List ℕ) → finished (reader_of b) ≡ ended (grown [] (all_pieces b)) (run start (all_pieces b))
+-- what the pieces that have ended leave, as progress
+pub finished_progress : (b : List ℕ) → finished (reader_of b) ≡ ended (grow (grown no_nodes (file_pieces b).ended) (file_pieces b).open_).items (then_run (λ p. advance p (judge p (file_pieces b).open_)) (run start (file_pieces b).ended))
 unfolding finished reader_of
+finished_progress b = ap (λ (r : Result Progress Fault). ended (grow (grown no_nodes (file_pieces b).ended) (file_pieces b).open_).items (then_run (λ p. advance p (judge p (file_pieces b).open_)) r)) (traced_start (file_pieces b).ended)
+
+pub finished_is : (b : List ℕ) → finished (reader_of b) ≡ ended (grown no_nodes (all_pieces b)).items (run start (all_pieces b))
 finished_is b =
     let ps : List (List ℕ) = (file_pieces b).ended in
     let o : List ℕ = (file_pieces b).open_ in
-    let g : grown [] (ps ++ o ∷ []) ≡ grow (grown [] ps) o = grown-append [] ps (o ∷ []) ∙ grown_cons (grown [] ps) o [] ∙ grown_nil (grow (grown [] ps) o) in
-    rw (g, run-push start ps o) refl
+    let g : grown no_nodes (ps ++ o ∷ []) ≡ grow (grown no_nodes ps) o = grown-append no_nodes ps (o ∷ []) ∙ grown_cons (grown no_nodes ps) o [] ∙ grown_nil (grow (grown no_nodes ps) o) in
+    finished_progress b ∙ rw (g, run-push start ps o) refl
 
 -- the nodes of clean pieces
-grown_forest : (ps : List (List ℕ)) (lines : List Parts) → Clean [] ps lines → grown [] ps ≡ forest_of (untrailed lines)
-grown_forest ps lines h = ap (λ (x : List Item). grown x ps) (sym forest_nil) ∙ clean_grown [] ps lines h
+grown_forest : (ps : List (List ℕ)) (lines : List Parts) → Clean [] ps lines → (grown no_nodes ps).items ≡ forest_of 1 (untrailed lines)
+grown_forest ps lines h = ap (λ (g : Nodes). g.items) (clean_nodes ps lines h)
 
-clean_reads : (ps : List (List ℕ)) (lines : List Parts) → Clean [] ps lines → Reads (untrailed lines) (grown [] ps)
-clean_reads ps lines h = subst (Reads (untrailed lines)) (sym (grown_forest ps lines h)) (plain_reads (untrailed lines) (untrailed_plain lines (clean_plain [] ps lines tt h)))
+clean_reads : (ps : List (List ℕ)) (lines : List Parts) → Clean [] ps lines → Reads 1 (untrailed lines) (grown no_nodes ps).items
+clean_reads ps lines h = subst (Reads 1 (untrailed lines)) (sym (grown_forest ps lines h)) (pointed_reads 1 (untrailed lines) (untrailed_pointed lines (clean_pointed [] ps lines tt h)))
 
 -- what a whole file is
 abbrev pub IsRead : List ℕ → Result (List Item) Fault → Type 0
 IsRead b (Ok f) = ReadsFile b f
 IsRead b (Err f) = FaultOf b f
 
-run_finishes : (b : List ℕ) → length b ≤ max_file → (r : Result Progress Fault) → Ran [] (all_pieces b) r → IsRead b (ended (grown [] (all_pieces b)) r)
+run_finishes : (b : List ℕ) → length b ≤ max_file → (r : Result Progress Fault) → Ran [] (all_pieces b) r → IsRead b (ended ((grown no_nodes (all_pieces b)).items) r)
 run_finishes b s (Err f) h = inr (s, inl h)
 run_finishes b s (Ok q) h = elim (cases_bool (list_any is_trailer h.0)) [
   | inl e ↦
@@ -128,12 +134,12 @@ finishes b s = read_finishes b (finished (reader_of b)) (is_read b s)
 
 pub reads_finished : (b : List ℕ) (f : List Item) → ReadsFile b f → finished (reader_of b) ≡ Ok f
 reads_finished b f h =
-    let items : grown [] (all_pieces b) ≡ f = grown_forest (all_pieces b) h.lines h.clean ∙ reads_computed (untrailed h.lines) f h.forest in
-    finished_is b ∙ ap (ended (grown [] (all_pieces b))) (clean_run [] (all_pieces b) h.lines h.clean) ∙ rw (h.ended, items) refl
+    let items : (grown no_nodes (all_pieces b)).items ≡ f = grown_forest (all_pieces b) h.lines h.clean ∙ reads_computed 1 (untrailed h.lines) f h.forest in
+    finished_is b ∙ ap (ended ((grown no_nodes (all_pieces b)).items)) (clean_run [] (all_pieces b) h.lines h.clean) ∙ rw (h.ended, items) refl
 
 fault_finished : (b : List ℕ) (e : Fault) → FaultIn [] (all_pieces b) e ⊎ EndsEarly b e → finished (reader_of b) ≡ Err e
-fault_finished b e (inl h) = finished_is b ∙ ap (ended (grown [] (all_pieces b))) (fault_run [] (all_pieces b) e h)
-fault_finished b e (inr h) = finished_is b ∙ ap (ended (grown [] (all_pieces b))) (clean_run [] (all_pieces b) h.lines h.clean) ∙ rw (h.unended, ← h.kind, ← h.at) refl
+fault_finished b e (inl h) = finished_is b ∙ ap (ended ((grown no_nodes (all_pieces b)).items)) (fault_run [] (all_pieces b) e h)
+fault_finished b e (inr h) = finished_is b ∙ ap (ended ((grown no_nodes (all_pieces b)).items)) (clean_run [] (all_pieces b) h.lines h.clean) ∙ rw (h.unended, ← h.kind, ← h.at) refl
 
 -- no file reads as two forests, none reads as one and has a fault, and none has two
 pub file_same : (b : List ℕ) (f g : List Item) → ReadsFile b f → ReadsFile b g → f ≡ g
@@ -161,11 +167,11 @@ fault_one b d e (inr x) (inr y) =
 -- a fault that bytes decide which are not too many is the file's
 seen_err : (b : List ℕ) (f : Fault) → run start (file_pieces b).ended ≡ Err f → finished (reader_of b) ≡ Err f
 unfolding finished reader_of
-seen_err b f e = rw e refl
+seen_err b f e = finished_progress b ∙ rw e refl
 
 seen_long : (b : List ℕ) (q : Progress) → run start (file_pieces b).ended ≡ Ok q → max_line < length (file_pieces b).open_ → finished (reader_of b) ≡ Err (fault_behind q.count TooLong)
 unfolding finished reader_of
-seen_long b q e l = rw (e, judge_long q (file_pieces b).open_ l) refl
+seen_long b q e l = finished_progress b ∙ rw (e, judge_long q (file_pieces b).open_ l) refl
 
 pub no_overflow : (rest : List ℕ) → overflows rest None ≡ true → max_line < length rest
 no_overflow rest h = elim (either (ltb max_line (length rest)) (eqb (length rest) max_line && false) h) [
@@ -209,10 +215,10 @@ found_in test (j ∷ js) a k h = elim (cases_bool (test j)) [
 ]
 
 all_of_file : AllOfFile order
-all_of_file = (tt, (tt, (tt, (tt, (tt, (tt, (tt, tt)))))))
+all_of_file = (tt, (tt, (tt, (tt, (tt, (tt, (tt, (tt, (tt, tt)))))))))
 
-order_of_file : (q : Progress) (p : List ℕ) (l : Parts) (k : TreeKind) → first_broken q p l ≡ Some k → IsOfFile k
-order_of_file q p l k h = found_in (breaks q p l) order all_of_file k h
+order_of_file : (q : Progress) (l : Parts) (k : TreeKind) → first_broken q l ≡ Some k → IsOfFile k
+order_of_file q l k h = found_in (breaks q l) order all_of_file k h
 
 line_of_file : (j : LineKind) → IsOfFile (of_line j)
 line_of_file line.NotUtf8 = tt
@@ -224,7 +230,7 @@ line_of_file line.Nul = tt
 faulty_of_file : (before : List Parts) (p : List ℕ) (k : TreeKind) → IsFaulty before p k → IsOfFile k
 faulty_of_file before p k (inl h) = subst IsOfFile (sym h.0) tt
 faulty_of_file before p k (inr (s, inl h)) = subst IsOfFile (sym h.1.1) (line_of_file h.0)
-faulty_of_file before p k (inr (s, inr h)) = order_of_file (progress_of before) p h.0 k h.1.1
+faulty_of_file before p k (inr (s, inr h)) = order_of_file (progress_of before) h.0 k h.1.1
 
 over_of_file : (b : List ℕ) (f : Fault) → OverLimit b f → IsOfFile f.kind
 over_of_file b f h = elim h.kind [ inl k ↦ subst IsOfFile (sym k.0) tt | inr k ↦ subst IsOfFile (sym k.0) tt ]

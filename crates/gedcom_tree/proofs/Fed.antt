@@ -1,5 +1,5 @@
 -- A reader that is fed more bytes: what they leave depends on what the bytes before them left alone.
-use Rattle.std.proofs.Common.{◌≡◌, ℕ, suc, ◌+◌, ◌-◌, ◌≤◌, min, List, [], ◌++◌, length, take, length-append, refl, sym, ap, ◌∙◌, subst, inl, inr, ◌⊎◌, arith, Option, Some, None, Ok, Err, Result}
+use Rattle.std.proofs.Common.{◌≡◌, ℕ, suc, ◌+◌, ◌-◌, ◌≤◌, min, List, ◌++◌, length, take, length-append, refl, sym, ap, ◌∙◌, subst, inl, inr, ◌⊎◌, arith, Option, Some, None, Ok, Err, Result}
 use Rattle.std.specs.Option.{option_map}
 use Rattle.std.specs.Prelude.{slice_get}
 use Rattle.std.proofs.lemmas.List.{length-take-le, take_all, take_min}
@@ -9,13 +9,13 @@ use Rattle.gedcom_tree.specs.declared.fault.TreeKind.TheVariants.{OutOfMemory}
 use Rattle.gedcom_tree.specs.Pieces.{pieces, file_pieces}
 use Rattle.gedcom_tree.specs.Forest.{Item}
 use Rattle.gedcom_tree.specs.File.{IsLineless, Fault, max_file, within, extra, Decides, FaultOf}
-use Rattle.gedcom_tree.specs.Reading.{start, then_run, run, grown, open_fault, decided, Reader, reader_of, finished}
+use Rattle.gedcom_tree.specs.Reading.{then_trace, trace_run, traced, no_trace, no_nodes, grown, open_fault, decided, Reader, reader_of, finished}
 use Rattle.gedcom_tree.specs.State.{Holds, IsOpen, Finishes}
 use Rattle.gedcom_tree.specs.Views.{fault_view}
-use Rattle.gedcom_tree.proofs.Runs.{run-append}
+use Rattle.gedcom_tree.proofs.Traced.{traced_start, trace_run-append}
 use Rattle.gedcom_tree.proofs.Limits.{within-append, extra-append, within_front, extra_front}
 use Rattle.gedcom_tree.proofs.Marks.{resumed, file_pieces-append}
-use Rattle.gedcom_tree.proofs.Plain.{grown-append}
+use Rattle.gedcom_tree.proofs.Gathered.{grown-append}
 use Rattle.gedcom_tree.specs.Text.{IsForest}
 use Rattle.gedcom_tree.proofs.Shaped.{reads_forest}
 use Rattle.gedcom_tree.proofs.Ends.{decided_is, undecided, decided_small, finishes}
@@ -23,8 +23,8 @@ use Rattle.gedcom_tree.proofs.Ends.{decided_is, undecided, decided_small, finish
 -- what more bytes make of what bytes left
 abbrev pub further : Reader → List ℕ → Reader
 further r c = let o = resumed r.total r.open_ c in record {
-  seen = then_run (λ p. run p (pieces o).ended) r.seen;
-  items = grown r.items (pieces o).ended;
+  seen = then_trace (λ t. trace_run t (pieces o).ended) r.seen;
+  nodes = grown r.nodes (pieces o).ended;
   open_ = (pieces o).open_;
   total = r.total + length c;
   answer = None;
@@ -34,7 +34,7 @@ pub reader_of-append : (b c : List ℕ) → reader_of (b ++ c) ≡ further (read
 unfolding reader_of
 reader_of-append b c =
     let o : List ℕ = resumed (length b) (file_pieces b).open_ c in
-    rw (file_pieces-append b c, run-append start (file_pieces b).ended (pieces o).ended, grown-append [] (file_pieces b).ended (pieces o).ended, length-append b c) refl
+    rw (file_pieces-append b c, trace_run-append no_trace (file_pieces b).ended (pieces o).ended, grown-append no_nodes (file_pieces b).ended (pieces o).ended, length-append b c) refl
 
 -- bytes that leave the same go on to leave the same
 pub same_further : (a b c : List ℕ) → reader_of a ≡ reader_of b → reader_of (a ++ c) ≡ reader_of (b ++ c)
@@ -49,11 +49,11 @@ same_length a b h = sym (total_of a) ∙ ap (λ (r : Reader). r.total) h ∙ tot
 
 -- and to decide the same
 abbrev decided_by : Reader → Option ℕ → Option Fault
-decided_by r next = open_fault r.open_ next r.seen
+decided_by r next = open_fault r.open_ next (traced r.seen)
 
 decided_of : (b : List ℕ) → decided b ≡ decided_by (reader_of (within b)) (extra b)
 unfolding decided reader_of
-decided_of b = refl
+decided_of b = ap (open_fault (file_pieces (within b)).open_ (extra b)) (sym (traced_start (file_pieces (within b)).ended))
 
 decided_behind : (a c : List ℕ) → length a ≤ max_file → decided (a ++ c) ≡ decided_by (reader_of (a ++ take (max_file - length a) c)) (slice_get c (max_file - length a))
 decided_behind a c s = decided_of (a ++ c) ∙ rw (within-append a c s, extra-append a c s) refl

@@ -1,12 +1,16 @@
 -- A node with one more child has that child's nodes at the end of its own.
-use Rattle.std.proofs.Common.{◌≡◌, ℕ, zero, suc, ◌+◌, List, [], ◌∷◌, ◌++◌, map, length, get_or, set, refl, sym, ap, ◌∙◌, append_assoc, arith}
+use Rattle.std.proofs.Common.{◌≡◌, ℕ, zero, suc, ◌+◌, ◌<◌, Bool, true, false, eqb, ltb, ◌&&◌, subst, List, [], ◌∷◌, ◌++◌, map, length, get_or, set, refl, sym, ap, ◌∙◌, append_assoc, arith}
 use Rattle.std.proofs.lemmas.List.{append-nil, map-append}
-use Rattle.gedcom_tree.specs.Forest.{Item}
-use Rattle.gedcom_tree.specs.Flat.{flat, flats, flat_step, all_at, said, flat_open, built}
+use Rattle.std.specs.List.{list_all}
+use Rattle.std.proofs.lemmas.Bool.{lt-ltb, le-ltb}
+use Rattle.gedcom_line.proofs.Steps.{both}
+use Rattle.gedcom_tree.specs.Forest.{Item, longer, longer_node, extended}
+use Rattle.gedcom_tree.specs.Flat.{value_said, flat, flats, flat_step, all_at, said, flat_open, built}
 use Rattle.gedcom_tree.specs.declared.node.Node.{Node}
 use Rattle.gedcom_tree.specs.declared.node.Node.TheViews.{out-Node, roll-Node, out-roll-Node}
 use Rattle.gedcom_tree.specs.declared.node.Node.TheOpen.{Node-F}
-use Rattle.gedcom_tree.specs.declared.node.Node.TheFolds.{fold_out-Node}
+use Rattle.gedcom_tree.specs.declared.node.Node.TheFolds.{fold_out-Node, ind-Node}
+use Rattle.gedcom_tree.proofs.Joined.{extended_deeper}
 
 pub flat_out : (n : Node) (level : ℕ) → flat n level ≡ said level n ∷ flats (level + 1) (out-Node n).children.items
 flat_out n level = ap (λ (f : ℕ → List Item). f level) (fold_out-Node (ℕ → List Item) flat_step n)
@@ -56,10 +60,10 @@ closed_below roots popped all child parent grown n e len at same more =
     ∙ ap (λ (x : List Item). flats 0 roots ++ x) (open_closed 0 f parent grown child (λ l. flat_grown parent grown child l (same l) more))
     ∙ ap (built roots) (sym whole)
 
-pub closed_rolled : (roots popped all : List Node) (child parent : Node) (r : Node-F Node) (n : ℕ) → all ≡ popped ++ child ∷ [] → n + 1 ≡ length popped → parent ≡ get_or popped n parent → r.xref ≡ (out-Node parent).xref → r.tag ≡ (out-Node parent).tag → r.value ≡ (out-Node parent).value → r.children.items ≡ (out-Node parent).children.items ++ child ∷ [] → built roots (set popped n (roll-Node r)) ≡ built roots all
-closed_rolled roots popped all child parent r n e len at x t v more =
+pub closed_rolled : (roots popped all : List Node) (child parent : Node) (r : Node-F Node) (n : ℕ) → all ≡ popped ++ child ∷ [] → n + 1 ≡ length popped → parent ≡ get_or popped n parent → r.line ≡ (out-Node parent).line → r.xref ≡ (out-Node parent).xref → r.tag ≡ (out-Node parent).tag → r.value ≡ (out-Node parent).value → r.children.items ≡ (out-Node parent).children.items ++ child ∷ [] → built roots (set popped n (roll-Node r)) ≡ built roots all
+closed_rolled roots popped all child parent r n e len at i x t v more =
     let o : out-Node (roll-Node r) ≡ r = out-roll-Node r in
-    closed_below roots popped all child parent (roll-Node r) n e len at (λ l. rw (o, x, t, v) refl) (ap (λ (y : Node-F Node). y.children.items) o ∙ more)
+    closed_below roots popped all child parent (roll-Node r) n e len at (λ l. rw (o, i, x, t, v) refl) (ap (λ (y : Node-F Node). y.children.items) o ∙ more)
 
 -- the only open node becomes the last of level 0
 pub closed_at_zero : (roots more popped all : List Node) (child : Node) → all ≡ popped ++ child ∷ [] → length popped ≡ 0 → more ≡ roots ++ child ∷ [] → built more popped ≡ built roots all
@@ -90,3 +94,73 @@ opened roots path more n level m d leaf =
 pub all_closed : (roots path : List Node) → length path ≡ 0 → built roots path ≡ flats 0 roots
 all_closed roots [] h = append-nil (flats 0 roots)
 all_closed roots (p ∷ ps) h = absurd (omega arith)
+
+-- all nodes below a node are deeper
+abbrev IsDeeper : Node → Type 0
+IsDeeper n = (k level : ℕ) → k < level → list_all (λ j. ltb k j.level) (flat n level) ≡ true
+
+all_both : (p : Item → Bool) (a b : List Item) → list_all p a ≡ true → list_all p b ≡ true → list_all p (a ++ b) ≡ true
+all_both p [] b h g = g
+all_both p (x ∷ xs) b h g = let r = both (p x) (list_all p xs) h in rw (r.0, all_both p xs b r.1 g) refl
+
+children_deeper : (es : List ((n : Node) × IsDeeper n)) (k level : ℕ) → k < level → list_all (λ j. ltb k j.level) (flats level (map (λ e. e.0) es)) ≡ true
+children_deeper [] k level h = refl
+children_deeper (e ∷ es) k level h = all_both (λ j. ltb k j.level) (flat e.0 level) (flats level (map (λ d. d.0) es)) (e.1 k level h) (children_deeper es k level h)
+
+flat_deeper : (n : Node) → IsDeeper n
+flat_deeper = ind-Node IsDeeper (λ x y is k level h.
+    let below : list_all (λ j. ltb k j.level) (flats (level + 1) x.children.items) ≡ true = subst (λ (z : Node-F Node). list_all (λ j. ltb k j.level) (flats (level + 1) z.children.items) ≡ true) is (children_deeper y.children.items k (level + 1) (omega (arith, h))) in
+    let o : out-Node (roll-Node x) ≡ x = out-roll-Node x in
+    ap (λ (f : List Item). list_all (λ j. ltb k j.level) f) (flat_out (roll-Node x) level)
+    ∙ ap (λ (c : Node-F Node). list_all (λ j. ltb k j.level) (said level (roll-Node x) ∷ flats (level + 1) c.children.items)) o
+    ∙ rw (lt-ltb k level h) below)
+
+pub flats_deeper : (ns : List Node) (k level : ℕ) → k < level → list_all (λ j. ltb k j.level) (flats level ns) ≡ true
+flats_deeper [] k level h = refl
+flats_deeper (n ∷ ns) k level h = all_both (λ j. ltb k j.level) (flat n level) (flats level ns) (flat_deeper n k level h) (flats_deeper ns k level h)
+
+-- the last node of a level gets a longer text
+not_all : (k : ℕ) (a b : List Item) (i : Item) → i.level ≡ k → list_all (λ j. ltb k j.level) (a ++ i ∷ b) ≡ false
+not_all k [] b i h = rw (h, le-ltb k k (omega arith)) refl
+not_all k (x ∷ xs) b i h = rw (not_all k xs b i h) (and_false (ltb k x.level))
+  where
+    and_false : (v : Bool) → (v && false) ≡ false
+    and_false true = refl
+    and_false false = refl
+
+extended_at : (k : ℕ) (t : List ℕ) (a b : List Item) (i : Item) → i.level ≡ k → list_all (λ j. ltb k j.level) b ≡ true → extended k t (a ++ i ∷ b) ≡ a ++ longer_node t i ∷ b
+extended_at k t [] b i h d = rw (h, eqb_same k, d, extended_deeper k t b d) refl
+  where
+    eqb_same : (x : ℕ) → eqb x x ≡ true
+    eqb_same x = grind arith
+extended_at k t (x ∷ xs) b i h d = rw (not_all k xs b i h, and_false (eqb x.level k), extended_at k t xs b i h d) refl
+  where
+    and_false : (v : Bool) → (v && false) ≡ false
+    and_false true = refl
+    and_false false = refl
+
+open_last : (roots front : List Node) (n : Node) → built roots (front ++ n ∷ []) ≡ (flats 0 roots ++ flat_open 0 front) ++ said (length front) n ∷ flats (length front + 1) (out-Node n).children.items
+open_last roots front n =
+    ap (λ (x : List Item). flats 0 roots ++ x) (open_push 0 front n ∙ ap (λ (x : List Item). flat_open 0 front ++ x) (ap (flat n) (omega arith) ∙ flat_out n (length front)))
+    ∙ sym (append_assoc (flats 0 roots) (flat_open 0 front) (said (length front) n ∷ flats (length front + 1) (out-Node n).children.items))
+
+pub joined_last : (roots path : List Node) (above longer : Node) (n : ℕ) (t : List ℕ) → n + 1 ≡ length path → above ≡ get_or path n above → said n longer ≡ longer_node t (said n above) → (out-Node longer).children.items ≡ (out-Node above).children.items → built roots (set path n longer) ≡ extended n t (built roots path)
+joined_last roots path above longer n t len at same more =
+    let r = last_is path n above longer len at in
+    let f : List Node = r.front in
+    let a : List Item = flats 0 roots ++ flat_open 0 f in
+    let b : List Item = flats (length f + 1) (out-Node above).children.items in
+    let deep : list_all (λ j. ltb (length f) j.level) b ≡ true = flats_deeper (out-Node above).children.items (length f) (length f + 1) (omega arith) in
+    let said_same : said (length f) longer ≡ longer_node t (said (length f) above) = subst (λ (k : ℕ). said k longer ≡ longer_node t (said k above)) (sym r.size) same in
+    ap (built roots) r.now
+    ∙ open_last roots f longer
+    ∙ ap (λ (x : List Node). a ++ said (length f) longer ∷ flats (length f + 1) x) more
+    ∙ ap (λ (i : Item). a ++ i ∷ b) said_same
+    ∙ sym (extended_at (length f) t a b (said (length f) above) refl deep)
+    ∙ ap (extended (length f) t) (sym (open_last roots f above) ∙ ap (built roots) (sym r.was))
+    ∙ ap (λ (k : ℕ). extended k t (built roots path)) r.size
+
+pub joined_rolled : (roots path : List Node) (above : Node) (r : Node-F Node) (n : ℕ) (t : List ℕ) → n + 1 ≡ length path → above ≡ get_or path n above → r.line ≡ (out-Node above).line → r.xref ≡ (out-Node above).xref → r.tag ≡ (out-Node above).tag → value_said r.value ≡ longer t (value_said (out-Node above).value) → r.children.items ≡ (out-Node above).children.items → built roots (set path n (roll-Node r)) ≡ extended n t (built roots path)
+joined_rolled roots path above r n t len at i x g v more =
+    let o : out-Node (roll-Node r) ≡ r = out-roll-Node r in
+    joined_last roots path above (roll-Node r) n t len at (rw (o, i, x, g, v) refl) (ap (λ (y : Node-F Node). y.children.items) o ∙ more)

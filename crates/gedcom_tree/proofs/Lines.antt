@@ -21,7 +21,7 @@ use Rattle.gedcom_tree.proofs.Runs.{progress-push}
 -- each line is one of the grammar, not too long, and breaks no rule behind those before it
 abbrev pub Keeps : Progress → List Parts → Type 0
 Keeps q [] = Unit {0}
-Keeps q (l ∷ ls) = IsLine l × ((length (spelling l) ≤ max_line) × ((first_broken q (spelling l) l ≡ None) × Keeps (after q l) ls))
+Keeps q (l ∷ ls) = IsLine l × ((length (spelling l) ≤ max_line) × ((first_broken q l ≡ None) × Keeps (after q l) ls))
 
 -- such lines as pieces, with an empty one at the end, are clean
 pub keeps_clean : (before ls : List Parts) → Keeps (progress_of before) ls → Clean before (map spelling ls ++ [] ∷ []) (before ++ ls)

@@ -1,17 +1,17 @@
 -- What is read of a front of a file that is one byte longer than a file may be is what the file is.
-use Rattle.std.proofs.Common.{◌≡◌, ℕ, suc, ◌≤◌, true, leb, List, [], ◌∷◌, ◌++◌, length, take, refl, sym, ap, ◌∙◌, subst, inl, inr, ◌⊎◌, arith, Option, Some, None, Ok, Err, Result}
+use Rattle.std.proofs.Common.{◌≡◌, ℕ, suc, ◌≤◌, List, [], ◌∷◌, ◌++◌, length, take, refl, sym, ap, ◌∙◌, subst, inl, inr, ◌⊎◌, arith, Option, Some, None, Ok, Err, Result}
 use Rattle.std.specs.Prelude.{IfSome, IfOk, IfErr}
 use Rattle.gedcom_tree.specs.Views.{fault_view, outcome}
 use Rattle.gedcom_tree.specs.declared.fault.TreeFault.{TreeFault}
-use Rattle.std.specs.List.{list_all, flat_map}
+use Rattle.std.specs.List.{flat_map}
 use Rattle.std.proofs.lemmas.List.{length-take, take_all}
-use Rattle.gedcom_line.proofs.Steps.{both}
 use Rattle.gedcom_tree.specs.declared.fault.TreeKind.TheVariants.{OutOfMemory, ReadFailed}
 use Rattle.gedcom_tree.specs.Forest.{Item}
 use Rattle.gedcom_tree.specs.File.{max_file, Fault, IsLineless, Decides, FaultOf, ReadsFile}
 use Rattle.gedcom_tree.specs.State.{Finishes}
 use Rattle.gedcom_tree.specs.Streams.{NotRead, ReadAs}
-use Rattle.gedcom_tree.specs.Text.{is_node, IsForest, IsLow, text, node_text, line_text, trailer}
+use Rattle.std.proofs.lemmas.Bool.{le-leb}
+use Rattle.gedcom_tree.specs.Text.{EachNode, IsForest, IsLow, text, node_text, line_text, trailer}
 use Rattle.gedcom_tree.proofs.Shaped.{reads_forest}
 use Rattle.gedcom_tree.proofs.Fed.{decided_front}
 use Rattle.gedcom_tree.proofs.Ends.{decided_is, is_decided, decides_fault, decides_of_file, fault_of_file}
@@ -60,12 +60,9 @@ unread_refused known Failed f (inl m) = inl m
 unread_refused known Failed f (inr h) = inr (inl h)
 
 -- no level of a forest is above 98
-node_low : (i : Item) → is_node i ≡ true → leb i.level 98 ≡ true
-node_low i h = let a = both _ _ h in let b = both _ _ a.0 in let c = both _ _ b.0 in let d = both _ _ c.0 in let e = both _ _ d.0 in e.0
-
-nodes_low : (f : List Item) → list_all is_node f ≡ true → IsLow f
+nodes_low : (f : List Item) → EachNode f → IsLow f
 nodes_low [] h = refl
-nodes_low (i ∷ is) h = let r = both (is_node i) (list_all is_node is) h in rw (node_low i r.0, nodes_low is r.1) refl
+nodes_low (i ∷ is) h = rw (le-leb i.level 98 h.0.low, nodes_low is h.1) refl
 
 pub forest_low : (f g : List Item) → g ≡ f → IsForest f → IsLow g
 forest_low f g e h = subst IsLow (sym e) (nodes_low f h.nodes)

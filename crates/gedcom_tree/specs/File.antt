@@ -25,7 +25,7 @@ Clean before [] lines = lines ≡ before
 Clean before (p ∷ ps) lines =
     (length p ≤ max_line)
     × ((IsBlank p × Clean before ps lines)
-    ⊎ ((l : Parts) × (Line p l × ((first_broken (progress_of before) p l ≡ None) × Clean (before ++ l ∷ []) ps lines))))
+    ⊎ ((l : Parts) × (Line p l × ((first_broken (progress_of before) l ≡ None) × Clean (before ++ l ∷ []) ps lines))))
 
 -- the piece is no line, for this reason first
 abbrev pub IsNoLine : List ℕ → TreeKind → Type 0
@@ -33,7 +33,7 @@ IsNoLine p k = (j : LineKind) × (LineFaultIs p j × (k ≡ of_line j))
 
 -- the piece is a line, and behind the lines before it this is the first rule that it breaks
 abbrev pub BreaksFirst : List Parts → List ℕ → TreeKind → Type 0
-BreaksFirst before p k = (l : Parts) × (Line p l × (first_broken (progress_of before) p l ≡ Some k))
+BreaksFirst before p k = (l : Parts) × (Line p l × (first_broken (progress_of before) l ≡ Some k))
 
 -- what is wrong with a piece behind lines
 abbrev pub IsFaulty : List Parts → List ℕ → TreeKind → Type 0
@@ -111,4 +111,4 @@ pub record ReadsFile (b : List ℕ) (f : List Item) : Type 0 where
   pub lines : List Parts
   pub clean : Clean [] (all_pieces b) lines
   pub ended : list_any is_trailer lines ≡ true
-  pub forest : Reads (untrailed lines) f
+  pub forest : Reads 1 (untrailed lines) f

@@ -28,7 +28,7 @@ impl Model for Forest {
 }
 
 impl Forest {
-    ghost use Rattle.gedcom_tree.specs.Text.{IsForest};
+    ghost use Rattle.gedcom_tree.specs.Text.{IsForest, record_count as count_of_records};
 
     /// The forest of nodes of level 0 that are one.
     pub(crate) fn of_nodes(nodes: Vec<Node>) -> Self
@@ -44,5 +44,12 @@ impl Forest {
         ensures forest { IsForest self.now }
     {
         self.nodes.as_slice()
+    }
+
+    /// How many records the file has: the nodes of level 0 without the header.
+    pub fn record_count(&self) -> usize
+        ensures { result ≡ count_of_records self.now }
+    {
+        self.nodes.len().saturating_sub(1)
     }
 }

@@ -1,11 +1,13 @@
 //! Nodes put together from lines in order.
 
-ghost use Rattle.std.specs.Prelude.{◌≡◌, ◌<◌, ◌≤◌, ◌+◌, ◌++◌, ◌∷◌, [], OnOk, IfOk, length};
-ghost use Rattle.gedcom_tree.specs.Forest.{Item};
+ghost use Rattle.std.specs.Prelude.{◌≡◌, ◌<◌, ◌≤◌, ◌+◌, ◌-◌, ◌++◌, ◌∷◌, [], OnOk, IfOk, length};
+ghost use Rattle.gedcom_line.specs.Reading.{parts};
+ghost use Rattle.gedcom_tree.specs.Forest.{Item, adds, extended};
 ghost use Rattle.gedcom_tree.specs.Flat.{flats, said, built};
 ghost use Rattle.gedcom_tree.specs.declared.node.Node.TheViews.{out-Node};
 
-use crate::node::Node;
+use crate::node::{Node, join_value};
+use gedcom_line::LineRef;
 use std::alloc::{AllocError, Global};
 
 /// The nodes of the lines so far: those whose children have all come, and the last node of each level,
@@ -68,6 +70,26 @@ impl Growing {
     {
         self.close_to(level)?;
         self.path.push(node)?;
+        Ok(())
+    }
+
+    /// Makes the text one level above a continuation longer.
+    pub(crate) fn join(
+        &mut self,
+        alloc: Global,
+        level: usize,
+        line: &LineRef<'_>,
+    ) -> Result<(), AllocError>
+        requires level { level ≤ length self.old.path.items }
+        requires some { 0 < level }
+        ensures joined { OnOk result (built self.new.roots.items self.new.path.items
+            ≡ extended (level - 1) (adds (parts line.now)) (built self.old.roots.items self.old.path.items)) }
+        ensures depth { OnOk result (length self.new.path.items ≡ level) }
+    {
+        self.close_to(level)?;
+        if let Some(above) = self.path.last_mut() {
+            join_value(alloc, &mut above.value, line)?;
+        }
         Ok(())
     }
 

@@ -3,7 +3,7 @@
 ghost use Rattle.std.specs.Prelude.{◌≡◌, ◌⊎◌, ◌≤◌, ◌++◌, ℕ, List, length};
 ghost use Rattle.gedcom_tree.specs.Forest.{Item};
 ghost use Rattle.gedcom_tree.specs.File.{Fault, Decides, FaultOf, ReadsFile};
-ghost use Rattle.gedcom_tree.specs.Text.{IsForest, text};
+ghost use Rattle.gedcom_tree.specs.Text.{IsForest, IsSame, HasShortLines, text};
 
 /// A file reads as one forest at the most or has one fault, never both and never neither; and what a file
 /// reads as is a forest.
@@ -20,7 +20,15 @@ pub fn a_decided_fault_stays()
     ensures { (b more : List ℕ) (f : Fault) → Decides b f → FaultOf (b ++ more) f }
 {}
 
-/// The text of a forest is read as that forest, where it is not too large for a file.
+/// The text of a forest is read as that forest, where it is not too large for a file, up to the numbers of
+/// lines; and what is read of it has the same text, so what is canonical stays as it is.
 pub fn a_text_is_read_again()
-    ensures { (f : List Item) → IsForest f → length (text f) ≤ 67_108_864 → ReadsFile (text f) f }
+    ensures again { (f : List Item) → IsForest f → length (text f) ≤ 67_108_864
+        → (g : List Item) × (ReadsFile (text f) g × IsSame f g) }
+    ensures settled { (f g : List Item) → IsForest f → ReadsFile (text f) g → text g ≡ text f }
+{}
+
+/// No line of a forest's text has more than 301 characters with its LF.
+pub fn a_line_of_a_text_is_short()
+    ensures { (f : List Item) → IsForest f → HasShortLines (text f) }
 {}

@@ -7,7 +7,7 @@
 //! Callers may rely on: the forest, or the fault and its line, depends on the bytes and not on how they
 //! were cut; a reader that has met a fault answers it from then on; what is written is read as the same
 //! forest. Tags have no meaning here, but for HEAD, TRLR, CONC, CONT and the lines of the header that name
-//! the character set.
+//! the character set and the version.
 #![tactic(auto)]
 
 mod cutting;
@@ -15,12 +15,15 @@ mod device;
 mod fault;
 mod forest;
 mod growing;
+mod header;
 mod judging;
 pub mod laws;
 mod node;
 mod normal;
 mod reader;
 mod reading;
+mod seen;
+mod standing;
 mod transfer;
 mod writing;
 

@@ -1,9 +1,9 @@
 //! A line of a forest, with the lines below it.
 
-ghost use Rattle.std.specs.Prelude.{◌≡◌, false, [], IfOk, option_map, string_bytes};
+ghost use Rattle.std.specs.Prelude.{◌≡◌, false, [], IfOk, OnOk, option_map, string_bytes};
 ghost use Rattle.gedcom_line.specs.Reading.{is_continuation, parts};
 ghost use Rattle.gedcom_line.specs.Value.{meaning};
-ghost use Rattle.gedcom_tree.specs.Forest.{continued, node_of as node_of_line};
+ghost use Rattle.gedcom_tree.specs.Forest.{adds, continued, longer, node_of as node_of_line};
 ghost use Rattle.gedcom_tree.specs.Flat.{value_said, said};
 ghost use Rattle.gedcom_tree.specs.declared.node.Node.TheViews.{out-Node};
 
@@ -41,6 +41,24 @@ fn value_of(alloc: Global, line: &LineRef<'_>) -> Result<NodeValue, AllocError>
     }
 }
 
+/// Makes a text longer by a continuation; a pointer stays as it is.
+pub(crate) fn join_value(
+    alloc: Global,
+    value: &mut NodeValue,
+    line: &LineRef<'_>,
+) -> Result<(), AllocError>
+    ensures { OnOk result (value_said value.new ≡ longer (adds (parts line.now)) (value_said value.old)) }
+{
+    if let NodeValue::Text(text) = value {
+        if line.tag == "CONT" {
+            text.push('\n')?;
+        }
+        let more = unescape(alloc, line.raw)?;
+        text.push_str(&more)?;
+    }
+    Ok(())
+}
+
 fn xref_of(alloc: Global, xref: Option<&str>) -> Result<Option<String>, AllocError>
     ensures { IfOk result (λ x. option_map string_bytes x ≡ option_map (λ s. s.now) xref.entry) }
 {
@@ -53,7 +71,7 @@ fn xref_of(alloc: Global, xref: Option<&str>) -> Result<Option<String>, AllocErr
 /// The node of a line that continues no other, with no children yet. `number` is the line's in the file.
 pub(crate) fn node_of(alloc: Global, line: &LineRef<'_>, number: u32) -> Result<Node, AllocError>
     requires { is_continuation line.now.tag.now ≡ false }
-    ensures said { IfOk result (λ n. said line.now.level n ≡ node_of_line (parts line.now) []) }
+    ensures said { IfOk result (λ n. said line.now.level n ≡ node_of_line number (parts line.now) []) }
     ensures leaf { IfOk result (λ n. (out-Node n).children.items ≡ []) }
 {
     let value = value_of(alloc, line)?;

@@ -5,41 +5,39 @@ ghost use Rattle.gedcom_tree.specs.Pieces.{pieces, file_pieces};
 ghost use Rattle.gedcom_tree.specs.Flat.{flats};
 ghost use Rattle.gedcom_tree.specs.File.{extra, overflows as overflow_test, within};
 ghost use Rattle.gedcom_tree.specs.Reading.{run, start, decided, open_fault as fault_of_open};
-ghost use Rattle.gedcom_tree.specs.Views.{progress, fault_view};
+ghost use Rattle.gedcom_tree.specs.Rules.{Progress};
+ghost use Rattle.gedcom_tree.specs.Views.{HasRun, fault_view};
 ghost use Rattle.gedcom_tree.specs.File.{IsLineless};
 
 use crate::cutting::{cut, is_end, skip_mark};
 use crate::fault::{TreeFault, TreeKind};
 use crate::forest::Forest;
-use crate::judging::{MAX_LINE, Seen, judge};
-use crate::reading::{MAX_FILE, read_all};
+use crate::judging::MAX_LINE;
+use crate::reading::{MAX_FILE, judge_piece, read_all};
+use crate::seen::Seen;
 use std::alloc::Global;
 use std::marker::Model;
 
 /// Judges each line that a terminator ends. At `Ok`, what the lines leave, and what follows them.
-fn judge_all(bytes: &[u8]) -> Result<(Seen, &[u8]), TreeFault>
+fn judge_all(alloc: Global, bytes: &[u8]) -> Result<(u32, &[u8]), TreeFault>
     requires { length bytes.now ≤ 67_108_864 }
     ensures value { MatchResult result
-        (λ x. run start (pieces bytes.now).ended ≡ Ok (progress x.0))
-        (λ f. run start (pieces bytes.now).ended ≡ Err (fault_view f)) }
+        (λ x. HasRun (run start (pieces bytes.now).ended) x.0)
+        (λ f. IsLineless TreeKind.OutOfMemory (fault_view f)
+        ⊎ (run start (pieces bytes.now).ended ≡ Err (fault_view f))) }
     ensures open_ { IfOk result (λ x. (pieces bytes.now).open_ ≡ x.1.now) }
-    ensures count { IfOk result (λ x. x.0.count ≤ length bytes.now) }
+    ensures count { IfOk result (λ x. x.0 ≤ length bytes.now) }
 {
-    let mut seen = Seen::new();
+    let mut seen = Seen::new(alloc);
     let mut rest = bytes;
     while let Some((piece, after)) = cut(rest) {
-        match judge(seen, piece) {
-            Ok(found) => seen = seen.next(found),
-            Err(kind) => {
-                return Err(TreeFault {
-                    kind,
-                    at: Some(seen.count + 1),
-                });
-            }
+        match judge_piece(alloc, &mut seen, piece) {
+            Ok(_) => {}
+            Err(fault) => return Err(fault),
         }
         rest = after;
     }
-    Ok((seen, rest))
+    Ok((seen.count, rest))
 }
 
 /// Whether the line that has not ended is too long, or the next byte makes it so.
@@ -53,10 +51,10 @@ fn overflows(rest: &[u8], next: Option<u8>) -> bool
     rest.len() > MAX_LINE || (rest.len() == MAX_LINE && goes_on)
 }
 
-/// What is decided where no piece that has ended is faulty.
-fn open_fault(seen: Seen, rest: &[u8], next: Option<u8>) -> Option<TreeFault>
-    requires { seen.count + 1 < 2 ^ 32 }
-    ensures { option_map fault_view result ≡ fault_of_open rest.now next (Ok (progress seen)) }
+/// What is decided where no piece that has ended is faulty, behind so many lines.
+fn open_fault(count: u32, rest: &[u8], next: Option<u8>) -> Option<TreeFault>
+    requires { count + 1 < 2 ^ 32 }
+    ensures { (p : Progress) → p.count ≡ count → option_map fault_view result ≡ fault_of_open rest.now next (Ok p) }
 {
     let kind = if overflows(rest, next) {
         TreeKind::TooLong
@@ -67,7 +65,7 @@ fn open_fault(seen: Seen, rest: &[u8], next: Option<u8>) -> Option<TreeFault>
     };
     Some(TreeFault {
         kind,
-        at: Some(seen.count + 1),
+        at: Some(count + 1),
     })
 }
 
@@ -84,20 +82,24 @@ fn limited(bytes: &[u8]) -> (&[u8], Option<u8>)
     }
 }
 
-/// The fault that the bytes decide, however they go on.
+/// Judges the bytes: the fault that they decide, however they go on.
 #[tactic(auto, unfolding(crate::specs::Reading::decided))]
-fn first_fault(bytes: &[u8]) -> Option<TreeFault>
-    ensures { option_map fault_view result ≡ decided bytes.now }
+fn judge_bytes(alloc: Global, bytes: &[u8]) -> Result<(), TreeFault>
+    ensures { MatchResult result (λ _. decided bytes.now ≡ None)
+        (λ f. IsLineless TreeKind.OutOfMemory (fault_view f) ⊎ (decided bytes.now ≡ Some (fault_view f))) }
 {
     let (front, next) = limited(bytes);
-    match judge_all(skip_mark(front)) {
-        Ok((seen, rest)) => open_fault(seen, rest, next),
-        Err(fault) => Some(fault),
+    match judge_all(alloc, skip_mark(front)) {
+        Ok((count, rest)) => match open_fault(count, rest, next) {
+            Some(fault) => Err(fault),
+            None => Ok(()),
+        },
+        Err(fault) => Err(fault),
     }
 }
 
 /// Adds the piece to the bytes, and judges them all. Behind a fault the bytes are gone.
-fn add(bytes: &mut Vec<u8>, piece: &[u8]) -> Result<(), TreeFault>
+fn add(alloc: Global, bytes: &mut Vec<u8>, piece: &[u8]) -> Result<(), TreeFault>
     requires { length bytes.old.items ≤ 67_108_864 }
     ensures ok { OnOk result ((bytes.new.items ≡ bytes.old.items ++ piece.now)
         × (decided bytes.new.items ≡ None)) }
@@ -107,12 +109,12 @@ fn add(bytes: &mut Vec<u8>, piece: &[u8]) -> Result<(), TreeFault>
 {
     let room = MAX_FILE + 1 - bytes.len();
     bytes.extend_from_slice(&piece[..room.min(piece.len())])?;
-    match first_fault(bytes) {
-        Some(fault) => {
+    match judge_bytes(alloc, bytes) {
+        Ok(()) => Ok(()),
+        Err(fault) => {
             bytes.clear();
             Err(fault)
         }
-        None => Ok(()),
     }
 }
 
@@ -163,7 +165,7 @@ impl TreeReader {
         if let Some(fault) = self.fault {
             return Err(fault);
         }
-        match add(&mut self.bytes, piece) {
+        match add(self.alloc, &mut self.bytes, piece) {
             Ok(()) => Ok(()),
             Err(fault) => {
                 self.fault = Some(fault);

@@ -1,73 +1,49 @@
 //! The forest of bytes, read from the start to the end.
 
-ghost use Rattle.std.specs.Prelude.{◌≡◌, ◌⊎◌, ◌+◌, ◌<◌, ◌≤◌, ◌^◌, ◌++◌, ◌∷◌, [], true, false, Ok, Err, MatchResult, IfOk, OnOk, length, if◌then◌else◌};
+ghost use Rattle.std.specs.Prelude.{◌≡◌, ◌⊎◌, ◌+◌, ◌<◌, ◌≤◌, ◌^◌, [], true, false, Ok, Err, MatchResult, IfOk, IfErr, OnOk, option_map, length, if◌then◌else◌};
 ghost use Rattle.gedcom_line.specs.Line.{IsPiece};
 ghost use Rattle.gedcom_line.specs.Reading.{is_continuation, parts};
 ghost use Rattle.gedcom_tree.specs.Flat.{flats, built};
-ghost use Rattle.gedcom_tree.specs.Forest.{node_of as node_of_line};
 ghost use Rattle.gedcom_tree.specs.Rules.{is_trailer as trailer_test};
-ghost use Rattle.gedcom_tree.specs.Reading.{after as after_line, judge as judged, advance, grow, ended, reader_of, finished};
-ghost use Rattle.gedcom_tree.specs.Views.{progress, fault_view};
-ghost use Rattle.gedcom_tree.specs.Depth.{IsDeep};
+ghost use Rattle.gedcom_tree.specs.Reading.{next as next_of, judge as judged, advance, grow_line, grow, ended, reader_of, finished};
+ghost use Rattle.gedcom_tree.specs.Views.{progress, nodes_view, fault_view};
+ghost use Rattle.gedcom_tree.specs.Depth.{depth, IsDeep};
 ghost use Rattle.gedcom_tree.specs.File.{IsLineless};
 
 use crate::cutting::{cut, skip_mark};
 use crate::fault::{TreeFault, TreeKind};
 use crate::growing::Growing;
-use crate::judging::{Seen, is_trailer, judge};
+use crate::judging::judge;
 use crate::node::{Node, node_of};
+use crate::seen::{Seen, is_continuation as goes_on, is_trailer};
 use gedcom_line::LineRef;
 use std::alloc::{AllocError, Global};
 
 /// The most bytes of a file, a byte order mark counted.
 pub(crate) const MAX_FILE: usize = 67_108_864;
 
-/// Adds the node of a line; the trailer is none.
-fn add_line(
+/// Judges a piece behind the lines so far, and adds its line to them: the line, or none where the piece is
+/// blank.
+pub(crate) fn judge_piece<'a>(
     alloc: Global,
-    growing: &mut Growing,
-    number: u32,
-    line: &LineRef<'_>,
-) -> Result<(), AllocError>
-    requires level { line.now.level ≤ length growing.old.path.items }
-    requires own { is_continuation line.now.tag.now ≡ false }
-    ensures added { OnOk result (built growing.new.roots.items growing.new.path.items
-        ≡ (if trailer_test (parts line.now) then built growing.old.roots.items growing.old.path.items
-        else built growing.old.roots.items growing.old.path.items ++ node_of_line (parts line.now) [] ∷ [])) }
-    ensures depth { OnOk result (trailer_test (parts line.now) ≡ false
-        → length growing.new.path.items ≡ line.now.level + 1) }
-{
-    if is_trailer(line) {
-        return Ok(());
-    }
-    let node = node_of(alloc, line, number)?;
-    growing.add(usize::from(line.level), node)
-}
-
-/// Judges a piece behind the lines so far, and adds its node.
-fn add_piece(
-    alloc: Global,
-    growing: &mut Growing,
-    seen: Seen,
-    piece: &[u8],
-) -> Result<Seen, TreeFault>
+    seen: &mut Seen,
+    piece: &'a [u8],
+) -> Result<Option<LineRef<'a>>, TreeFault>
     requires piece { IsPiece piece.now }
-    requires count { seen.count + 1 < 2 ^ 32 }
-    requires deep { IsDeep (progress seen) (length growing.old.path.items) }
-    ensures seen { MatchResult result
-        (λ s. advance (progress seen) (judged (progress seen) piece.now) ≡ Ok (progress s))
-        (λ f. IsLineless TreeKind.OutOfMemory (fault_view f)
-        ⊎ (advance (progress seen) (judged (progress seen) piece.now) ≡ Err (fault_view f))) }
-    ensures grown { OnOk result (built growing.new.roots.items growing.new.path.items
-        ≡ grow (built growing.old.roots.items growing.old.path.items) piece.now) }
-    ensures deep { IfOk result (λ s. IsDeep (progress s) (length growing.new.path.items)) }
-    ensures count { IfOk result (λ s. s.count ≤ seen.count + 1) }
+    requires count { seen.old.count + 1 < 2 ^ 32 }
+    requires depth { length seen.old.stack.items ≡ depth (progress seen.old) }
+    ensures line { IfOk result (λ l. judged (progress seen.old) piece.now ≡ Ok (option_map parts l)) }
+    ensures seen { IfOk result (λ l. progress seen.new ≡ next_of (progress seen.old) (option_map parts l)) }
+    ensures fault { IfErr result (λ f. IsLineless TreeKind.OutOfMemory (fault_view f)
+        ⊎ (advance (progress seen.old) (judged (progress seen.old) piece.now) ≡ Err (fault_view f))) }
+    ensures depth { OnOk result (length seen.new.stack.items ≡ depth (progress seen.new)) }
+    ensures count { OnOk result (seen.new.count ≤ seen.old.count + 1) }
 {
     match judge(seen, piece) {
-        Ok(None) => Ok(seen),
+        Ok(None) => Ok(None),
         Ok(Some(line)) => {
-            add_line(alloc, growing, seen.count + 1, &line)?;
-            Ok(seen.after(&line))
+            seen.add(alloc, &line)?;
+            Ok(Some(line))
         }
         Err(kind) => Err(TreeFault {
             kind,
@@ -76,11 +52,62 @@ fn add_piece(
     }
 }
 
+/// Adds the node of a line, or makes a text longer by it; the trailer is no node.
+fn add_line(
+    alloc: Global,
+    growing: &mut Growing,
+    number: u32,
+    line: &LineRef<'_>,
+) -> Result<(), AllocError>
+    requires level { line.now.level ≤ length growing.old.path.items }
+    requires above { is_continuation line.now.tag.now ≡ true → 0 < line.now.level }
+    ensures added { OnOk result (built growing.new.roots.items growing.new.path.items
+        ≡ grow_line number (built growing.old.roots.items growing.old.path.items) (parts line.now)) }
+    ensures depth { OnOk result (trailer_test (parts line.now) ≡ false
+        → length growing.new.path.items ≡ (if is_continuation line.now.tag.now then line.now.level else line.now.level + 1)) }
+{
+    let level = usize::from(line.level);
+    if is_trailer(line) {
+        Ok(())
+    } else if goes_on(line) {
+        growing.join(alloc, level, line)
+    } else {
+        let node = node_of(alloc, line, number)?;
+        growing.add(level, node)
+    }
+}
+
+/// Judges a piece behind the lines so far, and adds its node.
+fn add_piece(
+    alloc: Global,
+    growing: &mut Growing,
+    seen: &mut Seen,
+    piece: &[u8],
+) -> Result<(), TreeFault>
+    requires piece { IsPiece piece.now }
+    requires count { seen.old.count + 1 < 2 ^ 32 }
+    requires depth { length seen.old.stack.items ≡ depth (progress seen.old) }
+    requires deep { IsDeep (progress seen.old) (length growing.old.path.items) }
+    ensures seen { MatchResult result
+        (λ _. advance (progress seen.old) (judged (progress seen.old) piece.now) ≡ Ok (progress seen.new))
+        (λ f. IsLineless TreeKind.OutOfMemory (fault_view f)
+        ⊎ (advance (progress seen.old) (judged (progress seen.old) piece.now) ≡ Err (fault_view f))) }
+    ensures grown { OnOk result (nodes_view seen.new growing.new ≡ grow (nodes_view seen.old growing.old) piece.now) }
+    ensures depth { OnOk result (length seen.new.stack.items ≡ depth (progress seen.new)) }
+    ensures deep { OnOk result (IsDeep (progress seen.new) (length growing.new.path.items)) }
+    ensures count { OnOk result (seen.new.count ≤ seen.old.count + 1) }
+{
+    if let Some(line) = judge_piece(alloc, seen, piece)? {
+        add_line(alloc, growing, seen.count, &line)?;
+    }
+    Ok(())
+}
+
 /// The end of the input: the trailer stands, or it is missing.
-fn end(seen: Seen) -> Result<(), TreeFault>
-    requires { seen.count + 1 < 2 ^ 32 }
-    ensures { MatchResult result (λ _. (progress seen).done ≡ true)
-        (λ f. ended [] (Ok (progress seen)) ≡ Err (fault_view f)) }
+fn end(seen: &Seen) -> Result<(), TreeFault>
+    requires { seen.now.count + 1 < 2 ^ 32 }
+    ensures { MatchResult result (λ _. (progress seen.now).done ≡ true)
+        (λ f. ended [] (Ok (progress seen.now)) ≡ Err (fault_view f)) }
 {
     if seen.is_done {
         return Ok(());
@@ -104,21 +131,21 @@ pub(crate) fn read_all(alloc: Global, bytes: &[u8]) -> Result<Vec<Node>, TreeFau
         (λ f. IsLineless TreeKind.OutOfMemory (fault_view f)
         ⊎ (finished (reader_of bytes.now) ≡ Err (fault_view f))) }
 {
-    let mut seen = Seen::new();
+    let mut seen = Seen::new(alloc);
     let mut growing = Growing::new(alloc);
     let mut rest = skip_mark(bytes);
     while let Some((piece, after)) = cut(rest) {
-        match add_piece(alloc, &mut growing, seen, piece) {
-            Ok(next) => seen = next,
+        match add_piece(alloc, &mut growing, &mut seen, piece) {
+            Ok(()) => {}
             Err(fault) => return Err(fault),
         }
         rest = after;
     }
-    let seen = match add_piece(alloc, &mut growing, seen, rest) {
-        Ok(last) => last,
+    match add_piece(alloc, &mut growing, &mut seen, rest) {
+        Ok(()) => {}
         Err(fault) => return Err(fault),
-    };
-    match end(seen) {
+    }
+    match end(&seen) {
         Ok(()) => Ok(growing.finish()?),
         Err(fault) => Err(fault),
     }

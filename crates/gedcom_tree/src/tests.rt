@@ -25,6 +25,19 @@ fn levels_and_line_ends_are_read_and_written_in_one_way(rt: HostRuntime) -> Resu
 }
 
 #[test]
+fn values_are_read_and_written_in_one_way(rt: HostRuntime) -> Result<(), Fail> {
+    let text = canonical(
+        rt.alloc(),
+        b"0 HEAD\n1 CHAR utf8 \n0 @N1@ NOTE j@x\n1 A  @I1@ \n1 CONC y\n1 CONT\n1 CONT  @@ z\n0 TRLR x",
+    );
+    let text = text.map_err(|_| "a forest")?;
+    let expected =
+        b"0 HEAD\n1 CHAR utf8 \n0 @N1@ NOTE j@@xy\n1 CONT\n1 CONT  @@ z\n1 A @I1@\n0 TRLR\n";
+    assert_eq!(rt; text.as_slice(), expected.as_slice());
+    Ok(())
+}
+
+#[test]
 fn nodes_know_the_lines_that_they_come_from(rt: HostRuntime) -> Result<(), Fail> {
     let mut reader = TreeReader::new(rt.alloc());
     let fed = reader.feed(b"0 HEAD\n\n1 A\n2 B\n \n1 C\n0 D\n0 TRLR");
@@ -58,6 +71,31 @@ fn a_fault_has_its_line(rt: HostRuntime) {
         (
             b"0 HEAD\n0 TRLR\n\n0 A\n".as_slice(),
             TreeKind::AfterTrailer,
+            3,
+        ),
+        (
+            b"0 HEAD\n0 A\n1 CONC x\n2 B\n".as_slice(),
+            TreeKind::ContinuationHasChildren,
+            4,
+        ),
+        (
+            b"0 HEAD\n1 A @I1@\n2 CONT x\n".as_slice(),
+            TreeKind::BadContinuation,
+            3,
+        ),
+        (
+            b"0 HEAD\n0 @I1@ A\n0 @I1@ B\n".as_slice(),
+            TreeKind::DuplicateXref,
+            3,
+        ),
+        (
+            b"0 HEAD\n1 CHAR ANSEL\n0 TRLR\n".as_slice(),
+            TreeKind::Charset,
+            2,
+        ),
+        (
+            b"0 HEAD\n1 GEDC\n2 VERS 7.0\n0 TRLR\n".as_slice(),
+            TreeKind::Version,
             3,
         ),
     ] {

@@ -82,6 +82,7 @@ fn push_text(
 ) -> Result<(), AllocError>
     requires { level ≤ 98 }
     ensures { OnOk result (string_bytes out.new ≡ string_bytes out.old ++ node_text (record {
+      line = 0;
       level = level;
       xref = option_map (λ s. s.now) xref.entry;
       tag = tag.now;

@@ -5,9 +5,11 @@ ghost use Rattle.std.specs.Io.KnownBytes.{Appends};
 ghost use Rattle.std.specs.IoError.{error_kind};
 ghost use Rattle.gedcom_tree.specs.Devices.{AppendsBeginning};
 ghost use Rattle.gedcom_tree.specs.Streams.{Normalised};
-ghost use Rattle.parish.specs.Ends.{Unfinished};
+ghost use Rattle.parish.specs.Ends.{Told, Unfinished, Untold};
 
-use gedcom_tree::{Device, TransferError, TreeFault, TreeKind, normalise, write_bytes};
+use gedcom_tree::{
+    Device, TransferError, TreeFault, TreeKind, normalise, read_forest, write_bytes,
+};
 use std::alloc::Global;
 use std::io;
 use std::io::{Cursor, ErrorKind, Read, Write};
@@ -52,6 +54,7 @@ pub fn command<R: Read + Device, W: Write + Device, F: Write + Device>(
 {
     match read_words(alloc, words) {
         Ok(Asked::Norm) => norm(alloc, input, output, faults),
+        Ok(Asked::Check) => check(alloc, input, output, faults),
         Ok(Asked::Show { text }) => status_of(show(output, &text), faults),
         Err(Refused::Words { text }) => refuse_words(faults, &text),
         Err(Refused::OutOfMemory) => refuse(faults, OUT_OF_MEMORY),
@@ -73,6 +76,43 @@ pub fn norm<R: Read + Device, W: Write + Device, F: Write + Device>(
         (W.contents output.old) (W.contents output.new) }
 {
     status_of(normalise(alloc, input, output), faults)
+}
+
+/// `check`: reads the file of the input, and tells on the output how many records it has.
+pub fn check<R: Read + Device, W: Write + Device, F: Write + Device>(
+    alloc: Global,
+    input: &mut R,
+    output: &mut W,
+    faults: &mut F,
+) -> u8
+    ensures status { result ≤ 1 }
+    ensures done { result ≡ 0 → faults.new ≡ faults.old }
+    ensures counted { result ≡ 0 → Told (R.remaining input.old)
+        (W.contents output.old) (W.contents output.new) }
+    ensures refused { result ≡ 1 → Untold (R.remaining input.old)
+        (W.contents output.old) (W.contents output.new) }
+{
+    status_of(count_records(alloc, input, output), faults)
+}
+
+/// Reads a whole file, and writes how many records it has.
+fn count_records<R: Read + Device, W: Write + Device>(
+    alloc: Global,
+    input: &mut R,
+    output: &mut W,
+) -> Result<(), TreeFault>
+    ensures ok { OnOk result (Told (R.remaining input.old)
+        (W.contents output.old) (W.contents output.new)) }
+    ensures err { OnErr result (Untold (R.remaining input.old)
+        (W.contents output.old) (W.contents output.new)) }
+{
+    let forest = read_forest(alloc, input)?;
+    let records = forest.record_count();
+    let line = format!(in alloc; "ok: {records} records\n")?;
+    match show(output, &line) {
+        Ok(()) => Ok(()),
+        Err(fault) => Err(fault),
+    }
 }
 
 /// The exit status of a command line that could not be read, because of a word that is not UTF-8

@@ -1,5 +1,9 @@
 //! What a command line asks for.
 
+ghost use Rattle.std.specs.Prelude.{◌≡◌, IfOk, IfSome, None, Some, map, string_bytes};
+ghost use Rattle.clap.specs.Words.{subcommand_name_of};
+ghost use Rattle.words.specs.Commands.{Asks, name_of};
+
 use crate::commands::parish_command;
 use clap::error::ErrorKind;
 use clap::{ArgMatches, Error};
@@ -10,6 +14,8 @@ use std::alloc::{AllocError, Global};
 pub enum Asked {
     /// `norm`: the forest of standard input, canonical, on standard output.
     Norm,
+    /// `check`: the number of records of standard input's forest, on standard output.
+    Check,
     /// `--help` or `--version`, of the program or of a command: the text for standard output.
     Show { text: String },
 }
@@ -30,7 +36,9 @@ impl From<AllocError> for Refused {
 }
 
 /// What the words ask for. The first word is the program's own name, and is not looked at.
-pub fn read_words(alloc: Global, words: &[String]) -> Result<Asked, Refused> {
+pub fn read_words(alloc: Global, words: &[String]) -> Result<Asked, Refused>
+    ensures { IfOk result (Asks (map string_bytes words.now)) }
+{
     let command = parish_command(alloc)?;
     match command.try_get_matches_from(words) {
         Ok(found) => command_found(alloc, &found),
@@ -39,9 +47,13 @@ pub fn read_words(alloc: Global, words: &[String]) -> Result<Asked, Refused> {
 }
 
 /// The command that was found, by its name. `clap` lets no other name through.
-fn command_found(alloc: Global, found: &ArgMatches<'_>) -> Result<Asked, Refused> {
+fn command_found(alloc: Global, found: &ArgMatches<'_>) -> Result<Asked, Refused>
+    ensures { IfOk result (λ a. IfSome (name_of a)
+        (λ name. subcommand_name_of found.now ≡ Some name)) }
+{
     match found.subcommand_name() {
         Some("norm") => Ok(Asked::Norm),
+        Some("check") => Ok(Asked::Check),
         _ => Err(Refused::Words {
             text: "error: no such command\n".to_string(alloc)?,
         }),
@@ -49,7 +61,9 @@ fn command_found(alloc: Global, found: &ArgMatches<'_>) -> Result<Asked, Refused
 }
 
 /// The text of what `clap` calls an error: help, a version or refused words.
-fn text_shown(alloc: Global, error: &Error) -> Result<Asked, Refused> {
+fn text_shown(alloc: Global, error: &Error) -> Result<Asked, Refused>
+    ensures { IfOk result (λ a. name_of a ≡ None) }
+{
     if error.kind() == ErrorKind::OutOfMemory {
         return Err(Refused::OutOfMemory);
     }

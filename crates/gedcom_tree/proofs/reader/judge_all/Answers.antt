@@ -1,30 +1,38 @@
-use Rattle.std.proofs.Common.{◌∙◌, sym, ap, arith}
-use Rattle.std.specs.Option.{option_map}
-use Rattle.gedcom_line.specs.Reading.{parts}
+use Rattle.std.proofs.Common.{◌∙◌, sym, ap, arith, refl}
 use Rattle.gedcom_tree.specs.Pieces.{pieces}
 use Rattle.gedcom_tree.specs.Reading.{run}
-use Rattle.gedcom_tree.specs.Rules.{Progress}
-use Rattle.gedcom_tree.specs.Views.{progress}
-use Rattle.gedcom_tree.proofs.Runs.{run_next, run_err, run_nil}
+use Rattle.gedcom_tree.specs.Depth.{depth}
+use Rattle.gedcom_tree.specs.Views.{progress, fault_view}
+use Rattle.gedcom_tree.proofs.Runs.{run_nil}
+use Rattle.gedcom_tree.proofs.Added.{advanced}
+use Rattle.gedcom_tree.proofs.Walked.{run_fault, run_on, has_run, or_err}
 use Rattle.gedcom_tree.proofs.reader.judge_all.Goals as goal
+
+pub loop-piece-init : goal.loop-piece-init
+loop-piece-init c = record {
+  judged = ap (λ p. run p (pieces c.args.bytes.now).ended) c.new-seen.ensures.value;
+  open_ = refl;
+  count = omega (arith, c.new-seen.ensures.count);
+  depth = c.new-seen.ensures.depth ∙ sym (ap depth c.new-seen.ensures.value);
+}
 
 pub returns-in-Err-clause-value : goal.returns-in-Err-clause-value
 returns-in-Err-clause-value c =
-    sym c.loop-piece.invariant.judged
+    or_err (λ h. sym c.loop-piece.invariant.judged
     ∙ ap (run (progress c.loop-piece.seen)) c.in-Some.ensures.ended
-    ∙ run_err (progress c.loop-piece.seen) c.in-Some.piece.now (pieces c.in-Some.after.now).ended c.in-Err.kind c.in-Err.ensures
+    ∙ run_fault (progress c.loop-piece.seen) c.in-Some.piece.now (pieces c.in-Some.after.now).ended (fault_view c.in-Err.fault) h) c.in-Err.ensures.fault
 
 pub loop-piece-preserved : goal.loop-piece-preserved
 loop-piece-preserved c = record {
   judged =
-      ap (λ (p : Progress). run p (pieces c.in-Some.after.now).ended) c.next-seen.ensures.value
-      ∙ sym (run_next (progress c.loop-piece.seen) (option_map parts c.in-Ok.found) c.in-Some.piece.now (pieces c.in-Some.after.now).ended c.in-Ok.ensures)
+      sym (run_on (progress c.loop-piece.seen) (progress c.judge_piece.new.seen) c.in-Some.piece.now (pieces c.in-Some.after.now).ended (advanced (progress c.loop-piece.seen) (progress c.judge_piece.new.seen) c.in-Some.piece.now _ c.in-Ok.ensures.line c.in-Ok.ensures.seen))
       ∙ ap (run (progress c.loop-piece.seen)) (sym c.in-Some.ensures.ended)
       ∙ c.loop-piece.invariant.judged;
   open_ = sym c.in-Some.ensures.open_ ∙ c.loop-piece.invariant.open_;
-  count = omega (arith, c.in-Some.ensures.shorter, c.next-seen.ensures.count);
+  count = omega (arith, c.in-Some.ensures.shorter, c.in-Ok.ensures.count, c.loop-piece.invariant.count);
+  depth = c.in-Ok.ensures.depth;
 }
 
 pub returns-clause-value : goal.returns-clause-value
 returns-clause-value c =
-    sym c.loop-piece.invariant.judged ∙ ap (run (progress c.loop-piece.seen)) c.in_default.ensures.ended ∙ run_nil (progress c.loop-piece.seen)
+    has_run _ (progress c.loop-piece.seen) _ (sym c.loop-piece.invariant.judged ∙ ap (run (progress c.loop-piece.seen)) c.in_default.ensures.ended ∙ run_nil (progress c.loop-piece.seen)) refl

@@ -7,7 +7,7 @@ pub returns-in_ok-push-in-Some-last_mut-clause-same : goal.returns-in_ok-push-in
 returns-in_ok-push-in-Some-last_mut-clause-same c =
     let p = c.in-Some-last_mut.parent.now in
     closed_rolled c.args.self.now.roots.items c.pop.new.self.items c.args.self.now.path.items c.in-Some.child p
-    (record { line = (out-Node p).line; xref = (out-Node p).xref; tag = (out-Node p).tag; value = (out-Node p).value; children = c.push.new.self }) _ c.in-Some.ensures.items (omega (arith, c.in-Some-last_mut.ensures.item.3.0, c.pop.new.self.ok.0)) c.in-Some-last_mut.ensures.value refl refl refl c.in_ok-push-in-Some-last_mut.ensures.items
+    (record { line = (out-Node p).line; xref = (out-Node p).xref; tag = (out-Node p).tag; value = (out-Node p).value; children = c.push.new.self }) _ c.in-Some.ensures.items (omega (arith, c.in-Some-last_mut.ensures.item.3.0, c.pop.new.self.ok.0)) c.in-Some-last_mut.ensures.value refl refl refl refl c.in_ok-push-in-Some-last_mut.ensures.items
 
 pub returns-in_ok-push-in-None-clause-same : goal.returns-in_ok-push-in-None-clause-same
 returns-in_ok-push-in-None-clause-same c =

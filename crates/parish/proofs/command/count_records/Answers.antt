@@ -1,0 +1,9 @@
+use Rattle.std.proofs.Common.{◌≡◌, ◌∙◌, inr, subst, rules}
+use Rattle.gedcom_tree.specs.Devices.{AppendsBeginning}
+use Rattle.parish.specs.Ends.{count_text}
+use Rattle.parish.proofs.command.count_records.Goals as goal
+
+pub returns-clause-err : goal.returns-clause-err
+returns-clause-err g c =
+    let told : c.deref.result.now ≡ count_text c.in_ok-forest.forest = search rules in
+    inr (record { forest = c.in_ok-forest.forest; read = c.in_ok-forest.ensures.read; written = subst (AppendsBeginning (g.W.Write.contents c.args.output.now) (g.W.Write.contents c.show.new.output)) told c.in-Err.ensures.err })
