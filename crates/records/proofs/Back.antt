@@ -1,14 +1,23 @@
 -- What is read from the tree that a record is kept as is that record.
-use Rattle.std.specs.Prelude.{ℕ, List, [], ◌∷◌, ◌++◌, ◌≡◌, ◌≢◌, map, Option, Some, None, true, false, bytes_eq, refl, option_map, MatchOption}
-use Rattle.std.proofs.Common.{ap, sym, ◌∙◌, append-nil}
-use Rattle.std.proofs.lemmas.List.Elements.{filter-append}
-use Rattle.records.specs.Tree.{Tree, forest_of, list_of, flat}
-use Rattle.records.specs.Line.{Line, Lines}
+use Rattle.std.specs.Prelude.{ℕ, List, [], ◌∷◌, ◌++◌, ◌≡◌, ◌≢◌, map, Option, Some, None, true, false, cond, bytes_eq, refl, option_map, MatchOption, Bool}
+use Rattle.std.proofs.Common.{ap, sym, ◌∙◌}
+use Rattle.records.specs.Tree.{Tree, forest_of, list_of, flat, relabel}
+use Rattle.records.specs.Line.{Line, Label, Lines, Branches, label_for, label_of}
 use Rattle.records.specs.Model as model
-use Rattle.records.specs.Stored.{word, carried_trees, text_trees, number_trees, place_tree, repo_tree, holding_tree, source_tree, record_tree, stored}
-use Rattle.records.specs.Reading.{tag_of, under, first, text_on, number_on, below_all, carried_from, text_from, number_from, place_from, repo_from, holding_from, source_from, record_from}
+use Rattle.records.specs.Stored.{word, branch, lines_below, text_trees, quality_word, sex_word, partnership_word, place_tree, repo_tree, holding_tree, source_tree, citation_tree, name_tree, person_tree, partner_tree, child_tree, family_tree, record_tree, stored}
+use Rattle.records.specs.Reading.{under, first, text_at, number_at, below_all, line_of, lines_from, text_from, quality_from, sex_from, partnership_from, place_from, repo_from, holding_from, source_from, citation_from, name_from, person_from, partner_from, child_from, family_from, record_from}
 use Rattle.records.specs.Growing.{grown, sole}
 use Rattle.records.proofs.Growing.{grown_tree}
+use Rattle.records.proofs.Relabel.{map-relabel-back}
+use Rattle.records.proofs.Segments.{IsOf, Segment, laid, chosen, under-one}
+use Rattle.records.specs.declared.carried.Value.{Value}
+use Rattle.records.specs.declared.carried.Value.TheVariants as value
+use Rattle.records.specs.declared.words.Quality.{Quality}
+use Rattle.records.specs.declared.words.Quality.TheVariants as quality
+use Rattle.records.specs.declared.words.Sex.{Sex}
+use Rattle.records.specs.declared.words.Sex.TheVariants as sex
+use Rattle.records.specs.declared.words.Partnership.{Partnership}
+use Rattle.records.specs.declared.words.Partnership.TheVariants as partnership
 use Rattle.records.specs.declared.field.Field.{Field}
 use Rattle.records.specs.declared.field.Field.TheVariants as field
 use Rattle.records.specs.declared.record.Record.{Record}
@@ -18,110 +27,194 @@ pub list_of_forest_of : {A : Type 0} (ts : List (Tree A)) → list_of (forest_of
 list_of_forest_of [] = refl
 list_of_forest_of (t ∷ ts) = ap (λ us. t ∷ us) (list_of_forest_of ts)
 
-under-append : (f : Field) (a b : Lines) → under f (a ++ b) ≡ under f a ++ under f b
-under-append f a b = filter-append (λ t. bytes_eq (tag_of t) (word f)) a b
+-- what a field has on the lines below a line, where these are segments
+field-of : (g : Field) (ss : List Segment) (ts : Branches) → chosen g ss ≡ ts ++ [] → under g (list_of (forest_of (laid ss))) ≡ ts
+field-of g ss ts e = ap (under g) (list_of_forest_of (laid ss)) ∙ under-one g ss ts e
 
--- a part in front that has none of a field, and one behind
-past : (f : Field) (a b : Lines) → under f a ≡ [] → under f (a ++ b) ≡ under f b
-past f a b h = under-append f a b ∙ ap (λ (ts : Lines). ts ++ under f b) h
+-- lines of one field
+no-lines : (b : Bool) (ts : Branches) → ts ≡ [] → ts ≡ cond b ts []
+no-lines true ts e = refl
+no-lines false ts e = e
 
-here : (f : Field) (a b : Lines) → under f b ≡ [] → under f (a ++ b) ≡ under f a
-here f a b h = under-append f a b ∙ ap (λ (ts : Lines). under f a ++ ts) h ∙ append-nil (under f a)
+one-line : (b : Bool) (t : Tree Label) (ts us : Branches) → us ≡ cond b ts [] → cond b (t ∷ us) us ≡ cond b (t ∷ ts) []
+one-line true t ts us e = ap (λ (vs : Branches). t ∷ vs) e
+one-line false t ts us e = e
 
--- the lines of another field
-texts-other : (f g : Field) (t : Option (List ℕ)) → bytes_eq (word g) (word f) ≡ false → under f (text_trees g t) ≡ []
-texts-other f g None h = refl
-texts-other f g (Some t) h = rw h refl
+of-none : (f : Field) → IsOf f []
+of-none f g = no-lines (bytes_eq (word f) (word g)) [] refl
 
-numbers-other : (f g : Field) (n : Option ℕ) → bytes_eq (word g) (word f) ≡ false → under f (number_trees g n) ≡ []
-numbers-other f g None h = refl
-numbers-other f g (Some n) h = rw h refl
+of-more : (f : Field) (text : Option (List ℕ)) (target : Option ℕ) (below ts : Branches) → IsOf f ts → IsOf f (branch f text target below ∷ ts)
+of-more f text target below ts h g = one-line (bytes_eq (word f) (word g)) (branch f text target below) ts (under g ts) (h g)
 
-carried-other : (f : Field) (cs : Lines) → bytes_eq (word field.Carried) (word f) ≡ false → under f (carried_trees cs) ≡ []
-carried-other f [] h = refl
-carried-other f (c ∷ cs) h = rw h refl
+of-one : (f : Field) (text : Option (List ℕ)) (target : Option ℕ) (below : Branches) → IsOf f (branch f text target below ∷ [])
+of-one f text target below = of-more f text target below [] (of-none f)
 
-holdings-other : (f : Field) (hs : List model.Holding) → bytes_eq (word field.Holding) (word f) ≡ false → under f (map holding_tree hs) ≡ []
-holdings-other f [] h = refl
-holdings-other f (x ∷ hs) h = rw (h, holdings-other f hs h) refl
+of-text : (f : Field) (t : Option (List ℕ)) → IsOf f (text_trees f t)
+of-text f None = of-none f
+of-text f (Some t) = of-one f (Some t) None []
 
--- the lines of the field itself
-text-back : (f : Field) (t : Option (List ℕ)) → bytes_eq (word f) (word f) ≡ true → option_map text_on (first (under f (text_trees f t))) ≡ t
-text-back f None h = refl
-text-back f (Some t) h = rw h refl
+of-lines : (f : Field) (cs : Lines) → IsOf f (lines_below f cs)
+of-lines f [] = of-none f
+of-lines f (c ∷ cs) = of-one f None None (map (relabel label_of) (c ∷ cs))
 
-number-back : (f : Field) (n : Option ℕ) → bytes_eq (word f) (word f) ≡ true → option_map number_on (first (under f (number_trees f n))) ≡ n
-number-back f None h = refl
-number-back f (Some n) h = rw h refl
+-- what a line of a field gives back
+text-back : (f : Field) (t : Option (List ℕ)) → text_at (first (text_trees f t)) ≡ t
+text-back f None = refl
+text-back f (Some t) = refl
 
-carried-back : (cs : Lines) → carried_from (carried_trees cs) ≡ cs
-carried-back [] = refl
-carried-back (c ∷ cs) = list_of_forest_of (c ∷ cs)
+value-back : (tag : List ℕ) (v : Value) → line_of (label_for tag v) ≡ record { tag = tag; value = v }
+value-back tag (value.Text t) = refl
+value-back tag (value.Ref n) = refl
 
-holdings-here : (hs : List model.Holding) → under field.Holding (map holding_tree hs) ≡ map holding_tree hs
-holdings-here [] = refl
-holdings-here (h ∷ hs) = ap (λ ts. holding_tree h ∷ ts) (holdings-here hs)
+line-back : (l : Line) → line_of (label_of l) ≡ l
+line-back l = value-back l.tag l.value
+
+lines-back : (f : Field) (cs : Lines) → map (relabel line_of) (below_all (first (lines_below f cs))) ≡ cs
+lines-back f [] = refl
+lines-back f (c ∷ cs) = ap (map (relabel line_of)) (list_of_forest_of (map (relabel label_of) (c ∷ cs))) ∙ map-relabel-back label_of line_of line-back (c ∷ cs)
+
+quality-back : (q : Quality) → quality_from (quality_word q) ≡ q
+quality-back quality.Unreliable = refl
+quality-back quality.Questionable = refl
+quality-back quality.Secondary = refl
+quality-back quality.Primary = refl
+
+sex-back : (s : Sex) → sex_from (sex_word s) ≡ s
+sex-back sex.Male = refl
+sex-back sex.Female = refl
+sex-back sex.Unknown = refl
+
+partnership-back : (p : Partnership) → partnership_from (partnership_word p) ≡ p
+partnership-back partnership.Husband = refl
+partnership-back partnership.Wife = refl
+
+option-back : {A B : Type 0} (f : A → B) (g : B → A) → ((a : A) → g (f a) ≡ a) → (o : Option A) → option_map g (option_map f o) ≡ o
+option-back f g back None = refl
+option-back f g back (Some a) = ap Some (back a)
+
+map-back : {A B : Type 0} (f : A → B) (g : B → A) → ((a : A) → g (f a) ≡ a) → (xs : List A) → map g (map f xs) ≡ xs
+map-back f g back [] = refl
+map-back f g back (x ∷ xs) = λ i. back x i ∷ map-back f g back xs i
+
+-- the fields of a line whose lines below are segments
+lines-field : (f : Field) (ss : List Segment) (cs : Lines) → chosen f ss ≡ lines_below f cs ++ [] → lines_from f (list_of (forest_of (laid ss))) ≡ cs
+lines-field f ss cs e = ap (λ ts. map (relabel line_of) (below_all (first ts))) (field-of f ss (lines_below f cs) e) ∙ lines-back f cs
+
+text-field : (f : Field) (ss : List Segment) (t : Option (List ℕ)) → chosen f ss ≡ text_trees f t ++ [] → text_from f (list_of (forest_of (laid ss))) ≡ t
+text-field f ss t e = ap (λ ts. text_at (first ts)) (field-of f ss (text_trees f t) e) ∙ text-back f t
+
+parts-field : {A : Type 0} (kept : A → Tree Label) (from : Tree Label → A) → ((a : A) → from (kept a) ≡ a) → (f : Field) (ss : List Segment) (xs : List A) → chosen f ss ≡ map kept xs ++ [] → map from (under f (list_of (forest_of (laid ss)))) ≡ xs
+parts-field kept from back f ss xs e = ap (map from) (field-of f ss (map kept xs) e) ∙ map-back kept from back xs
+
+-- the segments of each part
+abbrev carried-of : Lines → Segment
+carried-of cs = record { field = field.Carried; lines = lines_below field.Carried cs; is_of = of-lines field.Carried cs }
+
+abbrev side-of : Lines → Segment
+side-of cs = record { field = field.Side; lines = lines_below field.Side cs; is_of = of-lines field.Side cs }
+
+abbrev text-of : Field → Option (List ℕ) → Segment
+text-of f t = record { field = f; lines = text_trees f t; is_of = of-text f t }
 
 place-back : (p : model.Place) → place_from (place_tree p) ≡ p
 place-back p =
-    let a = number_trees field.Parent p.parent in
-    let b = carried_trees p.carried in
-    let parts = list_of_forest_of (a ++ b) in
-    λ i. record {
-      name = p.name;
-      parent = (ap (number_from field.Parent) parts ∙ ap (λ ts. option_map number_on (first ts)) (here field.Parent a b (carried-other field.Parent p.carried refl)) ∙ number-back field.Parent p.parent refl) i;
-      carried = (ap carried_from parts ∙ ap (λ ts. below_all (first ts)) (past field.Carried a b (numbers-other field.Carried field.Parent p.parent refl)) ∙ carried-back p.carried) i;
-    }
+    let ss = carried-of p.carried ∷ [] in
+    λ i. record { name = p.name; parent = p.parent; carried = lines-field field.Carried ss p.carried refl i }
 
 repo-back : (r : model.Repo) → repo_from (repo_tree r) ≡ r
 repo-back r =
-    let a = text_trees field.Name r.name in
-    let b = carried_trees r.carried in
-    let parts = list_of_forest_of (a ++ b) in
-    λ i. record {
-      name = (ap (text_from field.Name) parts ∙ ap (λ ts. option_map text_on (first ts)) (here field.Name a b (carried-other field.Name r.carried refl)) ∙ text-back field.Name r.name refl) i;
-      carried = (ap carried_from parts ∙ ap (λ ts. below_all (first ts)) (past field.Carried a b (texts-other field.Carried field.Name r.name refl)) ∙ carried-back r.carried) i;
-    }
+    let ss = carried-of r.carried ∷ [] in
+    λ i. record { name = r.name; carried = lines-field field.Carried ss r.carried refl i }
 
 holding-back : (h : model.Holding) → holding_from (holding_tree h) ≡ h
 holding-back h =
-    let a = text_trees field.CallNumber h.call_number in
-    let b = carried_trees h.carried in
-    let parts = list_of_forest_of (a ++ b) in
-    λ i. record {
-      repo = h.repo;
-      call_number = (ap (text_from field.CallNumber) parts ∙ ap (λ ts. option_map text_on (first ts)) (here field.CallNumber a b (carried-other field.CallNumber h.carried refl)) ∙ text-back field.CallNumber h.call_number refl) i;
-      carried = (ap carried_from parts ∙ ap (λ ts. below_all (first ts)) (past field.Carried a b (texts-other field.Carried field.CallNumber h.call_number refl)) ∙ carried-back h.carried) i;
-    }
+    let ss = carried-of h.carried ∷ [] in
+    λ i. record { repo = h.repo; call_number = h.call_number; carried = lines-field field.Carried ss h.carried refl i }
 
-holdings-back : (hs : List model.Holding) → map holding_from (map holding_tree hs) ≡ hs
-holdings-back [] = refl
-holdings-back (h ∷ hs) = λ i. holding-back h i ∷ holdings-back hs i
+of-holdings : (hs : List model.Holding) → IsOf field.Holding (map holding_tree hs)
+of-holdings [] = of-none field.Holding
+of-holdings (h ∷ hs) = of-more field.Holding h.call_number (Some h.repo) (lines_below field.Carried h.carried) (map holding_tree hs) (of-holdings hs)
 
 source-back : (s : model.Source) → source_from (source_tree s) ≡ s
 source-back s =
-    let t = text_trees field.Title s.title in
-    let a = text_trees field.Author s.author in
-    let p = text_trees field.Publisher s.publisher in
-    let h = map holding_tree s.holdings in
-    let c = carried_trees s.carried in
-    let parts = list_of_forest_of (t ++ (a ++ (p ++ (h ++ c)))) in
+    let hs : Segment = record { field = field.Holding; lines = map holding_tree s.holdings; is_of = of-holdings s.holdings } in
+    let ss = text-of field.Author s.author ∷ text-of field.Publisher s.publisher ∷ hs ∷ carried-of s.carried ∷ [] in
     λ i. record {
-      title = (ap (text_from field.Title) parts ∙ ap (λ ts. option_map text_on (first ts))
-          (here field.Title t (a ++ (p ++ (h ++ c))) (past field.Title a (p ++ (h ++ c)) (texts-other field.Title field.Author s.author refl) ∙ past field.Title p (h ++ c) (texts-other field.Title field.Publisher s.publisher refl) ∙ past field.Title h c (holdings-other field.Title s.holdings refl) ∙ carried-other field.Title s.carried refl))
-          ∙ text-back field.Title s.title refl) i;
-      author = (ap (text_from field.Author) parts ∙ ap (λ ts. option_map text_on (first ts))
-          (past field.Author t (a ++ (p ++ (h ++ c))) (texts-other field.Author field.Title s.title refl) ∙ here field.Author a (p ++ (h ++ c)) (past field.Author p (h ++ c) (texts-other field.Author field.Publisher s.publisher refl) ∙ past field.Author h c (holdings-other field.Author s.holdings refl) ∙ carried-other field.Author s.carried refl))
-          ∙ text-back field.Author s.author refl) i;
-      publisher = (ap (text_from field.Publisher) parts ∙ ap (λ ts. option_map text_on (first ts))
-          (past field.Publisher t (a ++ (p ++ (h ++ c))) (texts-other field.Publisher field.Title s.title refl) ∙ past field.Publisher a (p ++ (h ++ c)) (texts-other field.Publisher field.Author s.author refl) ∙ here field.Publisher p (h ++ c) (past field.Publisher h c (holdings-other field.Publisher s.holdings refl) ∙ carried-other field.Publisher s.carried refl))
-          ∙ text-back field.Publisher s.publisher refl) i;
-      holdings = (ap (λ ts. map holding_from (under field.Holding ts)) parts ∙ ap (map holding_from)
-          (past field.Holding t (a ++ (p ++ (h ++ c))) (texts-other field.Holding field.Title s.title refl) ∙ past field.Holding a (p ++ (h ++ c)) (texts-other field.Holding field.Author s.author refl) ∙ past field.Holding p (h ++ c) (texts-other field.Holding field.Publisher s.publisher refl) ∙ here field.Holding h c (carried-other field.Holding s.carried refl) ∙ holdings-here s.holdings)
-          ∙ holdings-back s.holdings) i;
-      carried = (ap carried_from parts ∙ ap (λ ts. below_all (first ts))
-          (past field.Carried t (a ++ (p ++ (h ++ c))) (texts-other field.Carried field.Title s.title refl) ∙ past field.Carried a (p ++ (h ++ c)) (texts-other field.Carried field.Author s.author refl) ∙ past field.Carried p (h ++ c) (texts-other field.Carried field.Publisher s.publisher refl) ∙ past field.Carried h c (holdings-other field.Carried s.holdings refl))
-          ∙ carried-back s.carried) i;
+      title = s.title;
+      author = text-field field.Author ss s.author refl i;
+      publisher = text-field field.Publisher ss s.publisher refl i;
+      holdings = parts-field holding_tree holding_from holding-back field.Holding ss s.holdings refl i;
+      carried = lines-field field.Carried ss s.carried refl i;
+    }
+
+citation-back : (c : model.Citation) → citation_from (citation_tree c) ≡ c
+citation-back c =
+    let place = branch field.Source c.page (Some c.source) [] ∷ [] in
+    let source : Segment = record { field = field.Source; lines = place; is_of = of-one field.Source c.page (Some c.source) [] } in
+    let ss = source ∷ text-of field.Quality (option_map quality_word c.quality) ∷ carried-of c.carried ∷ [] in
+    λ i. record {
+      owner = c.owner;
+      source = ap (λ ts. number_at (first ts)) (field-of field.Source ss place refl) i;
+      page = ap (λ ts. text_at (first ts)) (field-of field.Source ss place refl) i;
+      quality = (ap (option_map quality_from) (text-field field.Quality ss (option_map quality_word c.quality) refl) ∙ option-back quality_word quality_from quality-back c.quality) i;
+      carried = lines-field field.Carried ss c.carried refl i;
+    }
+
+name-back : (n : model.Name) → name_from (name_tree n) ≡ n
+name-back n =
+    let ss = carried-of n.carried ∷ [] in
+    λ i. record { text = n.text; carried = lines-field field.Carried ss n.carried refl i }
+
+of-names : (ns : List model.Name) → IsOf field.Name (map name_tree ns)
+of-names [] = of-none field.Name
+of-names (n ∷ ns) = of-more field.Name (Some n.text) None (lines_below field.Carried n.carried) (map name_tree ns) (of-names ns)
+
+person-back : (p : model.Person) → person_from (person_tree p) ≡ p
+person-back p =
+    let names : Segment = record { field = field.Name; lines = map name_tree p.names; is_of = of-names p.names } in
+    let ss = names ∷ text-of field.Sex (option_map sex_word p.sex) ∷ carried-of p.carried ∷ [] in
+    λ i. record {
+      names = parts-field name_tree name_from name-back field.Name ss p.names refl i;
+      sex = (ap (option_map sex_from) (text-field field.Sex ss (option_map sex_word p.sex) refl) ∙ option-back sex_word sex_from sex-back p.sex) i;
+      carried = lines-field field.Carried ss p.carried refl i;
+    }
+
+partner-back : (p : model.Partner) → partner_from (partner_tree p) ≡ p
+partner-back p =
+    let ss = side-of p.carried_by_person ∷ carried-of p.carried ∷ [] in
+    λ i. record {
+      partnership = partnership-back p.partnership i;
+      person = p.person;
+      carried = lines-field field.Carried ss p.carried refl i;
+      carried_by_person = lines-field field.Side ss p.carried_by_person refl i;
+    }
+
+of-partners : (ps : List model.Partner) → IsOf field.Partner (map partner_tree ps)
+of-partners [] = of-none field.Partner
+of-partners (p ∷ ps) = of-more field.Partner (Some (partnership_word p.partnership)) (Some p.person) (lines_below field.Side p.carried_by_person ++ lines_below field.Carried p.carried) (map partner_tree ps) (of-partners ps)
+
+child-back : (c : model.Child) → child_from (child_tree c) ≡ c
+child-back c =
+    let ss = side-of c.carried_by_person ∷ carried-of c.carried ∷ [] in
+    λ i. record {
+      person = c.person;
+      carried = lines-field field.Carried ss c.carried refl i;
+      carried_by_person = lines-field field.Side ss c.carried_by_person refl i;
+    }
+
+of-children : (cs : List model.Child) → IsOf field.Child (map child_tree cs)
+of-children [] = of-none field.Child
+of-children (c ∷ cs) = of-more field.Child None (Some c.person) (lines_below field.Side c.carried_by_person ++ lines_below field.Carried c.carried) (map child_tree cs) (of-children cs)
+
+family-back : (f : model.Family) → family_from (family_tree f) ≡ f
+family-back f =
+    let partners : Segment = record { field = field.Partner; lines = map partner_tree f.partners; is_of = of-partners f.partners } in
+    let children : Segment = record { field = field.Child; lines = map child_tree f.children; is_of = of-children f.children } in
+    let ss = partners ∷ children ∷ carried-of f.carried ∷ [] in
+    λ i. record {
+      partners = parts-field partner_tree partner_from partner-back field.Partner ss f.partners refl i;
+      children = parts-field child_tree child_from child-back field.Child ss f.children refl i;
+      carried = lines-field field.Carried ss f.carried refl i;
     }
 
 -- a record's tree gives back the record
@@ -129,6 +222,9 @@ pub record_back : (r : Record) → record_from (record_tree r) ≡ Some r
 record_back (kind.Place p) = ap (λ x. Some (kind.Place x)) (place-back p)
 record_back (kind.Repo r) = ap (λ x. Some (kind.Repo x)) (repo-back r)
 record_back (kind.Source s) = ap (λ x. Some (kind.Source x)) (source-back s)
+record_back (kind.Person p) = ap (λ x. Some (kind.Person x)) (person-back p)
+record_back (kind.Family f) = ap (λ x. Some (kind.Family x)) (family-back f)
+record_back (kind.Citation c) = ap (λ x. Some (kind.Citation x)) (citation-back c)
 
 -- so do its lines: no other record is kept as them
 module _ {A : Type 0} where
@@ -142,10 +238,10 @@ pub stored_one : (r s : Record) → stored r ≡ stored s → r ≡ s
 stored_one r s e = let same : Some r ≡ Some s = sym (record_back r) ∙ ap record_from (flat-one (record_tree r) (record_tree s) e) ∙ record_back s in cc
 
 -- lines that are not those of the record that is read from their tree are those of no record
-found-one : (ls : List (ℕ × Line)) (t : Tree Line) (r : Record) → ls ≡ flat 0 t → ls ≡ stored r → record_from t ≡ Some r
+found-one : (ls : List (ℕ × Label)) (t : Tree Label) (r : Record) → ls ≡ flat 0 t → ls ≡ stored r → record_from t ≡ Some r
 found-one ls t r e f = ap record_from (flat-one t (record_tree r) (sym e ∙ f)) ∙ record_back r
 
-pub not_same : (ls : List (ℕ × Line)) (found : Option (Tree Line)) (t : Tree Line) (kept : Option Record) (x : Record) → MatchOption found ((u : Tree Line) → ls ≢ flat 0 u) (λ u. ls ≡ flat 0 u) → found ≡ Some t → kept ≡ record_from t → kept ≡ Some x → ls ≢ stored x → (r : Record) → ls ≢ stored r
+pub not_same : (ls : List (ℕ × Label)) (found : Option (Tree Label)) (t : Tree Label) (kept : Option Record) (x : Record) → MatchOption found ((u : Tree Label) → ls ≢ flat 0 u) (λ u. ls ≡ flat 0 u) → found ≡ Some t → kept ≡ record_from t → kept ≡ Some x → ls ≢ stored x → (r : Record) → ls ≢ stored r
 not_same ls None t kept x e is h k differs = absurd cc
 not_same ls (Some u) t kept x e is h k differs = λ r f.
     let same_tree : u ≡ t = cc in

@@ -1,5 +1,5 @@
 pub mod Back
-pub mod Cuts
 pub mod Fields
 pub mod Growing
-pub mod Joins
+pub mod Relabel
+pub mod Segments

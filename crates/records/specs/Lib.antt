@@ -1,9 +1,6 @@
 pub mod Growing
 pub mod Line
 pub mod Model
-pub mod Naming
 pub mod Reading
 pub mod Stored
-pub mod Text
 pub mod Tree
-pub mod Words

@@ -1,6 +1,9 @@
 -- The values of records, as contracts see them.
 use Rattle.std.specs.Prelude.{ℕ, List, Option}
 use Rattle.records.specs.Line.{Lines}
+use Rattle.records.specs.declared.words.Quality.{Quality}
+use Rattle.records.specs.declared.words.Sex.{Sex}
+use Rattle.records.specs.declared.words.Partnership.{Partnership}
 
 -- a place, within another or none
 pub record Place : Type 0 where
@@ -25,4 +28,42 @@ pub record Source : Type 0 where
   pub author : Option (List ℕ)
   pub publisher : Option (List ℕ)
   pub holdings : List Holding
+  pub carried : Lines
+
+-- where in a source something stands, for a person, a family or an event
+pub record Citation : Type 0 where
+  pub owner : ℕ
+  pub source : ℕ
+  pub page : Option (List ℕ)
+  pub quality : Option Quality
+  pub carried : Lines
+
+-- a name of a person
+pub record Name : Type 0 where
+  pub text : List ℕ
+  pub carried : Lines
+
+-- a person
+pub record Person : Type 0 where
+  pub names : List Name
+  pub sex : Option Sex
+  pub carried : Lines
+
+-- a husband or a wife: the carried lines of the family's side, and those of the person's
+pub record Partner : Type 0 where
+  pub partnership : Partnership
+  pub person : ℕ
+  pub carried : Lines
+  pub carried_by_person : Lines
+
+-- a child: the carried lines of the family's side, and those of the person's
+pub record Child : Type 0 where
+  pub person : ℕ
+  pub carried : Lines
+  pub carried_by_person : Lines
+
+-- a family
+pub record Family : Type 0 where
+  pub partners : List Partner
+  pub children : List Child
   pub carried : Lines

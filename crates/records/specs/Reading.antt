@@ -1,79 +1,159 @@
 -- What is read from a record's tree, each field by its word. No clause that callers see names these definitions.
-use Rattle.std.specs.Prelude.{ℕ, List, [], ◌∷◌, map, Option, Some, None, bytes_eq, if◌then◌else◌, option_map}
+use Rattle.std.specs.Prelude.{ℕ, List, [], ◌∷◌, map, Option, Some, None, bytes_eq, if◌then◌else◌, option_map, codes}
 use Rattle.std.specs.List.{filter}
-use Rattle.records.specs.Tree.{Tree, label, children, list_of}
-use Rattle.records.specs.Line.{Line, Lines}
+use Rattle.records.specs.Tree.{Tree, label, children, list_of, relabel}
+use Rattle.records.specs.Line.{Line, Label, Lines, Branches}
 use Rattle.records.specs.Model as model
 use Rattle.records.specs.Stored.{word}
 use Rattle.records.specs.declared.carried.Value.{Value}
-use Rattle.records.specs.declared.carried.Value.TheVariants.{Text, Ref}
+use Rattle.records.specs.declared.carried.Value.TheVariants as value
+use Rattle.records.specs.declared.words.Quality.{Quality}
+use Rattle.records.specs.declared.words.Quality.TheVariants as quality
+use Rattle.records.specs.declared.words.Sex.{Sex}
+use Rattle.records.specs.declared.words.Sex.TheVariants as sex
+use Rattle.records.specs.declared.words.Partnership.{Partnership}
+use Rattle.records.specs.declared.words.Partnership.TheVariants as partnership
 use Rattle.records.specs.declared.field.Field.{Field}
 use Rattle.records.specs.declared.field.Field.TheVariants as field
 use Rattle.records.specs.declared.record.Record.{Record}
 use Rattle.records.specs.declared.record.Record.TheVariants as kind
 
 -- the lines right below a line
-abbrev pub below : Tree Line → Lines
+abbrev pub below : Tree Label → Branches
 below t = list_of (children t)
 
-abbrev pub tag_of : Tree Line → List ℕ
+abbrev pub tag_of : Tree Label → List ℕ
 tag_of t = (label t).tag
 
 -- the lines with the word of a field, and the first of them
-abbrev pub under : Field → Lines → Lines
+abbrev pub under : Field → Branches → Branches
 under f ts = filter (λ t. bytes_eq (tag_of t) (word f)) ts
 
-abbrev pub first : Lines → Option (Tree Line)
+abbrev pub first : Branches → Option (Tree Label)
 first [] = None
 first (t ∷ ts) = Some t
 
-abbrev pub text_in : Value → List ℕ
-text_in (Text t) = t
-text_in (Ref n) = []
+abbrev pub text_or_empty : Option (List ℕ) → List ℕ
+text_or_empty None = []
+text_or_empty (Some t) = t
 
-abbrev pub number_in : Value → ℕ
-number_in (Text t) = 0
-number_in (Ref n) = n
+abbrev pub number_or_0 : Option ℕ → ℕ
+number_or_0 None = 0
+number_or_0 (Some n) = n
 
-abbrev pub text_on : Tree Line → List ℕ
-text_on t = text_in (label t).value
+-- the text of a line, the number on it
+abbrev pub text_on : Tree Label → List ℕ
+text_on t = text_or_empty (label t).text
 
-abbrev pub number_on : Tree Line → ℕ
-number_on t = number_in (label t).value
+abbrev pub number_on : Tree Label → ℕ
+number_on t = number_or_0 (label t).target
 
-abbrev pub below_all : Option (Tree Line) → Lines
+-- the same of a line that may be missing
+abbrev pub text_at : Option (Tree Label) → Option (List ℕ)
+text_at None = None
+text_at (Some t) = (label t).text
+
+abbrev pub number_at : Option (Tree Label) → ℕ
+number_at None = 0
+number_at (Some t) = number_on t
+
+abbrev pub below_all : Option (Tree Label) → Branches
 below_all None = []
 below_all (Some t) = below t
 
-abbrev pub carried_from : Lines → Lines
-carried_from ts = below_all (first (under field.Carried ts))
+-- a carried line from a stored one
+abbrev pub value_for : Option (List ℕ) → Option ℕ → Value
+value_for (Some t) n = value.Text t
+value_for None (Some n) = value.Ref n
+value_for None None = value.Text []
 
-abbrev pub text_from : Field → Lines → Option (List ℕ)
-text_from f ts = option_map text_on (first (under f ts))
+abbrev pub line_of : Label → Line
+line_of l = record { tag = l.tag; value = value_for l.text l.target }
 
-abbrev pub number_from : Field → Lines → Option ℕ
-number_from f ts = option_map number_on (first (under f ts))
+abbrev pub lines_from : Field → Branches → Lines
+lines_from f ts = map (relabel line_of) (below_all (first (under f ts)))
 
-abbrev pub place_from : Tree Line → model.Place
-place_from t = record { name = text_on t; parent = number_from field.Parent (below t); carried = carried_from (below t) }
+abbrev pub text_from : Field → Branches → Option (List ℕ)
+text_from f ts = text_at (first (under f ts))
 
-abbrev pub repo_from : Tree Line → model.Repo
-repo_from t = record { name = text_from field.Name (below t); carried = carried_from (below t) }
+abbrev pub quality_from : List ℕ → Quality
+quality_from t =
+    if bytes_eq t (codes "1") then quality.Questionable
+    else (if bytes_eq t (codes "2") then quality.Secondary
+    else (if bytes_eq t (codes "3") then quality.Primary else quality.Unreliable))
 
-abbrev pub holding_from : Tree Line → model.Holding
-holding_from t = record { repo = number_on t; call_number = text_from field.CallNumber (below t); carried = carried_from (below t) }
+abbrev pub sex_from : List ℕ → Sex
+sex_from t =
+    if bytes_eq t (codes "M") then sex.Male
+    else (if bytes_eq t (codes "F") then sex.Female else sex.Unknown)
 
-abbrev pub source_from : Tree Line → model.Source
+abbrev pub partnership_from : List ℕ → Partnership
+partnership_from t = if bytes_eq t (codes "wife") then partnership.Wife else partnership.Husband
+
+abbrev pub place_from : Tree Label → model.Place
+place_from t = record { name = text_on t; parent = (label t).target; carried = lines_from field.Carried (below t) }
+
+abbrev pub repo_from : Tree Label → model.Repo
+repo_from t = record { name = (label t).text; carried = lines_from field.Carried (below t) }
+
+abbrev pub holding_from : Tree Label → model.Holding
+holding_from t = record { repo = number_on t; call_number = (label t).text; carried = lines_from field.Carried (below t) }
+
+abbrev pub source_from : Tree Label → model.Source
 source_from t = record {
-  title = text_from field.Title (below t);
+  title = (label t).text;
   author = text_from field.Author (below t);
   publisher = text_from field.Publisher (below t);
   holdings = map holding_from (under field.Holding (below t));
-  carried = carried_from (below t);
+  carried = lines_from field.Carried (below t);
 }
 
-abbrev pub record_from : Tree Line → Option Record
+abbrev pub citation_from : Tree Label → model.Citation
+citation_from t = record {
+  owner = number_on t;
+  source = number_at (first (under field.Source (below t)));
+  page = text_from field.Source (below t);
+  quality = option_map quality_from (text_from field.Quality (below t));
+  carried = lines_from field.Carried (below t);
+}
+
+abbrev pub name_from : Tree Label → model.Name
+name_from t = record { text = text_on t; carried = lines_from field.Carried (below t) }
+
+abbrev pub person_from : Tree Label → model.Person
+person_from t = record {
+  names = map name_from (under field.Name (below t));
+  sex = option_map sex_from (text_from field.Sex (below t));
+  carried = lines_from field.Carried (below t);
+}
+
+abbrev pub partner_from : Tree Label → model.Partner
+partner_from t = record {
+  partnership = partnership_from (text_on t);
+  person = number_on t;
+  carried = lines_from field.Carried (below t);
+  carried_by_person = lines_from field.Side (below t);
+}
+
+abbrev pub child_from : Tree Label → model.Child
+child_from t = record {
+  person = number_on t;
+  carried = lines_from field.Carried (below t);
+  carried_by_person = lines_from field.Side (below t);
+}
+
+abbrev pub family_from : Tree Label → model.Family
+family_from t = record {
+  partners = map partner_from (under field.Partner (below t));
+  children = map child_from (under field.Child (below t));
+  carried = lines_from field.Carried (below t);
+}
+
+abbrev pub record_from : Tree Label → Option Record
 record_from t =
     if bytes_eq (tag_of t) (word field.Place) then Some (kind.Place (place_from t))
     else (if bytes_eq (tag_of t) (word field.Repo) then Some (kind.Repo (repo_from t))
-    else (if bytes_eq (tag_of t) (word field.Source) then Some (kind.Source (source_from t)) else None))
+    else (if bytes_eq (tag_of t) (word field.Source) then Some (kind.Source (source_from t))
+    else (if bytes_eq (tag_of t) (word field.Person) then Some (kind.Person (person_from t))
+    else (if bytes_eq (tag_of t) (word field.Family) then Some (kind.Family (family_from t))
+    else (if bytes_eq (tag_of t) (word field.Citation) then Some (kind.Citation (citation_from t)) else None)))))

@@ -1,12 +1,16 @@
 -- How a record is kept: a tree of lines, listed in order with their depths. The first line has the word of the kind; each
--- field stands on a line below with a word of its own, and the carried lines of a part stand last, below one line. So
--- nothing is escaped, and a carried line may have any tag.
-use Rattle.std.specs.Prelude.{ℕ, List, [], ◌∷◌, ◌++◌, map, codes, Option, Some, None}
-use Rattle.records.specs.Tree.{Tree, node, forest_of, flat}
-use Rattle.records.specs.Line.{Line, Lines}
+-- field stands on a line with a word of its own, and a line may have a text and the number of a record together. The
+-- carried lines of a part stand last, below one line. So nothing is escaped, and a carried line may have any tag.
+use Rattle.std.specs.Prelude.{ℕ, List, [], ◌∷◌, ◌++◌, map, codes, Option, Some, None, option_map}
+use Rattle.records.specs.Tree.{Tree, node, forest_of, flat, relabel}
+use Rattle.records.specs.Line.{Label, Lines, Branches, label_of}
 use Rattle.records.specs.Model as model
-use Rattle.records.specs.declared.carried.Value.{Value}
-use Rattle.records.specs.declared.carried.Value.TheVariants.{Text, Ref}
+use Rattle.records.specs.declared.words.Quality.{Quality}
+use Rattle.records.specs.declared.words.Quality.TheVariants as quality
+use Rattle.records.specs.declared.words.Sex.{Sex}
+use Rattle.records.specs.declared.words.Sex.TheVariants as sex
+use Rattle.records.specs.declared.words.Partnership.{Partnership}
+use Rattle.records.specs.declared.words.Partnership.TheVariants as partnership
 use Rattle.records.specs.declared.field.Field.{Field}
 use Rattle.records.specs.declared.field.Field.TheVariants as field
 use Rattle.records.specs.declared.record.Record.{Record}
@@ -17,51 +21,92 @@ abbrev pub word : Field → List ℕ
 word field.Place = codes "place"
 word field.Repo = codes "repo"
 word field.Source = codes "source"
-word field.Name = codes "name"
-word field.Parent = codes "parent"
-word field.Title = codes "title"
+word field.Person = codes "person"
+word field.Family = codes "family"
+word field.Citation = codes "citation"
 word field.Author = codes "author"
 word field.Publisher = codes "publisher"
 word field.Holding = codes "holding"
-word field.CallNumber = codes "call_number"
+word field.Quality = codes "quality"
+word field.Name = codes "name"
+word field.Sex = codes "sex"
+word field.Partner = codes "partner"
+word field.Child = codes "child"
+word field.Side = codes "side"
 word field.Carried = codes "carried"
 
+abbrev pub quality_word : Quality → List ℕ
+quality_word quality.Unreliable = codes "0"
+quality_word quality.Questionable = codes "1"
+quality_word quality.Secondary = codes "2"
+quality_word quality.Primary = codes "3"
+
+abbrev pub sex_word : Sex → List ℕ
+sex_word sex.Male = codes "M"
+sex_word sex.Female = codes "F"
+sex_word sex.Unknown = codes "U"
+
+abbrev pub partnership_word : Partnership → List ℕ
+partnership_word partnership.Husband = codes "husband"
+partnership_word partnership.Wife = codes "wife"
+
 -- a line and those below it
-abbrev pub branch : Field → Value → Lines → Tree Line
-branch f value below = node (record { tag = word f; value = value }) (forest_of below)
+abbrev pub branch : Field → Option (List ℕ) → Option ℕ → Branches → Tree Label
+branch f text target below = node (record { tag = word f; text = text; target = target }) (forest_of below)
 
 -- carried lines, below a line of their own
-abbrev pub carried_trees : Lines → Lines
-carried_trees [] = []
-carried_trees (t ∷ ts) = branch field.Carried (Text []) (t ∷ ts) ∷ []
+abbrev pub lines_below : Field → Lines → Branches
+lines_below f [] = []
+lines_below f (t ∷ ts) = branch f None None (map (relabel label_of) (t ∷ ts)) ∷ []
 
--- a text or a number that may be missing
-abbrev pub text_trees : Field → Option (List ℕ) → Lines
+-- a text that may be missing
+abbrev pub text_trees : Field → Option (List ℕ) → Branches
 text_trees f None = []
-text_trees f (Some t) = branch f (Text t) [] ∷ []
+text_trees f (Some t) = branch f (Some t) None [] ∷ []
 
-abbrev pub number_trees : Field → Option ℕ → Lines
-number_trees f None = []
-number_trees f (Some n) = branch f (Ref n) [] ∷ []
+abbrev pub place_tree : model.Place → Tree Label
+place_tree p = branch field.Place (Some p.name) p.parent (lines_below field.Carried p.carried)
 
-abbrev pub place_tree : model.Place → Tree Line
-place_tree p = branch field.Place (Text p.name) (number_trees field.Parent p.parent ++ carried_trees p.carried)
+abbrev pub repo_tree : model.Repo → Tree Label
+repo_tree r = branch field.Repo r.name None (lines_below field.Carried r.carried)
 
-abbrev pub repo_tree : model.Repo → Tree Line
-repo_tree r = branch field.Repo (Text []) (text_trees field.Name r.name ++ carried_trees r.carried)
+abbrev pub holding_tree : model.Holding → Tree Label
+holding_tree h = branch field.Holding h.call_number (Some h.repo) (lines_below field.Carried h.carried)
 
-abbrev pub holding_tree : model.Holding → Tree Line
-holding_tree h = branch field.Holding (Ref h.repo) (text_trees field.CallNumber h.call_number ++ carried_trees h.carried)
+abbrev pub source_tree : model.Source → Tree Label
+source_tree s = branch field.Source s.title None (text_trees field.Author s.author
+    ++ (text_trees field.Publisher s.publisher ++ (map holding_tree s.holdings ++ lines_below field.Carried s.carried)))
 
-abbrev pub source_tree : model.Source → Tree Line
-source_tree s = branch field.Source (Text []) (text_trees field.Title s.title ++ (text_trees field.Author s.author
-    ++ (text_trees field.Publisher s.publisher ++ (map holding_tree s.holdings ++ carried_trees s.carried))))
+abbrev pub citation_tree : model.Citation → Tree Label
+citation_tree c = branch field.Citation None (Some c.owner) ((branch field.Source c.page (Some c.source) [] ∷ [])
+    ++ (text_trees field.Quality (option_map quality_word c.quality) ++ lines_below field.Carried c.carried))
 
-abbrev pub record_tree : Record → Tree Line
+abbrev pub name_tree : model.Name → Tree Label
+name_tree n = branch field.Name (Some n.text) None (lines_below field.Carried n.carried)
+
+abbrev pub person_tree : model.Person → Tree Label
+person_tree p = branch field.Person None None (map name_tree p.names
+    ++ (text_trees field.Sex (option_map sex_word p.sex) ++ lines_below field.Carried p.carried))
+
+abbrev pub partner_tree : model.Partner → Tree Label
+partner_tree p = branch field.Partner (Some (partnership_word p.partnership)) (Some p.person)
+    (lines_below field.Side p.carried_by_person ++ lines_below field.Carried p.carried)
+
+abbrev pub child_tree : model.Child → Tree Label
+child_tree c = branch field.Child None (Some c.person) (lines_below field.Side c.carried_by_person ++ lines_below field.Carried c.carried)
+
+abbrev pub family_tree : model.Family → Tree Label
+family_tree f = branch field.Family None None (map partner_tree f.partners
+    ++ (map child_tree f.children ++ lines_below field.Carried f.carried))
+
+abbrev pub record_tree : Record → Tree Label
 record_tree (kind.Place p) = place_tree p
 record_tree (kind.Repo r) = repo_tree r
 record_tree (kind.Source s) = source_tree s
+record_tree (kind.Person p) = person_tree p
+record_tree (kind.Family f) = family_tree f
+record_tree (kind.Citation c) = citation_tree c
 
 -- the lines that a record is kept as
-abbrev pub stored : Record → List (ℕ × Line)
+abbrev pub stored : Record → List (ℕ × Label)
 stored r = flat 0 (record_tree r)

@@ -51,6 +51,16 @@ module _ {A : Type 0} where
   most_le-forest_size [] = omega arith
   most_le-forest_size (t ∷ ts) = omega (arith, most_le-forest_size ts)
 
+module _ {A B : Type 0} (f : A → B) where
+  abbrev mutual
+    -- the same tree with each label changed
+    pub relabel : Tree A → Tree B
+    relabel (node a ts) = node (f a) (relabel_all ts)
+
+    pub relabel_all : Forest A → Forest B
+    relabel_all none = none
+    relabel_all (more t ts) = more (relabel t) (relabel_all ts)
+
 -- The code of a tree, by which its values are told apart.
 abbrev head : Gv → Gv
 head gnil = gnil

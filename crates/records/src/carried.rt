@@ -2,8 +2,7 @@
 
 ghost use Rattle.std.specs.Prelude.{◌≡◌, IfOk};
 
-use crate::tag::Tag;
-use crate::text::Text;
+use record_text::{Tag, Text};
 use std::alloc::{AllocError, Global};
 use std::marker::Model;
 
@@ -67,15 +66,4 @@ impl Carried {
             children,
         })
     }
-}
-
-/// The same trees in memory of their own.
-pub(crate) fn copied(alloc: Global, trees: &[Carried]) -> Result<Vec<Carried>, AllocError>
-    ensures { IfOk result (λ c. c.items ≡ trees.now) }
-{
-    let mut copies = Vec::new(alloc);
-    'trees: for tree in trees {
-        copies.push(tree.copy(alloc)?)?;
-    }
-    Ok(copies)
 }

@@ -3,7 +3,7 @@
 ghost use Rattle.std.specs.Prelude.{◌≡◌, IfOk};
 ghost use Rattle.records.specs.Stored.{word};
 
-use crate::tag::Tag;
+use record_text::Tag;
 use std::alloc::{AllocError, Global};
 
 /// A kind or a field, as a stored line has it in place of a tag.
@@ -13,22 +13,32 @@ pub enum Field {
     Place,
     /// The first line of a repository.
     Repo,
-    /// The first line of a source.
+    /// The first line of a source, or the source of a citation.
     Source,
-    /// The name of a repository.
-    Name,
-    /// The place that a place is within.
-    Parent,
-    /// The title of a source.
-    Title,
+    /// The first line of a person.
+    Person,
+    /// The first line of a family.
+    Family,
+    /// The first line of a citation.
+    Citation,
     /// The author of a source.
     Author,
     /// The publisher of a source.
     Publisher,
     /// Where a source is kept.
     Holding,
-    /// The call number of a source there.
-    CallNumber,
+    /// The quality of a citation.
+    Quality,
+    /// A name of a person.
+    Name,
+    /// The sex of a person.
+    Sex,
+    /// A partner in a family.
+    Partner,
+    /// A child in a family.
+    Child,
+    /// What stands above the carried lines of a person's side of a membership.
+    Side,
     /// What stands above the carried lines of a part.
     Carried,
 }
@@ -42,13 +52,18 @@ impl Field {
             Field::Place => "place",
             Field::Repo => "repo",
             Field::Source => "source",
-            Field::Name => "name",
-            Field::Parent => "parent",
-            Field::Title => "title",
+            Field::Person => "person",
+            Field::Family => "family",
+            Field::Citation => "citation",
             Field::Author => "author",
             Field::Publisher => "publisher",
             Field::Holding => "holding",
-            Field::CallNumber => "call_number",
+            Field::Quality => "quality",
+            Field::Name => "name",
+            Field::Sex => "sex",
+            Field::Partner => "partner",
+            Field::Child => "child",
+            Field::Side => "side",
             Field::Carried => "carried",
         }
     }

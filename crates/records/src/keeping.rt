@@ -3,22 +3,20 @@
 ghost use Rattle.std.specs.Prelude.{◌≡◌, ◌≢◌, ◌↔◌, ◌⊎◌, IfOk, IfErr, IsTrue, MatchOption};
 ghost use Rattle.records.specs.Stored.{stored};
 ghost use Rattle.records.specs.declared.record.Record.{Record};
-ghost use Rattle.records.specs.declared.refusal.RefusalKind.TheVariants as kinds;
+ghost use Rattle.record_text.specs.declared.refusal.RefusalKind.TheVariants as kinds;
 
-use crate::carried::Value;
-use crate::reading::record_in;
+use crate::kinds::{branch_of_record, record_in};
 use crate::record::Record;
-use crate::refusal::RefusalKind;
-use crate::stored::{StoredLine, lines_of_tree, tree_of_lines};
-use crate::writing::tree_of;
+use crate::stored::{StoredLine, branch_of_lines, lines_of_branch};
+use record_text::{RefusalKind, Text};
 use std::alloc::{AllocError, Global};
 
 /// The lines that a record is kept as.
 pub fn lines_of(alloc: Global, record: &Record) -> Result<Vec<StoredLine>, AllocError>
     ensures { IfOk result (λ lines. lines.items ≡ stored «record».now) }
 {
-    let tree = tree_of(alloc, record)?;
-    lines_of_tree(alloc, &tree)
+    let branch = branch_of_record(alloc, record)?;
+    lines_of_branch(alloc, &branch)
 }
 
 /// The record that is kept as these lines. 40: no record is.
@@ -38,7 +36,7 @@ fn found_in(alloc: Global, lines: &[StoredLine]) -> Result<Option<Record>, Alloc
     ensures { IfOk result (λ found. MatchOption found
         ((r : Record) → lines.now ≢ stored r) (λ r. lines.now ≡ stored r)) }
 {
-    let Some(tree) = tree_of_lines(alloc, lines)? else {
+    let Some(tree) = branch_of_lines(alloc, lines)? else {
         return Ok(None);
     };
     let Some(found) = record_in(alloc, &tree)? else {
@@ -70,20 +68,20 @@ fn are_same(a: &[StoredLine], b: &[StoredLine]) -> bool
 fn is_same(a: &StoredLine, b: &StoredLine) -> bool
     ensures { IsTrue result ↔ (a.now ≡ b.now) }
 {
-    a.depth == b.depth && a.tag.as_str() == b.tag.as_str() && is_same_value(&a.value, &b.value)
+    a.depth == b.depth
+        && a.tag.as_str() == b.tag.as_str()
+        && is_same_text(&a.text, &b.text)
+        && a.target == b.target
 }
 
-fn is_same_value(a: &Value, b: &Value) -> bool
+fn is_same_text(a: &Option<Text>, b: &Option<Text>) -> bool
     ensures { IsTrue result ↔ (a.now ≡ b.now) }
 {
     match a {
-        Value::Text(x) => match b {
-            Value::Text(y) => x.as_str() == y.as_str(),
-            Value::Ref(_) => false,
+        Some(x) => match b {
+            Some(y) => x.as_str() == y.as_str(),
+            None => false,
         },
-        Value::Ref(m) => match b {
-            Value::Text(_) => false,
-            Value::Ref(n) => *m == *n,
-        },
+        None => b.is_none(),
     }
 }

@@ -1,40 +1,46 @@
-//! The vocabulary of the archive: what a text, a tag, a refusal and the name of a person are, what a record
-//! is, and how it is kept as lines. Places, repositories and sources stand so far.
+//! The vocabulary of the archive: what a record is, and how it is kept as lines. Places, repositories,
+//! sources, persons, families and citations stand so far. Texts, tags, refusals and names are those of
+//! `record_text`, and are handed on from here.
 //!
-//! It stands on `caseless` of the kit, and on no other crate of the repository.
+//! It stands on `record_text` alone.
 //!
-//! Callers may rely on: a `Text` and a `Tag` are made only where the string is one, so what holds one need
-//! not look again; the number and the name of each refusal stand in `RefusalKind` alone; `display`,
-//! `surname` and `surname_key` are functions of the bytes of a name; `record_of` gives back the record whose
+//! Callers may rely on: what a record cannot be stands in its types; `record_of` gives back the record whose
 //! lines `lines_of` gave, and refuses the lines of no record.
 #![tactic(auto)]
 
+mod branch;
 mod carried;
-mod cutting;
+mod citation;
+mod family;
 mod field;
 mod keeping;
+mod kinds;
 pub mod laws;
-mod naming;
+mod part;
+mod person;
+mod person_parts;
 mod place;
 mod reading;
 mod record;
-mod refusal;
 mod source;
+mod source_parts;
 mod stored;
-mod tag;
-mod text;
+mod words;
 mod writing;
 
 pub use carried::{Carried, Value};
+pub use citation::Citation;
+pub use family::{Child, Family, Partner};
 pub use keeping::{lines_of, record_of};
-pub use naming::{display, surname, surname_key};
+pub use person::{Name, Person};
 pub use place::Place;
 pub use record::Record;
-pub use refusal::{Refusal, RefusalKind, RefusalText, Unit};
+pub use record_text::{
+    Refusal, RefusalKind, RefusalText, Tag, Text, Unit, display, surname, surname_key,
+};
 pub use source::{Holding, Repo, Source};
-pub use stored::{StoredLine, lines_of_tree, tree_of_lines};
-pub use tag::Tag;
-pub use text::Text;
+pub use stored::StoredLine;
+pub use words::{Partnership, Quality, Sex};
 
 #[cfg(test)]
 mod tests;

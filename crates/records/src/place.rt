@@ -1,7 +1,7 @@
 //! Places.
 
 use crate::carried::Carried;
-use crate::text::Text;
+use record_text::Text;
 use std::marker::Model;
 
 /// A place, within another or none.

@@ -1,12 +1,18 @@
 //! Records.
 
+use crate::citation::Citation;
+use crate::family::Family;
+use crate::person::Person;
 use crate::place::Place;
 use crate::source::{Repo, Source};
 
-/// A record of the archive. Three of its nine kinds stand so far.
+/// A record of the archive. Six of its nine kinds stand so far.
 #[derive(Drop)]
 pub enum Record {
     Place(Place),
     Repo(Repo),
     Source(Source),
+    Person(Person),
+    Family(Family),
+    Citation(Citation),
 }

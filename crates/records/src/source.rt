@@ -1,7 +1,7 @@
 //! Repositories and sources.
 
 use crate::carried::Carried;
-use crate::text::Text;
+use record_text::Text;
 use std::marker::Model;
 
 /// A repository.

@@ -1,256 +1,9 @@
 use crate::{
-    Carried, Place, Record, Refusal, RefusalKind, StoredLine, Tag, Text, Unit, Value, display,
-    lines_of, record_of, surname, surname_key,
+    Carried, Child, Citation, Family, Holding, Name, Partner, Partnership, Person, Place, Quality,
+    Record, RefusalKind, Repo, Sex, Source, StoredLine, Tag, Text, Value, lines_of, record_of,
 };
 use std::alloc::Global;
 use std::test::Fail;
-
-/// Every refusal.
-const KINDS: [RefusalKind; 47] = [
-    RefusalKind::OutOfMemory,
-    RefusalKind::NotUtf8,
-    RefusalKind::BadLevel,
-    RefusalKind::BadXref,
-    RefusalKind::BadTag,
-    RefusalKind::TooLong,
-    RefusalKind::Nul,
-    RefusalKind::LevelJump,
-    RefusalKind::NoHead,
-    RefusalKind::NoTrailer,
-    RefusalKind::AfterTrailer,
-    RefusalKind::BadContinuation,
-    RefusalKind::ContinuationHasChildren,
-    RefusalKind::DuplicateXref,
-    RefusalKind::FileTooLarge,
-    RefusalKind::TextTooLong,
-    RefusalKind::Charset,
-    RefusalKind::Version,
-    RefusalKind::BadStored,
-    RefusalKind::NoSuch,
-    RefusalKind::WrongKind,
-    RefusalKind::TokenReused,
-    RefusalKind::StillNamed,
-    RefusalKind::SamePerson,
-    RefusalKind::MergeWithinFamily,
-    RefusalKind::ChangedSince,
-    RefusalKind::AlreadyUndone,
-    RefusalKind::BadText,
-    RefusalKind::AlreadyInFamily,
-    RefusalKind::DuplicateEntry,
-    RefusalKind::NoSuchMention,
-    RefusalKind::NotOfKind,
-    RefusalKind::Full,
-    RefusalKind::ExportTooLarge,
-    RefusalKind::Storage,
-    RefusalKind::Reopen,
-    RefusalKind::NotAnArchive,
-    RefusalKind::NewerSchema,
-    RefusalKind::ImportOpen,
-    RefusalKind::NoImport,
-    RefusalKind::NotAllStaged,
-    RefusalKind::BadRow,
-    RefusalKind::UnknownVerb,
-    RefusalKind::FieldCount,
-    RefusalKind::BadToken,
-    RefusalKind::ReadFailed,
-    RefusalKind::WriteFailed,
-];
-
-/// What is printed of each, as docs/REFUSALS.md has it.
-const TABLE: &str = "1 OutOfMemory\n\
-10 NotUtf8\n\
-11 BadLevel\n\
-12 BadXref\n\
-13 BadTag\n\
-14 TooLong\n\
-15 Nul\n\
-20 LevelJump\n\
-21 NoHead\n\
-22 NoTrailer\n\
-23 AfterTrailer\n\
-24 BadContinuation\n\
-25 ContinuationHasChildren\n\
-26 DuplicateXref\n\
-27 FileTooLarge\n\
-28 TextTooLong\n\
-29 Charset\n\
-30 Version\n\
-40 BadStored\n\
-50 NoSuch\n\
-51 WrongKind\n\
-52 TokenReused\n\
-53 StillNamed\n\
-54 SamePerson\n\
-55 MergeWithinFamily\n\
-56 ChangedSince\n\
-57 AlreadyUndone\n\
-58 BadText\n\
-59 AlreadyInFamily\n\
-60 DuplicateEntry\n\
-61 NoSuchMention\n\
-62 NotOfKind\n\
-63 Full\n\
-70 ExportTooLarge\n\
-80 Storage\n\
-81 Reopen\n\
-82 NotAnArchive\n\
-83 NewerSchema\n\
-84 ImportOpen\n\
-85 NoImport\n\
-86 NotAllStaged\n\
-90 BadRow\n\
-91 UnknownVerb\n\
-92 FieldCount\n\
-93 BadToken\n\
-94 ReadFailed\n\
-95 WriteFailed\n";
-
-#[test]
-fn each_refusal_has_its_number_and_its_name(rt: HostRuntime) -> Result<(), Fail> {
-    let mut printed = String::new(rt.alloc());
-    for kind in KINDS {
-        let line = format!(in rt.alloc(); "{kind}\n")?;
-        printed.push_str(&line)?;
-    }
-    assert_eq!(rt; printed.as_str(), TABLE);
-    Ok(())
-}
-
-#[test]
-fn no_two_refusals_share_a_number_or_a_name(rt: HostRuntime) {
-    for (i, kind) in KINDS.iter().enumerate() {
-        for other in &KINDS[i + 1..] {
-            assert!(rt; kind.number() != other.number(), "at {kind}");
-            assert!(rt; kind.name() != other.name(), "at {kind}");
-        }
-    }
-}
-
-#[test]
-fn a_refusal_is_printed_with_its_line_or_row(rt: HostRuntime) -> Result<(), Fail> {
-    let line = Refusal {
-        kind: RefusalKind::NoTrailer,
-        at: Some(2),
-    };
-    let row = Refusal {
-        kind: RefusalKind::DuplicateEntry,
-        at: Some(3),
-    };
-    for (text, want) in [
-        (line.text(Unit::Line), "22 NoTrailer at line 2"),
-        (row.text(Unit::Row), "60 DuplicateEntry at row 3"),
-        (
-            Refusal::from(RefusalKind::TokenReused).text(Unit::Row),
-            "52 TokenReused",
-        ),
-    ] {
-        assert_eq!(rt; format!(in rt.alloc(); "{text}")?.as_str(), want);
-    }
-    let kind = format!(in rt.alloc(); "{}", RefusalKind::BadToken)?;
-    assert_eq!(rt; kind.as_str(), "93 BadToken");
-    Ok(())
-}
-
-#[test]
-fn a_text_has_neither_nul_nor_cr(rt: HostRuntime) -> Result<(), Fail> {
-    let alloc = rt.alloc();
-    for (words, is_text) in [
-        ("", true),
-        ("two\nlines \u{e9}", true),
-        ("a\rb", false),
-        ("a\0b", false),
-    ] {
-        match Text::try_new(String::from_str(alloc, words)?) {
-            Some(text) => {
-                assert!(rt; is_text, "at {words:?}");
-                assert_eq!(rt; text.copy(alloc)?.as_str(), words);
-            }
-            None => assert!(rt; !is_text, "at {words:?}"),
-        }
-    }
-    Ok(())
-}
-
-#[test]
-fn a_text_has_at_most_1048576_bytes(rt: HostRuntime) -> Result<(), Fail> {
-    let mut words = String::from_str(rt.alloc(), "x")?;
-    for _ in 0..20 {
-        let half = String::from_str(rt.alloc(), &words)?;
-        words.push_str(&half)?;
-    }
-    let longest = Text::try_new(String::from_str(rt.alloc(), &words)?);
-    assert!(rt; longest.is_some());
-    words.push_str("x")?;
-    assert!(rt; Text::try_new(words).is_none());
-    Ok(())
-}
-
-#[test]
-fn a_tag_has_1_to_31_letters_digits_and_underscores(rt: HostRuntime) -> Result<(), Fail> {
-    let alloc = rt.alloc();
-    for (word, is_tag) in [
-        ("NAME", true),
-        ("_loc2", true),
-        ("A234567890B234567890C234567890D", true),
-        ("A234567890B234567890C234567890D2", false),
-        ("", false),
-        ("TWO WORDS", false),
-        ("N-", false),
-        ("\u{c9}", false),
-    ] {
-        match Tag::try_new(String::from_str(alloc, word)?) {
-            Some(tag) => {
-                assert!(rt; is_tag, "at {word:?}");
-                assert_eq!(rt; tag.copy(alloc)?.as_str(), word);
-            }
-            None => assert!(rt; !is_tag, "at {word:?}"),
-        }
-    }
-    Ok(())
-}
-
-#[test]
-fn names_are_displayed_without_slashes_and_runs_of_spaces(rt: HostRuntime) -> Result<(), Fail> {
-    for (name, want) in [
-        ("William Lee /Mac Parry/", "William Lee Mac Parry"),
-        ("William /Lee/ Parry", "William Lee Parry"),
-        ("/Parry/", "Parry"),
-        (" Jo/hn  \n/ Smith\n", "John Smith"),
-        (" / ", ""),
-        ("", ""),
-    ] {
-        assert_eq!(rt; display(rt.alloc(), name)?.as_str(), want);
-    }
-    Ok(())
-}
-
-#[test]
-fn a_surname_stands_between_the_first_slash_and_the_next(rt: HostRuntime) {
-    for (name, want) in [
-        ("William Lee", ""),
-        ("/Parry/", "Parry"),
-        ("William Lee /Mac Parry/", "Mac Parry"),
-        ("William /Lee/ Parry", "Lee"),
-        ("William /Lee", ""),
-        ("//Lee/", ""),
-        ("A /B/C/D/", "B"),
-    ] {
-        assert_eq!(rt; surname(name), want, "at {name:?}");
-    }
-}
-
-#[test]
-fn surnames_that_differ_in_case_have_one_key(rt: HostRuntime) -> Result<(), Fail> {
-    for (surname, want) in [
-        ("McLEAN", "mclean"),
-        ("Stra\u{df}er", "strasser"),
-        ("\u{c5}ngstr\u{f6}m", "\u{e5}ngstr\u{f6}m"),
-        ("", ""),
-    ] {
-        assert_eq!(rt; surname_key(rt.alloc(), surname)?.as_str(), want);
-    }
-    Ok(())
-}
 
 /// A tag that is one.
 fn tag(alloc: Global, word: &str) -> Result<Tag, Fail> {
@@ -264,57 +17,188 @@ fn text(alloc: Global, words: &str) -> Result<Text, Fail> {
     Ok(text.ok_or("a text")?)
 }
 
-/// A place within another, with a carried line of the tag `carried`.
-fn place(alloc: Global) -> Result<Record, Fail> {
-    let mut carried = Vec::new(alloc);
-    carried.push(Carried {
+/// A list of one.
+fn one<T: Drop>(alloc: Global, item: T) -> Result<Vec<T>, Fail> {
+    let mut items = Vec::new(alloc);
+    items.push(item)?;
+    Ok(items)
+}
+
+/// Two carried lines, one below the other: `_UID x` and a pointer to 7, whose tag is that of stored lines.
+fn carried(alloc: Global) -> Result<Vec<Carried>, Fail> {
+    let below = Carried {
         tag: tag(alloc, "carried")?,
         value: Value::Ref(7),
         children: Vec::new(alloc),
-    })?;
+    };
+    let line = Carried {
+        tag: tag(alloc, "_UID")?,
+        value: Value::Text(text(alloc, "x")?),
+        children: one(alloc, below)?,
+    };
+    one(alloc, line)
+}
+
+/// A place within another.
+fn place(alloc: Global) -> Result<Record, Fail> {
     Ok(Record::Place(Place {
         name: text(alloc, "Ashby")?,
         parent: Some(3),
-        carried,
+        carried: carried(alloc)?,
     }))
 }
 
-#[test]
-fn a_place_is_kept_as_four_lines(rt: HostRuntime) -> Result<(), Fail> {
-    let lines = lines_of(rt.alloc(), &place(rt.alloc())?)?;
-    let mut printed = String::new(rt.alloc());
-    for line in &lines {
+fn source(alloc: Global) -> Result<Record, Fail> {
+    let holding = Holding {
+        repo: 2,
+        call_number: Some(text(alloc, "PR 1/1")?),
+        carried: Vec::new(alloc),
+    };
+    Ok(Record::Source(Source {
+        title: Some(text(alloc, "Ashby register")?),
+        author: None,
+        publisher: Some(text(alloc, "")?),
+        holdings: one(alloc, holding)?,
+        carried: Vec::new(alloc),
+    }))
+}
+
+fn citation(alloc: Global) -> Result<Record, Fail> {
+    Ok(Record::Citation(Citation {
+        owner: 2,
+        source: 1,
+        page: Some(text(alloc, "f. 3")?),
+        quality: Some(Quality::Secondary),
+        carried: Vec::new(alloc),
+    }))
+}
+
+fn person(alloc: Global) -> Result<Record, Fail> {
+    let name = Name {
+        text: text(alloc, "John /Smith/")?,
+        carried: carried(alloc)?,
+    };
+    Ok(Record::Person(Person {
+        names: one(alloc, name)?,
+        sex: Some(Sex::Male),
+        carried: Vec::new(alloc),
+    }))
+}
+
+fn family(alloc: Global) -> Result<Record, Fail> {
+    let wife = Partner {
+        partnership: Partnership::Wife,
+        person: 4,
+        carried: Vec::new(alloc),
+        carried_by_person: carried(alloc)?,
+    };
+    let child = Child {
+        person: 5,
+        carried: carried(alloc)?,
+        carried_by_person: Vec::new(alloc),
+    };
+    Ok(Record::Family(Family {
+        partners: one(alloc, wife)?,
+        children: one(alloc, child)?,
+        carried: Vec::new(alloc),
+    }))
+}
+
+/// The lines as the columns depth, tag, text and target, `-` where there is nothing.
+fn printed(alloc: Global, lines: &[StoredLine]) -> Result<String, Fail> {
+    let mut printed = String::new(alloc);
+    for line in lines {
         let depth = line.depth;
         let word = line.tag.as_str();
-        let row = match &line.value {
-            Value::Text(text) => format!(in rt.alloc(); "{depth} {word} {}\n", text.as_str())?,
-            Value::Ref(number) => format!(in rt.alloc(); "{depth} {word} -> {number}\n")?,
+        let text = match &line.text {
+            Some(text) => text.as_str(),
+            None => "-",
+        };
+        let row = match line.target {
+            Some(number) => format!(in alloc; "{depth}|{word}|{text}|{number}\n")?,
+            None => format!(in alloc; "{depth}|{word}|{text}|-\n")?,
         };
         printed.push_str(&row)?;
     }
-    assert_eq!(rt;
-        printed.as_str(),
-        "0 place Ashby\n1 parent -> 3\n1 carried \n2 carried -> 7\n"
-    );
+    Ok(printed)
+}
+
+#[test]
+fn a_record_is_kept_as_its_lines_and_read_again(rt: HostRuntime) -> Result<(), Fail> {
+    let alloc = rt.alloc();
+    let repo = Record::Repo(Repo {
+        name: None,
+        carried: Vec::new(alloc),
+    });
+    for (record, want) in [
+        (
+            place(alloc)?,
+            "0|place|Ashby|3\n1|carried|-|-\n2|_UID|x|-\n3|carried|-|7\n",
+        ),
+        (repo, "0|repo|-|-\n"),
+        (
+            source(alloc)?,
+            "0|source|Ashby register|-\n1|publisher||-\n1|holding|PR 1/1|2\n",
+        ),
+        (
+            citation(alloc)?,
+            "0|citation|-|2\n1|source|f. 3|1\n1|quality|2|-\n",
+        ),
+        (
+            person(alloc)?,
+            "0|person|-|-\n1|name|John /Smith/|-\n2|carried|-|-\n3|_UID|x|-\n4|carried|-|7\n1|sex|M|-\n",
+        ),
+        (
+            family(alloc)?,
+            "0|family|-|-\n1|partner|wife|4\n2|side|-|-\n3|_UID|x|-\n4|carried|-|7\n\
+1|child|-|5\n2|carried|-|-\n3|_UID|x|-\n4|carried|-|7\n",
+        ),
+    ] {
+        let lines = lines_of(alloc, &record)?;
+        assert_eq!(rt; printed(alloc, &lines)?.as_str(), want);
+        let again = record_of(alloc, &lines).ok().ok_or("a record")?;
+        let kept = lines_of(alloc, &again)?;
+        assert_eq!(rt; printed(alloc, &kept)?.as_str(), want);
+    }
     Ok(())
 }
 
 #[test]
-fn a_record_is_read_from_its_lines_and_from_no_others(rt: HostRuntime) -> Result<(), Fail> {
+fn lines_of_no_record_are_refused(rt: HostRuntime) -> Result<(), Fail> {
     let alloc = rt.alloc();
-    let mut lines = lines_of(alloc, &place(alloc)?)?;
-    match record_of(alloc, &lines).ok().ok_or("a record")? {
-        Record::Place(place) => assert_eq!(rt; place.name.as_str(), "Ashby"),
-        _ => assert!(rt; false, "another kind"),
+    for (depth, word, words) in [
+        (1, "sex", "M"),
+        (1, "carried", "x"),
+        (1, "birth", ""),
+        (0, "name", "x"),
+        (2, "name", "x"),
+    ] {
+        let mut lines = lines_of(alloc, &person(alloc)?)?;
+        lines.push(StoredLine {
+            depth,
+            tag: tag(alloc, word)?,
+            text: Some(text(alloc, words)?),
+            target: None,
+        })?;
+        let refused = record_of(alloc, &lines).err().ok_or("a record")?;
+        assert!(rt; refused == RefusalKind::BadStored, "at {word}");
     }
-    lines.push(StoredLine {
-        depth: 1,
-        tag: tag(alloc, "parent")?,
-        value: Value::Ref(4),
-    })?;
-    let refused = record_of(alloc, &lines).err().ok_or("a record")?;
-    assert!(rt; refused == RefusalKind::BadStored);
     let none = record_of(alloc, &[]).err().ok_or("a record")?;
     assert!(rt; none == RefusalKind::BadStored);
     Ok(())
+}
+
+#[test]
+fn qualities_and_sexes_have_their_words(rt: HostRuntime) {
+    for (quality, word) in [
+        (Quality::Unreliable, "0"),
+        (Quality::Questionable, "1"),
+        (Quality::Secondary, "2"),
+        (Quality::Primary, "3"),
+    ] {
+        assert_eq!(rt; quality.as_str(), word);
+    }
+    for (sex, word) in [(Sex::Male, "M"), (Sex::Female, "F"), (Sex::Unknown, "U")] {
+        assert_eq!(rt; sex.as_str(), word);
+    }
 }

@@ -4,9 +4,9 @@ use Rattle.records.proofs.stored.add_line.Given as goal
 
 abbrev pub invariant-below : goal.invariant-below
 invariant-below l = record {
-  taken : l.children.items ++ fronts (l.line.0 + 1) l.trees.items ≡ fronts (l.line.0 + 1) l.fn.trees.items;
-  left : backs (l.line.0 + 1) l.trees.items ≡ backs (l.line.0 + 1) l.fn.trees.items;
+  taken : l.children.items ++ fronts (l.line.0 + 1) l.branches.items ≡ fronts (l.line.0 + 1) l.fn.branches.items;
+  left : backs (l.line.0 + 1) l.branches.items ≡ backs (l.line.0 + 1) l.fn.branches.items;
 }
 
 abbrev pub decreases-below : goal.decreases-below
-decreases-below l = length l.trees.items
+decreases-below l = length l.branches.items

@@ -1,0 +1,11 @@
+use Rattle.std.proofs.Common.{◌≡◌, length}
+use denote.Text.{Utf8}
+use denote.Shadow.{shadow}
+use Rattle.record_text.specs.Words.{words}
+use Rattle.record_text.proofs.cutting.next_word.Given as goal
+
+abbrev pub invariant-loop-word : goal.invariant-loop-word
+invariant-loop-word l = shadow (Utf8 l.rest) × (words l.rest ≡ words l.text)
+
+abbrev pub decreases-loop-word : goal.decreases-loop-word
+decreases-loop-word l = length l.rest

@@ -1,0 +1,5 @@
+use Rattle.std.proofs.Common.{◌≡◌, ◌++◌, take, map}
+use Rattle.records.proofs.part.push_parts.Given as goal
+
+abbrev pub invariant-parts : goal.invariant-parts
+invariant-parts g l = l.below.items ≡ l.fn.below.items ++ map g.P.Part.kept_as (take l.part-index l.parts)

@@ -1,0 +1,30 @@
+//! Citations.
+
+use crate::carried::Carried;
+use crate::words::Quality;
+use record_text::Text;
+use std::marker::Model;
+
+/// Where in a source something stands.
+#[derive(Drop)]
+pub struct Citation {
+    /// The number of the person, family or event that it speaks of.
+    pub owner: u32,
+    /// The number of the source.
+    pub source: u32,
+    pub page: Option<Text>,
+    pub quality: Option<Quality>,
+    pub carried: Vec<Carried>,
+}
+
+impl Model for Citation {
+    ghost use Rattle.std.specs.Coded.{codes};
+    ghost use Rattle.records.specs.Line.{lines_code, value_code};
+    ghost use Rattle.records.specs.Model as model;
+
+    ghost Value = { model.Citation };
+
+    ghost coded = { Prim.hlevel (codes, lines_code, value_code) };
+
+    ghost view = { λ a. record { owner = a.owner; source = a.source; page = a.page; quality = a.quality; carried = a.carried.items } };
+}

@@ -1,0 +1,46 @@
+//! Persons.
+
+use crate::carried::Carried;
+use crate::words::Sex;
+use record_text::Text;
+use std::marker::Model;
+
+/// A name of a person.
+#[derive(Drop)]
+pub struct Name {
+    /// The name, its surname between slashes.
+    pub text: Text,
+    pub carried: Vec<Carried>,
+}
+
+impl Model for Name {
+    ghost use Rattle.std.specs.Coded.{codes};
+    ghost use Rattle.records.specs.Line.{lines_code, value_code};
+    ghost use Rattle.records.specs.Model as model;
+
+    ghost Value = { model.Name };
+
+    ghost coded = { Prim.hlevel (codes, lines_code, value_code) };
+
+    ghost view = { λ a. record { text = a.text; carried = a.carried.items } };
+}
+
+/// A person. The families of a person stand in these families.
+#[derive(Drop)]
+pub struct Person {
+    pub names: Vec<Name>,
+    pub sex: Option<Sex>,
+    pub carried: Vec<Carried>,
+}
+
+impl Model for Person {
+    ghost use Rattle.std.specs.Coded.{codes};
+    ghost use Rattle.records.specs.Line.{lines_code, value_code};
+    ghost use Rattle.records.specs.Model as model;
+
+    ghost Value = { model.Person };
+
+    ghost coded = { Prim.hlevel (codes, lines_code, value_code) };
+
+    ghost view = { λ a. record { names = a.names.items; sex = a.sex; carried = a.carried.items } };
+}

@@ -1,0 +1,166 @@
+//! Persons and families as branches.
+
+ghost use Rattle.std.specs.Prelude.{◌≡◌, IfOk, Some, option_map};
+ghost use Rattle.records.specs.Stored.{name_tree, person_tree, partner_tree, child_tree, family_tree, sex_word, partnership_word};
+ghost use Rattle.records.specs.Reading.{name_from, person_from, partner_from, child_from, family_from, sex_from, partnership_from, text_or_empty};
+
+use crate::branch::Branch;
+use crate::family::{Child, Family, Partner};
+use crate::field::Field;
+use crate::part::{Part, parts_at, push_parts};
+use crate::person::{Name, Person};
+use crate::reading::{children_of, lines_at, number_or_zero, text_at, text_or_none};
+use crate::words::{Partnership, Sex};
+use crate::writing::{push_lines, push_text};
+use record_text::Text;
+use std::alloc::{AllocError, Global};
+
+impl Part for Name {
+    ghost kept_as = { name_tree };
+
+    ghost read_of = { name_from };
+
+    fn write(&self, alloc: Global) -> Result<Branch, AllocError> {
+        let mut below = Vec::new(alloc);
+        push_lines(alloc, &mut below, Field::Carried, &self.carried)?;
+        let text = Some(self.text.copy(alloc)?);
+        Branch::new(alloc, Field::Name, text, None, below)
+    }
+
+    fn read(alloc: Global, branch: &Branch) -> Result<Name, AllocError> {
+        let parts = children_of(branch);
+        Ok(Name {
+            text: text_or_none(alloc, &branch.text)?,
+            carried: lines_at(alloc, parts, Field::Carried)?,
+        })
+    }
+}
+
+impl Part for Person {
+    ghost kept_as = { person_tree };
+
+    ghost read_of = { person_from };
+
+    fn write(&self, alloc: Global) -> Result<Branch, AllocError> {
+        let mut below = Vec::new(alloc);
+        push_parts(alloc, &mut below, &self.names)?;
+        push_text(alloc, &mut below, Field::Sex, sex_text(alloc, self.sex)?)?;
+        push_lines(alloc, &mut below, Field::Carried, &self.carried)?;
+        Branch::new(alloc, Field::Person, None, None, below)
+    }
+
+    fn read(alloc: Global, branch: &Branch) -> Result<Person, AllocError> {
+        let parts = children_of(branch);
+        Ok(Person {
+            names: parts_at(alloc, parts, Field::Name)?,
+            sex: sex_in(&text_at(alloc, parts, Field::Sex)?),
+            carried: lines_at(alloc, parts, Field::Carried)?,
+        })
+    }
+}
+
+impl Part for Partner {
+    ghost kept_as = { partner_tree };
+
+    ghost read_of = { partner_from };
+
+    fn write(&self, alloc: Global) -> Result<Branch, AllocError> {
+        let mut below = Vec::new(alloc);
+        push_lines(alloc, &mut below, Field::Side, &self.carried_by_person)?;
+        push_lines(alloc, &mut below, Field::Carried, &self.carried)?;
+        let text = partnership_text(alloc, self.partnership)?;
+        Branch::new(alloc, Field::Partner, text, Some(self.person), below)
+    }
+
+    fn read(alloc: Global, branch: &Branch) -> Result<Partner, AllocError> {
+        let parts = children_of(branch);
+        Ok(Partner {
+            partnership: partnership_in(alloc, &branch.text)?,
+            person: number_or_zero(branch.target),
+            carried: lines_at(alloc, parts, Field::Carried)?,
+            carried_by_person: lines_at(alloc, parts, Field::Side)?,
+        })
+    }
+}
+
+impl Part for Child {
+    ghost kept_as = { child_tree };
+
+    ghost read_of = { child_from };
+
+    fn write(&self, alloc: Global) -> Result<Branch, AllocError> {
+        let mut below = Vec::new(alloc);
+        push_lines(alloc, &mut below, Field::Side, &self.carried_by_person)?;
+        push_lines(alloc, &mut below, Field::Carried, &self.carried)?;
+        Branch::new(alloc, Field::Child, None, Some(self.person), below)
+    }
+
+    fn read(alloc: Global, branch: &Branch) -> Result<Child, AllocError> {
+        let parts = children_of(branch);
+        Ok(Child {
+            person: number_or_zero(branch.target),
+            carried: lines_at(alloc, parts, Field::Carried)?,
+            carried_by_person: lines_at(alloc, parts, Field::Side)?,
+        })
+    }
+}
+
+impl Part for Family {
+    ghost kept_as = { family_tree };
+
+    ghost read_of = { family_from };
+
+    fn write(&self, alloc: Global) -> Result<Branch, AllocError> {
+        let mut below = Vec::new(alloc);
+        push_parts(alloc, &mut below, &self.partners)?;
+        push_parts(alloc, &mut below, &self.children)?;
+        push_lines(alloc, &mut below, Field::Carried, &self.carried)?;
+        Branch::new(alloc, Field::Family, None, None, below)
+    }
+
+    fn read(alloc: Global, branch: &Branch) -> Result<Family, AllocError> {
+        let parts = children_of(branch);
+        Ok(Family {
+            partners: parts_at(alloc, parts, Field::Partner)?,
+            children: parts_at(alloc, parts, Field::Child)?,
+            carried: lines_at(alloc, parts, Field::Carried)?,
+        })
+    }
+}
+
+/// The letter of a sex as a text, where there is one.
+#[tactic(auto, using(crate::proofs::Fields::sex_is_plain))]
+fn sex_text(alloc: Global, sex: Option<Sex>) -> Result<Option<Text>, AllocError>
+    ensures { IfOk result (λ t. t ≡ option_map sex_word sex) }
+{
+    match sex {
+        None => Ok(None),
+        Some(sex) => Ok(Some(Text::of_words(alloc, sex.as_str())?)),
+    }
+}
+
+/// The sex of a text, where there is one.
+fn sex_in(text: &Option<Text>) -> Option<Sex>
+    ensures { result ≡ option_map sex_from text.now }
+{
+    match text {
+        None => None,
+        Some(text) => Some(Sex::of_word(text.as_str())),
+    }
+}
+
+/// The word of a partnership as a text.
+#[tactic(auto, using(crate::proofs::Fields::partnership_is_plain))]
+fn partnership_text(alloc: Global, partnership: Partnership) -> Result<Option<Text>, AllocError>
+    ensures { IfOk result (λ t. t ≡ Some (partnership_word partnership)) }
+{
+    Ok(Some(Text::of_words(alloc, partnership.as_str())?))
+}
+
+/// The partnership of a text.
+fn partnership_in(alloc: Global, text: &Option<Text>) -> Result<Partnership, AllocError>
+    ensures { IfOk result (λ p. p ≡ partnership_from (text_or_empty text.now)) }
+{
+    let text = text_or_none(alloc, text)?;
+    Ok(Partnership::of_word(text.as_str()))
+}

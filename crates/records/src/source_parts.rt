@@ -1,0 +1,177 @@
+//! Places, repositories, sources and citations as branches.
+
+ghost use Rattle.std.specs.Prelude.{◌≡◌, IfOk, option_map};
+ghost use Rattle.records.specs.Stored.{place_tree, repo_tree, holding_tree, source_tree, citation_tree, quality_word};
+ghost use Rattle.records.specs.Reading.{place_from, repo_from, holding_from, source_from, citation_from, quality_from};
+
+use crate::branch::{Branch, copied};
+use crate::citation::Citation;
+use crate::field::Field;
+use crate::part::{Part, parts_at, push_parts};
+use crate::place::Place;
+use crate::reading::{children_of, lines_at, number_at, number_or_zero, text_at, text_or_none};
+use crate::source::{Holding, Repo, Source};
+use crate::words::Quality;
+use crate::writing::{push_lines, push_text};
+use record_text::Text;
+use std::alloc::{AllocError, Global};
+
+impl Part for Place {
+    ghost kept_as = { place_tree };
+
+    ghost read_of = { place_from };
+
+    fn write(&self, alloc: Global) -> Result<Branch, AllocError> {
+        let mut below = Vec::new(alloc);
+        push_lines(alloc, &mut below, Field::Carried, &self.carried)?;
+        let text = Some(self.name.copy(alloc)?);
+        Branch::new(alloc, Field::Place, text, self.parent, below)
+    }
+
+    fn read(alloc: Global, branch: &Branch) -> Result<Place, AllocError> {
+        let parts = children_of(branch);
+        Ok(Place {
+            name: text_or_none(alloc, &branch.text)?,
+            parent: branch.target,
+            carried: lines_at(alloc, parts, Field::Carried)?,
+        })
+    }
+}
+
+impl Part for Repo {
+    ghost kept_as = { repo_tree };
+
+    ghost read_of = { repo_from };
+
+    fn write(&self, alloc: Global) -> Result<Branch, AllocError> {
+        let mut below = Vec::new(alloc);
+        push_lines(alloc, &mut below, Field::Carried, &self.carried)?;
+        let text = copied(alloc, &self.name)?;
+        Branch::new(alloc, Field::Repo, text, None, below)
+    }
+
+    fn read(alloc: Global, branch: &Branch) -> Result<Repo, AllocError> {
+        let parts = children_of(branch);
+        Ok(Repo {
+            name: copied(alloc, &branch.text)?,
+            carried: lines_at(alloc, parts, Field::Carried)?,
+        })
+    }
+}
+
+impl Part for Holding {
+    ghost kept_as = { holding_tree };
+
+    ghost read_of = { holding_from };
+
+    fn write(&self, alloc: Global) -> Result<Branch, AllocError> {
+        let mut below = Vec::new(alloc);
+        push_lines(alloc, &mut below, Field::Carried, &self.carried)?;
+        let text = copied(alloc, &self.call_number)?;
+        Branch::new(alloc, Field::Holding, text, Some(self.repo), below)
+    }
+
+    fn read(alloc: Global, branch: &Branch) -> Result<Holding, AllocError> {
+        let parts = children_of(branch);
+        Ok(Holding {
+            repo: number_or_zero(branch.target),
+            call_number: copied(alloc, &branch.text)?,
+            carried: lines_at(alloc, parts, Field::Carried)?,
+        })
+    }
+}
+
+impl Part for Source {
+    ghost kept_as = { source_tree };
+
+    ghost read_of = { source_from };
+
+    fn write(&self, alloc: Global) -> Result<Branch, AllocError> {
+        let mut below = Vec::new(alloc);
+        push_text(
+            alloc,
+            &mut below,
+            Field::Author,
+            copied(alloc, &self.author)?,
+        )?;
+        push_text(
+            alloc,
+            &mut below,
+            Field::Publisher,
+            copied(alloc, &self.publisher)?,
+        )?;
+        push_parts(alloc, &mut below, &self.holdings)?;
+        push_lines(alloc, &mut below, Field::Carried, &self.carried)?;
+        let text = copied(alloc, &self.title)?;
+        Branch::new(alloc, Field::Source, text, None, below)
+    }
+
+    fn read(alloc: Global, branch: &Branch) -> Result<Source, AllocError> {
+        let parts = children_of(branch);
+        Ok(Source {
+            title: copied(alloc, &branch.text)?,
+            author: text_at(alloc, parts, Field::Author)?,
+            publisher: text_at(alloc, parts, Field::Publisher)?,
+            holdings: parts_at(alloc, parts, Field::Holding)?,
+            carried: lines_at(alloc, parts, Field::Carried)?,
+        })
+    }
+}
+
+impl Part for Citation {
+    ghost kept_as = { citation_tree };
+
+    ghost read_of = { citation_from };
+
+    fn write(&self, alloc: Global) -> Result<Branch, AllocError> {
+        let mut below = Vec::new(alloc);
+        let page = copied(alloc, &self.page)?;
+        below.push(Branch::new(
+            alloc,
+            Field::Source,
+            page,
+            Some(self.source),
+            Vec::new(alloc),
+        )?)?;
+        push_text(
+            alloc,
+            &mut below,
+            Field::Quality,
+            quality_text(alloc, self.quality)?,
+        )?;
+        push_lines(alloc, &mut below, Field::Carried, &self.carried)?;
+        Branch::new(alloc, Field::Citation, None, Some(self.owner), below)
+    }
+
+    fn read(alloc: Global, branch: &Branch) -> Result<Citation, AllocError> {
+        let parts = children_of(branch);
+        Ok(Citation {
+            owner: number_or_zero(branch.target),
+            source: number_at(parts, Field::Source),
+            page: text_at(alloc, parts, Field::Source)?,
+            quality: quality_in(&text_at(alloc, parts, Field::Quality)?),
+            carried: lines_at(alloc, parts, Field::Carried)?,
+        })
+    }
+}
+
+/// The word of a quality as a text, where there is one.
+#[tactic(auto, using(crate::proofs::Fields::quality_is_plain))]
+fn quality_text(alloc: Global, quality: Option<Quality>) -> Result<Option<Text>, AllocError>
+    ensures { IfOk result (λ t. t ≡ option_map quality_word quality) }
+{
+    match quality {
+        None => Ok(None),
+        Some(quality) => Ok(Some(Text::of_words(alloc, quality.as_str())?)),
+    }
+}
+
+/// The quality of a text, where there is one.
+fn quality_in(text: &Option<Text>) -> Option<Quality>
+    ensures { result ≡ option_map quality_from text.now }
+{
+    match text {
+        None => None,
+        Some(text) => Some(Quality::of_word(text.as_str())),
+    }
+}
