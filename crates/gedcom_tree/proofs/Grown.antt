@@ -164,3 +164,18 @@ pub joined_rolled : (roots path : List Node) (above : Node) (r : Node-F Node) (n
 joined_rolled roots path above r n t len at i x g v more =
     let o : out-Node (roll-Node r) ≡ r = out-roll-Node r in
     joined_last roots path above (roll-Node r) n t len at (rw (o, i, x, g, v) refl) (ap (λ (y : Node-F Node). y.children.items) o ∙ more)
+
+-- the same node but for the memory of its children
+pub same_flat : (n : Node) (r : Node-F Node) → r.line ≡ (out-Node n).line → r.xref ≡ (out-Node n).xref → r.tag ≡ (out-Node n).tag → r.value ≡ (out-Node n).value → r.children.items ≡ (out-Node n).children.items → (level : ℕ) → flat (roll-Node r) level ≡ flat n level
+same_flat n r i x t v same level =
+    let o : out-Node (roll-Node r) ≡ r = out-roll-Node r in
+    let said_same : said level (roll-Node r) ≡ said level n = rw (o, i, x, t, v) refl in
+    let below : (out-Node (roll-Node r)).children.items ≡ (out-Node n).children.items = ap (λ (y : Node-F Node). y.children.items) o ∙ same in
+    flat_out (roll-Node r) level
+    ∙ ap (λ (y : Item). y ∷ flats (level + 1) (out-Node (roll-Node r)).children.items) said_same
+    ∙ ap (λ (y : List Node). said level n ∷ flats (level + 1) y) below
+    ∙ sym (flat_out n level)
+
+pub same_last : (roots front : List Node) (a b : Node) → ((level : ℕ) → flat a level ≡ flat b level) → built roots (front ++ a ∷ []) ≡ built roots (front ++ b ∷ [])
+same_last roots front a b h =
+    ap (λ (x : List Item). flats 0 roots ++ x) (open_push 0 front a ∙ ap (λ (x : List Item). flat_open 0 front ++ x) (h (0 + length front)) ∙ sym (open_push 0 front b))

@@ -1,6 +1,6 @@
 -- How long the text of a value is: of a pair of @ one counts.
 use Rattle.std.proofs.Common.{◌≡◌, ℕ, suc, ◌+◌, ◌<◌, Bool, true, false, eqb, ◌&&◌, cond, List, [], ◌∷◌, length, map, get_or, take, drop, drop-cons, refl, sym, ap, ◌∙◌, subst, inl, inr, arith, add-one}
-use Rattle.std.specs.List.{count_by, fold}
+use Rattle.std.specs.List.{count_by, fold, list_any}
 use Rattle.std.specs.Str.{bytes_eq}
 use Rattle.std.specs.Char.{to_ascii_lowercase}
 use Rattle.std.proofs.lemmas.Bool.{eqb-true}
@@ -10,7 +10,7 @@ use Rattle.gedcom_line.specs.Words.{is_space}
 use Rattle.gedcom_line.specs.Reading.{skip}
 use Rattle.gedcom_line.specs.Split.{begins_char, char_count}
 use Rattle.gedcom_line.specs.Escape.{unescaped, past_pair}
-use Rattle.gedcom_line.proofs.Steps.{eqb_no}
+use Rattle.gedcom_line.proofs.Steps.{neither, eqb_no}
 use Rattle.gedcom_line.proofs.Doubled.{unescaped_cons, unescaped_at}
 use Rattle.gedcom_tree.specs.Rules.{is_set}
 use Rattle.gedcom_tree.proofs.Cuts.{cases_bool}
@@ -81,6 +81,14 @@ left_chars false (b ∷ bs) = elim (cases_bool (eqb b 64)) [
 pub text_chars_are : (raw : List ℕ) → char_count raw + length (unescaped raw) ≡ char_count (unescaped raw) + length raw
 unfolding char_count
 text_chars_are raw = left_chars false raw
+
+-- without an @ nothing is a pair
+pub no_pair : (raw : List ℕ) → list_any (λ x. eqb x 64) raw ≡ false → unescaped raw ≡ raw
+no_pair [] h = refl
+no_pair (b ∷ bs) h =
+    let r = neither (eqb b 64) (list_any (λ x. eqb x 64) bs) h in
+    let other : b ≡ 64 → ⊥ = eqb_no b 64 r.0 in
+    unescaped_cons b bs other ∙ ap (λ (x : List ℕ). b ∷ x) (no_pair bs r.1)
 
 -- names of character sets
 length-map : (f : ℕ → ℕ) (xs : List ℕ) → length (map f xs) ≡ length xs

@@ -1,9 +1,9 @@
 //! Nodes put together from lines in order.
 
-ghost use Rattle.std.specs.Prelude.{◌≡◌, ◌<◌, ◌≤◌, ◌+◌, ◌-◌, ◌++◌, ◌∷◌, [], OnOk, IfOk, length};
+ghost use Rattle.std.specs.Prelude.{◌≡◌, ℕ, ◌<◌, ◌≤◌, ◌+◌, ◌-◌, ◌++◌, ◌∷◌, [], OnOk, IfOk, length};
 ghost use Rattle.gedcom_line.specs.Reading.{parts};
 ghost use Rattle.gedcom_tree.specs.Forest.{Item, adds, extended};
-ghost use Rattle.gedcom_tree.specs.Flat.{flats, said, built};
+ghost use Rattle.gedcom_tree.specs.Flat.{flat, flats, said, built};
 ghost use Rattle.gedcom_tree.specs.declared.node.Node.TheViews.{out-Node};
 
 use crate::node::{Node, join_value};
@@ -16,6 +16,15 @@ use std::alloc::{AllocError, Global};
 pub(crate) struct Growing {
     pub(crate) roots: Vec<Node>,
     pub(crate) path: Vec<Node>,
+}
+
+/// The node, with no room for more children.
+fn fitted(node: Node) -> Node
+    ensures { (level : ℕ) → flat result level ≡ flat node level }
+{
+    let mut node = node;
+    node.children.shrink_to_fit();
+    node
 }
 
 impl Growing {
@@ -37,9 +46,10 @@ impl Growing {
             ≡ built self.old.roots.items self.old.path.items) }
         ensures shorter { OnOk result (length self.new.path.items + 1 ≡ length self.old.path.items) }
     {
-        let Some(child) = self.path.pop() else {
+        let Some(last) = self.path.pop() else {
             return Ok(());
         };
+        let child = fitted(last);
         match self.path.last_mut() {
             Some(parent) => parent.children.push(child)?,
             None => self.roots.push(child)?,

@@ -46,6 +46,9 @@ pub(crate) fn text_len(raw: &str) -> usize
     ensures value { result ≡ length (unescaped raw.now) }
     ensures bound { result ≤ length raw.now }
 {
+    if !raw.as_bytes().contains(&b'@') {
+        return raw.len();
+    }
     let mut len = 0usize;
     let mut is_second = false;
     for byte in raw.as_bytes() {
