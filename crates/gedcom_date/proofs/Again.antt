@@ -7,21 +7,21 @@ use Rattle.std.proofs.lemmas.Bool.Decides.{nat_tests}
 use Rattle.std.proofs.lemmas.Fmt.{decimal_digit, decimal_step}
 use Rattle.std.proofs.lemmas.List.Splits.{length-slice_split}
 use Rattle.gedcom_date.specs.Words.{words, filled, is_space, Without}
-use Rattle.gedcom_date.specs.Calendars.{last_month, IsCounted, IsExtent, HasDay, counted}
-use Rattle.gedcom_date.specs.Told.{Told, Exists}
+use Rattle.calendar_days.specs.Calendars.{last_month, IsCounted, IsExtent, HasDay, counted}
+use Rattle.calendar_days.specs.Told.{Told, Exists}
 use Rattle.gedcom_date.specs.Form.{Form, OnDate, NearDate, BeforeDate, AfterDate, BetweenDates, SinceDate, UntilDate, FromToDates, InterpretedDate, PhraseAlone, VerbatimText}
 use Rattle.gedcom_date.specs.Spelling.{month_name, two_digits, year_text, extent_text, date_text, told_text, approximation_text, phrase_text, spelling}
 use Rattle.gedcom_date.specs.Grammar.{IsNumber, IsYearWord, IsMonthWord, IsExtentOf, IsDateOf, IsAfterWord, IsAfterWords, IsPhrased, IsOfForm, IsGood, month_names}
-use Rattle.gedcom_date.specs.declared.calendar.Calendar.{Calendar}
-use Rattle.gedcom_date.specs.declared.calendar.Calendar.TheVariants.{Gregorian, Julian}
-use Rattle.gedcom_date.specs.declared.calendar.Year.{Year}
-use Rattle.gedcom_date.specs.declared.calendar.Year.TheVariants.{Single, Double}
-use Rattle.gedcom_date.specs.declared.calendar.Extent.{Extent}
-use Rattle.gedcom_date.specs.declared.calendar.Extent.TheVariants.{BeforeChrist, Whole, Month, Day}
+use Rattle.calendar_days.specs.declared.calendar.Calendar.{Calendar}
+use Rattle.calendar_days.specs.declared.calendar.Calendar.TheVariants.{Gregorian, Julian}
+use Rattle.calendar_days.specs.declared.calendar.Year.{Year}
+use Rattle.calendar_days.specs.declared.calendar.Year.TheVariants.{Single, Double}
+use Rattle.calendar_days.specs.declared.calendar.Extent.{Extent}
+use Rattle.calendar_days.specs.declared.calendar.Extent.TheVariants.{BeforeChrist, Whole, Month, Day}
 use Rattle.gedcom_date.specs.declared.approximation.Approximation.{Approximation}
 use Rattle.gedcom_date.specs.declared.approximation.Approximation.TheVariants.{About, Calculated, Estimated}
 use Rattle.gedcom_date.specs.declared.keyword.Keyword.TheVariants.{Interpreted}
-use Rattle.gedcom_date.proofs.Counts.{month_days_bounds}
+use Rattle.calendar_days.proofs.Counts.{month_days_bounds}
 use Rattle.gedcom_date.proofs.Cuts.{whole_word}
 use Rattle.gedcom_date.proofs.Phrases.{and_left, and_right}
 use Rattle.gedcom_date.proofs.Quiet.{is_bracket, any_append}

@@ -3,7 +3,7 @@ use Rattle.std.proofs.Common.{◌≡◌, ℕ, ◌<◌, ◌≤◌, ◌-◌, true,
 use Rattle.std.proofs.lemmas.List.{take_rest}
 use Rattle.std.specs.Borrow.{Bor}
 use Rattle.gedcom_date.specs.Words.{views}
-use Rattle.gedcom_date.specs.Told.{Told, Exists}
+use Rattle.calendar_days.specs.Told.{Told, Exists}
 use Rattle.gedcom_date.specs.Form.{Form, InterpretedDate, PhraseAlone}
 use Rattle.gedcom_date.specs.Reading.{reads, told_of, phrase_form}
 use Rattle.gedcom_date.specs.Grammar.{IsGood, IsShort}

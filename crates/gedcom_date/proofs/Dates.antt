@@ -1,7 +1,7 @@
 -- Two dates that words tell, as the functions of specs/Reading.antt have them.
 use Rattle.std.proofs.Common.{◌≡◌, Option, Some, None, refl}
-use Rattle.gedcom_date.specs.Told.{Told}
-use Rattle.gedcom_date.specs.Within.{IsOrdered}
+use Rattle.calendar_days.specs.Told.{Told}
+use Rattle.gedcom_date.specs.Order.{IsOrdered}
 use Rattle.gedcom_date.specs.Form.{Form}
 use Rattle.gedcom_date.specs.Reading.{Halves, told_of, two_dates, ◌>>=◌}
 

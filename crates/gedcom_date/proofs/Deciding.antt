@@ -1,23 +1,22 @@
 -- Each text has a value: whether it fits a form is decided.
-use Rattle.std.proofs.Common.{◌≡◌, ◌⊎◌, inl, inr, ℕ, zero, suc, ◌<◌, ◌≤◌, true, List, [], ◌∷◌, ◌++◌, length, slice_index, append_assoc, Option, Some, None, refl, ap, sym, subst, ◌∙◌, arith, ℤ, pos, ◌-ℤ◌, ◌<ℤ◌, ◌≤ℤ◌}
+use Rattle.std.proofs.Common.{◌≡◌, ◌⊎◌, inl, inr, ℕ, zero, suc, ◌<◌, ◌≤◌, true, List, [], ◌∷◌, ◌++◌, length, slice_index, append_assoc, Option, Some, None, refl, ap, sym, subst, ◌∙◌, arith, ℤ, ◌<ℤ◌, ◌≤ℤ◌}
 use Rattle.std.specs.Int.{IsInRange}
 use Rattle.std.specs.List.{list_all}
 use Rattle.jiff_core.proofs.SignedLemmas.{signed_arith}
-use Rattle.gedcom_date.specs.Calendars.{HasDay, IsCounted, IsExtent, counted, opening, day_number, last_month, month_days}
+use Rattle.calendar_days.specs.Calendars.{HasDay, IsCounted, IsExtent, counted, last_month, month_days}
 use Rattle.gedcom_date.specs.Words.{words, is_space, Without}
-use Rattle.gedcom_date.specs.Told.{Told, Exists}
-use Rattle.gedcom_date.specs.Within.{IsIn, IsOrdered}
-use Rattle.gedcom_date.specs.Days.{IsLeast, IsGreatest}
+use Rattle.calendar_days.specs.Told.{Told, Exists}
+use Rattle.gedcom_date.specs.Order.{IsOrdered}
 use Rattle.gedcom_date.specs.Form.{Form, OnDate, NearDate, BeforeDate, AfterDate, BetweenDates, SinceDate, UntilDate, FromToDates, InterpretedDate, PhraseAlone, VerbatimText}
 use Rattle.gedcom_date.specs.Spelling.{spelling}
 use Rattle.gedcom_date.specs.Grammar.{IsPhrased, IsOfForm, IsShort, IsGood, Says}
 use Rattle.gedcom_date.specs.Reading.{word_form, phrase_form}
-use Rattle.gedcom_date.specs.declared.calendar.Calendar.{Calendar}
-use Rattle.gedcom_date.specs.declared.calendar.Year.{Year}
-use Rattle.gedcom_date.specs.declared.calendar.Year.TheVariants.{Single, Double}
-use Rattle.gedcom_date.specs.declared.calendar.Extent.{Extent}
-use Rattle.gedcom_date.specs.declared.calendar.Extent.TheVariants.{BeforeChrist, Whole, Month, Day}
-use Rattle.gedcom_date.proofs.Ends.{end_number, least_before, least_year, least_month, least_day, greatest_before, greatest_year, greatest_month, greatest_day}
+use Rattle.calendar_days.specs.declared.calendar.Calendar.{Calendar}
+use Rattle.calendar_days.specs.declared.calendar.Year.{Year}
+use Rattle.calendar_days.specs.declared.calendar.Year.TheVariants.{Single, Double}
+use Rattle.calendar_days.specs.declared.calendar.Extent.{Extent}
+use Rattle.calendar_days.specs.declared.calendar.Extent.TheVariants.{BeforeChrist, Whole, Month, Day}
+use Rattle.calendar_days.proofs.Ends.{least_of, greatest_of}
 use Rattle.gedcom_date.proofs.Spans.{joined, ordered_by}
 use Rattle.gedcom_date.proofs.Phrases.{no_phrase, no_end, NotEnded, NotBracketed}
 use Rattle.gedcom_date.proofs.Fitting.{one_form, either, apart, of_phrase, of_words, same_phrasal, word_is, word_only}
@@ -50,19 +49,6 @@ extent_decided c (Day d m y) = both (IsCounted y) (HasDay c (counted y) m d) (ye
 
 exists_decided : (d : Told) → Decided (Exists d)
 exists_decided d = extent_decided d.calendar d.extent
-
--- a date has a first and a last day
-least_of : (d : Told) (e : Extent) → d.extent ≡ e → Exists d → (lo : ℤ) × IsLeast (IsIn d) (Some lo)
-least_of d (BeforeChrist n) is h = (day_number d.calendar (pos 1 -ℤ pos n) 1 1, least_before d (day_number d.calendar (pos 1 -ℤ pos n) 1 1) n is refl)
-least_of d (Whole y) is h = (day_number d.calendar (opening y) 1 1, least_year d (day_number d.calendar (opening y) 1 1) y is refl)
-least_of d (Month m y) is h = (day_number d.calendar (counted y) m 1, least_month d (day_number d.calendar (counted y) m 1) m y is h refl)
-least_of d (Day k m y) is h = (day_number d.calendar (counted y) m k, least_day d (day_number d.calendar (counted y) m k) k m y is h refl)
-
-greatest_of : (d : Told) (e : Extent) → d.extent ≡ e → Exists d → (hi : ℤ) × IsGreatest (IsIn d) (Some hi)
-greatest_of d (BeforeChrist n) is h = (end_number d.calendar (pos 1 -ℤ pos n), greatest_before d (end_number d.calendar (pos 1 -ℤ pos n)) n is refl)
-greatest_of d (Whole y) is h = (end_number d.calendar (counted y), greatest_year d (end_number d.calendar (counted y)) y is refl)
-greatest_of d (Month m y) is h = (day_number d.calendar (counted y) m (month_days d.calendar (counted y) m), greatest_month d (day_number d.calendar (counted y) m (month_days d.calendar (counted y) m)) m y is h refl)
-greatest_of d (Day k m y) is h = (day_number d.calendar (counted y) m k, greatest_day d (day_number d.calendar (counted y) m k) k m y is h refl)
 
 order : (a b : ℤ) → (a ≤ℤ b) ⊎ (b <ℤ a)
 order a b = grind (arith, signed_arith)

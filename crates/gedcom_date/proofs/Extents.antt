@@ -5,15 +5,15 @@ use Rattle.std.specs.Char.{is_ascii_digit, to_ascii_lowercase}
 use Rattle.std.specs.List.{list_all}
 use Rattle.std.proofs.lemmas.Bool.Decides.{nat_tests}
 use Rattle.gedcom_date.specs.Words.{Reads}
-use Rattle.gedcom_date.specs.Told.{Told}
+use Rattle.calendar_days.specs.Told.{Told}
 use Rattle.gedcom_date.specs.Grammar.{IsNumber, IsYearWord, IsExtentOf, IsEscape, IsDateOf}
 use Rattle.gedcom_date.specs.Reading.{reads, number_of, year_of, month_of, day_of, joined_before_christ, extent_of, escape_of, told_of, ◌>>=◌}
-use Rattle.gedcom_date.specs.declared.calendar.Calendar.{Calendar}
-use Rattle.gedcom_date.specs.declared.calendar.Calendar.TheVariants.{Gregorian, Julian}
-use Rattle.gedcom_date.specs.declared.calendar.Year.{Year}
-use Rattle.gedcom_date.specs.declared.calendar.Year.TheVariants.{Single, Double}
-use Rattle.gedcom_date.specs.declared.calendar.Extent.{Extent}
-use Rattle.gedcom_date.specs.declared.calendar.Extent.TheVariants.{BeforeChrist, Whole, Month, Day}
+use Rattle.calendar_days.specs.declared.calendar.Calendar.{Calendar}
+use Rattle.calendar_days.specs.declared.calendar.Calendar.TheVariants.{Gregorian, Julian}
+use Rattle.calendar_days.specs.declared.calendar.Year.{Year}
+use Rattle.calendar_days.specs.declared.calendar.Year.TheVariants.{Single, Double}
+use Rattle.calendar_days.specs.declared.calendar.Extent.{Extent}
+use Rattle.calendar_days.specs.declared.calendar.Extent.TheVariants.{BeforeChrist, Whole, Month, Day}
 use Rattle.gedcom_date.proofs.Numbers.{number_only, number_is}
 use Rattle.gedcom_date.proofs.Names.{reads_is, reads_only, reads_as, month_only, month_is}
 use Rattle.gedcom_date.proofs.Years.{year_only, year_is, day_only, day_is, joined_only, joined_is}

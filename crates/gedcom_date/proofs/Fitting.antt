@@ -4,7 +4,7 @@ use Rattle.std.specs.Option.{option_map_or}
 use Rattle.std.specs.List.{list_any, slice_split, onto_first}
 use Rattle.std.proofs.lemmas.Bool.Decides.{nat_tests}
 use Rattle.gedcom_date.specs.Words.{Reads, words, filled, is_space}
-use Rattle.gedcom_date.specs.Told.{Told}
+use Rattle.calendar_days.specs.Told.{Told}
 use Rattle.gedcom_date.specs.Form.{Form, OnDate, NearDate, BeforeDate, AfterDate, BetweenDates, SinceDate, UntilDate, FromToDates, InterpretedDate, PhraseAlone, VerbatimText}
 use Rattle.gedcom_date.specs.Spelling.{approximation_text}
 use Rattle.gedcom_date.specs.Grammar.{IsDateOf, IsAfterWord, IsAfterWords, IsPhrased, IsOfForm}

@@ -1,8 +1,4 @@
 pub mod Common
-pub mod Counts
-pub mod Civil
-pub mod Julians
-pub mod Ends
 pub mod Spans
 pub mod Cuts
 pub mod Numbers
@@ -18,5 +14,4 @@ pub mod Extents
 pub mod Fitting
 pub mod Again
 pub mod Written
-pub mod Consecutive
 pub mod Deciding

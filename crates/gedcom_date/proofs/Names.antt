@@ -7,8 +7,8 @@ use Rattle.std.proofs.lemmas.Slice.Eq.{bytes_eq-Decides}
 use Rattle.gedcom_date.specs.Words.{Reads}
 use Rattle.gedcom_date.specs.Grammar.{IsMonthWord, month_names}
 use Rattle.gedcom_date.specs.Reading.{reads, early_month, late_month, month_of, keyword_of}
-use Rattle.gedcom_date.specs.declared.calendar.Calendar.{Calendar}
-use Rattle.gedcom_date.specs.declared.calendar.Calendar.TheVariants.{Gregorian, Julian}
+use Rattle.calendar_days.specs.declared.calendar.Calendar.{Calendar}
+use Rattle.calendar_days.specs.declared.calendar.Calendar.TheVariants.{Gregorian, Julian}
 use Rattle.gedcom_date.specs.declared.approximation.Approximation.TheVariants.{About, Calculated, Estimated}
 use Rattle.gedcom_date.specs.declared.keyword.Keyword.{Keyword}
 use Rattle.gedcom_date.specs.declared.keyword.Keyword.TheVariants.{Near, Before, After, Between, And, From, To, Interpreted}

@@ -1,6 +1,6 @@
 -- The length of a spelling with a phrase.
 use Rattle.std.proofs.Common.{◌≡◌, ℕ, ◌+◌, ◌≤◌, List, [], ◌∷◌, ◌++◌, length, length-append, codes, arith}
-use Rattle.gedcom_date.specs.Told.{Told}
+use Rattle.calendar_days.specs.Told.{Told}
 use Rattle.gedcom_date.specs.Form.{InterpretedDate, PhraseAlone}
 use Rattle.gedcom_date.specs.Spelling.{spelling, told_text, phrase_text}
 use Rattle.gedcom_date.specs.Grammar.{IsShort}

@@ -1,9 +1,11 @@
 -- The ends of each kind of value, from those of its dates.
 use Rattle.std.proofs.Common.{◌≡◌, ◌⊎◌, inl, inr, ◌+◌, arith, ℤ, pos, neg_ℤ, ◌+ℤ◌, ◌-ℤ◌, ◌<ℤ◌, ◌≤ℤ◌, unsigned_abs, Some, None}
 use Rattle.jiff_core.proofs.SignedLemmas.{signed_arith}
-use Rattle.gedcom_date.specs.Within.{IsIn, IsOrdered}
-use Rattle.gedcom_date.specs.Days.{IsDayOf, IsLeast, IsGreatest, Lies}
-use Rattle.gedcom_date.specs.Told.{Told}
+use Rattle.calendar_days.specs.Within.{IsIn}
+use Rattle.gedcom_date.specs.Order.{IsOrdered}
+use Rattle.gedcom_date.specs.Days.{IsDayOf, Lies}
+use Rattle.calendar_days.specs.Bounds.{IsLeast, IsGreatest}
+use Rattle.calendar_days.specs.Told.{Told}
 use Rattle.gedcom_date.specs.Form.{Form, BeforeDate, AfterDate, BetweenDates, SinceDate, UntilDate, FromToDates}
 
 -- a number below two

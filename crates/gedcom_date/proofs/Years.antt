@@ -9,8 +9,8 @@ use Rattle.std.proofs.Math.Seq.{take-append_seam, drop-append_seam}
 use Rattle.gedcom_date.specs.Words.{Reads}
 use Rattle.gedcom_date.specs.Grammar.{IsNumber, IsYearWord, value_from}
 use Rattle.gedcom_date.specs.Reading.{reads, number_of, double_of, year_of, day_of, joined_before_christ}
-use Rattle.gedcom_date.specs.declared.calendar.Year.{Year}
-use Rattle.gedcom_date.specs.declared.calendar.Year.TheVariants.{Single, Double}
+use Rattle.calendar_days.specs.declared.calendar.Year.{Year}
+use Rattle.calendar_days.specs.declared.calendar.Year.TheVariants.{Single, Double}
 use Rattle.gedcom_date.proofs.Numbers.{number_only, number_is}
 use Rattle.gedcom_date.proofs.Names.{reads_is, reads_only}
 use Rattle.gedcom_date.proofs.Phrases.{and_left, and_right}

@@ -1,6 +1,6 @@
 -- What a value says, without the memory that holds it.
 use Rattle.std.specs.Prelude.{ℕ, List}
-use Rattle.gedcom_date.specs.Told.{Told}
+use Rattle.calendar_days.specs.Told.{Told}
 use Rattle.gedcom_date.specs.declared.approximation.Approximation.{Approximation}
 
 -- the forms of a value: dates, and texts as their bytes

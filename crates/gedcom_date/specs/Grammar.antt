@@ -4,16 +4,16 @@ use Rattle.std.specs.Int.{IsInRange}
 use Rattle.std.specs.Char.{is_ascii_digit}
 use Rattle.std.specs.List.{list_all}
 use Rattle.gedcom_date.specs.Words.{words, Without, Reads, is_space}
-use Rattle.gedcom_date.specs.Told.{Told, Exists}
-use Rattle.gedcom_date.specs.Within.{IsOrdered}
+use Rattle.calendar_days.specs.Told.{Told, Exists}
+use Rattle.gedcom_date.specs.Order.{IsOrdered}
 use Rattle.gedcom_date.specs.Form.{Form, OnDate, NearDate, BeforeDate, AfterDate, BetweenDates, SinceDate, UntilDate, FromToDates, InterpretedDate, PhraseAlone, VerbatimText}
 use Rattle.gedcom_date.specs.Spelling.{spelling, approximation_text}
-use Rattle.gedcom_date.specs.declared.calendar.Calendar.{Calendar}
-use Rattle.gedcom_date.specs.declared.calendar.Calendar.TheVariants.{Gregorian, Julian}
-use Rattle.gedcom_date.specs.declared.calendar.Year.{Year}
-use Rattle.gedcom_date.specs.declared.calendar.Year.TheVariants.{Single, Double}
-use Rattle.gedcom_date.specs.declared.calendar.Extent.{Extent}
-use Rattle.gedcom_date.specs.declared.calendar.Extent.TheVariants.{BeforeChrist, Whole, Month, Day}
+use Rattle.calendar_days.specs.declared.calendar.Calendar.{Calendar}
+use Rattle.calendar_days.specs.declared.calendar.Calendar.TheVariants.{Gregorian, Julian}
+use Rattle.calendar_days.specs.declared.calendar.Year.{Year}
+use Rattle.calendar_days.specs.declared.calendar.Year.TheVariants.{Single, Double}
+use Rattle.calendar_days.specs.declared.calendar.Extent.{Extent}
+use Rattle.calendar_days.specs.declared.calendar.Extent.TheVariants.{BeforeChrist, Whole, Month, Day}
 
 -- the number that digits spell, behind those that gave so_far
 abbrev pub value_from : ℕ → List ℕ → ℕ

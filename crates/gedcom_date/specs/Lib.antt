@@ -1,7 +1,4 @@
-pub mod Calendars
-pub mod Props
-pub mod Told
-pub mod Within
+pub mod Order
 pub mod Form
 pub mod Spelling
 pub mod Words

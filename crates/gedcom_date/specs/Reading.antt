@@ -4,13 +4,13 @@ use Rattle.std.specs.Char.{is_ascii_digit, to_ascii_lowercase}
 use Rattle.std.specs.Option.{option_map_or}
 use Rattle.std.specs.Str.{bytes_eq}
 use Rattle.std.specs.List.{position_or_len, before_first, after_first}
-use Rattle.gedcom_date.specs.declared.calendar.Calendar.{Calendar}
-use Rattle.gedcom_date.specs.declared.calendar.Calendar.TheVariants.{Gregorian, Julian}
-use Rattle.gedcom_date.specs.declared.calendar.Year.{Year}
-use Rattle.gedcom_date.specs.declared.calendar.Year.TheVariants.{Single, Double}
-use Rattle.gedcom_date.specs.declared.calendar.Extent.{Extent}
-use Rattle.gedcom_date.specs.declared.calendar.Extent.TheVariants.{BeforeChrist, Whole, Month, Day}
-use Rattle.gedcom_date.specs.Told.{Told}
+use Rattle.calendar_days.specs.declared.calendar.Calendar.{Calendar}
+use Rattle.calendar_days.specs.declared.calendar.Calendar.TheVariants.{Gregorian, Julian}
+use Rattle.calendar_days.specs.declared.calendar.Year.{Year}
+use Rattle.calendar_days.specs.declared.calendar.Year.TheVariants.{Single, Double}
+use Rattle.calendar_days.specs.declared.calendar.Extent.{Extent}
+use Rattle.calendar_days.specs.declared.calendar.Extent.TheVariants.{BeforeChrist, Whole, Month, Day}
+use Rattle.calendar_days.specs.Told.{Told}
 use Rattle.gedcom_date.specs.Form.{Form, OnDate, NearDate, BeforeDate, AfterDate, BetweenDates, SinceDate, UntilDate, FromToDates, InterpretedDate, PhraseAlone}
 use Rattle.gedcom_date.specs.declared.approximation.Approximation.TheVariants.{About, Calculated, Estimated}
 use Rattle.gedcom_date.specs.declared.keyword.Keyword.{Keyword}

@@ -1,17 +1,16 @@
 //! The value of a text.
 
-ghost use Rattle.std.specs.Prelude.{◌≡◌, IfOk, IfSome, IsSome, List, ℕ, Some, option_map, length, ◌≤◌, not};
+ghost use Rattle.std.specs.Prelude.{◌≡◌, IfOk, IfSome, IsSome, Some, option_map, length, ◌≤◌, not};
 ghost use Rattle.std.specs.List.{prefix_len};
 ghost use Rattle.gedcom_date.specs.Words.{words, views};
-ghost use Rattle.gedcom_date.specs.Told.{Told, told, Exists};
-ghost use Rattle.gedcom_date.specs.Within.{IsOrdered};
+ghost use Rattle.calendar_days.specs.Told.{Told, told, Exists};
+ghost use Rattle.gedcom_date.specs.Order.{IsOrdered};
 ghost use Rattle.gedcom_date.specs.View.{view};
 ghost use Rattle.gedcom_date.specs.Form.{Form, BetweenDates, InterpretedDate, PhraseAlone};
 ghost use Rattle.gedcom_date.specs.Reading.{reads, is_and, is_to, two_dates, told_of, parted, from_form, keyword_form, word_form, phrase_form};
 ghost use Rattle.gedcom_date.specs.Found.{Holds, FindsEach};
 ghost use Rattle.gedcom_date.specs.Grammar.{Says, Fits, IsGood, IsShort};
 
-use crate::calendar::CalendarDate;
 use crate::fault::{DateFault, DateKind};
 use crate::keyword::{Keyword, read_keyword};
 use crate::period::Period;
@@ -20,6 +19,7 @@ use crate::reading::date;
 use crate::texts::{Interpreted, Phrase, Verbatim};
 use crate::value::DateValue;
 use crate::words::{is_word, words_of};
+use calendar_days::CalendarDate;
 use std::alloc::{AllocError, Global};
 
 /// The value of a text: the form that it fits, or the text itself where it fits none. Spaces at its

@@ -1,7 +1,6 @@
 //! Dates of GEDCOM 5.5.1, chapter 2, DATE_VALUE: read, written, and the days that they may mean.
 //!
-//! It stands on `jiff`, by whose calls Gregorian dates are checked and counted, and on no crate of
-//! this repository.
+//! It stands on `calendar_days`, whose calendars and dates it hands on.
 //!
 //! Callers may rely on: each text has one value, and one that fits no form is kept as it stands;
 //! what is written is read as the same value; a value that is there is a good one, so that `span`
@@ -10,9 +9,7 @@
 #![tactic(auto)]
 
 mod approximation;
-mod calendar;
 mod days;
-mod existing;
 mod fault;
 mod forms;
 mod keyword;
@@ -26,7 +23,7 @@ mod words;
 mod writing;
 
 pub use approximation::Approximation;
-pub use calendar::{Calendar, CalendarDate, Extent, Year};
+pub use calendar_days::{Calendar, CalendarDate, Extent, Year};
 pub use days::span;
 pub use fault::{DateFault, DateKind};
 pub use forms::read_date;

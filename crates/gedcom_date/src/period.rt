@@ -1,11 +1,10 @@
 //! Two dates of which the first does not begin after the second ends.
 
 ghost use Rattle.std.specs.Prelude.{◌≡◌, IfSome, IsSome};
-ghost use Rattle.gedcom_date.specs.Told.{told};
-ghost use Rattle.gedcom_date.specs.Within.{IsOrdered};
+ghost use Rattle.calendar_days.specs.Told.{told};
+ghost use Rattle.gedcom_date.specs.Order.{IsOrdered};
 
-use crate::calendar::CalendarDate;
-use crate::days::{first_day, last_day};
+use calendar_days::{CalendarDate, first_day, last_day};
 
 /// A first and a last date: the first one's first day is at most the last one's last day.
 #[derive(Clone, Copy, Debug, PartialEq, Eq)]

@@ -1,14 +1,12 @@
 //! The parts of a date.
 
-ghost use Rattle.std.specs.Prelude.{◌≡◌, ◌↔◌, ◌≤ℤ◌, IsTrue, pos, negsuc, codes, length, ◌≤◌, IfSome, IsSome};
+ghost use Rattle.std.specs.Prelude.{◌≡◌, length, ◌≤◌, IfSome, IsSome, Some};
 ghost use Rattle.gedcom_date.specs.Reading.{double_of, year_of, early_month, late_month, month_of, day_of, month_year, day_month_year, extent_of, escape_of, told_of, whole_of, joined_before_christ, number_of, four};
-ghost use Rattle.gedcom_date.specs.Calendars.{HasDay, IsCounted, IsExtent};
-ghost use Rattle.std.specs.Prelude.{List, ℕ, Some};
-ghost use Rattle.gedcom_date.specs.Told.{Told, told, Exists};
+ghost use Rattle.calendar_days.specs.Told.{Told, told, Exists};
 ghost use Rattle.gedcom_date.specs.Words.{views};
 
-use crate::calendar::{Calendar, CalendarDate, Extent, Year};
 use crate::words::{digits, is_word, number};
+use calendar_days::{Calendar, CalendarDate, Extent, Year};
 
 /// The year or double year of a word.
 #[tactic(auto, unfolding(crate::specs::Reading::year_of))]

@@ -4,10 +4,10 @@ ghost use Rattle.std.specs.Prelude.{◌≡◌, ◌↔◌, IfOk, IfSome, IsSome, 
 ghost use Rattle.gedcom_date.specs.Form.{InterpretedDate, PhraseAlone};
 ghost use Rattle.gedcom_date.specs.Grammar.{IsShort, FitsNone};
 ghost use Rattle.gedcom_date.specs.Facts.{IsShort-prop, FitsNone-prop};
-ghost use Rattle.gedcom_date.specs.Told.{told};
+ghost use Rattle.calendar_days.specs.Told.{told};
 
-use crate::calendar::CalendarDate;
 use crate::writing::push_behind;
+use calendar_days::CalendarDate;
 use std::alloc::{AllocError, Global};
 
 /// The most bytes that a text has.

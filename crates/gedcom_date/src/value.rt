@@ -1,9 +1,9 @@
 //! What a text says of a time.
 
 use crate::approximation::Approximation;
-use crate::calendar::CalendarDate;
 use crate::period::Period;
 use crate::texts::{Interpreted, Phrase, Verbatim};
+use calendar_days::CalendarDate;
 
 /// The value of a date line: GEDCOM 5.5.1, chapter 2, DATE_VALUE.
 #[derive(Debug, Drop)]

@@ -1,9 +1,8 @@
 //! The words of a text.
 
-ghost use Rattle.std.specs.Prelude.{◌≡◌, ◌≢◌, ◌<◌, ◌≤◌, ◌++◌, ◌∷◌, [], true, length, MatchOption, IfOk, IsTrue, ◌↔◌, codes, List, ℕ};
-ghost use Rattle.std.specs.List.{list_all};
+ghost use Rattle.std.specs.Prelude.{◌≡◌, ◌<◌, ◌++◌, ◌∷◌, [], MatchOption, IfOk};
 ghost use Rattle.std.specs.Char.{is_ascii_digit};
-ghost use Rattle.gedcom_date.specs.Words.{words, Without, Reads, views};
+ghost use Rattle.gedcom_date.specs.Words.{words, Without, views};
 ghost use Rattle.gedcom_date.specs.Reading.{four, number_of, reads};
 
 use std::alloc::{AllocError, Global};

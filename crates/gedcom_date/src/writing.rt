@@ -1,18 +1,18 @@
 //! Values written.
 
-ghost use Rattle.std.specs.Prelude.{◌≡◌, ◌≤◌, ◌++◌, ◌∷◌, OnOk, IfOk, codes, string_bytes, length};
-ghost use Rattle.gedcom_date.specs.Calendars.{IsCounted, IsExtent};
-ghost use Rattle.gedcom_date.specs.Told.{told};
+ghost use Rattle.std.specs.Prelude.{◌≡◌, ◌++◌, ◌∷◌, OnOk, IfOk, codes, string_bytes};
+ghost use Rattle.calendar_days.specs.Calendars.{IsCounted, IsExtent};
+ghost use Rattle.calendar_days.specs.Told.{told};
 ghost use Rattle.gedcom_date.specs.View.{view};
 ghost use Rattle.gedcom_date.specs.Grammar.{Says};
 ghost use Rattle.gedcom_date.specs.Spelling.{month_name, year_text, extent_text, told_text, after_text, two_text, approximation_text, phrase_text, spelling, Appends};
 
 use crate::approximation::Approximation;
-use crate::calendar::{Calendar, CalendarDate, Extent, Year};
 use crate::fault::{DateFault, DateKind};
 use crate::period::Period;
 use crate::texts::Interpreted;
 use crate::value::DateValue;
+use calendar_days::{Calendar, CalendarDate, Extent, Year};
 use std::alloc::{AllocError, Global};
 
 /// The canonical spelling of a value: upper case, single spaces, no leading zeros, no escape for

@@ -1,7 +1,7 @@
 use Rattle.std.proofs.Common.{◌≡◌, ap, inl, inr, arith, pos, ◌-ℤ◌, ◌+ℤ◌, to_z, of_z, w32}
 use Rattle.jiff_core.proofs.SignedLemmas.{signed_casts}
 use Rattle.gedcom_date.proofs.Spans.{before_lo, before_hi, after_lo, after_hi, from_hi, to_lo, all_lo, all_hi, period_lo, period_hi}
-use Rattle.gedcom_date.specs.Told.{told}
+use Rattle.calendar_days.specs.Told.{told}
 use Rattle.gedcom_date.specs.View.{view}
 use Rattle.gedcom_date.proofs.days.span.Goals as goal
 

@@ -1,6 +1,6 @@
 use Rattle.std.proofs.Common.{◌≡◌}
 use Rattle.gedcom_date.specs.Words.{views}
-use Rattle.gedcom_date.specs.Told.{told}
+use Rattle.calendar_days.specs.Told.{told}
 use Rattle.gedcom_date.specs.Reading.{told_of}
 use Rattle.gedcom_date.proofs.Common.{same_some}
 use Rattle.gedcom_date.proofs.Dates.{ordered_same}

@@ -1,6 +1,6 @@
 use Rattle.std.proofs.Common.{arith, ◌<ℤ◌, ◌≤ℤ◌}
 use Rattle.jiff_core.proofs.SignedLemmas.{signed_casts}
-use Rattle.gedcom_date.specs.Told.{told}
+use Rattle.calendar_days.specs.Told.{told}
 use Rattle.gedcom_date.proofs.Spans.{joined, ordered_by}
 use Rattle.gedcom_date.proofs.period.Period.new.Goals as goal
 

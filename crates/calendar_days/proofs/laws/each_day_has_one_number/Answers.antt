@@ -1,5 +1,5 @@
-use Rattle.gedcom_date.proofs.Consecutive.{number_next, number_one, number_every}
-use Rattle.gedcom_date.proofs.laws.each_day_has_one_number.Goals as goal
+use Rattle.calendar_days.proofs.Consecutive.{number_next, number_one, number_every}
+use Rattle.calendar_days.proofs.laws.each_day_has_one_number.Goals as goal
 
 pub returns-clause-next : goal.returns-clause-next
 returns-clause-next c = number_next

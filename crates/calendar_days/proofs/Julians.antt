@@ -2,9 +2,9 @@
 use Rattle.std.proofs.Common.{◌≡◌, ℕ, zero, suc, ◌+◌, ◌-◌, ◌*◌, ◌/◌, ◌%◌, ◌<◌, ◌≤◌, ◌==◌, ◌&&◌, nat_lt, cond, refl, arith, ℤ, pos, negsuc, ◌+ℤ◌, ◌-ℤ◌}
 use Rattle.std.proofs.lemmas.Bool.Decides.{nat_tests}
 use Rattle.jiff_core.proofs.SignedLemmas.{signed_arith}
-use Rattle.gedcom_date.specs.Calendars.{leap, days_of_months, days_of_years, day_count, day_zero, day_number, days_before_month}
-use Rattle.gedcom_date.specs.declared.calendar.Calendar.TheVariants.{Julian}
-use Rattle.gedcom_date.proofs.Counts.{days_of_years-suc, day_count-first, day_count-in_year}
+use Rattle.calendar_days.specs.Calendars.{leap, days_of_months, days_of_years, day_count, day_zero, day_number, days_before_month}
+use Rattle.calendar_days.specs.declared.calendar.Calendar.TheVariants.{Julian}
+use Rattle.calendar_days.proofs.Counts.{days_of_years-suc, day_count-first, day_count-in_year}
 
 abbrev pub leap_day : ℤ → ℕ
 leap_day y = cond (leap Julian y) 1 0

@@ -1,8 +1,8 @@
 //! Dates of a calendar, as far as they are told.
 
 ghost use Rattle.std.specs.Prelude.{◌≡◌, IfSome, IsSome};
-ghost use Rattle.gedcom_date.specs.Calendars.{IsExtent};
-ghost use Rattle.gedcom_date.specs.Props.{IsExtent-prop};
+ghost use Rattle.calendar_days.specs.Calendars.{IsExtent};
+ghost use Rattle.calendar_days.specs.Props.{IsExtent-prop};
 
 use crate::existing::has_extent;
 

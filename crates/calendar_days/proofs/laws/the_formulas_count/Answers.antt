@@ -1,6 +1,6 @@
-use Rattle.gedcom_date.proofs.Civil.{civil_number}
-use Rattle.gedcom_date.proofs.Consecutive.{julian_rule}
-use Rattle.gedcom_date.proofs.laws.the_formulas_count.Goals as goal
+use Rattle.calendar_days.proofs.Civil.{civil_number}
+use Rattle.calendar_days.proofs.Consecutive.{julian_rule}
+use Rattle.calendar_days.proofs.laws.the_formulas_count.Goals as goal
 
 pub returns-clause-gregorian : goal.returns-clause-gregorian
 returns-clause-gregorian c = civil_number

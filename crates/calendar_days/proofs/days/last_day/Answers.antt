@@ -1,10 +1,10 @@
 use Rattle.std.proofs.Common.{◌≡◌, ◌∙◌, ap, arith, ℤ, to_z, of_z, w32}
 use mir.Syntax.{w16}
 use Rattle.jiff_core.proofs.SignedLemmas.{signed_casts}
-use Rattle.gedcom_date.specs.Calendars.{day_number, month_days, counted}
-use Rattle.gedcom_date.specs.Told.{told}
-use Rattle.gedcom_date.proofs.Ends.{end_number, greatest_before, greatest_year, greatest_month, greatest_day}
-use Rattle.gedcom_date.proofs.days.last_day.Goals as goal
+use Rattle.calendar_days.specs.Calendars.{day_number, month_days, counted}
+use Rattle.calendar_days.specs.Told.{told}
+use Rattle.calendar_days.proofs.Ends.{end_number, greatest_before, greatest_year, greatest_month, greatest_day}
+use Rattle.calendar_days.proofs.days.last_day.Goals as goal
 
 pub returns-in-BeforeChrist-clause-greatest : goal.returns-in-BeforeChrist-clause-greatest
 returns-in-BeforeChrist-clause-greatest c =

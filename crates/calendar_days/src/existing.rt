@@ -1,7 +1,7 @@
 //! Which days, months and years a calendar has.
 
 ghost use Rattle.std.specs.Prelude.{◌↔◌, ◌≤ℤ◌, IsTrue, pos, negsuc};
-ghost use Rattle.gedcom_date.specs.Calendars.{HasDay, IsCounted, IsExtent};
+ghost use Rattle.calendar_days.specs.Calendars.{HasDay, IsCounted, IsExtent};
 
 use crate::calendar::{Calendar, Extent, Year};
 use crate::days::{counted_year, last_month, last_of_month};

@@ -1,12 +1,12 @@
 -- Days follow one another: the next day has the next number, and each number is one day.
 use Rattle.std.proofs.Common.{◌≡◌, ◌⊎◌, inl, inr, ℕ, zero, suc, ◌+◌, ◌*◌, ◌-◌, ◌/◌, ◌<◌, ◌≤◌, refl, ap, sym, subst, ◌∙◌, arith, ℤ, pos, negsuc, unsigned_abs, ◌+ℤ◌, ◌-ℤ◌, ◌<ℤ◌, ◌≤ℤ◌}
 use Rattle.jiff_core.proofs.SignedLemmas.{signed_arith}
-use Rattle.gedcom_date.specs.Calendars.{last_month, month_days, days_of_months, days_of_years, day_count, day_zero, day_number, HasDay}
-use Rattle.gedcom_date.specs.Laws.{IsNext, IsReckoned}
-use Rattle.gedcom_date.specs.declared.calendar.Calendar.{Calendar}
-use Rattle.gedcom_date.specs.declared.calendar.Calendar.TheVariants.{Julian}
-use Rattle.gedcom_date.proofs.Counts.{month_days_bounds, some_month, days_of_months_more, days_of_months_mono, day_count-in_year, year_holds, day_count-first, days_of_years-suc}
-use Rattle.gedcom_date.proofs.Julians.{years_closed, zero_closed}
+use Rattle.calendar_days.specs.Calendars.{last_month, month_days, days_of_months, days_of_years, day_count, day_zero, day_number, HasDay}
+use Rattle.calendar_days.specs.Laws.{IsNext, IsReckoned}
+use Rattle.calendar_days.specs.declared.calendar.Calendar.{Calendar}
+use Rattle.calendar_days.specs.declared.calendar.Calendar.TheVariants.{Julian}
+use Rattle.calendar_days.proofs.Counts.{month_days_bounds, some_month, days_of_months_more, days_of_months_mono, day_count-in_year, year_holds, day_count-first, days_of_years-suc}
+use Rattle.calendar_days.proofs.Julians.{years_closed, zero_closed}
 
 -- a year from -10000 on, counted from there
 whole : (z : ℤ) → pos 0 ≤ℤ z → z ≡ pos (unsigned_abs z)

@@ -1,10 +1,10 @@
 use Rattle.std.proofs.Common.{◌≡◌, ◌∙◌, ap, arith, ℤ, to_z, of_z, w32}
 use mir.Syntax.{w16}
 use Rattle.jiff_core.proofs.SignedLemmas.{signed_casts}
-use Rattle.gedcom_date.specs.Calendars.{day_number}
-use Rattle.gedcom_date.specs.Told.{told}
-use Rattle.gedcom_date.proofs.Ends.{least_before, least_year, least_month, least_day}
-use Rattle.gedcom_date.proofs.days.first_day.Goals as goal
+use Rattle.calendar_days.specs.Calendars.{day_number}
+use Rattle.calendar_days.specs.Told.{told}
+use Rattle.calendar_days.proofs.Ends.{least_before, least_year, least_month, least_day}
+use Rattle.calendar_days.proofs.days.first_day.Goals as goal
 
 pub returns-in-BeforeChrist-clause-least : goal.returns-in-BeforeChrist-clause-least
 returns-in-BeforeChrist-clause-least c =

@@ -1,14 +1,15 @@
 -- The first and the last day of a date.
 use Rattle.std.proofs.Common.{◌≡◌, ◌⊎◌, inl, inr, ℕ, ◌+◌, ◌≤◌, refl, arith, ℤ, pos, ◌-ℤ◌, Some}
-use Rattle.gedcom_date.specs.Calendars.{last_month, month_days, day_count, day_number, HasDay, IsExtent, Covers, counted, opening}
-use Rattle.gedcom_date.specs.Within.{IsIn}
-use Rattle.gedcom_date.specs.Days.{IsLeast, IsGreatest}
-use Rattle.gedcom_date.proofs.Counts.{year_holds, month_holds, next_year, number_le, month_days_bounds, some_month, end_count}
-use Rattle.gedcom_date.specs.declared.calendar.Calendar.{Calendar}
-use Rattle.gedcom_date.specs.Told.{Told}
-use Rattle.gedcom_date.specs.declared.calendar.Year.{Year}
-use Rattle.gedcom_date.specs.declared.calendar.Year.TheVariants.{Single, Double}
-use Rattle.gedcom_date.specs.declared.calendar.Extent.TheVariants.{BeforeChrist, Whole, Month, Day}
+use Rattle.calendar_days.specs.Calendars.{last_month, month_days, day_count, day_number, HasDay, IsExtent, Covers, counted, opening}
+use Rattle.calendar_days.specs.Within.{IsIn}
+use Rattle.calendar_days.specs.Bounds.{IsLeast, IsGreatest}
+use Rattle.calendar_days.proofs.Counts.{year_holds, month_holds, next_year, number_le, month_days_bounds, some_month, end_count}
+use Rattle.calendar_days.specs.declared.calendar.Calendar.{Calendar}
+use Rattle.calendar_days.specs.Told.{Told, Exists}
+use Rattle.calendar_days.specs.declared.calendar.Year.{Year}
+use Rattle.calendar_days.specs.declared.calendar.Year.TheVariants.{Single, Double}
+use Rattle.calendar_days.specs.declared.calendar.Extent.{Extent}
+use Rattle.calendar_days.specs.declared.calendar.Extent.TheVariants.{BeforeChrist, Whole, Month, Day}
 
 -- a day that the date covers, and that no day of it precedes, is the least
 least_at : (date : Told) (r : ℤ) (y : ℤ) (m d : ℕ) → HasDay date.calendar y m d → Covers date.extent y m d → r ≡ day_number date.calendar y m d → ((z : ℤ) (k e : ℕ) → HasDay date.calendar z k e → Covers date.extent z k e → day_count date.calendar y m d ≤ day_count date.calendar z k e) → IsLeast (IsIn date) (Some r)
@@ -70,3 +71,16 @@ least_year date r year is e = least_at date r (opening year) 1 1 (new_year date.
 
 pub greatest_year : (date : Told) (r : ℤ) (year : Year) → date.extent ≡ Whole year → r ≡ end_number date.calendar (counted year) → IsGreatest (IsIn date) (Some r)
 greatest_year date r year is e = greatest_at date r (counted year) (last_month date.calendar) (month_days date.calendar (counted year) (last_month date.calendar)) (year_end date.calendar (counted year)) (rw is (inr refl)) e (λ z k f has cov. (both date.calendar year z k f has (rw is at cov)).1)
+
+-- a date has a first and a last day
+pub least_of : (d : Told) (e : Extent) → d.extent ≡ e → Exists d → (lo : ℤ) × IsLeast (IsIn d) (Some lo)
+least_of d (BeforeChrist n) is h = (day_number d.calendar (pos 1 -ℤ pos n) 1 1, least_before d (day_number d.calendar (pos 1 -ℤ pos n) 1 1) n is refl)
+least_of d (Whole y) is h = (day_number d.calendar (opening y) 1 1, least_year d (day_number d.calendar (opening y) 1 1) y is refl)
+least_of d (Month m y) is h = (day_number d.calendar (counted y) m 1, least_month d (day_number d.calendar (counted y) m 1) m y is h refl)
+least_of d (Day k m y) is h = (day_number d.calendar (counted y) m k, least_day d (day_number d.calendar (counted y) m k) k m y is h refl)
+
+pub greatest_of : (d : Told) (e : Extent) → d.extent ≡ e → Exists d → (hi : ℤ) × IsGreatest (IsIn d) (Some hi)
+greatest_of d (BeforeChrist n) is h = (end_number d.calendar (pos 1 -ℤ pos n), greatest_before d (end_number d.calendar (pos 1 -ℤ pos n)) n is refl)
+greatest_of d (Whole y) is h = (end_number d.calendar (counted y), greatest_year d (end_number d.calendar (counted y)) y is refl)
+greatest_of d (Month m y) is h = (day_number d.calendar (counted y) m (month_days d.calendar (counted y) m), greatest_month d (day_number d.calendar (counted y) m (month_days d.calendar (counted y) m)) m y is h refl)
+greatest_of d (Day k m y) is h = (day_number d.calendar (counted y) m k, greatest_day d (day_number d.calendar (counted y) m k) k m y is h refl)

@@ -1,8 +1,8 @@
 -- A date without the fact that its calendar has it.
-use Rattle.gedcom_date.specs.Calendars.{IsExtent}
-use Rattle.gedcom_date.specs.declared.calendar.Calendar.{Calendar}
-use Rattle.gedcom_date.specs.declared.calendar.Extent.{Extent}
-use Rattle.gedcom_date.specs.declared.calendar.CalendarDate.{CalendarDate}
+use Rattle.calendar_days.specs.Calendars.{IsExtent}
+use Rattle.calendar_days.specs.declared.calendar.Calendar.{Calendar}
+use Rattle.calendar_days.specs.declared.calendar.Extent.{Extent}
+use Rattle.calendar_days.specs.declared.calendar.CalendarDate.{CalendarDate}
 
 -- the calendar of a date, and how much of it is told
 pub record Told : Type 0 where

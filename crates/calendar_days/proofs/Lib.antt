@@ -1,0 +1,5 @@
+pub mod Counts
+pub mod Civil
+pub mod Julians
+pub mod Ends
+pub mod Consecutive

@@ -1,0 +1,47 @@
+-- The laws of days.
+use Rattle.std.specs.Prelude.{◌≡◌, ◌⊎◌, ℕ, ◌+◌, ◌-◌, ◌*◌, ◌/◌, ◌≤◌, ℤ, pos, negsuc, ◌+ℤ◌, ◌-ℤ◌, ◌≤ℤ◌}
+use Rattle.jiff_core.specs.Calendar.{days_from_civil}
+use Rattle.calendar_days.specs.Calendars.{HasDay, last_month, month_days, days_of_months, day_number}
+use Rattle.calendar_days.specs.declared.calendar.Calendar.{Calendar}
+use Rattle.calendar_days.specs.declared.calendar.Calendar.TheVariants.{Gregorian, Julian}
+
+-- the day d of the month m of the year y follows the day e of the month k of the year x: it is the next of the
+-- same month, or the first of the next month after the last of a month, or of the next year after the last of a year
+abbrev pub IsNext : Calendar → ℤ → ℕ → ℕ → ℤ → ℕ → ℕ → Type 0
+IsNext c x k e y m d =
+    ((y ≡ x) × (m ≡ k) × (d ≡ e + 1))
+    ⊎ ((y ≡ x) × (m ≡ k + 1) × (e ≡ month_days c x k) × (d ≡ 1))
+    ⊎ ((y ≡ x +ℤ pos 1) × (k ≡ last_month c) × (m ≡ 1) × (e ≡ month_days c x k) × (d ≡ 1))
+
+-- the days are counted from the year -10000 on, which is 10001 B.C.
+abbrev pub IsReckoned : ℤ → Type 0
+IsReckoned y = negsuc 9999 ≤ℤ y
+
+-- the next day has the next number
+abbrev pub IsConsecutive : Calendar → Type 0
+IsConsecutive c =
+    (x : ℤ) (k e : ℕ) (y : ℤ) (m d : ℕ) → IsReckoned x → HasDay c x k e → IsNext c x k e y m d
+    → day_number c y m d ≡ day_number c x k e +ℤ pos 1
+
+-- no two days have one number
+abbrev pub IsApart : Calendar → Type 0
+IsApart c =
+    (x : ℤ) (k e : ℕ) (y : ℤ) (m d : ℕ) → IsReckoned x → IsReckoned y → HasDay c x k e → HasDay c y m d
+    → day_number c x k e ≡ day_number c y m d → (x ≡ y) × (k ≡ m) × (e ≡ d)
+
+-- each number from the first day on is the number of a day
+abbrev pub IsComplete : Calendar → Type 0
+IsComplete c =
+    (n : ℤ) → day_number c (negsuc 9999) 1 1 ≤ℤ n
+    → (y : ℤ) × (m : ℕ) × (d : ℕ) × IsReckoned y × HasDay c y m d × (n ≡ day_number c y m d)
+
+-- the civil count of `jiff` is the Gregorian one
+abbrev pub CivilCounts : Type 0
+CivilCounts = (y : ℤ) (m d : ℕ) → 1 ≤ d → days_from_civil y m d ≡ day_number Gregorian y m d
+
+-- of the Julian calendar, for the years of our era: 365 days for each year that is over, one more for each
+-- fourth of them, and the days of the year itself
+abbrev pub JulianCounts : Type 0
+JulianCounts =
+    (y m d : ℕ) → 1 ≤ y → 1 ≤ d
+    → day_number Julian (pos y) m d ≡ pos (365 * (y - 1) + (y - 1) / 4 + (days_of_months Julian (pos y) (m - 1) + d)) -ℤ pos 719165

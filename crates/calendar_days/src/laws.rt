@@ -1,0 +1,18 @@
+//! Laws of days, over the definitions that the contracts cite.
+
+ghost use Rattle.calendar_days.specs.Laws.{IsConsecutive, IsApart, IsComplete, CivilCounts, JulianCounts};
+ghost use Rattle.calendar_days.specs.declared.calendar.Calendar.{Calendar};
+
+/// Consecutive dates have consecutive numbers, and each number is that of one day of each calendar,
+/// from the year -10000 on.
+pub fn each_day_has_one_number()
+    ensures next { (c : Calendar) → IsConsecutive c }
+    ensures one { (c : Calendar) → IsApart c }
+    ensures every { (c : Calendar) → IsComplete c }
+{}
+
+/// The fast formulas are the count: `jiff`'s of the Gregorian calendar, and ours of the Julian one.
+pub fn the_formulas_count()
+    ensures gregorian { CivilCounts }
+    ensures julian { JulianCounts }
+{}
