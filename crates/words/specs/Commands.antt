@@ -1,9 +1,11 @@
 -- The commands of the program, and which of them a command line names, by the grammar of `clap`.
-use Rattle.std.specs.Prelude.{◌≡◌, List, [], Option, Some, None, IfSome, true, codes, option_map}
-use Rattle.clap.specs.Words.{App, Text, subcommand_of, with_subcommand}
+use Rattle.std.specs.Prelude.{◌≡◌, List, [], Option, Some, None, IfSome, IsSome, MatchResult, Result, true, codes, option_map}
+use Rattle.clap.specs.Words.{App, Text, subcommand_of, takes, with_subcommand}
 use Rattle.clap.specs.Simple.{new_shape}
 use Rattle.words.specs.declared.reading.Asked.{Asked}
 use Rattle.words.specs.declared.reading.Asked.TheVariants.{Norm, Check}
+use Rattle.words.specs.declared.reading.Refused.{Refused}
+use Rattle.words.specs.declared.reading.Refused.TheVariants.{OutOfMemory}
 
 -- the program without its commands: it has a version, demands a command, and has none called help
 abbrev pub bare : App
@@ -33,3 +35,11 @@ name_of _ = None
 -- work is asked for only by words that name its command
 abbrev pub Asks : List Text → Asked → Type 0
 Asks words asked = IfSome (name_of asked) (λ name. command_named words ≡ Some name)
+
+-- the words are those of a command, with nothing that it does not take
+abbrev pub IsTaken : List Text → Type 0
+IsTaken words = takes program words ≡ true
+
+-- work is asked for, unless memory is wanting
+abbrev pub AsksForWork : Result Asked Refused → Type 0
+AsksForWork result = MatchResult result (λ asked. IsSome (name_of asked)) (λ refused. refused ≡ OutOfMemory)

@@ -8,6 +8,7 @@
 #![tactic(auto)]
 
 mod commands;
+pub mod laws;
 mod reading;
 
 pub use reading::{Asked, Refused, read_words};

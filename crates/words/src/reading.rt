@@ -1,8 +1,8 @@
 //! What a command line asks for.
 
-ghost use Rattle.std.specs.Prelude.{◌≡◌, IfOk, IfSome, None, Some, map, string_bytes};
-ghost use Rattle.clap.specs.Words.{subcommand_name_of};
-ghost use Rattle.words.specs.Commands.{Asks, name_of};
+ghost use Rattle.std.specs.Prelude.{◌≡◌, Err, IfOk, IfSome, None, Some, codes, map, string_bytes};
+ghost use Rattle.clap.specs.Words.{kind_of, subcommand_name_of};
+ghost use Rattle.words.specs.Commands.{AsksForWork, Asks, IsTaken, name_of};
 
 use crate::commands::parish_command;
 use clap::error::ErrorKind;
@@ -30,6 +30,11 @@ pub enum Refused {
 }
 
 impl From<AllocError> for Refused {
+    ghost use Rattle.std.specs.Prelude.{◌≡◌};
+    ghost use Rattle.words.specs.declared.reading.Refused.TheVariants.{OutOfMemory};
+
+    ghost from_gives = { λ _ r. r ≡ OutOfMemory };
+
     fn from(_error: AllocError) -> Refused {
         Refused::OutOfMemory
     }
@@ -37,7 +42,8 @@ impl From<AllocError> for Refused {
 
 /// What the words ask for. The first word is the program's own name, and is not looked at.
 pub fn read_words(alloc: Global, words: &[String]) -> Result<Asked, Refused>
-    ensures { IfOk result (Asks (map string_bytes words.now)) }
+    ensures asked { IfOk result (Asks (map string_bytes words.now)) }
+    ensures taken { IsTaken (map string_bytes words.now) → AsksForWork result }
 {
     let command = parish_command(alloc)?;
     match command.try_get_matches_from(words) {
@@ -48,8 +54,10 @@ pub fn read_words(alloc: Global, words: &[String]) -> Result<Asked, Refused>
 
 /// The command that was found, by its name. `clap` lets no other name through.
 fn command_found(alloc: Global, found: &ArgMatches<'_>) -> Result<Asked, Refused>
-    ensures { IfOk result (λ a. IfSome (name_of a)
+    ensures asked { IfOk result (λ a. IfSome (name_of a)
         (λ name. subcommand_name_of found.now ≡ Some name)) }
+    ensures norm { subcommand_name_of found.now ≡ Some (codes "norm") → AsksForWork result }
+    ensures check { subcommand_name_of found.now ≡ Some (codes "check") → AsksForWork result }
 {
     match found.subcommand_name() {
         Some("norm") => Ok(Asked::Norm),
@@ -62,7 +70,8 @@ fn command_found(alloc: Global, found: &ArgMatches<'_>) -> Result<Asked, Refused
 
 /// The text of what `clap` calls an error: help, a version or refused words.
 fn text_shown(alloc: Global, error: &Error) -> Result<Asked, Refused>
-    ensures { IfOk result (λ a. name_of a ≡ None) }
+    ensures asked { IfOk result (λ a. name_of a ≡ None) }
+    ensures memory { kind_of error.now ≡ ErrorKind.OutOfMemory → result ≡ Err Refused.OutOfMemory }
 {
     if error.kind() == ErrorKind::OutOfMemory {
         return Err(Refused::OutOfMemory);
