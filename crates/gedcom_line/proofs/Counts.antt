@@ -1,5 +1,5 @@
 -- Counts of characters, as they are written, and the greatest number that passes a test.
-use Rattle.std.proofs.Common.{◌≡◌, ◌≢◌, ℕ, zero, suc, ◌+◌, ◌-◌, ◌*◌, ◌<◌, ◌≤◌, Bool, true, false, cond, eqb, ◌&&◌, not, List, [], ◌∷◌, ◌++◌, length, get_or, take, refl, sym, ap, ◌∙◌, subst, inl, inr, ◌⊎◌, arith, Option, Some}
+use Rattle.std.proofs.Common.{◌≡◌, ◌≢◌, ℕ, zero, suc, ◌+◌, ◌-◌, ◌*◌, ◌<◌, ◌≤◌, Bool, true, false, cond, eqb, leb, ◌&&◌, not, List, [], ◌∷◌, ◌++◌, length, get_or, take, refl, sym, ap, ◌∙◌, subst, inl, inr, ◌⊎◌, arith, Option, Some}
 use Rattle.std.specs.Prelude.{unwrap_or}
 use Rattle.std.proofs.lemmas.List.{take_all}
 use Rattle.std.proofs.lemmas.List.Sums.{sum_by-append, sum_by-cons, count_by-le-length}
@@ -72,6 +72,10 @@ escaped_le_double i (c ∷ cs) = elim (escaped_step i c cs) [
   | inl s ↦ rw s.1 (omega (arith, escaped_le_double s.0 cs))
   | inr s ↦ rw s (omega (arith, escaped_le_double false cs))
 ]
+
+-- a text of at most 100 bytes is short: each byte is written as at most two
+pub few_bytes : (t : List ℕ) → length t ≤ 100 → leb (length t) 100 ≡ is_short t
+few_bytes t h = le-leb (length t) 100 h ∙ sym (le-leb (char_count (escaped t)) 200 (omega (arith, h, char_count-le-length (escaped t), escaped_le_double false t)))
 
 -- one turn of the count, and the last
 pub count_turn : (front mark after rest : List ℕ) (i j : Bool) → rest ≡ front ++ 64 ∷ after → NoAt front → escaped_from i (64 ∷ after) ≡ mark ++ escaped_from j after → char_count (escaped_from i rest) ≡ char_count front + (char_count mark + char_count (escaped_from j after))

@@ -76,11 +76,12 @@ fn written_count(text: &str) -> usize
     total + count(rest)
 }
 
-/// Whether the text has as it is written at most 200 characters.
+/// Whether the text has as it is written at most 200 characters: each of its bytes is written as at most two.
 fn is_short(text: &str) -> bool
     ensures { result ≡ short_test text.now }
 {
-    window(text, LONGEST) == text.len() && written_count(text) <= LONGEST
+    text.len() <= LONGEST / 2
+        || (window(text, LONGEST) == text.len() && written_count(text) <= LONGEST)
 }
 
 /// Whether the segment may be cut here.

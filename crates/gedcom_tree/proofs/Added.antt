@@ -1,36 +1,21 @@
 -- A line that breaks no rule finds a place among the open lines and nodes.
-use Rattle.std.proofs.Common.{◌≡◌, ℕ, ◌+◌, ◌-◌, ◌<◌, ◌≤◌, Bool, true, false, cond, eqb, not, List, refl, sym, ap, ◌∙◌, subst, inl, inr, arith, Option, Some, None, Ok}
+use Rattle.std.proofs.Common.{◌≡◌, ℕ, ◌+◌, ◌-◌, ◌<◌, ◌≤◌, true, false, cond, eqb, List, refl, sym, ap, ◌∙◌, subst, inl, inr, arith, Some, None, Ok}
 use Rattle.std.specs.Option.{option_map_or}
 use Rattle.std.specs.Str.{bytes_eq}
 use Rattle.std.specs.Prelude.{codes}
-use Rattle.std.proofs.lemmas.Bool.{eqb-true, ltb-false}
+use Rattle.std.proofs.lemmas.Bool.{ltb-false}
 use Rattle.gedcom_line.specs.Reading.{Parts, is_continuation}
-use Rattle.gedcom_line.proofs.Steps.{both, neither}
-use Rattle.gedcom_tree.specs.Rules.{Progress, role_of, is_continued, is_head, is_trailer}
+use Rattle.gedcom_line.proofs.Steps.{neither}
+use Rattle.gedcom_rules.specs.Rules.{Progress, role_of, is_continued, is_trailer}
 use Rattle.gedcom_tree.specs.Forest.{Item}
-use Rattle.gedcom_tree.specs.Reading.{after, next, judge, advance, Nodes, grow_line, grow, grow_read}
-use Rattle.gedcom_tree.specs.Depth.{depth, node_depth, IsDeep}
-use Rattle.gedcom_tree.proofs.Cuts.{cases_bool}
-use Rattle.gedcom_tree.proofs.Judged.{judge_some, judge_none}
-use Rattle.gedcom_tree.proofs.Unbroken.{Unbroken, unbroken}
+use Rattle.gedcom_rules.specs.Judging.{after, judge}
+use Rattle.gedcom_tree.specs.Reading.{Nodes, grow_line, grow, grow_read}
+use Rattle.gedcom_tree.specs.Depth.{node_depth, IsDeep}
+use Rattle.gedcom_rules.proofs.Cuts.{cases_bool}
+use Rattle.gedcom_rules.proofs.Judged.{judge_some, judge_none}
+use Rattle.gedcom_rules.proofs.Unbroken.{Unbroken, unbroken}
+use Rattle.gedcom_rules.proofs.Levels.{first_level}
 use Rattle.gedcom_tree.proofs.Joined.{unbroken_continues}
-
-not_not : (b : Bool) → not b ≡ false → b ≡ true
-not_not true e = refl
-not_not false e = absurd cc
-
-head_level : (l : Parts) → is_head l ≡ true → l.level ≡ 0
-head_level l h = eqb-true l.level 0 (both (eqb l.level 0) _ h).0
-
-first_level : (q : Progress) (l : Parts) → Unbroken q l → eqb q.count 0 ≡ true → l.level ≡ 0
-first_level q l u e = let head : not (is_head l) ≡ false = rw e at u.head in head_level l (not_not (is_head l) head)
-
--- the level of the next line is not beyond the open lines
-pub unbroken_level : (q : Progress) (l : Parts) (n : ℕ) → Unbroken q l → n ≡ depth q → l.level ≤ n
-unbroken_level q l n u d = elim (cases_bool (eqb q.count 0)) [
-  | inl e ↦ omega (arith, first_level q l u e)
-  | inr e ↦ let at : n ≡ q.last + 1 = rw e at d in omega (arith, at, ltb-false (q.last + 1) l.level u.jump)
-]
 
 -- nor beyond the open nodes: nothing stands below a continuation
 not_below : (q : Progress) (l : Parts) → Unbroken q l → option_map_or (λ s. is_continued s.role) (q.above q.last) false ≡ true → l.level ≡ q.last + 1 → ⊥
@@ -59,22 +44,12 @@ unbroken_fits q l n u d =
       ]
     ]
 
-pub judged_level : (q : Progress) (p : List ℕ) (l : Parts) (n : ℕ) → judge q p ≡ Ok (Some l) → n ≡ depth q → l.level ≤ n
-judged_level q p l n h d = unbroken_level q l n (unbroken q l (judge_some q p l h).1) d
-
 pub judged_fits : (q : Progress) (p : List ℕ) (l : Parts) (n : ℕ) → judge q p ≡ Ok (Some l) → IsDeep q n → l.level ≤ n
 judged_fits q p l n h d = unbroken_fits q l n (unbroken q l (judge_some q p l h).1) d
 
 -- a continuation does not stand at level 0
 pub judged_below : (q : Progress) (p : List ℕ) (l : Parts) → judge q p ≡ Ok (Some l) → is_continuation l.tag ≡ true → 0 < l.level
 judged_below q p l h t = omega (arith, (unbroken_continues q l (unbroken q l (judge_some q p l h).1) t).deeper)
-
--- how many stand open behind it
-pub depth_after : (q : Progress) (l : Parts) → depth (after q l) ≡ l.level + 1
-depth_after q l = rw (counted q.count) refl
-  where
-    counted : (n : ℕ) → eqb (n + 1) 0 ≡ false
-    counted n = grind arith
 
 role_continued : (t : List ℕ) → is_continued (role_of t) ≡ is_continuation t
 role_continued t = elim (cases_bool (is_continuation t)) [
@@ -128,7 +103,3 @@ deep_line q r l n e h = λ d.
 
 pub deep_blank : (q r : Progress) (n : ℕ) → r ≡ q → IsDeep q n → IsDeep r n
 deep_blank q r n e h = subst (λ (x : Progress). IsDeep x n) (sym e) h
-
--- what judging a piece leaves
-pub advanced : (q r : Progress) (p : List ℕ) (o : Option Parts) → judge q p ≡ Ok o → r ≡ next q o → advance q (judge q p) ≡ Ok r
-advanced q r p o h e = ap (advance q) h ∙ ap (λ (x : Progress). Ok x) (sym e)

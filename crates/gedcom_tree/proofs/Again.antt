@@ -9,13 +9,14 @@ use Rattle.gedcom_line.specs.Spelling.{spelling}
 use Rattle.gedcom_line.proofs.Steps.{both, not_false}
 use Rattle.gedcom_line.proofs.Again.{inner_nil}
 use Rattle.gedcom_line.proofs.Counts.{char_count-nil}
-use Rattle.gedcom_tree.specs.Pieces.{all_pieces}
-use Rattle.gedcom_tree.specs.Rules.{Progress, role_of, is_trailer, is_continued, names_set, names_version}
-use Rattle.gedcom_tree.specs.File.{max_file, Clean, untrailed, ReadsFile}
+use Rattle.gedcom_rules.specs.Pieces.{all_pieces}
+use Rattle.gedcom_rules.specs.Rules.{Progress, role_of, is_trailer, is_continued, names_set, names_version}
+use Rattle.gedcom_rules.specs.Faults.{max_file, Clean}
+use Rattle.gedcom_tree.specs.File.{untrailed, ReadsFile}
 use Rattle.gedcom_tree.specs.Forest.{Item, part_line, more_parts, own_line, node_lines, lines_of, Reads}
-use Rattle.gedcom_tree.specs.Reading.{start, after}
+use Rattle.gedcom_rules.specs.Judging.{start, after}
 use Rattle.gedcom_tree.specs.Text.{line_text, trailer, text, IsNodeOf, EachNode, rises, is_charset_node, is_version_node, keeps_header, is_called, are_distinct, IsForest, IsSame}
-use Rattle.gedcom_tree.proofs.Unbroken.{Unbroken}
+use Rattle.gedcom_rules.proofs.Unbroken.{Unbroken}
 use Rattle.gedcom_tree.proofs.Trailed.{untrailed-push}
 use Rattle.gedcom_tree.proofs.Lines.{Keeps, keeps_clean, lines_pieces, text_lines}
 use Rattle.gedcom_tree.proofs.Numbered.{numbered, numbered_same, lines_nil, lines_cons, lines_read, no_trailer}

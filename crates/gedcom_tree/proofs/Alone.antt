@@ -21,7 +21,7 @@ use Rattle.gedcom_line.proofs.Cuts.{canonical_last, segment_short}
 use Rattle.gedcom_line.proofs.Doubled.{escaped_all, unescaped-escaped}
 use Rattle.gedcom_line.proofs.Pointers.{escaped_no_pointer, pointer_meant}
 use Rattle.gedcom_tree.specs.Forest.{own_raw, more_parts}
-use Rattle.gedcom_tree.specs.Rules.{is_set, is_charset, is_version, is_version_value, max_header_text}
+use Rattle.gedcom_rules.specs.Rules.{is_set, is_charset, is_version, is_version_value, max_header_text}
 use Rattle.gedcom_tree.specs.Text.{IsNodeValue, is_charset_node, is_version_node}
 use Rattle.gedcom_tree.proofs.Measured.{IsShort}
 use Rattle.gedcom_tree.proofs.Numbered.{marked_pointer}

@@ -13,8 +13,8 @@ use Rattle.gedcom_line.specs.Escape.{NoAt, unescaped}
 use Rattle.gedcom_line.specs.Value.{pointer_from, pointer_in}
 use Rattle.gedcom_line.proofs.Steps.{either, both, not_false, eqb_no, all_front, spans_made, past_at}
 use Rattle.gedcom_line.proofs.Doubled.{unescaped_all}
-use Rattle.gedcom_tree.specs.Rules.{max_header_text, is_set, is_charset}
-use Rattle.gedcom_tree.proofs.Cuts.{cases_bool}
+use Rattle.gedcom_rules.specs.Rules.{max_header_text, is_set, is_charset}
+use Rattle.gedcom_rules.proofs.Cuts.{cases_bool}
 use Rattle.gedcom_tree.proofs.Valued.{all-append, all_parts}
 
 abbrev lacks_at : List ℕ → Bool

@@ -6,12 +6,12 @@ use Rattle.std.proofs.lemmas.Bool.{eqb-true, ltb-true}
 use Rattle.gedcom_line.specs.Reading.{Parts, is_continuation}
 use Rattle.gedcom_line.specs.Value.{value_of}
 use Rattle.gedcom_line.proofs.Steps.{both, eqb_false}
-use Rattle.gedcom_tree.specs.declared.standing.Role.{Role}
-use Rattle.gedcom_tree.specs.Rules.{Progress, Standing, standing, parent, role_of, is_text, is_gedcom_tag, is_version_tag, is_charset_tag, names_set, names_version, may_go_on}
-use Rattle.gedcom_tree.specs.Forest.{belongs}
-use Rattle.gedcom_tree.specs.Reading.{continue_at, after}
-use Rattle.gedcom_tree.proofs.Cuts.{cases_bool}
-use Rattle.gedcom_tree.proofs.Unbroken.{Unbroken}
+use Rattle.gedcom_rules.specs.declared.standing.Role.{Role}
+use Rattle.gedcom_rules.specs.Rules.{Progress, Standing, standing, parent, role_of, is_text, is_gedcom_tag, is_version_tag, is_charset_tag, names_set, names_version, may_go_on}
+use Rattle.gedcom_rules.specs.Continuing.{belongs}
+use Rattle.gedcom_rules.specs.Judging.{continue_at, after}
+use Rattle.gedcom_rules.proofs.Cuts.{cases_bool}
+use Rattle.gedcom_rules.proofs.Unbroken.{Unbroken}
 use Rattle.gedcom_tree.proofs.Fitting.{Fits, above_own, above_deeper, above_kept, parent_at, counted}
 
 -- what a tag is known by stays as a line is continued

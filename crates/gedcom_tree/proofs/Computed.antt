@@ -3,7 +3,8 @@ use Rattle.std.proofs.Common.{◌≡◌, ℕ, ◌+◌, List, [], ◌∷◌, refl
 use Rattle.gedcom_line.specs.Reading.{Parts}
 use Rattle.gedcom_line.specs.Value.{Meaning, Text, Pointer, meaning, IsPointer, pointer_in}
 use Rattle.gedcom_line.proofs.Pointers.{pointer_is, is_pointer}
-use Rattle.gedcom_tree.specs.Forest.{Item, belongs, IsValue, IsNode, Reads, continued, node_of, forest_of}
+use Rattle.gedcom_tree.specs.Forest.{Item, IsValue, IsNode, Reads, continued, node_of, forest_of}
+use Rattle.gedcom_rules.specs.Continuing.{belongs}
 
 pub no_pointer_in : (raw : List ℕ) → ((name : List ℕ) → ¬ (IsPointer raw name)) → pointer_in raw ≡ None
 no_pointer_in raw h = elim (pointer_in raw) as (λ o. pointer_in raw ≡ o → o ≡ None) [

@@ -8,13 +8,14 @@ use Rattle.gedcom_line.specs.Value.{Text, Pointer}
 use Rattle.gedcom_line.proofs.Cuts.{joined-canonical}
 use Rattle.gedcom_line.proofs.Doubled.{unescaped-escaped}
 use Rattle.gedcom_line.proofs.Pointers.{escaped_no_pointer}
-use Rattle.gedcom_tree.specs.declared.standing.Role.{Role}
-use Rattle.gedcom_tree.specs.Rules.{Progress, role_of, standing, is_continued, names_set, names_version, max_text}
-use Rattle.gedcom_tree.specs.Forest.{Item, adds, part_line, first_text, rest_parts, own_raw, more_parts, own_line}
-use Rattle.gedcom_tree.specs.Reading.{after}
+use Rattle.gedcom_rules.specs.declared.standing.Role.{Role}
+use Rattle.gedcom_rules.specs.Rules.{Progress, role_of, standing, is_continued, names_set, names_version, max_text}
+use Rattle.gedcom_tree.specs.Forest.{Item, part_line, first_text, rest_parts, own_raw, more_parts, own_line}
+use Rattle.gedcom_rules.specs.Continuing.{adds}
+use Rattle.gedcom_rules.specs.Judging.{after}
 use Rattle.gedcom_tree.specs.Text.{IsNodeValue, IsNodeOf}
-use Rattle.gedcom_tree.proofs.Cuts.{cases_bool}
-use Rattle.gedcom_tree.proofs.Unbroken.{Unbroken, unbroken_none}
+use Rattle.gedcom_rules.proofs.Cuts.{cases_bool}
+use Rattle.gedcom_rules.proofs.Unbroken.{Unbroken, unbroken_none}
 use Rattle.gedcom_tree.proofs.Lines.{Keeps}
 use Rattle.gedcom_tree.proofs.Numbered.{part_adds, joined_first}
 use Rattle.gedcom_tree.proofs.Parted.{PartsFit, more_fit, Written, written_fits, part_written}

@@ -7,19 +7,21 @@ use Rattle.gedcom_line.specs.Reading.{Parts}
 use Rattle.gedcom_line.specs.declared.fault.LineKind.{LineKind}
 use Rattle.gedcom_line.specs.declared.fault.LineKind.TheVariants as line
 use Rattle.gedcom_line.proofs.Steps.{both, either}
-use Rattle.gedcom_tree.specs.declared.fault.TreeKind.{TreeKind}
-use Rattle.gedcom_tree.specs.declared.fault.TreeKind.TheVariants.{TooLong, NoHead, NoTrailer, FileTooLarge}
-use Rattle.gedcom_tree.specs.Pieces.{file_pieces, all_pieces, skip_mark}
-use Rattle.gedcom_tree.specs.Rules.{Progress, progress_of, is_trailer, breaks, order, first_broken, of_line}
+use Rattle.gedcom_rules.specs.declared.fault.TreeKind.{TreeKind}
+use Rattle.gedcom_rules.specs.declared.fault.TreeKind.TheVariants.{TooLong, NoHead, NoTrailer, FileTooLarge}
+use Rattle.gedcom_rules.specs.Pieces.{file_pieces, all_pieces, skip_mark}
+use Rattle.gedcom_rules.specs.Rules.{Progress, progress_of, is_trailer, breaks, order, first_broken, of_line}
 use Rattle.gedcom_tree.specs.Forest.{Item, Reads, forest_of}
-use Rattle.gedcom_tree.specs.File.{max_line, max_file, IsFaulty, Clean, Fault, FaultIn, overflows, within, extra, OverLimit, Decides, EndsEarly, FaultOf, untrailed, ReadsFile}
-use Rattle.gedcom_tree.specs.Reading.{start, judge, advance, then_run, run, Nodes, no_nodes, grow, grown, fault_behind, open_fault, decided, reader_of, ended, finished}
+use Rattle.gedcom_rules.specs.Faults.{max_line, max_file, IsFaulty, Clean, Fault, FaultIn, overflows, within, extra, OverLimit, Decides, EndsEarly, FaultOf}
+use Rattle.gedcom_tree.specs.File.{untrailed, ReadsFile}
+use Rattle.gedcom_rules.specs.Judging.{start, judge, advance, then_run, run, fault_behind, open_fault, decided}
+use Rattle.gedcom_tree.specs.Reading.{Nodes, no_nodes, grow, grown, reader_of, ended, finished}
 use Rattle.gedcom_tree.specs.State.{IsOpen, Finishes}
-use Rattle.gedcom_tree.proofs.Cuts.{cases_bool, AllPieces, pieces_whole, all_pieces-push}
+use Rattle.gedcom_rules.proofs.Cuts.{cases_bool, AllPieces, pieces_whole, all_pieces-push}
 use Rattle.gedcom_tree.specs.Streams.{IsOfFile}
-use Rattle.gedcom_tree.proofs.Judged.{judge_long}
-use Rattle.gedcom_tree.proofs.Runs.{Ran, ran, clean_run, fault_run, run-push}
-use Rattle.gedcom_tree.proofs.Limits.{no_extra, within_small, extra_small, extra_large}
+use Rattle.gedcom_rules.proofs.Judged.{judge_long}
+use Rattle.gedcom_rules.proofs.Runs.{Ran, ran, clean_run, fault_run, run-push}
+use Rattle.gedcom_rules.proofs.Limits.{no_extra, within_small, extra_small, extra_large}
 use Rattle.gedcom_tree.proofs.Computed.{reads_computed}
 use Rattle.gedcom_tree.proofs.Traced.{traced_start}
 use Rattle.gedcom_tree.proofs.Pointed.{clean_pointed, untrailed_pointed, pointed_reads}

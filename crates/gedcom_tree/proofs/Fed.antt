@@ -4,17 +4,18 @@ use Rattle.std.specs.Option.{option_map}
 use Rattle.std.specs.Prelude.{slice_get}
 use Rattle.std.proofs.lemmas.List.{length-take-le, take_all, take_min}
 use Rattle.std.proofs.Math.Seq.{take-append-add}
-use Rattle.gedcom_tree.specs.declared.fault.TreeFault.{TreeFault}
-use Rattle.gedcom_tree.specs.declared.fault.TreeKind.TheVariants.{OutOfMemory}
-use Rattle.gedcom_tree.specs.Pieces.{pieces, file_pieces}
+use Rattle.gedcom_rules.specs.declared.fault.TreeFault.{TreeFault}
+use Rattle.gedcom_rules.specs.declared.fault.TreeKind.TheVariants.{OutOfMemory}
+use Rattle.gedcom_rules.specs.Pieces.{pieces, file_pieces}
 use Rattle.gedcom_tree.specs.Forest.{Item}
-use Rattle.gedcom_tree.specs.File.{IsLineless, Fault, max_file, within, extra, Decides, FaultOf}
-use Rattle.gedcom_tree.specs.Reading.{then_trace, trace_run, traced, no_trace, no_nodes, grown, open_fault, decided, Reader, reader_of, finished}
+use Rattle.gedcom_rules.specs.Faults.{IsLineless, Fault, max_file, within, extra, Decides, FaultOf}
+use Rattle.gedcom_tree.specs.Reading.{then_trace, trace_run, traced, no_trace, no_nodes, grown, Reader, reader_of, finished}
+use Rattle.gedcom_rules.specs.Judging.{open_fault, decided}
 use Rattle.gedcom_tree.specs.State.{Holds, IsOpen, Finishes}
-use Rattle.gedcom_tree.specs.Views.{fault_view}
+use Rattle.gedcom_rules.specs.Views.{fault_view}
 use Rattle.gedcom_tree.proofs.Traced.{traced_start, trace_run-append}
-use Rattle.gedcom_tree.proofs.Limits.{within-append, extra-append, within_front, extra_front}
-use Rattle.gedcom_tree.proofs.Marks.{resumed, file_pieces-append}
+use Rattle.gedcom_rules.proofs.Limits.{within-append, extra-append, within_front, extra_front}
+use Rattle.gedcom_rules.proofs.Marks.{resumed, file_pieces-append}
 use Rattle.gedcom_tree.proofs.Gathered.{grown-append}
 use Rattle.gedcom_tree.specs.Text.{IsForest}
 use Rattle.gedcom_tree.proofs.Shaped.{reads_forest}

@@ -9,12 +9,13 @@ use Rattle.gedcom_line.specs.Line.{Spans, HasLevel, HasXref, Line}
 use Rattle.gedcom_line.specs.Spelling.{IsLine}
 use Rattle.gedcom_line.proofs.Steps.{eqb_false}
 use Rattle.gedcom_line.proofs.Written.{line_parts}
-use Rattle.gedcom_tree.specs.Rules.{Progress, Standing, progress_of, is_trailer, standing, parent}
-use Rattle.gedcom_tree.specs.File.{max_line, Clean, untrailed}
-use Rattle.gedcom_tree.specs.Reading.{continue_at, after}
-use Rattle.gedcom_tree.proofs.Cuts.{cases_bool}
-use Rattle.gedcom_tree.proofs.Runs.{progress-push}
-use Rattle.gedcom_tree.proofs.Unbroken.{Unbroken, unbroken}
+use Rattle.gedcom_rules.specs.Rules.{Progress, Standing, progress_of, is_trailer, standing, parent}
+use Rattle.gedcom_rules.specs.Faults.{max_line, Clean}
+use Rattle.gedcom_tree.specs.File.{untrailed}
+use Rattle.gedcom_rules.specs.Judging.{continue_at, after}
+use Rattle.gedcom_rules.proofs.Cuts.{cases_bool}
+use Rattle.gedcom_rules.proofs.Runs.{progress-push}
+use Rattle.gedcom_rules.proofs.Unbroken.{Unbroken, unbroken}
 use Rattle.gedcom_tree.proofs.Trailed.{untrailed_cons, untrailed_trailer}
 
 -- a line that is not the trailer, behind what the lines before it left

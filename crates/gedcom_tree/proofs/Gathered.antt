@@ -7,12 +7,14 @@ use Rattle.gedcom_line.specs.Reading.{Parts, is_continuation}
 use Rattle.gedcom_line.specs.Line.{Line, IsBlank}
 use Rattle.gedcom_line.proofs.Steps.{both}
 use Rattle.gedcom_line.proofs.Whole.{line_reading, blank_reading}
-use Rattle.gedcom_tree.specs.Rules.{progress_of, is_trailer}
-use Rattle.gedcom_tree.specs.File.{Clean, untrailed}
-use Rattle.gedcom_tree.specs.Forest.{Item, adds, node_of, forest_of, extended}
+use Rattle.gedcom_rules.specs.Rules.{progress_of, is_trailer}
+use Rattle.gedcom_rules.specs.Faults.{Clean}
+use Rattle.gedcom_tree.specs.File.{untrailed}
+use Rattle.gedcom_tree.specs.Forest.{Item, node_of, forest_of, extended}
+use Rattle.gedcom_rules.specs.Continuing.{adds}
 use Rattle.gedcom_tree.specs.Reading.{Nodes, no_nodes, grow_line, grow_read, grow, grown}
-use Rattle.gedcom_tree.proofs.Cuts.{cases_bool}
-use Rattle.gedcom_tree.proofs.Unbroken.{Unbroken, unbroken}
+use Rattle.gedcom_rules.proofs.Cuts.{cases_bool}
+use Rattle.gedcom_rules.proofs.Unbroken.{Unbroken, unbroken}
 use Rattle.gedcom_tree.proofs.Trailed.{untrailed_all, untrailed-push}
 use Rattle.gedcom_tree.proofs.Joined.{forest_of-push, forest_longer, Continues, unbroken_continues}
 

@@ -13,7 +13,7 @@ use Rattle.std.specs.Io.KnownBytes.{Appends}
 use Rattle.std.proofs.KnownBytes.{Appends-nil, Appends-trans}
 use Rattle.std.proofs.Math.Seq.{take-append-add}
 use Rattle.std.proofs.lemmas.List.{take-append-le, take_all}
-use Rattle.gedcom_tree.specs.Devices.{AppendsBeginning}
+use Rattle.devices.specs.Devices.{AppendsBeginning}
 use Rattle.gedcom_tree.specs.Streams.{Handed}
 
 -- of the whole text the writer has a front, the buffer what follows it, and the rest is still to come

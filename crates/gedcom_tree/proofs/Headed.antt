@@ -12,12 +12,13 @@ use Rattle.gedcom_line.specs.Escape.{unescaped}
 use Rattle.gedcom_line.specs.Spelling.{is_inner, IsInner}
 use Rattle.gedcom_line.specs.Value.{Text, Pointer, meaning, value_of, pointer_in}
 use Rattle.gedcom_line.proofs.Steps.{both, not_false, eqb_no}
-use Rattle.gedcom_tree.specs.Rules.{Progress, Standing, parent, role_of, is_continued, is_charset_tag, is_gedcom_tag, is_version_tag, names_set, names_version, is_charset, is_version, is_version_value}
-use Rattle.gedcom_tree.specs.Forest.{belongs, continued, forest_of}
-use Rattle.gedcom_tree.specs.Reading.{after}
+use Rattle.gedcom_rules.specs.Rules.{Progress, Standing, parent, role_of, is_continued, is_charset_tag, is_gedcom_tag, is_version_tag, names_set, names_version, is_charset, is_version, is_version_value}
+use Rattle.gedcom_rules.specs.Continuing.{belongs}
+use Rattle.gedcom_tree.specs.Forest.{continued, forest_of}
+use Rattle.gedcom_rules.specs.Judging.{after}
 use Rattle.gedcom_tree.specs.Text.{is_charset_node, is_version_node, keeps_header}
-use Rattle.gedcom_tree.proofs.Cuts.{cases_bool}
-use Rattle.gedcom_tree.proofs.Unbroken.{Unbroken}
+use Rattle.gedcom_rules.proofs.Cuts.{cases_bool}
+use Rattle.gedcom_rules.proofs.Unbroken.{Unbroken}
 use Rattle.gedcom_tree.proofs.Fitting.{Fit, Fits, above_own, counted}
 use Rattle.gedcom_tree.proofs.Valued.{unescaped_each}
 use Rattle.gedcom_tree.proofs.Named.{continued_open}

@@ -9,11 +9,12 @@ use Rattle.gedcom_line.specs.Reading.{Parts, is_continuation}
 use Rattle.gedcom_line.specs.Escape.{unescaped}
 use Rattle.gedcom_line.specs.Value.{Meaning, Text, Pointer, meaning}
 use Rattle.gedcom_line.proofs.Steps.{both, eqb_false}
-use Rattle.gedcom_tree.specs.Rules.{Progress, Standing, standing, standing_at, is_continued, may_go_on}
-use Rattle.gedcom_tree.specs.Forest.{Item, belongs, adds, continued, node_of, forest_of, longer, extended}
-use Rattle.gedcom_tree.proofs.Cuts.{cases_bool}
-use Rattle.gedcom_tree.proofs.Runs.{belongs_deeper}
-use Rattle.gedcom_tree.proofs.Unbroken.{Unbroken}
+use Rattle.gedcom_rules.specs.Rules.{Progress, Standing, standing, standing_at, is_continued, may_go_on}
+use Rattle.gedcom_tree.specs.Forest.{Item, continued, node_of, forest_of, longer, extended}
+use Rattle.gedcom_rules.specs.Continuing.{belongs, adds}
+use Rattle.gedcom_rules.proofs.Cuts.{cases_bool}
+use Rattle.gedcom_rules.proofs.Runs.{belongs_deeper}
+use Rattle.gedcom_rules.proofs.Unbroken.{Unbroken}
 
 cond_same : {A : Type 0} (b : Bool) (x : A) → cond b x x ≡ x
 cond_same true x = refl

@@ -10,13 +10,14 @@ use Rattle.gedcom_line.specs.Reading.{Parts, is_continuation}
 use Rattle.gedcom_line.specs.Split.{Part}
 use Rattle.gedcom_line.specs.Value.{meaning, value_of}
 use Rattle.gedcom_line.proofs.Steps.{both, eqb_false, eqb_no}
-use Rattle.gedcom_tree.specs.declared.standing.Role.{Role}
-use Rattle.gedcom_tree.specs.Rules.{Progress, Standing, role_of, standing, parent, is_continued, is_charset_tag, is_version_tag, is_gedcom_tag, names_set, names_version, is_charset, is_version_value}
-use Rattle.gedcom_tree.specs.Forest.{Item, adds, mark_tag, own_line, own_raw, part_line}
-use Rattle.gedcom_tree.specs.Reading.{continue_at, above_after, after}
+use Rattle.gedcom_rules.specs.declared.standing.Role.{Role}
+use Rattle.gedcom_rules.specs.Rules.{Progress, Standing, role_of, standing, parent, is_continued, is_charset_tag, is_version_tag, is_gedcom_tag, names_set, names_version, is_charset, is_version_value}
+use Rattle.gedcom_tree.specs.Forest.{Item, mark_tag, own_line, own_raw, part_line}
+use Rattle.gedcom_rules.specs.Continuing.{adds}
+use Rattle.gedcom_rules.specs.Judging.{continue_at, above_after, after}
 use Rattle.gedcom_tree.specs.Text.{IsNodeOf, is_called, is_charset_node, is_version_node}
-use Rattle.gedcom_tree.proofs.Cuts.{cases_bool}
-use Rattle.gedcom_tree.proofs.Unbroken.{Unbroken}
+use Rattle.gedcom_rules.proofs.Cuts.{cases_bool}
+use Rattle.gedcom_rules.proofs.Unbroken.{Unbroken}
 use Rattle.gedcom_tree.proofs.Numbered.{mark_continues}
 use Rattle.gedcom_tree.proofs.Alone.{charset_again, version_again}
 use Rattle.gedcom_tree.proofs.Roles.{own_role, charset_role, gedcom_role, version_role, continued_charset, continued_version}

@@ -10,13 +10,13 @@ use Rattle.gedcom_line.specs.Line.{IsPiece}
 use Rattle.gedcom_line.specs.Spelling.{spelling, xref_text, raw_text, IsLine}
 use Rattle.gedcom_line.proofs.Steps.{neither}
 use Rattle.gedcom_line.proofs.Again.{line_again, spelling_inner, inner_piece}
-use Rattle.gedcom_tree.specs.Pieces.{Pieces, pieces, skip_mark, file_pieces, all_pieces}
-use Rattle.gedcom_tree.specs.Rules.{Progress, progress_of, first_broken}
-use Rattle.gedcom_tree.specs.File.{max_line, Clean}
+use Rattle.gedcom_rules.specs.Pieces.{Pieces, pieces, skip_mark, file_pieces, all_pieces}
+use Rattle.gedcom_rules.specs.Rules.{Progress, progress_of, first_broken}
+use Rattle.gedcom_rules.specs.Faults.{max_line, Clean}
 use Rattle.gedcom_tree.specs.Forest.{Item, node_lines, lines_of}
-use Rattle.gedcom_tree.specs.Reading.{after}
+use Rattle.gedcom_rules.specs.Judging.{after}
 use Rattle.gedcom_tree.specs.Text.{line_text, trailer, node_text, text}
-use Rattle.gedcom_tree.proofs.Runs.{progress-push}
+use Rattle.gedcom_rules.proofs.Runs.{progress-push}
 
 -- each line is one of the grammar, not too long, and breaks no rule behind those before it
 abbrev pub Keeps : Progress → List Parts → Type 0

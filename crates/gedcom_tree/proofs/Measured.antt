@@ -20,8 +20,8 @@ use Rattle.gedcom_line.proofs.Steps.{both}
 use Rattle.gedcom_line.proofs.Again.{level_digits}
 use Rattle.gedcom_line.proofs.Counts.{char_count-append, char_count-cons, char_count-le-length, escaped_le_double}
 use Rattle.gedcom_line.proofs.Cuts.{greatest_gives}
-use Rattle.gedcom_tree.specs.File.{max_line}
-use Rattle.gedcom_tree.proofs.Cuts.{cases_bool}
+use Rattle.gedcom_rules.specs.Faults.{max_line}
+use Rattle.gedcom_rules.proofs.Cuts.{cases_bool}
 
 -- a character of UTF-8 has four bytes at most
 begins_bad : (b : ℕ) → (128 ≤ b → 192 ≤ b) → begins_char b ≡ false → ⊥

@@ -6,12 +6,12 @@ use Rattle.std.specs.Str.{bytes_eq}
 use Rattle.std.proofs.lemmas.Bool.{ltb-false, le-leb, cases_eq}
 use Rattle.std.proofs.lemmas.Slice.Eq.{bytes_eq-Decides}
 use Rattle.gedcom_line.specs.Reading.{Parts, is_continuation}
-use Rattle.gedcom_tree.specs.Rules.{Progress, Standing, has_name, is_continued, parent}
+use Rattle.gedcom_rules.specs.Rules.{Progress, Standing, has_name, is_continued, parent}
 use Rattle.gedcom_tree.specs.Forest.{forest_of}
-use Rattle.gedcom_tree.specs.Reading.{after}
+use Rattle.gedcom_rules.specs.Judging.{after}
 use Rattle.gedcom_tree.specs.Text.{rises, is_called, are_distinct}
-use Rattle.gedcom_tree.proofs.Cuts.{cases_bool}
-use Rattle.gedcom_tree.proofs.Unbroken.{Unbroken}
+use Rattle.gedcom_rules.proofs.Cuts.{cases_bool}
+use Rattle.gedcom_rules.proofs.Unbroken.{Unbroken}
 use Rattle.gedcom_tree.proofs.Fitting.{Fits, above_own, parent_at}
 
 -- behind a node of the level k and its continuations the last line is no deeper than the node, or a continuation below it

@@ -14,10 +14,11 @@ use Rattle.gedcom_line.proofs.Steps.{eqb_false}
 use Rattle.gedcom_line.proofs.Cuts.{joined-canonical}
 use Rattle.gedcom_line.proofs.Doubled.{unescaped-escaped}
 use Rattle.gedcom_line.proofs.Pointers.{escaped_no_pointer, pointer_is}
-use Rattle.gedcom_tree.specs.Rules.{is_trailer}
-use Rattle.gedcom_tree.specs.Forest.{Item, belongs, adds, IsValue, Reads, mark_tag, part_line, first_text, rest_parts, own_raw, more_parts, node_lines, lines_of}
+use Rattle.gedcom_rules.specs.Rules.{is_trailer}
+use Rattle.gedcom_tree.specs.Forest.{Item, IsValue, Reads, mark_tag, part_line, first_text, rest_parts, own_raw, more_parts, node_lines, lines_of}
+use Rattle.gedcom_rules.specs.Continuing.{belongs, adds}
 use Rattle.gedcom_tree.specs.Text.{IsNodeValue, EachNode, unnumbered, IsSame}
-use Rattle.gedcom_tree.proofs.Cuts.{cases_bool}
+use Rattle.gedcom_rules.proofs.Cuts.{cases_bool}
 
 -- the node with another number
 abbrev pub renumbered : ℕ → Item → Item

@@ -14,7 +14,7 @@ use Rattle.gedcom_line.proofs.Steps.{both}
 use Rattle.gedcom_line.proofs.Again.{inner_nil}
 use Rattle.gedcom_line.proofs.Counts.{char_count-le-length, char_count-nil}
 use Rattle.gedcom_line.proofs.Inner.{escaped_inner, canonical_inner}
-use Rattle.gedcom_tree.specs.File.{max_line}
+use Rattle.gedcom_rules.specs.Faults.{max_line}
 use Rattle.gedcom_tree.specs.Forest.{Item, mark_tag, part_line, first_text, rest_parts, own_raw, more_parts, own_line}
 use Rattle.gedcom_tree.specs.Text.{is_tag, IsNodeValue, IsNodeOf}
 use Rattle.gedcom_tree.proofs.Measured.{marked_length, line_fits, IsShort, canonical_short}

@@ -5,11 +5,13 @@ use Rattle.gedcom_line.specs.Reading.{Parts, is_continuation}
 use Rattle.gedcom_line.specs.Value.{meaning, IsPointer, pointer_in}
 use Rattle.gedcom_line.proofs.Steps.{both}
 use Rattle.gedcom_line.proofs.Pointers.{pointer_is, is_pointer, pointer_meant}
-use Rattle.gedcom_tree.specs.Rules.{Standing, standing, standing_at, is_trailer, progress_of}
-use Rattle.gedcom_tree.specs.File.{Clean, untrailed}
-use Rattle.gedcom_tree.specs.Forest.{belongs, IsValue, Reads, continued, node_of, forest_of}
-use Rattle.gedcom_tree.proofs.Cuts.{cases_bool}
-use Rattle.gedcom_tree.proofs.Unbroken.{unbroken}
+use Rattle.gedcom_rules.specs.Rules.{Standing, standing, standing_at, is_trailer, progress_of}
+use Rattle.gedcom_rules.specs.Faults.{Clean}
+use Rattle.gedcom_tree.specs.File.{untrailed}
+use Rattle.gedcom_rules.specs.Continuing.{belongs}
+use Rattle.gedcom_tree.specs.Forest.{IsValue, Reads, continued, node_of, forest_of}
+use Rattle.gedcom_rules.proofs.Cuts.{cases_bool}
+use Rattle.gedcom_rules.proofs.Unbroken.{unbroken}
 use Rattle.gedcom_tree.proofs.Joined.{belongs-push, belongs_other, belongs_past, above_deeper, standing_is, unbroken_continues}
 
 abbrev pub IsAlone : Parts → List Parts → Type 0

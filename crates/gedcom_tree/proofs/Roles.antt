@@ -3,8 +3,8 @@ use Rattle.std.proofs.Common.{◌≡◌, ℕ, true, false, List, refl, inl, inr,
 use Rattle.std.specs.Str.{bytes_eq}
 use Rattle.std.proofs.lemmas.Slice.Eq.{bytes_eq-Decides}
 use Rattle.gedcom_line.specs.Reading.{is_continuation}
-use Rattle.gedcom_tree.specs.Rules.{role_of, is_charset_tag, is_version_tag, is_gedcom_tag, is_continued}
-use Rattle.gedcom_tree.proofs.Cuts.{cases_bool}
+use Rattle.gedcom_rules.specs.Rules.{role_of, is_charset_tag, is_version_tag, is_gedcom_tag, is_continued}
+use Rattle.gedcom_rules.proofs.Cuts.{cases_bool}
 
 -- the tag is one of those that have a role, or none
 record Other (t : List ℕ) : Type 0 where

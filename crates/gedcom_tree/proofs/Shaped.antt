@@ -8,13 +8,15 @@ use Rattle.gedcom_line.specs.Reading.{Parts, is_continuation}
 use Rattle.gedcom_line.specs.Line.{IsContinuation}
 use Rattle.gedcom_line.specs.Spelling.{IsLine}
 use Rattle.gedcom_line.proofs.Steps.{both, eqb_no}
-use Rattle.gedcom_tree.specs.Rules.{Progress, is_head, is_trailer}
-use Rattle.gedcom_tree.specs.File.{Clean, untrailed, ReadsFile}
-use Rattle.gedcom_tree.specs.Forest.{Item, belongs, node_of, forest_of}
-use Rattle.gedcom_tree.specs.Reading.{start, after}
+use Rattle.gedcom_rules.specs.Rules.{Progress, is_head, is_trailer}
+use Rattle.gedcom_rules.specs.Faults.{Clean}
+use Rattle.gedcom_tree.specs.File.{untrailed, ReadsFile}
+use Rattle.gedcom_tree.specs.Forest.{Item, node_of, forest_of}
+use Rattle.gedcom_rules.specs.Continuing.{belongs}
+use Rattle.gedcom_rules.specs.Judging.{start, after}
 use Rattle.gedcom_tree.specs.Text.{is_tag, IsNodeOf, EachNode, IsForest}
-use Rattle.gedcom_tree.proofs.Cuts.{cases_bool}
-use Rattle.gedcom_tree.proofs.Unbroken.{unbroken}
+use Rattle.gedcom_rules.proofs.Cuts.{cases_bool}
+use Rattle.gedcom_rules.proofs.Unbroken.{unbroken}
 use Rattle.gedcom_tree.proofs.Trailed.{untrailed_cons}
 use Rattle.gedcom_tree.proofs.Computed.{reads_computed}
 use Rattle.gedcom_tree.proofs.Fitting.{Fit, Fits, clean_fits}

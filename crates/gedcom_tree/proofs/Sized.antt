@@ -5,11 +5,11 @@ use Rattle.std.proofs.lemmas.Bool.{ltb-true, ltb-false}
 use Rattle.gedcom_line.specs.Reading.{Parts, is_continuation}
 use Rattle.gedcom_line.specs.Escape.{unescaped}
 use Rattle.gedcom_line.proofs.Steps.{both}
-use Rattle.gedcom_tree.specs.Rules.{Progress, Standing, standing, max_text, parent}
-use Rattle.gedcom_tree.specs.Forest.{belongs, adds}
-use Rattle.gedcom_tree.specs.Reading.{after}
-use Rattle.gedcom_tree.proofs.Cuts.{cases_bool}
-use Rattle.gedcom_tree.proofs.Unbroken.{Unbroken}
+use Rattle.gedcom_rules.specs.Rules.{Progress, Standing, standing, max_text, parent}
+use Rattle.gedcom_rules.specs.Continuing.{belongs, adds}
+use Rattle.gedcom_rules.specs.Judging.{after}
+use Rattle.gedcom_rules.proofs.Cuts.{cases_bool}
+use Rattle.gedcom_rules.proofs.Unbroken.{Unbroken}
 use Rattle.gedcom_tree.proofs.Fitting.{Fit, Fits, above_own, above_deeper, above_kept, parent_at}
 
 pub unescaped_le : (t : List ℕ) → length (unescaped t) ≤ length t

@@ -4,16 +4,16 @@ use Rattle.std.proofs.lemmas.Bool.{cases_lt, lt-ltb}
 use Rattle.gedcom_line.specs.Words.{is_end}
 use Rattle.gedcom_line.specs.Line.{IsPiece}
 use Rattle.gedcom_line.proofs.Steps.{neither}
-use Rattle.gedcom_tree.specs.Pieces.{Pieces, pieces, onto_first, skip_mark, file_pieces}
-use Rattle.gedcom_tree.specs.Rules.{Progress}
-use Rattle.gedcom_tree.specs.declared.fault.TreeKind.TheVariants.{TooLong}
-use Rattle.gedcom_tree.specs.File.{max_line, max_file, Fault, overflows, within, extra, Decides, FaultOf}
-use Rattle.gedcom_tree.specs.Reading.{start, run, fault_behind, open_fault, decided}
-use Rattle.gedcom_tree.proofs.Cuts.{cases_bool, pieces_whole}
-use Rattle.gedcom_tree.proofs.Judged.{judge_long}
-use Rattle.gedcom_tree.proofs.Runs.{run-append, run_err, run_nil}
-use Rattle.gedcom_tree.proofs.Limits.{within_small, extra_small, within-append, front_same, extra_same}
-use Rattle.gedcom_tree.proofs.Marks.{resumed, file_pieces-append, long_resumed}
+use Rattle.gedcom_rules.specs.Pieces.{Pieces, pieces, onto_first, skip_mark, file_pieces}
+use Rattle.gedcom_rules.specs.Rules.{Progress}
+use Rattle.gedcom_rules.specs.declared.fault.TreeKind.TheVariants.{TooLong}
+use Rattle.gedcom_rules.specs.Faults.{max_line, max_file, Fault, overflows, within, extra, Decides, FaultOf}
+use Rattle.gedcom_rules.specs.Judging.{start, run, fault_behind, open_fault, decided}
+use Rattle.gedcom_rules.proofs.Cuts.{cases_bool, pieces_whole}
+use Rattle.gedcom_rules.proofs.Judged.{judge_long}
+use Rattle.gedcom_rules.proofs.Runs.{run-append, run_err, run_nil}
+use Rattle.gedcom_rules.proofs.Limits.{within_small, extra_small, within-append, front_same, extra_same}
+use Rattle.gedcom_rules.proofs.Marks.{resumed, file_pieces-append, long_resumed}
 use Rattle.gedcom_tree.proofs.Ends.{decided_is, is_decided, decides_fault, no_overflow}
 
 -- the first piece is not shorter than this

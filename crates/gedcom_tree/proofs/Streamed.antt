@@ -1,13 +1,14 @@
 -- What is read of a front of a file that is one byte longer than a file may be is what the file is.
 use Rattle.std.proofs.Common.{◌≡◌, ℕ, suc, ◌≤◌, List, [], ◌∷◌, ◌++◌, length, take, refl, sym, ap, ◌∙◌, subst, inl, inr, ◌⊎◌, arith, Option, Some, None, Ok, Err, Result}
 use Rattle.std.specs.Prelude.{IfSome, IfOk, IfErr}
-use Rattle.gedcom_tree.specs.Views.{fault_view, outcome}
-use Rattle.gedcom_tree.specs.declared.fault.TreeFault.{TreeFault}
+use Rattle.gedcom_rules.specs.Views.{fault_view, outcome}
+use Rattle.gedcom_rules.specs.declared.fault.TreeFault.{TreeFault}
 use Rattle.std.specs.List.{flat_map}
 use Rattle.std.proofs.lemmas.List.{length-take, take_all}
-use Rattle.gedcom_tree.specs.declared.fault.TreeKind.TheVariants.{OutOfMemory, ReadFailed}
+use Rattle.gedcom_rules.specs.declared.fault.TreeKind.TheVariants.{OutOfMemory, ReadFailed}
 use Rattle.gedcom_tree.specs.Forest.{Item}
-use Rattle.gedcom_tree.specs.File.{max_file, Fault, IsLineless, Decides, FaultOf, ReadsFile}
+use Rattle.gedcom_rules.specs.Faults.{max_file, Fault, IsLineless, Decides, FaultOf}
+use Rattle.gedcom_tree.specs.File.{ReadsFile}
 use Rattle.gedcom_tree.specs.State.{Finishes}
 use Rattle.gedcom_tree.specs.Streams.{NotRead, ReadAs}
 use Rattle.std.proofs.lemmas.Bool.{le-leb}

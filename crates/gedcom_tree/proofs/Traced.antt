@@ -5,12 +5,13 @@ use Rattle.std.specs.Str.{bytes_eq}
 use Rattle.std.proofs.lemmas.Bool.{ltb-true, ltb-false, lt-ltb}
 use Rattle.gedcom_line.specs.Reading.{Parts}
 use Rattle.gedcom_line.proofs.Steps.{eqb_false}
-use Rattle.gedcom_tree.specs.declared.fault.TreeKind.{TreeKind}
-use Rattle.gedcom_tree.specs.Rules.{Progress, Standing, has_name}
-use Rattle.gedcom_tree.specs.File.{Fault}
-use Rattle.gedcom_tree.specs.Reading.{start, above_after, after, judge, advance, then_run, run, Trace, standing_in, table, progress_from, no_trace, name_on, trace_after, trace_advance, then_trace, trace_run, traced}
-use Rattle.gedcom_tree.proofs.Cuts.{cases_bool}
-use Rattle.gedcom_tree.proofs.Runs.{same_function}
+use Rattle.gedcom_rules.specs.declared.fault.TreeKind.{TreeKind}
+use Rattle.gedcom_rules.specs.Rules.{Progress, Standing, has_name}
+use Rattle.gedcom_rules.specs.Faults.{Fault}
+use Rattle.gedcom_rules.specs.Judging.{start, above_after, after, judge, advance, then_run, run}
+use Rattle.gedcom_tree.specs.Reading.{Trace, standing_in, table, progress_from, no_trace, name_on, trace_after, trace_advance, then_trace, trace_run, traced}
+use Rattle.gedcom_rules.proofs.Cuts.{cases_bool}
+use Rattle.gedcom_rules.proofs.Runs.{same_function}
 
 table_in : (f : ℕ → Option Standing) (n k : ℕ) → k < n → standing_in (table f n) k ≡ f k
 table_in f zero k h = absurd (omega arith)

@@ -4,9 +4,9 @@ use Rattle.std.specs.List.{list_any, prefix_len}
 use Rattle.std.proofs.Math.Numerals.{one-add}
 use Rattle.gedcom_line.specs.Reading.{Parts}
 use Rattle.gedcom_line.proofs.Steps.{neither}
-use Rattle.gedcom_tree.specs.Rules.{is_trailer}
+use Rattle.gedcom_rules.specs.Rules.{is_trailer}
 use Rattle.gedcom_tree.specs.File.{untrailed}
-use Rattle.gedcom_tree.proofs.Cuts.{cases_bool}
+use Rattle.gedcom_rules.proofs.Cuts.{cases_bool}
 
 pub untrailed_cons : (l : Parts) (ls : List Parts) → is_trailer l ≡ false → untrailed (l ∷ ls) ≡ l ∷ untrailed ls
 untrailed_cons l ls h = rw (h, one-add (prefix_len (λ m. not (is_trailer m)) ls)) refl

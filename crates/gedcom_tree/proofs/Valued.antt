@@ -18,11 +18,12 @@ use Rattle.gedcom_line.specs.Value.{Text, Pointer, meaning, IsPointer, pointer_i
 use Rattle.gedcom_line.proofs.Steps.{both, eqb_false}
 use Rattle.gedcom_line.proofs.Doubled.{unescaped_at, unescaped_skip}
 use Rattle.gedcom_line.proofs.Pointers.{is_pointer}
-use Rattle.gedcom_tree.specs.Rules.{Progress}
-use Rattle.gedcom_tree.specs.Forest.{belongs, adds, continued}
-use Rattle.gedcom_tree.specs.Reading.{after}
+use Rattle.gedcom_rules.specs.Rules.{Progress}
+use Rattle.gedcom_rules.specs.Continuing.{belongs, adds}
+use Rattle.gedcom_tree.specs.Forest.{continued}
+use Rattle.gedcom_rules.specs.Judging.{after}
 use Rattle.gedcom_tree.specs.Text.{IsNodeValue}
-use Rattle.gedcom_tree.proofs.Cuts.{cases_bool}
+use Rattle.gedcom_rules.proofs.Cuts.{cases_bool}
 use Rattle.gedcom_tree.proofs.Fitting.{Fit, Fits}
 use Rattle.gedcom_tree.proofs.Sized.{text_le}
 

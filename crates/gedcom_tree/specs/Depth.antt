@@ -1,11 +1,7 @@
--- How many lines and nodes stand open behind lines: one of each level down to that of the last one.
+-- How many nodes stand open behind lines: one of each level down to that of the last one.
 use Rattle.std.specs.Prelude.{◌≡◌, ℕ, ◌+◌, ◌==◌, false, if◌then◌else◌}
 use Rattle.std.specs.Option.{option_map_or}
-use Rattle.gedcom_tree.specs.Rules.{Progress, is_continued}
-
--- so many lines
-abbrev pub depth : Progress → ℕ
-depth p = if p.count == 0 then 0 else p.last + 1
+use Rattle.gedcom_rules.specs.Rules.{Progress, is_continued}
 
 -- so many nodes: a continuation is none
 abbrev pub node_depth : Progress → ℕ

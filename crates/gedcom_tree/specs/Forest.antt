@@ -2,13 +2,13 @@
 -- CONC and CONT).
 use Rattle.std.specs.Prelude.{◌≡◌, ◌⊎◌, ℕ, ◌+◌, true, false, ◌&&◌, ◌==◌, nat_lt, if◌then◌else◌, List, [], ◌∷◌, ◌++◌, map, Option, None, codes}
 use Rattle.std.specs.List.{flat_map, list_all}
-use Rattle.std.specs.Str.{bytes_eq}
 use Rattle.gedcom_line.specs.Reading.{Parts, is_continuation}
 use Rattle.gedcom_line.specs.Escape.{escaped, unescaped}
 use Rattle.gedcom_line.specs.Value.{Meaning, Text, Pointer, meaning, IsPointer}
 use Rattle.gedcom_line.specs.Split.{Part, canonical}
 use Rattle.gedcom_line.specs.declared.splitting.Mark.{Mark}
 use Rattle.gedcom_line.specs.declared.splitting.Mark.TheVariants.{Conc, Cont}
+use Rattle.gedcom_rules.specs.Continuing.{belongs, adds}
 
 -- a node of a forest, with the number of its line and its depth; a forest is the list of its nodes in order
 pub record Item : Type 0 where
@@ -17,18 +17,6 @@ pub record Item : Type 0 where
   pub xref : Option (List ℕ)
   pub tag : List ℕ
   pub value : Meaning
-
--- Among the lines behind a line of the level, those that continue it: CONC and CONT one level below, up to the next line
--- that is not deeper.
-abbrev pub belongs : ℕ → List Parts → List Parts
-belongs level [] = []
-belongs level (l ∷ ls) =
-    if nat_lt level l.level
-    then (if is_continuation l.tag && l.level == level + 1 then l ∷ belongs level ls else belongs level ls) else []
-
--- what a continuation adds to a text: CONT a line break, CONC nothing, and then its value
-abbrev pub adds : Parts → List ℕ
-adds l = (if bytes_eq l.tag (codes "CONT") then 10 ∷ [] else []) ++ unescaped l.raw
 
 -- a text is that of its line and of the lines that continue it, each unescaped by itself; a pointer is not continued
 abbrev pub IsValue : List ℕ → List Parts → Meaning → Type 0

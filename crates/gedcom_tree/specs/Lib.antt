@@ -1,14 +1,9 @@
-pub mod Pieces
 pub mod Forest
-pub mod Refusals
-pub mod Rules
 pub mod File
 pub mod Reading
 pub mod Views
 pub mod State
 pub mod Flat
-pub mod Devices
-pub mod Counts
 pub mod Depth
 pub mod Text
 pub mod Streams

@@ -1,9 +1,10 @@
 -- A reader of a file in pieces: what it owes for the bytes that it has been fed.
 use Rattle.std.specs.Prelude.{◌≡◌, ◌⊎◌, List, ℕ, Option, Some, None, Result, Ok, Err}
-use Rattle.gedcom_tree.specs.File.{Fault, IsLineless, Decides, FaultOf, ReadsFile}
+use Rattle.gedcom_rules.specs.Faults.{Fault, IsLineless, Decides, FaultOf}
+use Rattle.gedcom_tree.specs.File.{ReadsFile}
 use Rattle.gedcom_tree.specs.Forest.{Item}
 use Rattle.gedcom_tree.specs.Reading.{Reader, reader_of}
-use Rattle.gedcom_tree.specs.declared.fault.TreeKind.TheVariants.{OutOfMemory}
+use Rattle.gedcom_rules.specs.declared.fault.TreeKind.TheVariants.{OutOfMemory}
 
 -- the reader has been fed these bytes, and has answered no fault
 abbrev pub Holds : Reader → List ℕ → Type 0

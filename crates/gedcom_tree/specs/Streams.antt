@@ -1,12 +1,13 @@
 -- What is said of files that come from a reader and go to a writer.
 use Rattle.std.specs.Prelude.{◌≡◌, ◌⊎◌, ℕ, List, ◌++◌, Option, IfSome, Result, Ok, Err}
 use Rattle.std.specs.Io.KnownBytes.{Appends}
-use Rattle.gedcom_tree.specs.declared.fault.TreeKind.{TreeKind}
-use Rattle.gedcom_tree.specs.declared.fault.TreeKind.TheVariants.{OutOfMemory, ReadFailed, WriteFailed}
-use Rattle.gedcom_tree.specs.File.{Fault, IsLineless, FaultOf, ReadsFile}
+use Rattle.gedcom_rules.specs.declared.fault.TreeKind.{TreeKind}
+use Rattle.gedcom_rules.specs.declared.fault.TreeKind.TheVariants.{OutOfMemory, ReadFailed, WriteFailed}
+use Rattle.gedcom_rules.specs.Faults.{Fault, IsLineless, FaultOf}
+use Rattle.gedcom_tree.specs.File.{ReadsFile}
 use Rattle.gedcom_tree.specs.Forest.{Item}
 use Rattle.gedcom_tree.specs.Text.{IsForest, text}
-use Rattle.gedcom_tree.specs.Devices.{AppendsBeginning}
+use Rattle.devices.specs.Devices.{AppendsBeginning}
 
 -- the writer has got a front of the bytes, and the rest is kept in the buffer
 pub record Handed (old new : Option (List ℕ)) (bytes rest : List ℕ) : Type 0 where

@@ -8,9 +8,9 @@ use Rattle.gedcom_line.specs.Reading.{Parts, is_continuation}
 use Rattle.gedcom_line.specs.Spelling.{spelling, IsXref, is_textual}
 use Rattle.gedcom_line.specs.Value.{Meaning, Text, Pointer}
 use Rattle.gedcom_line.specs.Split.{char_count}
-use Rattle.gedcom_tree.specs.Pieces.{all_pieces}
+use Rattle.gedcom_rules.specs.Pieces.{all_pieces}
 use Rattle.gedcom_tree.specs.Forest.{Item, node_lines}
-use Rattle.gedcom_tree.specs.Rules.{max_text, is_charset, is_version}
+use Rattle.gedcom_rules.specs.Rules.{max_text, is_charset, is_version}
 
 -- a line as it is written, with its LF
 abbrev pub line_text : Parts → List ℕ

@@ -2,7 +2,8 @@
 
 ghost use Rattle.std.specs.Prelude.{◌≡◌, ℕ, ◌<◌, ◌≤◌, ◌+◌, ◌-◌, ◌++◌, ◌∷◌, [], OnOk, IfOk, length};
 ghost use Rattle.gedcom_line.specs.Reading.{parts};
-ghost use Rattle.gedcom_tree.specs.Forest.{Item, adds, extended};
+ghost use Rattle.gedcom_tree.specs.Forest.{Item, extended};
+ghost use Rattle.gedcom_rules.specs.Continuing.{adds};
 ghost use Rattle.gedcom_tree.specs.Flat.{flat, flats, said, built};
 ghost use Rattle.gedcom_tree.specs.declared.node.Node.TheViews.{out-Node};
 

@@ -2,7 +2,8 @@
 
 ghost use Rattle.std.specs.Prelude.{◌≡◌, ◌⊎◌, ◌≤◌, ◌++◌, ℕ, List, length};
 ghost use Rattle.gedcom_tree.specs.Forest.{Item};
-ghost use Rattle.gedcom_tree.specs.File.{Fault, Decides, FaultOf, ReadsFile};
+ghost use Rattle.gedcom_rules.specs.Faults.{Fault, Decides, FaultOf};
+ghost use Rattle.gedcom_tree.specs.File.{ReadsFile};
 ghost use Rattle.gedcom_tree.specs.Text.{IsForest, IsSame, HasShortLines, text};
 
 /// A file reads as one forest at the most or has one fault, never both and never neither; and what a file

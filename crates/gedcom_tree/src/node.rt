@@ -3,7 +3,8 @@
 ghost use Rattle.std.specs.Prelude.{◌≡◌, false, [], IfOk, OnOk, option_map, string_bytes};
 ghost use Rattle.gedcom_line.specs.Reading.{is_continuation, parts};
 ghost use Rattle.gedcom_line.specs.Value.{meaning};
-ghost use Rattle.gedcom_tree.specs.Forest.{adds, continued, longer, node_of as node_of_line};
+ghost use Rattle.gedcom_rules.specs.Continuing.{adds};
+ghost use Rattle.gedcom_tree.specs.Forest.{continued, longer, node_of as node_of_line};
 ghost use Rattle.gedcom_tree.specs.Flat.{value_said, said};
 ghost use Rattle.gedcom_tree.specs.declared.node.Node.TheViews.{out-Node};
 

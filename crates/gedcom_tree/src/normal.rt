@@ -2,19 +2,18 @@
 
 ghost use Rattle.std.specs.Prelude.{◌≡◌, ◌⊎◌, take, IfOk, IfErr, OnOk, IfSome};
 ghost use Rattle.std.specs.Io.KnownBytes.{Keeps};
-ghost use Rattle.gedcom_tree.specs.File.{IsLineless, ReadsFile};
+ghost use Rattle.gedcom_rules.specs.Faults.{IsLineless};
+ghost use Rattle.gedcom_tree.specs.File.{ReadsFile};
 ghost use Rattle.gedcom_tree.specs.Text.{IsForest};
-ghost use Rattle.gedcom_tree.specs.Devices.{Rose};
+ghost use Rattle.devices.specs.Devices.{Rose};
 ghost use Rattle.gedcom_tree.specs.Streams.{NotRead, Normalised, Begun, ReadAs};
-ghost use Rattle.gedcom_tree.specs.Views.{fault_view, outcome};
+ghost use Rattle.gedcom_rules.specs.Views.{fault_view, outcome};
 
-use crate::device::Device;
-use crate::fault::{TreeFault, TreeKind};
 use crate::forest::Forest;
 use crate::reader::TreeReader;
-use crate::reading::MAX_FILE;
-use crate::transfer::{TransferError, read_up_to};
 use crate::writing::write_forest;
+use devices::{Device, TransferError, read_up_to};
+use gedcom_rules::{MAX_FILE, TreeFault, TreeKind};
 use std::alloc::Global;
 use std::io::{Read, Write};
 

@@ -1,102 +1,19 @@
 //! The reader of a file in pieces.
 
 ghost use Rattle.std.specs.Prelude.{◌≡◌, ◌⊎◌, ◌+◌, ◌<◌, ◌≤◌, ◌++◌, ℕ, List, [], Option, Some, None, Ok, Err, true, false, MatchResult, MatchOption, IfOk, IfErr, OnOk, length, option_map, ◌^◌};
-ghost use Rattle.gedcom_tree.specs.Pieces.{pieces, file_pieces};
+ghost use Rattle.gedcom_rules.specs.Pieces.{pieces, file_pieces};
 ghost use Rattle.gedcom_tree.specs.Flat.{flats};
-ghost use Rattle.gedcom_tree.specs.File.{extra, overflows as overflow_test, within};
-ghost use Rattle.gedcom_tree.specs.Reading.{run, start, decided, open_fault as fault_of_open};
-ghost use Rattle.gedcom_tree.specs.Rules.{Progress};
-ghost use Rattle.gedcom_tree.specs.Views.{HasRun, fault_view};
-ghost use Rattle.gedcom_tree.specs.File.{IsLineless};
+ghost use Rattle.gedcom_rules.specs.Faults.{extra, overflows as overflow_test, within};
+ghost use Rattle.gedcom_rules.specs.Judging.{run, start, decided, open_fault as fault_of_open};
+ghost use Rattle.gedcom_rules.specs.Rules.{Progress};
+ghost use Rattle.gedcom_rules.specs.Views.{HasRun, fault_view};
+ghost use Rattle.gedcom_rules.specs.Faults.{IsLineless};
 
-use crate::cutting::{cut, is_end, skip_mark};
-use crate::fault::{TreeFault, TreeKind};
 use crate::forest::Forest;
-use crate::judging::MAX_LINE;
-use crate::reading::{MAX_FILE, judge_piece, read_all};
-use crate::seen::Seen;
+use crate::reading::read_all;
+use gedcom_rules::{MAX_FILE, TreeFault, TreeKind, judge_bytes};
 use std::alloc::Global;
 use std::marker::Model;
-
-/// Judges each line that a terminator ends. At `Ok`, what the lines leave, and what follows them.
-fn judge_all(alloc: Global, bytes: &[u8]) -> Result<(u32, &[u8]), TreeFault>
-    requires { length bytes.now ≤ 67_108_864 }
-    ensures value { MatchResult result
-        (λ x. HasRun (run start (pieces bytes.now).ended) x.0)
-        (λ f. IsLineless TreeKind.OutOfMemory (fault_view f)
-        ⊎ (run start (pieces bytes.now).ended ≡ Err (fault_view f))) }
-    ensures open_ { IfOk result (λ x. (pieces bytes.now).open_ ≡ x.1.now) }
-    ensures count { IfOk result (λ x. x.0 ≤ length bytes.now) }
-{
-    let mut seen = Seen::new(alloc);
-    let mut rest = bytes;
-    while let Some((piece, after)) = cut(rest) {
-        match judge_piece(alloc, &mut seen, piece) {
-            Ok(_) => {}
-            Err(fault) => return Err(fault),
-        }
-        rest = after;
-    }
-    Ok((seen.count, rest))
-}
-
-/// Whether the line that has not ended is too long, or the next byte makes it so.
-fn overflows(rest: &[u8], next: Option<u8>) -> bool
-    ensures { result ≡ overflow_test rest.now next }
-{
-    let goes_on = match next {
-        Some(byte) => !is_end(byte),
-        None => false,
-    };
-    rest.len() > MAX_LINE || (rest.len() == MAX_LINE && goes_on)
-}
-
-/// What is decided where no piece that has ended is faulty, behind so many lines.
-fn open_fault(count: u32, rest: &[u8], next: Option<u8>) -> Option<TreeFault>
-    requires { count + 1 < 2 ^ 32 }
-    ensures { (p : Progress) → p.count ≡ count → option_map fault_view result ≡ fault_of_open rest.now next (Ok p) }
-{
-    let kind = if overflows(rest, next) {
-        TreeKind::TooLong
-    } else if next.is_some() {
-        TreeKind::FileTooLarge
-    } else {
-        return None;
-    };
-    Some(TreeFault {
-        kind,
-        at: Some(count + 1),
-    })
-}
-
-/// As many bytes as a file may have, and the byte behind them.
-fn limited(bytes: &[u8]) -> (&[u8], Option<u8>)
-    ensures front { result.0.now ≡ within bytes.now }
-    ensures next { result.1 ≡ extra bytes.now }
-    ensures small { length result.0.now ≤ 67_108_864 }
-{
-    if bytes.len() > MAX_FILE {
-        (&bytes[..MAX_FILE], Some(bytes[MAX_FILE]))
-    } else {
-        (bytes, None)
-    }
-}
-
-/// Judges the bytes: the fault that they decide, however they go on.
-#[tactic(auto, unfolding(crate::specs::Reading::decided))]
-fn judge_bytes(alloc: Global, bytes: &[u8]) -> Result<(), TreeFault>
-    ensures { MatchResult result (λ _. decided bytes.now ≡ None)
-        (λ f. IsLineless TreeKind.OutOfMemory (fault_view f) ⊎ (decided bytes.now ≡ Some (fault_view f))) }
-{
-    let (front, next) = limited(bytes);
-    match judge_all(alloc, skip_mark(front)) {
-        Ok((count, rest)) => match open_fault(count, rest, next) {
-            Some(fault) => Err(fault),
-            None => Ok(()),
-        },
-        Err(fault) => Err(fault),
-    }
-}
 
 /// Adds the piece to the bytes, and judges them all. Behind a fault the bytes are gone.
 fn add(alloc: Global, bytes: &mut Vec<u8>, piece: &[u8]) -> Result<(), TreeFault>
@@ -130,7 +47,7 @@ pub struct TreeReader {
 
 impl Model for TreeReader {
     ghost use Rattle.std.specs.Prelude.{◌≤◌, length, option_map};
-    ghost use Rattle.gedcom_tree.specs.Views.{fault_view};
+    ghost use Rattle.gedcom_rules.specs.Views.{fault_view};
     ghost use Rattle.gedcom_tree.specs.Reading.{Reader, reader_of};
 
     ghost Value = { Reader };
@@ -142,7 +59,7 @@ impl Model for TreeReader {
 
 impl TreeReader {
     ghost use Rattle.gedcom_tree.specs.State.{Holds, Takes, Finishes};
-    ghost use Rattle.gedcom_tree.specs.Views.{fault_of, outcome};
+    ghost use Rattle.gedcom_rules.specs.Views.{fault_of, outcome};
 
     /// A reader of nothing yet.
     pub fn new(alloc: Global) -> Self

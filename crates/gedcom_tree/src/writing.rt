@@ -9,16 +9,15 @@ ghost use Rattle.gedcom_line.specs.Split.{part};
 ghost use Rattle.gedcom_tree.specs.Forest.{part_line, mark_tag as tag_of_mark};
 ghost use Rattle.gedcom_tree.specs.Text.{line_text, node_text, text, trailer, IsLow};
 ghost use Rattle.gedcom_tree.specs.Flat.{flat, flats, said};
-ghost use Rattle.gedcom_tree.specs.Devices.{Rose, AppendsBeginning};
+ghost use Rattle.devices.specs.Devices.{Rose, AppendsBeginning};
 ghost use Rattle.gedcom_tree.specs.Streams.{Handed, NotWritten};
-ghost use Rattle.gedcom_tree.specs.Views.{fault_view};
+ghost use Rattle.gedcom_rules.specs.Views.{fault_view};
 
-use crate::device::Device;
-use crate::fault::{TreeFault, TreeKind};
 use crate::forest::Forest;
 use crate::node::{Node, NodeValue};
-use crate::transfer::{TransferError, write_bytes};
+use devices::{Device, TransferError, write_bytes};
 use gedcom_line::{Mark, TextPart, escape, split_text, write_line};
+use gedcom_rules::{TreeFault, TreeKind};
 use std::alloc::{AllocError, Global};
 use std::io::Write;
 

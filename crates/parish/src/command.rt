@@ -3,7 +3,7 @@
 ghost use Rattle.std.specs.Prelude.{◌≡◌, ◌≢◌, ◌≤◌, if◌then◌else◌, is_ok, OnOk, OnErr};
 ghost use Rattle.std.specs.Io.KnownBytes.{Appends};
 ghost use Rattle.std.specs.IoError.{error_kind};
-ghost use Rattle.gedcom_tree.specs.Devices.{AppendsBeginning};
+ghost use Rattle.devices.specs.Devices.{AppendsBeginning};
 ghost use Rattle.gedcom_tree.specs.Streams.{Normalised};
 ghost use Rattle.parish.specs.Ends.{Told, Unfinished, Untold};
 

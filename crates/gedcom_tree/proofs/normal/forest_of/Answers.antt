@@ -1,5 +1,5 @@
 use Rattle.std.proofs.Common.{[]}
-use Rattle.gedcom_tree.specs.Views.{fault_view}
+use Rattle.gedcom_rules.specs.Views.{fault_view}
 use Rattle.gedcom_tree.proofs.Streamed.{finishes_read, decides_read}
 use Rattle.gedcom_tree.proofs.normal.forest_of.Goals as goal
 

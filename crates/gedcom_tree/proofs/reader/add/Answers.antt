@@ -1,7 +1,7 @@
 use Rattle.std.proofs.Common.{◌≡◌, ◌-◌, ◌++◌, ℕ, List, length, min, take, arith, sym, ap, ◌∙◌, None}
-use Rattle.gedcom_tree.specs.Reading.{decided}
+use Rattle.gedcom_rules.specs.Judging.{decided}
 use Rattle.gedcom_tree.proofs.Fed.{added_decides, added_all}
-use Rattle.gedcom_tree.proofs.Walked.{or_err}
+use Rattle.gedcom_rules.proofs.Walks.{or_err}
 use Rattle.gedcom_tree.proofs.Ends.{decided_small}
 use Rattle.gedcom_tree.proofs.reader.add.Goals as goal
 

@@ -1,5 +1,5 @@
-use Rattle.std.proofs.Common.{◌≡◌, ◌∙◌, inr, subst, rules}
-use Rattle.gedcom_tree.specs.Devices.{AppendsBeginning}
+use Rattle.std.proofs.Common.{◌≡◌, inr, subst, rules}
+use Rattle.devices.specs.Devices.{AppendsBeginning}
 use Rattle.parish.specs.Ends.{count_text}
 use Rattle.parish.proofs.command.count_records.Goals as goal
 

@@ -1,6 +1,7 @@
 use Rattle.std.proofs.Common.{◌-◌, List, ℕ, arith, ap, refl, ◌∙◌}
 use Rattle.gedcom_line.specs.Reading.{parts}
-use Rattle.gedcom_tree.specs.Forest.{adds, extended}
+use Rattle.gedcom_rules.specs.Continuing.{adds}
+use Rattle.gedcom_tree.specs.Forest.{extended}
 use Rattle.gedcom_tree.specs.Flat.{built}
 use Rattle.gedcom_tree.specs.declared.node.Node.TheViews.{out-Node}
 use Rattle.gedcom_tree.proofs.Grown.{joined_rolled}

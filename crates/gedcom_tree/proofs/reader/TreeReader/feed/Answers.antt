@@ -1,5 +1,5 @@
 use Rattle.std.proofs.Common.{◌∙◌, refl}
-use Rattle.gedcom_tree.specs.Views.{fault_view}
+use Rattle.gedcom_rules.specs.Views.{fault_view}
 use Rattle.gedcom_tree.proofs.Fed.{failed_holds, fed_ok, fed_fault}
 use Rattle.gedcom_tree.proofs.reader.TreeReader.feed.Goals as goal
 

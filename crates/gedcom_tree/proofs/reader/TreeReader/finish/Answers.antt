@@ -1,5 +1,5 @@
 use Rattle.std.proofs.Common.{◌∙◌, Ok}
-use Rattle.gedcom_tree.specs.Views.{fault_view}
+use Rattle.gedcom_rules.specs.Views.{fault_view}
 use Rattle.gedcom_tree.specs.Flat.{flats}
 use Rattle.gedcom_tree.proofs.Fed.{failed_holds, kept_forest, kept_finishes, kept_fault}
 use Rattle.gedcom_tree.proofs.reader.TreeReader.finish.Goals as goal

@@ -1,0 +1,10 @@
+pub mod Cuts
+pub mod Sizes
+pub mod Marks
+pub mod Judged
+pub mod Runs
+pub mod Limits
+pub mod Unbroken
+pub mod Standings
+pub mod Levels
+pub mod Walks

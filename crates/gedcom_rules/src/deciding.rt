@@ -1,0 +1,117 @@
+//! What the bytes of a file so far decide.
+
+ghost use Rattle.std.specs.Prelude.{◌≡◌, true, false, ◌⊎◌, ◌+◌, ◌<◌, ◌≤◌, Option, Some, None, Ok, Err, MatchResult, IfOk, length, option_map, ◌^◌};
+ghost use Rattle.gedcom_rules.specs.Pieces.{pieces};
+ghost use Rattle.gedcom_rules.specs.Faults.{IsLineless, extra, overflows as overflow_test, within};
+ghost use Rattle.gedcom_rules.specs.Judging.{run, start, decided, unended, open_fault as fault_of_open};
+ghost use Rattle.gedcom_rules.specs.Rules.{Progress};
+ghost use Rattle.gedcom_rules.specs.Views.{HasRun, fault_view, progress};
+
+use crate::cutting::{cut, is_end, skip_mark};
+use crate::fault::{TreeFault, TreeKind};
+use crate::judging::{MAX_LINE, judge_piece};
+use crate::seen::Seen;
+use std::alloc::Global;
+
+/// The most bytes of a file, a byte order mark counted.
+pub const MAX_FILE: usize = 67_108_864;
+
+/// Judges each line that a terminator ends. At `Ok`, what the lines leave, and what follows them.
+fn judge_all(alloc: Global, bytes: &[u8]) -> Result<(u32, &[u8]), TreeFault>
+    requires { length bytes.now ≤ 67_108_864 }
+    ensures value { MatchResult result
+        (λ x. HasRun (run start (pieces bytes.now).ended) x.0)
+        (λ f. IsLineless TreeKind.OutOfMemory (fault_view f)
+        ⊎ (run start (pieces bytes.now).ended ≡ Err (fault_view f))) }
+    ensures open_ { IfOk result (λ x. (pieces bytes.now).open_ ≡ x.1.now) }
+    ensures count { IfOk result (λ x. x.0 ≤ length bytes.now) }
+{
+    let mut seen = Seen::new(alloc);
+    let mut rest = bytes;
+    while let Some((piece, after)) = cut(rest) {
+        match judge_piece(alloc, &mut seen, piece) {
+            Ok(_) => {}
+            Err(fault) => return Err(fault),
+        }
+        rest = after;
+    }
+    Ok((seen.count, rest))
+}
+
+/// Whether the line that has not ended is too long, or the next byte makes it so.
+fn overflows(rest: &[u8], next: Option<u8>) -> bool
+    ensures { result ≡ overflow_test rest.now next }
+{
+    let goes_on = match next {
+        Some(byte) => !is_end(byte),
+        None => false,
+    };
+    rest.len() > MAX_LINE || (rest.len() == MAX_LINE && goes_on)
+}
+
+/// What is decided where no piece that has ended is faulty, behind so many lines.
+fn open_fault(count: u32, rest: &[u8], next: Option<u8>) -> Option<TreeFault>
+    requires { count + 1 < 2 ^ 32 }
+    ensures { (p : Progress) → p.count ≡ count → option_map fault_view result ≡ fault_of_open rest.now next (Ok p) }
+{
+    let kind = if overflows(rest, next) {
+        TreeKind::TooLong
+    } else if next.is_some() {
+        TreeKind::FileTooLarge
+    } else {
+        return None;
+    };
+    Some(TreeFault {
+        kind,
+        at: Some(count + 1),
+    })
+}
+
+/// As many bytes as a file may have, and the byte behind them.
+fn limited(bytes: &[u8]) -> (&[u8], Option<u8>)
+    ensures front { result.0.now ≡ within bytes.now }
+    ensures next { result.1 ≡ extra bytes.now }
+    ensures small { length result.0.now ≤ 67_108_864 }
+{
+    if bytes.len() > MAX_FILE {
+        (&bytes[..MAX_FILE], Some(bytes[MAX_FILE]))
+    } else {
+        (bytes, None)
+    }
+}
+
+/// Judges the bytes: the fault that they decide, however they go on.
+#[tactic(auto, unfolding(crate::specs::Judging::decided))]
+pub fn judge_bytes(alloc: Global, bytes: &[u8]) -> Result<(), TreeFault>
+    ensures { MatchResult result (λ _. decided bytes.now ≡ None)
+        (λ f. IsLineless TreeKind.OutOfMemory (fault_view f) ⊎ (decided bytes.now ≡ Some (fault_view f))) }
+{
+    let (front, next) = limited(bytes);
+    match judge_all(alloc, skip_mark(front)) {
+        Ok((count, rest)) => match open_fault(count, rest, next) {
+            Some(fault) => Err(fault),
+            None => Ok(()),
+        },
+        Err(fault) => Err(fault),
+    }
+}
+
+/// The end of the input behind the lines so far: the trailer stands, or it is missing.
+pub fn judge_end(seen: &Seen) -> Result<(), TreeFault>
+    requires { (progress seen.now).count + 1 < 2 ^ 32 }
+    ensures { MatchResult result (λ _. (progress seen.now).done ≡ true)
+        (λ f. ((progress seen.now).done ≡ false) × (fault_view f ≡ unended (progress seen.now))) }
+{
+    if seen.is_done {
+        return Ok(());
+    }
+    let kind = if seen.count == 0 {
+        TreeKind::NoHead
+    } else {
+        TreeKind::NoTrailer
+    };
+    Err(TreeFault {
+        kind,
+        at: Some(seen.count + 1),
+    })
+}

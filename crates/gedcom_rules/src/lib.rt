@@ -1,0 +1,23 @@
+//! The rules of a GEDCOM file, judged one line after another: what lines leave for the next one, and which
+//! rule it breaks first.
+//!
+//! It stands on `gedcom_line`, of which it uses the reading of a line.
+//!
+//! Callers may rely on: each line is judged by the lines before it alone; the first faulty line decides; what
+//! the bytes so far decide they decide however they go on. Tags have no meaning here, but for HEAD, TRLR,
+//! CONC, CONT and the lines of the header that name the character set and the version.
+#![tactic(auto)]
+
+mod cutting;
+mod deciding;
+mod fault;
+mod header;
+mod judging;
+mod seen;
+mod standing;
+
+pub use cutting::{cut, skip_mark};
+pub use deciding::{MAX_FILE, judge_bytes, judge_end};
+pub use fault::{TreeFault, TreeKind};
+pub use judging::judge_piece;
+pub use seen::{Seen, is_continuation, is_trailer};
