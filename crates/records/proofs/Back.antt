@@ -1,17 +1,13 @@
 -- What is read from the tree that a record is kept as is that record.
 use Rattle.std.specs.Prelude.{ℕ, List, [], ◌∷◌, ◌++◌, ◌≡◌, ◌≢◌, map, Option, Some, None, true, false, cond, bytes_eq, refl, option_map, MatchOption, Bool}
 use Rattle.std.proofs.Common.{ap, sym, ◌∙◌}
-use Rattle.records.specs.Tree.{Tree, forest_of, list_of, flat, relabel}
-use Rattle.records.specs.Line.{Line, Label, Lines, Branches, label_for, label_of}
+use Rattle.stored_lines.specs.Tree.{Tree, forest_of, list_of, flat, relabel}
+use Rattle.stored_lines.specs.Line.{Label, Lines, Branches, label_of, line_of}
 use Rattle.records.specs.Model as model
 use Rattle.records.specs.Stored.{word, branch, lines_below, text_trees, quality_word, sex_word, partnership_word, place_tree, repo_tree, holding_tree, source_tree, citation_tree, name_tree, person_tree, partner_tree, child_tree, family_tree, record_tree, stored}
-use Rattle.records.specs.Reading.{under, first, text_at, number_at, below_all, line_of, lines_from, text_from, quality_from, sex_from, partnership_from, place_from, repo_from, holding_from, source_from, citation_from, name_from, person_from, partner_from, child_from, family_from, record_from}
-use Rattle.records.specs.Growing.{grown, sole}
-use Rattle.records.proofs.Growing.{grown_tree}
-use Rattle.records.proofs.Relabel.{map-relabel-back}
+use Rattle.records.specs.Reading.{under, first, text_at, number_at, below_all, lines_from, text_from, quality_from, sex_from, partnership_from, place_from, repo_from, holding_from, source_from, citation_from, name_from, person_from, partner_from, child_from, family_from, record_from}
+use Rattle.stored_lines.proofs.Back.{list_of_forest_of, lines_back, flat_one}
 use Rattle.records.proofs.Segments.{IsOf, Segment, laid, chosen, under-one}
-use Rattle.records.specs.declared.carried.Value.{Value}
-use Rattle.records.specs.declared.carried.Value.TheVariants as value
 use Rattle.records.specs.declared.words.Quality.{Quality}
 use Rattle.records.specs.declared.words.Quality.TheVariants as quality
 use Rattle.records.specs.declared.words.Sex.{Sex}
@@ -22,10 +18,6 @@ use Rattle.records.specs.declared.field.Field.{Field}
 use Rattle.records.specs.declared.field.Field.TheVariants as field
 use Rattle.records.specs.declared.record.Record.{Record}
 use Rattle.records.specs.declared.record.Record.TheVariants as kind
-
-pub list_of_forest_of : {A : Type 0} (ts : List (Tree A)) → list_of (forest_of ts) ≡ ts
-list_of_forest_of [] = refl
-list_of_forest_of (t ∷ ts) = ap (λ us. t ∷ us) (list_of_forest_of ts)
 
 -- what a field has on the lines below a line, where these are segments
 field-of : (g : Field) (ss : List Segment) (ts : Branches) → chosen g ss ≡ ts ++ [] → under g (list_of (forest_of (laid ss))) ≡ ts
@@ -62,16 +54,9 @@ text-back : (f : Field) (t : Option (List ℕ)) → text_at (first (text_trees f
 text-back f None = refl
 text-back f (Some t) = refl
 
-value-back : (tag : List ℕ) (v : Value) → line_of (label_for tag v) ≡ record { tag = tag; value = v }
-value-back tag (value.Text t) = refl
-value-back tag (value.Ref n) = refl
-
-line-back : (l : Line) → line_of (label_of l) ≡ l
-line-back l = value-back l.tag l.value
-
 lines-back : (f : Field) (cs : Lines) → map (relabel line_of) (below_all (first (lines_below f cs))) ≡ cs
 lines-back f [] = refl
-lines-back f (c ∷ cs) = ap (map (relabel line_of)) (list_of_forest_of (map (relabel label_of) (c ∷ cs))) ∙ map-relabel-back label_of line_of line-back (c ∷ cs)
+lines-back f (c ∷ cs) = ap (map (relabel line_of)) (list_of_forest_of (map (relabel label_of) (c ∷ cs))) ∙ lines_back (c ∷ cs)
 
 quality-back : (q : Quality) → quality_from (quality_word q) ≡ q
 quality-back quality.Unreliable = refl
@@ -227,19 +212,12 @@ record_back (kind.Family f) = ap (λ x. Some (kind.Family x)) (family-back f)
 record_back (kind.Citation c) = ap (λ x. Some (kind.Citation x)) (citation-back c)
 
 -- so do its lines: no other record is kept as them
-module _ {A : Type 0} where
-  sole-tree : (t : Tree A) → sole (grown (flat 0 t)) ≡ Some t
-  sole-tree t = ap sole (grown_tree t)
-
-  pub flat-one : (t u : Tree A) → flat 0 t ≡ flat 0 u → t ≡ u
-  flat-one t u e = let same : Some t ≡ Some u = sym (sole-tree t) ∙ ap (λ (x : List (ℕ × A)). sole (grown x)) e ∙ sole-tree u in cc
-
 pub stored_one : (r s : Record) → stored r ≡ stored s → r ≡ s
-stored_one r s e = let same : Some r ≡ Some s = sym (record_back r) ∙ ap record_from (flat-one (record_tree r) (record_tree s) e) ∙ record_back s in cc
+stored_one r s e = let same : Some r ≡ Some s = sym (record_back r) ∙ ap record_from (flat_one (record_tree r) (record_tree s) e) ∙ record_back s in cc
 
 -- lines that are not those of the record that is read from their tree are those of no record
 found-one : (ls : List (ℕ × Label)) (t : Tree Label) (r : Record) → ls ≡ flat 0 t → ls ≡ stored r → record_from t ≡ Some r
-found-one ls t r e f = ap record_from (flat-one t (record_tree r) (sym e ∙ f)) ∙ record_back r
+found-one ls t r e f = ap record_from (flat_one t (record_tree r) (sym e ∙ f)) ∙ record_back r
 
 pub not_same : (ls : List (ℕ × Label)) (found : Option (Tree Label)) (t : Tree Label) (kept : Option Record) (x : Record) → MatchOption found ((u : Tree Label) → ls ≢ flat 0 u) (λ u. ls ≡ flat 0 u) → found ≡ Some t → kept ≡ record_from t → kept ≡ Some x → ls ≢ stored x → (r : Record) → ls ≢ stored r
 not_same ls None t kept x e is h k differs = absurd cc

@@ -1,5 +1,3 @@
 pub mod Back
 pub mod Fields
-pub mod Growing
-pub mod Relabel
 pub mod Segments

@@ -1,6 +1,6 @@
 -- The values of records, as contracts see them.
 use Rattle.std.specs.Prelude.{ℕ, List, Option}
-use Rattle.records.specs.Line.{Lines}
+use Rattle.stored_lines.specs.Line.{Lines}
 use Rattle.records.specs.declared.words.Quality.{Quality}
 use Rattle.records.specs.declared.words.Sex.{Sex}
 use Rattle.records.specs.declared.words.Partnership.{Partnership}

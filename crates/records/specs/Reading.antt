@@ -1,12 +1,10 @@
 -- What is read from a record's tree, each field by its word. No clause that callers see names these definitions.
 use Rattle.std.specs.Prelude.{ℕ, List, [], ◌∷◌, map, Option, Some, None, bytes_eq, if◌then◌else◌, option_map, codes}
 use Rattle.std.specs.List.{filter}
-use Rattle.records.specs.Tree.{Tree, label, children, list_of, relabel}
-use Rattle.records.specs.Line.{Line, Label, Lines, Branches}
+use Rattle.stored_lines.specs.Tree.{Tree, label, children, list_of, relabel}
+use Rattle.stored_lines.specs.Line.{Label, Lines, Branches, line_of}
 use Rattle.records.specs.Model as model
 use Rattle.records.specs.Stored.{word}
-use Rattle.records.specs.declared.carried.Value.{Value}
-use Rattle.records.specs.declared.carried.Value.TheVariants as value
 use Rattle.records.specs.declared.words.Quality.{Quality}
 use Rattle.records.specs.declared.words.Quality.TheVariants as quality
 use Rattle.records.specs.declared.words.Sex.{Sex}
@@ -60,15 +58,6 @@ number_at (Some t) = number_on t
 abbrev pub below_all : Option (Tree Label) → Branches
 below_all None = []
 below_all (Some t) = below t
-
--- a carried line from a stored one
-abbrev pub value_for : Option (List ℕ) → Option ℕ → Value
-value_for (Some t) n = value.Text t
-value_for None (Some n) = value.Ref n
-value_for None None = value.Text []
-
-abbrev pub line_of : Label → Line
-line_of l = record { tag = l.tag; value = value_for l.text l.target }
 
 abbrev pub lines_from : Field → Branches → Lines
 lines_from f ts = map (relabel line_of) (below_all (first (under f ts)))

@@ -2,8 +2,8 @@
 -- field stands on a line with a word of its own, and a line may have a text and the number of a record together. The
 -- carried lines of a part stand last, below one line. So nothing is escaped, and a carried line may have any tag.
 use Rattle.std.specs.Prelude.{ℕ, List, [], ◌∷◌, ◌++◌, map, codes, Option, Some, None, option_map}
-use Rattle.records.specs.Tree.{Tree, node, forest_of, flat, relabel}
-use Rattle.records.specs.Line.{Label, Lines, Branches, label_of}
+use Rattle.stored_lines.specs.Tree.{Tree, node, forest_of, flat, relabel}
+use Rattle.stored_lines.specs.Line.{Label, Lines, Branches, label_of}
 use Rattle.records.specs.Model as model
 use Rattle.records.specs.declared.words.Quality.{Quality}
 use Rattle.records.specs.declared.words.Quality.TheVariants as quality

@@ -1,10 +1,11 @@
 //! The words of kinds and fields on stored lines.
 
 ghost use Rattle.std.specs.Prelude.{◌≡◌, IfOk};
-ghost use Rattle.records.specs.Stored.{word};
+ghost use Rattle.records.specs.Stored.{word, branch as branch_of};
 
-use record_text::Tag;
+use record_text::{Tag, Text};
 use std::alloc::{AllocError, Global};
+use stored_lines::Branch;
 
 /// A kind or a field, as a stored line has it in place of a tag.
 #[derive(Clone, Copy)]
@@ -74,5 +75,22 @@ impl Field {
         ensures { IfOk result (λ t. t ≡ word self) }
     {
         Tag::of_word(alloc, self.as_str())
+    }
+    /// A line with the word, and those below it.
+    pub(crate) fn branch(
+        self,
+        alloc: Global,
+        text: Option<Text>,
+        target: Option<u32>,
+        below: Vec<Branch>,
+    ) -> Result<Branch, AllocError>
+        ensures { IfOk result (λ b. b ≡ branch_of self text target below.items) }
+    {
+        Ok(Branch {
+            tag: self.tag(alloc)?,
+            text,
+            target,
+            children: below,
+        })
     }
 }

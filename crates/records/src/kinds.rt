@@ -4,7 +4,6 @@ ghost use Rattle.std.specs.Prelude.{◌≡◌, IfOk};
 ghost use Rattle.records.specs.Stored.{record_tree};
 ghost use Rattle.records.specs.Reading.{record_from};
 
-use crate::branch::Branch;
 use crate::citation::Citation;
 use crate::family::Family;
 use crate::field::Field;
@@ -15,6 +14,7 @@ use crate::reading::has_word;
 use crate::record::Record;
 use crate::source::{Repo, Source};
 use std::alloc::{AllocError, Global};
+use stored_lines::Branch;
 
 /// The branch of a record.
 pub(crate) fn branch_of_record(alloc: Global, record: &Record) -> Result<Branch, AllocError>

@@ -1,15 +1,13 @@
 //! The vocabulary of the archive: what a record is, and how it is kept as lines. Places, repositories,
 //! sources, persons, families and citations stand so far. Texts, tags, refusals and names are those of
-//! `record_text`, and are handed on from here.
+//! `record_text`, carried and stored lines those of `stored_lines`; both are handed on from here.
 //!
-//! It stands on `record_text` alone.
+//! It stands on `stored_lines` and `record_text` alone.
 //!
 //! Callers may rely on: what a record cannot be stands in its types; `record_of` gives back the record whose
 //! lines `lines_of` gave, and refuses the lines of no record.
 #![tactic(auto)]
 
-mod branch;
-mod carried;
 mod citation;
 mod family;
 mod field;
@@ -24,11 +22,9 @@ mod reading;
 mod record;
 mod source;
 mod source_parts;
-mod stored;
 mod words;
 mod writing;
 
-pub use carried::{Carried, Value};
 pub use citation::Citation;
 pub use family::{Child, Family, Partner};
 pub use keeping::{lines_of, record_of};
@@ -39,7 +35,7 @@ pub use record_text::{
     Refusal, RefusalKind, RefusalText, Tag, Text, Unit, display, surname, surname_key,
 };
 pub use source::{Holding, Repo, Source};
-pub use stored::StoredLine;
+pub use stored_lines::{Carried, StoredLine, Value};
 pub use words::{Partnership, Quality, Sex};
 
 #[cfg(test)]

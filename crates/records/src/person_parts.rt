@@ -4,7 +4,6 @@ ghost use Rattle.std.specs.Prelude.{◌≡◌, IfOk, Some, option_map};
 ghost use Rattle.records.specs.Stored.{name_tree, person_tree, partner_tree, child_tree, family_tree, sex_word, partnership_word};
 ghost use Rattle.records.specs.Reading.{name_from, person_from, partner_from, child_from, family_from, sex_from, partnership_from, text_or_empty};
 
-use crate::branch::Branch;
 use crate::family::{Child, Family, Partner};
 use crate::field::Field;
 use crate::part::{Part, parts_at, push_parts};
@@ -14,6 +13,7 @@ use crate::words::{Partnership, Sex};
 use crate::writing::{push_lines, push_text};
 use record_text::Text;
 use std::alloc::{AllocError, Global};
+use stored_lines::Branch;
 
 impl Part for Name {
     ghost kept_as = { name_tree };
@@ -24,7 +24,7 @@ impl Part for Name {
         let mut below = Vec::new(alloc);
         push_lines(alloc, &mut below, Field::Carried, &self.carried)?;
         let text = Some(self.text.copy(alloc)?);
-        Branch::new(alloc, Field::Name, text, None, below)
+        Field::Name.branch(alloc, text, None, below)
     }
 
     fn read(alloc: Global, branch: &Branch) -> Result<Name, AllocError> {
@@ -46,7 +46,7 @@ impl Part for Person {
         push_parts(alloc, &mut below, &self.names)?;
         push_text(alloc, &mut below, Field::Sex, sex_text(alloc, self.sex)?)?;
         push_lines(alloc, &mut below, Field::Carried, &self.carried)?;
-        Branch::new(alloc, Field::Person, None, None, below)
+        Field::Person.branch(alloc, None, None, below)
     }
 
     fn read(alloc: Global, branch: &Branch) -> Result<Person, AllocError> {
@@ -69,7 +69,7 @@ impl Part for Partner {
         push_lines(alloc, &mut below, Field::Side, &self.carried_by_person)?;
         push_lines(alloc, &mut below, Field::Carried, &self.carried)?;
         let text = partnership_text(alloc, self.partnership)?;
-        Branch::new(alloc, Field::Partner, text, Some(self.person), below)
+        Field::Partner.branch(alloc, text, Some(self.person), below)
     }
 
     fn read(alloc: Global, branch: &Branch) -> Result<Partner, AllocError> {
@@ -92,7 +92,7 @@ impl Part for Child {
         let mut below = Vec::new(alloc);
         push_lines(alloc, &mut below, Field::Side, &self.carried_by_person)?;
         push_lines(alloc, &mut below, Field::Carried, &self.carried)?;
-        Branch::new(alloc, Field::Child, None, Some(self.person), below)
+        Field::Child.branch(alloc, None, Some(self.person), below)
     }
 
     fn read(alloc: Global, branch: &Branch) -> Result<Child, AllocError> {
@@ -115,7 +115,7 @@ impl Part for Family {
         push_parts(alloc, &mut below, &self.partners)?;
         push_parts(alloc, &mut below, &self.children)?;
         push_lines(alloc, &mut below, Field::Carried, &self.carried)?;
-        Branch::new(alloc, Field::Family, None, None, below)
+        Field::Family.branch(alloc, None, None, below)
     }
 
     fn read(alloc: Global, branch: &Branch) -> Result<Family, AllocError> {
