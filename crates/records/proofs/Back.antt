@@ -4,9 +4,10 @@ use Rattle.std.proofs.Common.{ap, sym, ◌∙◌}
 use Rattle.stored_lines.specs.Tree.{Tree, forest_of, list_of, flat, relabel}
 use Rattle.stored_lines.specs.Line.{Label, Lines, Branches, label_of, line_of}
 use Rattle.records.specs.Model as model
-use Rattle.records.specs.Stored.{word, branch, lines_below, text_trees, quality_word, sex_word, partnership_word, place_tree, repo_tree, holding_tree, source_tree, citation_tree, name_tree, person_tree, partner_tree, child_tree, family_tree, record_tree, stored}
-use Rattle.records.specs.Reading.{under, first, text_at, number_at, below_all, lines_from, text_from, quality_from, sex_from, partnership_from, place_from, repo_from, holding_from, source_from, citation_from, name_from, person_from, partner_from, child_from, family_from, record_from}
+use Rattle.records.specs.Stored.{word, branch, lines_below, text_trees, quality_word, sex_word, partnership_word, place_tree, repo_tree, holding_tree, source_tree, citation_tree, name_tree, person_tree, partner_tree, child_tree, family_tree, date_text, when_trees, participant_tree, event_tree, record_tree, stored}
+use Rattle.records.specs.Reading.{under, first, text_at, number_at, below_all, lines_from, text_from, quality_from, sex_from, partnership_from, place_from, repo_from, holding_from, source_from, citation_from, name_from, person_from, partner_from, child_from, family_from, date_from, event_place_from, participant_from, event_from, record_from}
 use Rattle.stored_lines.proofs.Back.{list_of_forest_of, lines_back, flat_one}
+use Rattle.records.proofs.Dated.{date_back}
 use Rattle.records.proofs.Segments.{IsOf, Segment, laid, chosen, under-one}
 use Rattle.records.specs.declared.words.Quality.{Quality}
 use Rattle.records.specs.declared.words.Quality.TheVariants as quality
@@ -202,6 +203,46 @@ family-back f =
       carried = lines-field field.Carried ss f.carried refl i;
     }
 
+-- a date and a place on one line
+of-when : (t : Option (List ℕ)) (p : Option model.EventPlace) → IsOf field.Date (when_trees t p)
+of-when t None = of-text field.Date t
+of-when t (Some p) = of-one field.Date t (Some p.place) (lines_below field.Carried p.carried)
+
+when-text : (t : Option (List ℕ)) (p : Option model.EventPlace) → text_at (first (when_trees t p)) ≡ t
+when-text t None = text-back field.Date t
+when-text t (Some p) = refl
+
+when-place : (t : Option (List ℕ)) (p : Option model.EventPlace) → event_place_from (first (when_trees t p)) ≡ p
+when-place None None = refl
+when-place (Some t) None = refl
+when-place t (Some p) = λ i. Some (record { place = p.place; carried = lines-field field.Carried (carried-of p.carried ∷ []) p.carried refl i })
+
+participant-back : (p : model.Participant) → participant_from (participant_tree p) ≡ p
+participant-back p =
+    let ss = carried-of p.carried ∷ [] in
+    λ i. record { person = p.person; role = p.role; carried = lines-field field.Carried ss p.carried refl i }
+
+of-participants : (ps : List model.Participant) → IsOf field.Participant (map participant_tree ps)
+of-participants [] = of-none field.Participant
+of-participants (p ∷ ps) = of-more field.Participant (Some p.role) (Some p.person) (lines_below field.Carried p.carried) (map participant_tree ps) (of-participants ps)
+
+event-back : (e : model.Event) → event_from (event_tree e) ≡ e
+event-back e =
+    let date = option_map date_text e.date in
+    let when : Segment = record { field = field.Date; lines = when_trees date e.place; is_of = of-when date e.place } in
+    let participants : Segment = record { field = field.Participant; lines = map participant_tree e.participants; is_of = of-participants e.participants } in
+    let ss = when ∷ participants ∷ carried-of e.carried ∷ [] in
+    let line = field-of field.Date ss (when_trees date e.place) refl in
+    λ i. record {
+      owner = e.owner;
+      tag = e.tag;
+      value = e.value;
+      date = (ap (λ ts. date_from (text_at (first ts))) line ∙ ap date_from (when-text date e.place) ∙ date_back e.date) i;
+      place = (ap (λ ts. event_place_from (first ts)) line ∙ when-place date e.place) i;
+      participants = parts-field participant_tree participant_from participant-back field.Participant ss e.participants refl i;
+      carried = lines-field field.Carried ss e.carried refl i;
+    }
+
 -- a record's tree gives back the record
 pub record_back : (r : Record) → record_from (record_tree r) ≡ Some r
 record_back (kind.Place p) = ap (λ x. Some (kind.Place x)) (place-back p)
@@ -210,6 +251,7 @@ record_back (kind.Source s) = ap (λ x. Some (kind.Source x)) (source-back s)
 record_back (kind.Person p) = ap (λ x. Some (kind.Person x)) (person-back p)
 record_back (kind.Family f) = ap (λ x. Some (kind.Family x)) (family-back f)
 record_back (kind.Citation c) = ap (λ x. Some (kind.Citation x)) (citation-back c)
+record_back (kind.Event e) = ap (λ x. Some (kind.Event x)) (event-back e)
 
 -- so do its lines: no other record is kept as them
 pub stored_one : (r s : Record) → stored r ≡ stored s → r ≡ s

@@ -27,6 +27,9 @@ word_is_tag field.Name = record { some = lit< tt; short = lit< tt; words = refl 
 word_is_tag field.Sex = record { some = lit< tt; short = lit< tt; words = refl }
 word_is_tag field.Partner = record { some = lit< tt; short = lit< tt; words = refl }
 word_is_tag field.Child = record { some = lit< tt; short = lit< tt; words = refl }
+word_is_tag field.Event = record { some = lit< tt; short = lit< tt; words = refl }
+word_is_tag field.Date = record { some = lit< tt; short = lit< tt; words = refl }
+word_is_tag field.Participant = record { some = lit< tt; short = lit< tt; words = refl }
 word_is_tag field.Side = record { some = lit< tt; short = lit< tt; words = refl }
 word_is_tag field.Carried = record { some = lit< tt; short = lit< tt; words = refl }
 

@@ -1,3 +1,5 @@
 pub mod Back
+pub mod Dated
+pub mod Dates
 pub mod Fields
 pub mod Segments

@@ -1,6 +1,7 @@
 -- The values of records, as contracts see them.
 use Rattle.std.specs.Prelude.{ℕ, List, Option}
 use Rattle.stored_lines.specs.Line.{Lines}
+use Rattle.records.specs.declared.date.Date.{Date}
 use Rattle.records.specs.declared.words.Quality.{Quality}
 use Rattle.records.specs.declared.words.Sex.{Sex}
 use Rattle.records.specs.declared.words.Partnership.{Partnership}
@@ -66,4 +67,25 @@ pub record Child : Type 0 where
 pub record Family : Type 0 where
   pub partners : List Partner
   pub children : List Child
+  pub carried : Lines
+
+-- the place of an event, with the carried lines of the line that names it
+pub record EventPlace : Type 0 where
+  pub place : ℕ
+  pub carried : Lines
+
+-- who took part in an event
+pub record Participant : Type 0 where
+  pub person : ℕ
+  pub role : List ℕ
+  pub carried : Lines
+
+-- an event of a person or a family
+pub record Event : Type 0 where
+  pub owner : ℕ
+  pub tag : List ℕ
+  pub value : List ℕ
+  pub date : Option Date
+  pub place : Option EventPlace
+  pub participants : List Participant
   pub carried : Lines

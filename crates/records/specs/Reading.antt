@@ -5,6 +5,8 @@ use Rattle.stored_lines.specs.Tree.{Tree, label, children, list_of, relabel}
 use Rattle.stored_lines.specs.Line.{Label, Lines, Branches, line_of}
 use Rattle.records.specs.Model as model
 use Rattle.records.specs.Stored.{word}
+use Rattle.records.specs.Dated.{date_of}
+use Rattle.records.specs.declared.date.Date.{Date}
 use Rattle.records.specs.declared.words.Quality.{Quality}
 use Rattle.records.specs.declared.words.Quality.TheVariants as quality
 use Rattle.records.specs.declared.words.Sex.{Sex}
@@ -138,6 +140,43 @@ family_from t = record {
   carried = lines_from field.Carried (below t);
 }
 
+-- the date in canonical spelling, where the text is one
+abbrev pub date_from : Option (List ℕ) → Option Date
+date_from None = None
+date_from (Some text) = date_of text
+
+-- the place on the line of a date
+abbrev pub event_place_for : Option ℕ → Lines → Option model.EventPlace
+event_place_for None cs = None
+event_place_for (Some n) cs = Some (record { place = n; carried = cs })
+
+abbrev pub event_place_from : Option (Tree Label) → Option model.EventPlace
+event_place_from None = None
+event_place_from (Some t) = event_place_for (label t).target (lines_from field.Carried (below t))
+
+abbrev pub participant_from : Tree Label → model.Participant
+participant_from t = record { person = number_on t; role = text_on t; carried = lines_from field.Carried (below t) }
+
+-- the lines behind the first one
+abbrev pub rest : Branches → Branches
+rest [] = []
+rest (t ∷ ts) = ts
+
+abbrev pub tag_or_event : Option (Tree Label) → List ℕ
+tag_or_event None = word field.Event
+tag_or_event (Some t) = tag_of t
+
+abbrev pub event_from : Tree Label → model.Event
+event_from t = record {
+  owner = number_on t;
+  tag = tag_or_event (first (below t));
+  value = text_or_empty (text_at (first (below t)));
+  date = date_from (text_from field.Date (rest (below t)));
+  place = event_place_from (first (under field.Date (rest (below t))));
+  participants = map participant_from (under field.Participant (rest (below t)));
+  carried = lines_from field.Carried (rest (below t));
+}
+
 abbrev pub record_from : Tree Label → Option Record
 record_from t =
     if bytes_eq (tag_of t) (word field.Place) then Some (kind.Place (place_from t))
@@ -145,4 +184,5 @@ record_from t =
     else (if bytes_eq (tag_of t) (word field.Source) then Some (kind.Source (source_from t))
     else (if bytes_eq (tag_of t) (word field.Person) then Some (kind.Person (person_from t))
     else (if bytes_eq (tag_of t) (word field.Family) then Some (kind.Family (family_from t))
-    else (if bytes_eq (tag_of t) (word field.Citation) then Some (kind.Citation (citation_from t)) else None)))))
+    else (if bytes_eq (tag_of t) (word field.Citation) then Some (kind.Citation (citation_from t))
+    else (if bytes_eq (tag_of t) (word field.Event) then Some (kind.Event (event_from t)) else None))))))

@@ -5,6 +5,7 @@ use Rattle.std.specs.Prelude.{ℕ, List, [], ◌∷◌, ◌++◌, map, codes, Op
 use Rattle.stored_lines.specs.Tree.{Tree, node, forest_of, flat, relabel}
 use Rattle.stored_lines.specs.Line.{Label, Lines, Branches, label_of}
 use Rattle.records.specs.Model as model
+use Rattle.records.specs.declared.date.Date.{Date}
 use Rattle.records.specs.declared.words.Quality.{Quality}
 use Rattle.records.specs.declared.words.Quality.TheVariants as quality
 use Rattle.records.specs.declared.words.Sex.{Sex}
@@ -32,6 +33,9 @@ word field.Name = codes "name"
 word field.Sex = codes "sex"
 word field.Partner = codes "partner"
 word field.Child = codes "child"
+word field.Event = codes "event"
+word field.Date = codes "date"
+word field.Participant = codes "participant"
 word field.Side = codes "side"
 word field.Carried = codes "carried"
 
@@ -99,6 +103,26 @@ abbrev pub family_tree : model.Family → Tree Label
 family_tree f = branch field.Family None None (map partner_tree f.partners
     ++ (map child_tree f.children ++ lines_below field.Carried f.carried))
 
+-- the canonical spelling of a date
+abbrev pub date_text : Date → List ℕ
+date_text d = d.text
+
+-- a date and a place stand on one line
+abbrev pub when_trees : Option (List ℕ) → Option model.EventPlace → Branches
+when_trees date None = text_trees field.Date date
+when_trees date (Some p) = branch field.Date date (Some p.place) (lines_below field.Carried p.carried) ∷ []
+
+abbrev pub participant_tree : model.Participant → Tree Label
+participant_tree p = branch field.Participant (Some p.role) (Some p.person) (lines_below field.Carried p.carried)
+
+-- the first line below that of an event has the event's own tag, and its value
+abbrev pub tag_tree : model.Event → Tree Label
+tag_tree e = node (record { tag = e.tag; text = Some e.value; target = None }) (forest_of [])
+
+abbrev pub event_tree : model.Event → Tree Label
+event_tree e = branch field.Event None (Some e.owner) (tag_tree e ∷ (when_trees (option_map date_text e.date) e.place
+    ++ (map participant_tree e.participants ++ lines_below field.Carried e.carried)))
+
 abbrev pub record_tree : Record → Tree Label
 record_tree (kind.Place p) = place_tree p
 record_tree (kind.Repo r) = repo_tree r
@@ -106,6 +130,7 @@ record_tree (kind.Source s) = source_tree s
 record_tree (kind.Person p) = person_tree p
 record_tree (kind.Family f) = family_tree f
 record_tree (kind.Citation c) = citation_tree c
+record_tree (kind.Event e) = event_tree e
 
 -- the lines that a record is kept as
 abbrev pub stored : Record → List (ℕ × Label)

@@ -22,6 +22,8 @@ pub enum Field {
     Family,
     /// The first line of a citation.
     Citation,
+    /// The first line of an event.
+    Event,
     /// The author of a source.
     Author,
     /// The publisher of a source.
@@ -38,6 +40,10 @@ pub enum Field {
     Partner,
     /// A child in a family.
     Child,
+    /// When and where an event was.
+    Date,
+    /// Who took part in an event.
+    Participant,
     /// What stands above the carried lines of a person's side of a membership.
     Side,
     /// What stands above the carried lines of a part.
@@ -64,6 +70,9 @@ impl Field {
             Field::Sex => "sex",
             Field::Partner => "partner",
             Field::Child => "child",
+            Field::Event => "event",
+            Field::Date => "date",
+            Field::Participant => "participant",
             Field::Side => "side",
             Field::Carried => "carried",
         }

@@ -5,6 +5,7 @@ ghost use Rattle.records.specs.Stored.{record_tree};
 ghost use Rattle.records.specs.Reading.{record_from};
 
 use crate::citation::Citation;
+use crate::event::Event;
 use crate::family::Family;
 use crate::field::Field;
 use crate::part::Part;
@@ -27,6 +28,7 @@ pub(crate) fn branch_of_record(alloc: Global, record: &Record) -> Result<Branch,
         Record::Person(person) => person.write(alloc),
         Record::Family(family) => family.write(alloc),
         Record::Citation(citation) => citation.write(alloc),
+        Record::Event(event) => event.write(alloc),
     }
 }
 
@@ -47,6 +49,8 @@ pub(crate) fn record_in(alloc: Global, branch: &Branch) -> Result<Option<Record>
         Record::Family(Family::read(alloc, branch)?)
     } else if has_word(branch, Field::Citation) {
         Record::Citation(Citation::read(alloc, branch)?)
+    } else if has_word(branch, Field::Event) {
+        Record::Event(Event::read(alloc, branch)?)
     } else {
         return Ok(None);
     };

@@ -1,14 +1,17 @@
 //! The vocabulary of the archive: what a record is, and how it is kept as lines. Places, repositories,
-//! sources, persons, families and citations stand so far. Texts, tags, refusals and names are those of
-//! `record_text`, carried and stored lines those of `stored_lines`; both are handed on from here.
+//! sources, persons, families, citations and events stand so far. Texts, tags, refusals and names are those
+//! of `record_text`, carried and stored lines those of `stored_lines`; both are handed on from here.
 //!
-//! It stands on `stored_lines` and `record_text` alone.
+//! It stands on `stored_lines`, `record_text` and `gedcom_date` alone.
 //!
 //! Callers may rely on: what a record cannot be stands in its types; `record_of` gives back the record whose
 //! lines `lines_of` gave, and refuses the lines of no record.
 #![tactic(auto)]
 
 mod citation;
+mod date;
+mod event;
+mod event_parts;
 mod family;
 mod field;
 mod keeping;
@@ -26,6 +29,8 @@ mod words;
 mod writing;
 
 pub use citation::Citation;
+pub use date::Date;
+pub use event::{Event, EventPlace, Participant};
 pub use family::{Child, Family, Partner};
 pub use keeping::{lines_of, record_of};
 pub use person::{Name, Person};

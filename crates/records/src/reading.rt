@@ -48,7 +48,7 @@ pub(crate) fn number_at(branches: &[Branch], field: Field) -> u32
 }
 
 /// The first branch with the word of a field.
-fn first_under(branches: &[Branch], field: Field) -> Option<&Branch>
+pub(crate) fn first_under(branches: &[Branch], field: Field) -> Option<&Branch>
     ensures { option_copied result ≡ first (under field branches.now) }
 {
     'branches: for branch in branches {

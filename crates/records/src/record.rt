@@ -1,12 +1,13 @@
 //! Records.
 
 use crate::citation::Citation;
+use crate::event::Event;
 use crate::family::Family;
 use crate::person::Person;
 use crate::place::Place;
 use crate::source::{Repo, Source};
 
-/// A record of the archive. Six of its nine kinds stand so far.
+/// A record of the archive. Seven of its nine kinds stand so far.
 #[derive(Drop)]
 pub enum Record {
     Place(Place),
@@ -15,4 +16,5 @@ pub enum Record {
     Person(Person),
     Family(Family),
     Citation(Citation),
+    Event(Event),
 }

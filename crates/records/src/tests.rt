@@ -1,6 +1,7 @@
 use crate::{
-    Carried, Child, Citation, Family, Holding, Name, Partner, Partnership, Person, Place, Quality,
-    Record, RefusalKind, Repo, Sex, Source, StoredLine, Tag, Text, Value, lines_of, record_of,
+    Carried, Child, Citation, Date, Event, EventPlace, Family, Holding, Name, Participant, Partner,
+    Partnership, Person, Place, Quality, Record, RefusalKind, Repo, Sex, Source, StoredLine, Tag,
+    Text, Value, lines_of, record_of,
 };
 use std::alloc::Global;
 use std::test::Fail;
@@ -104,6 +105,53 @@ fn family(alloc: Global) -> Result<Record, Fail> {
     }))
 }
 
+/// An event with a value, a date, a place and a participant.
+fn event(alloc: Global) -> Result<Record, Fail> {
+    let place = EventPlace {
+        place: 3,
+        carried: carried(alloc)?,
+    };
+    let witness = Participant {
+        person: 2,
+        role: text(alloc, "witness")?,
+        carried: Vec::new(alloc),
+    };
+    Ok(Record::Event(Event {
+        owner: 1,
+        tag: tag(alloc, "BIRT")?,
+        value: text(alloc, "Y")?,
+        date: Date::try_new(alloc, " @#djulian@ 11  feb 1731/32")?,
+        place: Some(place),
+        participants: one(alloc, witness)?,
+        carried: Vec::new(alloc),
+    }))
+}
+
+/// An event of which the tag and the owner are known, and a date or a place.
+fn bare_event(alloc: Global, date: &str, place: Option<u32>) -> Result<Record, Fail> {
+    let place = match place {
+        Some(number) => Some(EventPlace {
+            place: number,
+            carried: Vec::new(alloc),
+        }),
+        None => None,
+    };
+    let date = if date.is_empty() {
+        None
+    } else {
+        Date::try_new(alloc, date)?
+    };
+    Ok(Record::Event(Event {
+        owner: 1,
+        tag: tag(alloc, "date")?,
+        value: text(alloc, "")?,
+        date,
+        place,
+        participants: Vec::new(alloc),
+        carried: Vec::new(alloc),
+    }))
+}
+
 /// The lines as the columns depth, tag, text and target, `-` where there is nothing.
 fn printed(alloc: Global, lines: &[StoredLine]) -> Result<String, Fail> {
     let mut printed = String::new(alloc);
@@ -153,6 +201,20 @@ fn a_record_is_kept_as_its_lines_and_read_again(rt: HostRuntime) -> Result<(), F
             "0|family|-|-\n1|partner|wife|4\n2|side|-|-\n3|_UID|x|-\n4|carried|-|7\n\
 1|child|-|5\n2|carried|-|-\n3|_UID|x|-\n4|carried|-|7\n",
         ),
+        (
+            event(alloc)?,
+            "0|event|-|1\n1|BIRT|Y|-\n1|date|@#DJULIAN@ 11 FEB 1731/32|3\n2|carried|-|-\n3|_UID|x|-\n4|carried|-|7\n\
+1|participant|witness|2\n",
+        ),
+        (bare_event(alloc, "", None)?, "0|event|-|1\n1|date||-\n"),
+        (
+            bare_event(alloc, "in harvest", None)?,
+            "0|event|-|1\n1|date||-\n1|date|in harvest|-\n",
+        ),
+        (
+            bare_event(alloc, "", Some(3))?,
+            "0|event|-|1\n1|date||-\n1|date|-|3\n",
+        ),
     ] {
         let lines = lines_of(alloc, &record)?;
         assert_eq!(rt; printed(alloc, &lines)?.as_str(), want);
@@ -201,4 +263,33 @@ fn qualities_and_sexes_have_their_words(rt: HostRuntime) {
     for (sex, word) in [(Sex::Male, "M"), (Sex::Female, "F"), (Sex::Unknown, "U")] {
         assert_eq!(rt; sex.as_str(), word);
     }
+}
+
+#[test]
+fn a_date_is_kept_in_canonical_spelling_alone(rt: HostRuntime) -> Result<(), Fail> {
+    let alloc = rt.alloc();
+    for (words, want) in [
+        ("1 jan 1700", "1 JAN 1700"),
+        ("44b.c.", "44 B.C."),
+        ("about 1700", "about 1700"),
+        ("int 1700 (so it says)", "INT 1700 (so it says)"),
+        ("", ""),
+    ] {
+        let date = Date::try_new(alloc, words)?.ok_or("a date")?;
+        assert_eq!(rt; date.as_str(), want);
+        let again = Date::of_value(alloc, &date.value(alloc)?)?.ok_or("a date")?;
+        assert_eq!(rt; again.as_str(), want);
+    }
+    assert!(rt; Date::try_new(alloc, "(a\r)")?.is_none());
+    for (words, is_kept) in [("1 JAN 1700", true), ("1 jan 1700", false)] {
+        let mut lines = lines_of(alloc, &bare_event(alloc, "", None)?)?;
+        lines.push(StoredLine {
+            depth: 1,
+            tag: tag(alloc, "date")?,
+            text: Some(text(alloc, words)?),
+            target: None,
+        })?;
+        assert!(rt; record_of(alloc, &lines).is_ok() == is_kept, "at {words}");
+    }
+    Ok(())
 }
