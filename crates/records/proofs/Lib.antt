@@ -1,5 +1,4 @@
 pub mod Back
-pub mod Dated
-pub mod Dates
 pub mod Fields
 pub mod Segments
+pub mod Worded

@@ -1,6 +1,6 @@
 //! Citations.
 
-use crate::words::Quality;
+use record_fields::Quality;
 use record_text::Text;
 use std::marker::Model;
 use stored_lines::Carried;

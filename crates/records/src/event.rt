@@ -1,6 +1,6 @@
 //! Events of persons and families.
 
-use crate::date::Date;
+use record_fields::Date;
 use record_text::{Tag, Text};
 use std::marker::Model;
 use stored_lines::Carried;
@@ -66,7 +66,7 @@ pub struct Event {
 impl Model for Event {
     ghost use Rattle.std.specs.Coded.{codes};
     ghost use Rattle.stored_lines.specs.Line.{lines_code, value_code};
-    ghost use Rattle.records.specs.Codes.{date_code};
+    ghost use Rattle.record_fields.specs.Codes.{date_code};
     ghost use Rattle.records.specs.Model as model;
 
     ghost Value = { model.Event };

@@ -1,16 +1,17 @@
 //! Events as branches.
 
 ghost use Rattle.std.specs.Prelude.{◌≡◌, ◌++◌, IfOk, OnOk, option_map};
-ghost use Rattle.records.specs.Stored.{participant_tree, event_tree, when_trees, date_text};
-ghost use Rattle.records.specs.Reading.{participant_from, event_from, event_place_from, date_from, text_from, first, under, tag_or_event, text_or_empty, text_at as text_of_first, rest};
+ghost use Rattle.record_fields.specs.Dated.{date_text, date_from};
+ghost use Rattle.records.specs.Stored.{participant_tree, event_tree, when_trees};
+ghost use Rattle.records.specs.Reading.{participant_from, event_from, event_place_from, text_from, first, under, tag_or_event, text_or_empty, text_at as text_of_first, rest};
 ghost use Rattle.records.specs.declared.field.Field.TheVariants as field;
 
-use crate::date::Date;
 use crate::event::{Event, EventPlace, Participant};
 use crate::field::Field;
 use crate::part::{Part, parts_at, push_parts};
 use crate::reading::{children_of, first_under, lines_at, number_or_zero, text_at, text_or_none};
 use crate::writing::{push_lines, push_text};
+use record_fields::Date;
 use record_text::{Tag, Text};
 use std::alloc::{AllocError, Global};
 use stored_lines::{Branch, Carried};
@@ -77,7 +78,7 @@ impl Part for Event {
 }
 
 /// Adds the line of a date and the place of an event, where there is one of them.
-fn push_when(
+pub(crate) fn push_when(
     alloc: Global,
     below: &mut Vec<Branch>,
     date: Option<Text>,
@@ -115,7 +116,7 @@ pub(crate) fn date_at(alloc: Global, branches: &[Branch]) -> Result<Option<Date>
 }
 
 /// The place on the line of a date.
-fn place_at(alloc: Global, branches: &[Branch]) -> Result<Option<EventPlace>, AllocError>
+pub(crate) fn place_at(alloc: Global, branches: &[Branch]) -> Result<Option<EventPlace>, AllocError>
     ensures { IfOk result (λ p. p ≡ event_place_from (first (under field.Date branches.now))) }
 {
     let Some(line) = first_under(branches, Field::Date) else {

@@ -1,6 +1,6 @@
 //! Families.
 
-use crate::words::Partnership;
+use record_fields::Partnership;
 use std::marker::Model;
 use stored_lines::Carried;
 

@@ -44,6 +44,22 @@ pub enum Field {
     Date,
     /// Who took part in an event.
     Participant,
+    /// The first line of a register entry.
+    Entry,
+    /// The page of an entry.
+    Page,
+    /// The number of an entry on its page.
+    Item,
+    /// What stands in the register.
+    Text,
+    /// Who is named in an entry.
+    Mention,
+    /// As what somebody is named.
+    Role,
+    /// Why a mention is of a person.
+    Reason,
+    /// The first line of another record.
+    Other,
     /// What stands above the carried lines of a person's side of a membership.
     Side,
     /// What stands above the carried lines of a part.
@@ -73,6 +89,14 @@ impl Field {
             Field::Event => "event",
             Field::Date => "date",
             Field::Participant => "participant",
+            Field::Entry => "entry",
+            Field::Page => "page",
+            Field::Item => "item",
+            Field::Text => "text",
+            Field::Mention => "mention",
+            Field::Role => "role",
+            Field::Reason => "reason",
+            Field::Other => "other",
             Field::Side => "side",
             Field::Carried => "carried",
         }

@@ -31,6 +31,20 @@ pub fn record_of(alloc: Global, lines: &[StoredLine]) -> Result<Record, RefusalK
     }
 }
 
+impl Record {
+    /// The same record in memory of its own.
+    #[tactic(auto, using(crate::proofs::Back::copied_back))]
+    pub fn copy(&self, alloc: Global) -> Result<Record, AllocError>
+        ensures { IfOk result (λ r. r ≡ self.now) }
+    {
+        let branch = branch_of_record(alloc, self)?;
+        match record_in(alloc, &branch)? {
+            Some(copy) => Ok(copy),
+            None => unreachable!(),
+        }
+    }
+}
+
 /// The record that is kept as these lines. `None`: no record is.
 fn found_in(alloc: Global, lines: &[StoredLine]) -> Result<Option<Record>, AllocError>
     ensures { IfOk result (λ found. MatchOption found

@@ -5,9 +5,11 @@ ghost use Rattle.records.specs.Stored.{record_tree};
 ghost use Rattle.records.specs.Reading.{record_from};
 
 use crate::citation::Citation;
+use crate::entry::Entry;
 use crate::event::Event;
 use crate::family::Family;
 use crate::field::Field;
+use crate::other::Other;
 use crate::part::Part;
 use crate::person::Person;
 use crate::place::Place;
@@ -29,6 +31,8 @@ pub(crate) fn branch_of_record(alloc: Global, record: &Record) -> Result<Branch,
         Record::Family(family) => family.write(alloc),
         Record::Citation(citation) => citation.write(alloc),
         Record::Event(event) => event.write(alloc),
+        Record::Entry(entry) => entry.write(alloc),
+        Record::Other(other) => other.write(alloc),
     }
 }
 
@@ -51,6 +55,10 @@ pub(crate) fn record_in(alloc: Global, branch: &Branch) -> Result<Option<Record>
         Record::Citation(Citation::read(alloc, branch)?)
     } else if has_word(branch, Field::Event) {
         Record::Event(Event::read(alloc, branch)?)
+    } else if has_word(branch, Field::Entry) {
+        Record::Entry(Entry::read(alloc, branch)?)
+    } else if has_word(branch, Field::Other) {
+        Record::Other(Other::read(alloc, branch)?)
     } else {
         return Ok(None);
     };

@@ -1,6 +1,6 @@
 //! Persons.
 
-use crate::words::Sex;
+use record_fields::Sex;
 use record_text::Text;
 use std::marker::Model;
 use stored_lines::Carried;

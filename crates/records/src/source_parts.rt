@@ -1,8 +1,9 @@
 //! Places, repositories, sources and citations as branches.
 
 ghost use Rattle.std.specs.Prelude.{◌≡◌, IfOk, option_map};
-ghost use Rattle.records.specs.Stored.{place_tree, repo_tree, holding_tree, source_tree, citation_tree, quality_word};
-ghost use Rattle.records.specs.Reading.{place_from, repo_from, holding_from, source_from, citation_from, quality_from};
+ghost use Rattle.records.specs.Stored.{place_tree, repo_tree, holding_tree, source_tree, citation_tree};
+ghost use Rattle.record_fields.specs.Words.{quality_word, quality_of};
+ghost use Rattle.records.specs.Reading.{place_from, repo_from, holding_from, source_from, citation_from, read_by};
 
 use crate::citation::Citation;
 use crate::field::Field;
@@ -10,8 +11,8 @@ use crate::part::{Part, parts_at, push_parts};
 use crate::place::Place;
 use crate::reading::{children_of, lines_at, number_at, number_or_zero, text_at, text_or_none};
 use crate::source::{Holding, Repo, Source};
-use crate::words::Quality;
 use crate::writing::{push_lines, push_text};
+use record_fields::Quality;
 use record_text::Text;
 use std::alloc::{AllocError, Global};
 use stored_lines::{Branch, copied};
@@ -150,7 +151,7 @@ impl Part for Citation {
 }
 
 /// The word of a quality as a text, where there is one.
-#[tactic(auto, using(crate::proofs::Fields::quality_is_plain))]
+#[tactic(auto, using(record_fields::proofs::Worded::quality_is_plain))]
 fn quality_text(alloc: Global, quality: Option<Quality>) -> Result<Option<Text>, AllocError>
     ensures { IfOk result (λ t. t ≡ option_map quality_word quality) }
 {
@@ -162,10 +163,10 @@ fn quality_text(alloc: Global, quality: Option<Quality>) -> Result<Option<Text>,
 
 /// The quality of a text, where there is one.
 fn quality_in(text: &Option<Text>) -> Option<Quality>
-    ensures { result ≡ option_map quality_from text.now }
+    ensures { result ≡ read_by quality_of text.now }
 {
     match text {
         None => None,
-        Some(text) => Some(Quality::of_word(text.as_str())),
+        Some(text) => Quality::from_word(text.as_str()),
     }
 }

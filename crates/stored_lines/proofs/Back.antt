@@ -13,11 +13,11 @@ value-back : (tag : List ℕ) (v : Value) → line_of (label_for tag v) ≡ reco
 value-back tag (value.Text t) = refl
 value-back tag (value.Ref n) = refl
 
-line-back : (l : Line) → line_of (label_of l) ≡ l
-line-back l = value-back l.tag l.value
+pub line_back : (l : Line) → line_of (label_of l) ≡ l
+line_back l = value-back l.tag l.value
 
 pub lines_back : (ls : Lines) → map (relabel line_of) (map (relabel label_of) ls) ≡ ls
-lines_back ls = map-relabel-back label_of line_of line-back ls
+lines_back ls = map-relabel-back label_of line_of line_back ls
 
 module _ {A : Type 0} where
   pub list_of_forest_of : (ts : List (Tree A)) → list_of (forest_of ts) ≡ ts

@@ -14,7 +14,7 @@ mod comparing;
 pub mod laws;
 mod stored;
 
-pub use branch::{Branch, branches_of, carried_of, copied};
+pub use branch::{Branch, branches_of, carried_of, copied, value_of};
 pub use carried::{Carried, Value};
 pub use comparing::are_same;
 pub use stored::{StoredLine, branch_of_lines, lines_of_branch};

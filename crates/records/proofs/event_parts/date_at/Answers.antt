@@ -1,7 +1,7 @@
 use Rattle.std.proofs.Common.{sym, ◌∙◌}
 use Rattle.records.specs.Reading.{text_from}
 use Rattle.records.specs.declared.field.Field.TheVariants as field
-use Rattle.records.proofs.Dated.{date_ok}
+use Rattle.record_fields.proofs.Dated.{date_ok}
 use Rattle.records.proofs.event_parts.date_at.Goals as goal
 
 pub returns : goal.returns
