@@ -1,31 +1,28 @@
 -- What is read from the tree that a record is kept as is that record.
-use Rattle.std.specs.Prelude.{ℕ, List, [], ◌∷◌, ◌++◌, ◌≡◌, ◌≢◌, map, Option, Some, None, true, false, cond, bytes_eq, refl, option_map, MatchOption, Bool}
+use Rattle.std.specs.Prelude.{ℕ, List, [], ◌∷◌, ◌++◌, ◌≡◌, ◌≢◌, map, Option, Some, None, true, false, cond, bytes_eq, refl, option_map, MatchOption, Bool, decimal}
+use Rattle.std.specs.Option.{unwrap_or}
 use Rattle.std.proofs.Common.{ap, sym, ◌∙◌}
-use Rattle.records.specs.Tree.{Tree, forest_of, list_of, flat, relabel}
-use Rattle.records.specs.Line.{Line, Label, Lines, Branches, label_for, label_of}
+use Rattle.stored_lines.specs.Tree.{Tree, node, forest_of, list_of, flat, relabel}
+use Rattle.stored_lines.specs.Line.{Label, Lines, Branches, label_for, label_of, line_of}
 use Rattle.records.specs.Model as model
-use Rattle.records.specs.Stored.{word, branch, lines_below, text_trees, quality_word, sex_word, partnership_word, place_tree, repo_tree, holding_tree, source_tree, citation_tree, name_tree, person_tree, partner_tree, child_tree, family_tree, record_tree, stored}
-use Rattle.records.specs.Reading.{under, first, text_at, number_at, below_all, line_of, lines_from, text_from, quality_from, sex_from, partnership_from, place_from, repo_from, holding_from, source_from, citation_from, name_from, person_from, partner_from, child_from, family_from, record_from}
-use Rattle.records.specs.Growing.{grown, sole}
-use Rattle.records.proofs.Growing.{grown_tree}
-use Rattle.records.proofs.Relabel.{map-relabel-back}
+use Rattle.records.specs.Stored.{word, branch, lines_below, text_trees, place_tree, repo_tree, holding_tree, source_tree, citation_tree, name_tree, person_tree, partner_tree, child_tree, family_tree, when_trees, participant_tree, event_tree, link_person, link_reason, mention_tree, bare_place, entry_tree, other_tree, record_tree, stored}
+use Rattle.records.specs.Reading.{under, first, text_at, number_at, below_all, lines_from, text_from, read_by, text_or_empty, place_from, repo_from, holding_from, source_from, citation_from, name_from, person_from, partner_from, child_from, family_from, event_place_from, participant_from, event_from, link_from, mention_from, place_number, entry_from, other_on, other_from, record_from}
+use Rattle.stored_lines.proofs.Back.{list_of_forest_of, line_back, lines_back, flat_one}
+use Rattle.record_fields.specs.Words.{quality_word, sex_word, partnership_word, role_word, quality_of, sex_of, role_of}
+use Rattle.record_fields.specs.Items.{first_item, item_of}
+use Rattle.record_fields.specs.Dated.{date_text, date_from}
+use Rattle.record_fields.proofs.Worded.{quality_back, sex_back, partnership_back, entry_kind_back, role_back}
+use Rattle.record_fields.proofs.Items.{item_back}
+use Rattle.record_fields.proofs.Dated.{date_back}
+use Rattle.stored_lines.specs.declared.carried.Value.{Value}
+use Rattle.record_fields.specs.declared.entry_words.EntryKind.TheVariants as entry_kind
+use Rattle.record_fields.specs.declared.entry_words.Role.TheVariants as role
 use Rattle.records.proofs.Segments.{IsOf, Segment, laid, chosen, under-one}
-use Rattle.records.specs.declared.carried.Value.{Value}
-use Rattle.records.specs.declared.carried.Value.TheVariants as value
-use Rattle.records.specs.declared.words.Quality.{Quality}
-use Rattle.records.specs.declared.words.Quality.TheVariants as quality
-use Rattle.records.specs.declared.words.Sex.{Sex}
-use Rattle.records.specs.declared.words.Sex.TheVariants as sex
-use Rattle.records.specs.declared.words.Partnership.{Partnership}
-use Rattle.records.specs.declared.words.Partnership.TheVariants as partnership
+use Rattle.record_fields.specs.declared.words.Partnership.TheVariants as partnership
 use Rattle.records.specs.declared.field.Field.{Field}
 use Rattle.records.specs.declared.field.Field.TheVariants as field
 use Rattle.records.specs.declared.record.Record.{Record}
 use Rattle.records.specs.declared.record.Record.TheVariants as kind
-
-pub list_of_forest_of : {A : Type 0} (ts : List (Tree A)) → list_of (forest_of ts) ≡ ts
-list_of_forest_of [] = refl
-list_of_forest_of (t ∷ ts) = ap (λ us. t ∷ us) (list_of_forest_of ts)
 
 -- what a field has on the lines below a line, where these are segments
 field-of : (g : Field) (ss : List Segment) (ts : Branches) → chosen g ss ≡ ts ++ [] → under g (list_of (forest_of (laid ss))) ≡ ts
@@ -62,35 +59,13 @@ text-back : (f : Field) (t : Option (List ℕ)) → text_at (first (text_trees f
 text-back f None = refl
 text-back f (Some t) = refl
 
-value-back : (tag : List ℕ) (v : Value) → line_of (label_for tag v) ≡ record { tag = tag; value = v }
-value-back tag (value.Text t) = refl
-value-back tag (value.Ref n) = refl
-
-line-back : (l : Line) → line_of (label_of l) ≡ l
-line-back l = value-back l.tag l.value
-
 lines-back : (f : Field) (cs : Lines) → map (relabel line_of) (below_all (first (lines_below f cs))) ≡ cs
 lines-back f [] = refl
-lines-back f (c ∷ cs) = ap (map (relabel line_of)) (list_of_forest_of (map (relabel label_of) (c ∷ cs))) ∙ map-relabel-back label_of line_of line-back (c ∷ cs)
+lines-back f (c ∷ cs) = ap (map (relabel line_of)) (list_of_forest_of (map (relabel label_of) (c ∷ cs))) ∙ lines_back (c ∷ cs)
 
-quality-back : (q : Quality) → quality_from (quality_word q) ≡ q
-quality-back quality.Unreliable = refl
-quality-back quality.Questionable = refl
-quality-back quality.Secondary = refl
-quality-back quality.Primary = refl
-
-sex-back : (s : Sex) → sex_from (sex_word s) ≡ s
-sex-back sex.Male = refl
-sex-back sex.Female = refl
-sex-back sex.Unknown = refl
-
-partnership-back : (p : Partnership) → partnership_from (partnership_word p) ≡ p
-partnership-back partnership.Husband = refl
-partnership-back partnership.Wife = refl
-
-option-back : {A B : Type 0} (f : A → B) (g : B → A) → ((a : A) → g (f a) ≡ a) → (o : Option A) → option_map g (option_map f o) ≡ o
-option-back f g back None = refl
-option-back f g back (Some a) = ap Some (back a)
+word-back : {A : Type 0} (word : A → List ℕ) (of_text : List ℕ → Option A) → ((a : A) → of_text (word a) ≡ Some a) → (o : Option A) → read_by of_text (option_map word o) ≡ o
+word-back word of_text back None = refl
+word-back word of_text back (Some a) = back a
 
 map-back : {A B : Type 0} (f : A → B) (g : B → A) → ((a : A) → g (f a) ≡ a) → (xs : List A) → map g (map f xs) ≡ xs
 map-back f g back [] = refl
@@ -156,7 +131,7 @@ citation-back c =
       owner = c.owner;
       source = ap (λ ts. number_at (first ts)) (field-of field.Source ss place refl) i;
       page = ap (λ ts. text_at (first ts)) (field-of field.Source ss place refl) i;
-      quality = (ap (option_map quality_from) (text-field field.Quality ss (option_map quality_word c.quality) refl) ∙ option-back quality_word quality_from quality-back c.quality) i;
+      quality = (ap (read_by quality_of) (text-field field.Quality ss (option_map quality_word c.quality) refl) ∙ word-back quality_word quality_of quality_back c.quality) i;
       carried = lines-field field.Carried ss c.carried refl i;
     }
 
@@ -175,7 +150,7 @@ person-back p =
     let ss = names ∷ text-of field.Sex (option_map sex_word p.sex) ∷ carried-of p.carried ∷ [] in
     λ i. record {
       names = parts-field name_tree name_from name-back field.Name ss p.names refl i;
-      sex = (ap (option_map sex_from) (text-field field.Sex ss (option_map sex_word p.sex) refl) ∙ option-back sex_word sex_from sex-back p.sex) i;
+      sex = (ap (read_by sex_of) (text-field field.Sex ss (option_map sex_word p.sex) refl) ∙ word-back sex_word sex_of sex_back p.sex) i;
       carried = lines-field field.Carried ss p.carried refl i;
     }
 
@@ -183,7 +158,7 @@ partner-back : (p : model.Partner) → partner_from (partner_tree p) ≡ p
 partner-back p =
     let ss = side-of p.carried_by_person ∷ carried-of p.carried ∷ [] in
     λ i. record {
-      partnership = partnership-back p.partnership i;
+      partnership = ap (λ o. unwrap_or o partnership.Husband) (partnership_back p.partnership) i;
       person = p.person;
       carried = lines-field field.Carried ss p.carried refl i;
       carried_by_person = lines-field field.Side ss p.carried_by_person refl i;
@@ -217,6 +192,98 @@ family-back f =
       carried = lines-field field.Carried ss f.carried refl i;
     }
 
+-- a date and a place on one line
+of-when : (t : Option (List ℕ)) (p : Option model.EventPlace) → IsOf field.Date (when_trees t p)
+of-when t None = of-text field.Date t
+of-when t (Some p) = of-one field.Date t (Some p.place) (lines_below field.Carried p.carried)
+
+when-text : (t : Option (List ℕ)) (p : Option model.EventPlace) → text_at (first (when_trees t p)) ≡ t
+when-text t None = text-back field.Date t
+when-text t (Some p) = refl
+
+when-place : (t : Option (List ℕ)) (p : Option model.EventPlace) → event_place_from (first (when_trees t p)) ≡ p
+when-place None None = refl
+when-place (Some t) None = refl
+when-place t (Some p) = λ i. Some (record { place = p.place; carried = lines-field field.Carried (carried-of p.carried ∷ []) p.carried refl i })
+
+participant-back : (p : model.Participant) → participant_from (participant_tree p) ≡ p
+participant-back p =
+    let ss = carried-of p.carried ∷ [] in
+    λ i. record { person = p.person; role = p.role; carried = lines-field field.Carried ss p.carried refl i }
+
+of-participants : (ps : List model.Participant) → IsOf field.Participant (map participant_tree ps)
+of-participants [] = of-none field.Participant
+of-participants (p ∷ ps) = of-more field.Participant (Some p.role) (Some p.person) (lines_below field.Carried p.carried) (map participant_tree ps) (of-participants ps)
+
+event-back : (e : model.Event) → event_from (event_tree e) ≡ e
+event-back e =
+    let date = option_map date_text e.date in
+    let when : Segment = record { field = field.Date; lines = when_trees date e.place; is_of = of-when date e.place } in
+    let participants : Segment = record { field = field.Participant; lines = map participant_tree e.participants; is_of = of-participants e.participants } in
+    let ss = when ∷ participants ∷ carried-of e.carried ∷ [] in
+    let line = field-of field.Date ss (when_trees date e.place) refl in
+    λ i. record {
+      owner = e.owner;
+      tag = e.tag;
+      value = e.value;
+      date = (ap (λ ts. date_from (text_at (first ts))) line ∙ ap date_from (when-text date e.place) ∙ date_back e.date) i;
+      place = (ap (λ ts. event_place_from (first ts)) line ∙ when-place date e.place) i;
+      participants = parts-field participant_tree participant_from participant-back field.Participant ss e.participants refl i;
+      carried = lines-field field.Carried ss e.carried refl i;
+    }
+
+link-back : (l : Option model.Link) → link_from (option_map link_person l) (option_map link_reason l) ≡ l
+link-back None = refl
+link-back (Some l) = refl
+
+mention-back : (m : model.Mention) → mention_from (mention_tree m) ≡ m
+mention-back m =
+    let reason = option_map link_reason m.link in
+    let ss = text-of field.Role (Some (role_word m.role)) ∷ text-of field.Reason reason ∷ [] in
+    λ i. record {
+      role = (ap (λ t. unwrap_or (read_by role_of t) role.Child) (text-field field.Role ss (Some (role_word m.role)) refl) ∙ ap (λ o. unwrap_or o role.Child) (role_back m.role)) i;
+      name = m.name;
+      link = (ap (link_from (option_map link_person m.link)) (text-field field.Reason ss reason refl) ∙ link-back m.link) i;
+    }
+
+of-mentions : (ms : List model.Mention) → IsOf field.Mention (map mention_tree ms)
+of-mentions [] = of-none field.Mention
+of-mentions (m ∷ ms) = of-more field.Mention (Some m.name) (option_map link_person m.link) (text_trees field.Role (Some (role_word m.role)) ++ text_trees field.Reason (option_map link_reason m.link)) (map mention_tree ms) (of-mentions ms)
+
+number-back : (p : Option ℕ) → option_map place_number (option_map bare_place p) ≡ p
+number-back None = refl
+number-back (Some n) = refl
+
+entry-back : (e : model.Entry) → entry_from (entry_tree e) ≡ e
+entry-back e =
+    let date = option_map date_text e.date in
+    let place = option_map bare_place e.place in
+    let when : Segment = record { field = field.Date; lines = when_trees date place; is_of = of-when date place } in
+    let mentions : Segment = record { field = field.Mention; lines = map mention_tree e.mentions; is_of = of-mentions e.mentions } in
+    let item = decimal e.item.number in
+    let ss = text-of field.Page (Some e.page) ∷ text-of field.Item (Some item) ∷ when ∷ text-of field.Text (Some e.text) ∷ mentions ∷ [] in
+    let line = field-of field.Date ss (when_trees date place) refl in
+    λ i. record {
+      source = e.source;
+      kind = ap (λ o. unwrap_or o entry_kind.Baptism) (entry_kind_back e.kind) i;
+      page = ap text_or_empty (text-field field.Page ss (Some e.page) refl) i;
+      item = (ap (λ t. unwrap_or (read_by item_of t) first_item) (text-field field.Item ss (Some item) refl) ∙ ap (λ o. unwrap_or o first_item) (item_back e.item)) i;
+      date = (ap (λ ts. date_from (text_at (first ts))) line ∙ ap date_from (when-text date place) ∙ date_back e.date) i;
+      place = (ap (λ ts. option_map place_number (event_place_from (first ts))) line ∙ ap (option_map place_number) (when-place date place) ∙ number-back e.place) i;
+      text = ap text_or_empty (text-field field.Text ss (Some e.text) refl) i;
+      mentions = parts-field mention_tree mention_from mention-back field.Mention ss e.mentions refl i;
+    }
+
+other-line : (tag : List ℕ) (v : Value) (ts : Lines) → other_on (Some (node (label_for tag v) (forest_of (map (relabel label_of) ts)))) ≡ record { tag = tag; value = v; carried = ts }
+other-line tag v ts = λ i. record {
+  tag = (line_back (record { tag = tag; value = v }) i).tag;
+  value = (line_back (record { tag = tag; value = v }) i).value;
+  carried = (ap (map (relabel line_of)) (list_of_forest_of (map (relabel label_of) ts)) ∙ lines_back ts) i;
+}
+
+other-back : (o : model.Other) → other_from (other_tree o) ≡ o
+other-back o = other-line o.tag o.value o.carried
+
 -- a record's tree gives back the record
 pub record_back : (r : Record) → record_from (record_tree r) ≡ Some r
 record_back (kind.Place p) = ap (λ x. Some (kind.Place x)) (place-back p)
@@ -225,21 +292,23 @@ record_back (kind.Source s) = ap (λ x. Some (kind.Source x)) (source-back s)
 record_back (kind.Person p) = ap (λ x. Some (kind.Person x)) (person-back p)
 record_back (kind.Family f) = ap (λ x. Some (kind.Family x)) (family-back f)
 record_back (kind.Citation c) = ap (λ x. Some (kind.Citation x)) (citation-back c)
+record_back (kind.Event e) = ap (λ x. Some (kind.Event x)) (event-back e)
+record_back (kind.Entry e) = ap (λ x. Some (kind.Entry x)) (entry-back e)
+record_back (kind.Other o) = ap (λ x. Some (kind.Other x)) (other-back o)
 
 -- so do its lines: no other record is kept as them
-module _ {A : Type 0} where
-  sole-tree : (t : Tree A) → sole (grown (flat 0 t)) ≡ Some t
-  sole-tree t = ap sole (grown_tree t)
-
-  pub flat-one : (t u : Tree A) → flat 0 t ≡ flat 0 u → t ≡ u
-  flat-one t u e = let same : Some t ≡ Some u = sym (sole-tree t) ∙ ap (λ (x : List (ℕ × A)). sole (grown x)) e ∙ sole-tree u in cc
-
 pub stored_one : (r s : Record) → stored r ≡ stored s → r ≡ s
-stored_one r s e = let same : Some r ≡ Some s = sym (record_back r) ∙ ap record_from (flat-one (record_tree r) (record_tree s) e) ∙ record_back s in cc
+stored_one r s e = let same : Some r ≡ Some s = sym (record_back r) ∙ ap record_from (flat_one (record_tree r) (record_tree s) e) ∙ record_back s in cc
+
+pub copied_back : (r : Record) (o : Option Record) → o ≡ record_from (record_tree r) → o ≡ Some r
+copied_back r o e = e ∙ record_back r
+
+pub copy_is : (r x : Record) (t : Tree Label) (o : Option Record) → o ≡ record_from t → t ≡ record_tree r → o ≡ Some x → x ≡ r
+copy_is r x t o e h is = let same : Some x ≡ Some r = sym is ∙ e ∙ ap record_from h ∙ record_back r in cc
 
 -- lines that are not those of the record that is read from their tree are those of no record
 found-one : (ls : List (ℕ × Label)) (t : Tree Label) (r : Record) → ls ≡ flat 0 t → ls ≡ stored r → record_from t ≡ Some r
-found-one ls t r e f = ap record_from (flat-one t (record_tree r) (sym e ∙ f)) ∙ record_back r
+found-one ls t r e f = ap record_from (flat_one t (record_tree r) (sym e ∙ f)) ∙ record_back r
 
 pub not_same : (ls : List (ℕ × Label)) (found : Option (Tree Label)) (t : Tree Label) (kept : Option Record) (x : Record) → MatchOption found ((u : Tree Label) → ls ≢ flat 0 u) (λ u. ls ≡ flat 0 u) → found ≡ Some t → kept ≡ record_from t → kept ≡ Some x → ls ≢ stored x → (r : Record) → ls ≢ stored r
 not_same ls None t kept x e is h k differs = absurd cc

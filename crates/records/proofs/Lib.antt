@@ -1,5 +1,4 @@
 pub mod Back
 pub mod Fields
-pub mod Growing
-pub mod Relabel
 pub mod Segments
+pub mod Worded

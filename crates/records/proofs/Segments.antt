@@ -2,7 +2,7 @@
 use Rattle.std.specs.Prelude.{List, [], ◌∷◌, ◌++◌, ◌≡◌, cond, bytes_eq, refl}
 use Rattle.std.proofs.Common.{ap, sym, ◌∙◌, append-nil}
 use Rattle.std.proofs.lemmas.List.Elements.{filter-append}
-use Rattle.records.specs.Line.{Branches}
+use Rattle.stored_lines.specs.Line.{Branches}
 use Rattle.records.specs.Stored.{word}
 use Rattle.records.specs.Reading.{tag_of, under}
 use Rattle.records.specs.declared.field.Field.{Field}

@@ -1,6 +1,3 @@
-pub mod Growing
-pub mod Line
 pub mod Model
 pub mod Reading
 pub mod Stored
-pub mod Tree

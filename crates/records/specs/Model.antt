@@ -1,9 +1,14 @@
 -- The values of records, as contracts see them.
 use Rattle.std.specs.Prelude.{ℕ, List, Option}
-use Rattle.records.specs.Line.{Lines}
-use Rattle.records.specs.declared.words.Quality.{Quality}
-use Rattle.records.specs.declared.words.Sex.{Sex}
-use Rattle.records.specs.declared.words.Partnership.{Partnership}
+use Rattle.stored_lines.specs.Line.{Lines}
+use Rattle.stored_lines.specs.declared.carried.Value.{Value}
+use Rattle.record_fields.specs.declared.date.Date.{Date}
+use Rattle.record_fields.specs.declared.entry_words.EntryKind.{EntryKind}
+use Rattle.record_fields.specs.declared.entry_words.Role.{Role}
+use Rattle.record_fields.specs.declared.item.Item.{Item}
+use Rattle.record_fields.specs.declared.words.Quality.{Quality}
+use Rattle.record_fields.specs.declared.words.Sex.{Sex}
+use Rattle.record_fields.specs.declared.words.Partnership.{Partnership}
 
 -- a place, within another or none
 pub record Place : Type 0 where
@@ -66,4 +71,53 @@ pub record Child : Type 0 where
 pub record Family : Type 0 where
   pub partners : List Partner
   pub children : List Child
+  pub carried : Lines
+
+-- the place of an event, with the carried lines of the line that names it
+pub record EventPlace : Type 0 where
+  pub place : ℕ
+  pub carried : Lines
+
+-- who took part in an event
+pub record Participant : Type 0 where
+  pub person : ℕ
+  pub role : List ℕ
+  pub carried : Lines
+
+-- an event of a person or a family
+pub record Event : Type 0 where
+  pub owner : ℕ
+  pub tag : List ℕ
+  pub value : List ℕ
+  pub date : Option Date
+  pub place : Option EventPlace
+  pub participants : List Participant
+  pub carried : Lines
+
+-- which person a mention is of, and why
+pub record Link : Type 0 where
+  pub person : ℕ
+  pub reason : List ℕ
+
+-- who is named in a register entry, and as what
+pub record Mention : Type 0 where
+  pub role : Role
+  pub name : List ℕ
+  pub link : Option Link
+
+-- a register entry
+pub record Entry : Type 0 where
+  pub source : ℕ
+  pub kind : EntryKind
+  pub page : List ℕ
+  pub item : Item
+  pub date : Option Date
+  pub place : Option ℕ
+  pub text : List ℕ
+  pub mentions : List Mention
+
+-- a record of no other kind
+pub record Other : Type 0 where
+  pub tag : List ℕ
+  pub value : Value
   pub carried : Lines

@@ -1,18 +1,18 @@
 -- What is read from a record's tree, each field by its word. No clause that callers see names these definitions.
 use Rattle.std.specs.Prelude.{ℕ, List, [], ◌∷◌, map, Option, Some, None, bytes_eq, if◌then◌else◌, option_map, codes}
 use Rattle.std.specs.List.{filter}
-use Rattle.records.specs.Tree.{Tree, label, children, list_of, relabel}
-use Rattle.records.specs.Line.{Line, Label, Lines, Branches}
+use Rattle.std.specs.Option.{unwrap_or}
+use Rattle.stored_lines.specs.Tree.{Tree, label, children, list_of, relabel}
+use Rattle.stored_lines.specs.Line.{Label, Lines, Branches, line_of}
 use Rattle.records.specs.Model as model
 use Rattle.records.specs.Stored.{word}
-use Rattle.records.specs.declared.carried.Value.{Value}
-use Rattle.records.specs.declared.carried.Value.TheVariants as value
-use Rattle.records.specs.declared.words.Quality.{Quality}
-use Rattle.records.specs.declared.words.Quality.TheVariants as quality
-use Rattle.records.specs.declared.words.Sex.{Sex}
-use Rattle.records.specs.declared.words.Sex.TheVariants as sex
-use Rattle.records.specs.declared.words.Partnership.{Partnership}
-use Rattle.records.specs.declared.words.Partnership.TheVariants as partnership
+use Rattle.record_fields.specs.Words.{quality_of, sex_of, partnership_of, entry_kind_of, role_of}
+use Rattle.record_fields.specs.Items.{first_item, item_of}
+use Rattle.record_fields.specs.Dated.{date_from}
+use Rattle.record_fields.specs.declared.words.Partnership.TheVariants as partnership
+use Rattle.record_fields.specs.declared.entry_words.EntryKind.TheVariants as entry_kind
+use Rattle.record_fields.specs.declared.entry_words.Role.TheVariants as role
+use Rattle.stored_lines.specs.declared.carried.Value.TheVariants as value
 use Rattle.records.specs.declared.field.Field.{Field}
 use Rattle.records.specs.declared.field.Field.TheVariants as field
 use Rattle.records.specs.declared.record.Record.{Record}
@@ -61,34 +61,16 @@ abbrev pub below_all : Option (Tree Label) → Branches
 below_all None = []
 below_all (Some t) = below t
 
--- a carried line from a stored one
-abbrev pub value_for : Option (List ℕ) → Option ℕ → Value
-value_for (Some t) n = value.Text t
-value_for None (Some n) = value.Ref n
-value_for None None = value.Text []
-
-abbrev pub line_of : Label → Line
-line_of l = record { tag = l.tag; value = value_for l.text l.target }
-
 abbrev pub lines_from : Field → Branches → Lines
 lines_from f ts = map (relabel line_of) (below_all (first (under f ts)))
 
 abbrev pub text_from : Field → Branches → Option (List ℕ)
 text_from f ts = text_at (first (under f ts))
 
-abbrev pub quality_from : List ℕ → Quality
-quality_from t =
-    if bytes_eq t (codes "1") then quality.Questionable
-    else (if bytes_eq t (codes "2") then quality.Secondary
-    else (if bytes_eq t (codes "3") then quality.Primary else quality.Unreliable))
-
-abbrev pub sex_from : List ℕ → Sex
-sex_from t =
-    if bytes_eq t (codes "M") then sex.Male
-    else (if bytes_eq t (codes "F") then sex.Female else sex.Unknown)
-
-abbrev pub partnership_from : List ℕ → Partnership
-partnership_from t = if bytes_eq t (codes "wife") then partnership.Wife else partnership.Husband
+-- the value whose word a text is, where there is a text
+abbrev pub read_by : {A : Type 0} → (List ℕ → Option A) → Option (List ℕ) → Option A
+read_by of_text None = None
+read_by of_text (Some text) = of_text text
 
 abbrev pub place_from : Tree Label → model.Place
 place_from t = record { name = text_on t; parent = (label t).target; carried = lines_from field.Carried (below t) }
@@ -113,7 +95,7 @@ citation_from t = record {
   owner = number_on t;
   source = number_at (first (under field.Source (below t)));
   page = text_from field.Source (below t);
-  quality = option_map quality_from (text_from field.Quality (below t));
+  quality = read_by quality_of (text_from field.Quality (below t));
   carried = lines_from field.Carried (below t);
 }
 
@@ -123,13 +105,13 @@ name_from t = record { text = text_on t; carried = lines_from field.Carried (bel
 abbrev pub person_from : Tree Label → model.Person
 person_from t = record {
   names = map name_from (under field.Name (below t));
-  sex = option_map sex_from (text_from field.Sex (below t));
+  sex = read_by sex_of (text_from field.Sex (below t));
   carried = lines_from field.Carried (below t);
 }
 
 abbrev pub partner_from : Tree Label → model.Partner
 partner_from t = record {
-  partnership = partnership_from (text_on t);
+  partnership = unwrap_or (read_by partnership_of (label t).text) partnership.Husband;
   person = number_on t;
   carried = lines_from field.Carried (below t);
   carried_by_person = lines_from field.Side (below t);
@@ -149,6 +131,71 @@ family_from t = record {
   carried = lines_from field.Carried (below t);
 }
 
+-- the place on the line of a date
+abbrev pub event_place_for : Option ℕ → Lines → Option model.EventPlace
+event_place_for None cs = None
+event_place_for (Some n) cs = Some (record { place = n; carried = cs })
+
+abbrev pub event_place_from : Option (Tree Label) → Option model.EventPlace
+event_place_from None = None
+event_place_from (Some t) = event_place_for (label t).target (lines_from field.Carried (below t))
+
+abbrev pub participant_from : Tree Label → model.Participant
+participant_from t = record { person = number_on t; role = text_on t; carried = lines_from field.Carried (below t) }
+
+-- the lines behind the first one
+abbrev pub rest : Branches → Branches
+rest [] = []
+rest (t ∷ ts) = ts
+
+abbrev pub tag_or_event : Option (Tree Label) → List ℕ
+tag_or_event None = word field.Event
+tag_or_event (Some t) = tag_of t
+
+abbrev pub event_from : Tree Label → model.Event
+event_from t = record {
+  owner = number_on t;
+  tag = tag_or_event (first (below t));
+  value = text_or_empty (text_at (first (below t)));
+  date = date_from (text_from field.Date (rest (below t)));
+  place = event_place_from (first (under field.Date (rest (below t))));
+  participants = map participant_from (under field.Participant (rest (below t)));
+  carried = lines_from field.Carried (rest (below t));
+}
+
+abbrev pub link_from : Option ℕ → Option (List ℕ) → Option model.Link
+link_from None reason = None
+link_from (Some n) reason = Some (record { person = n; reason = text_or_empty reason })
+
+abbrev pub mention_from : Tree Label → model.Mention
+mention_from t = record {
+  role = unwrap_or (read_by role_of (text_from field.Role (below t))) role.Child;
+  name = text_on t;
+  link = link_from (label t).target (text_from field.Reason (below t));
+}
+
+abbrev pub place_number : model.EventPlace → ℕ
+place_number p = p.place
+
+abbrev pub entry_from : Tree Label → model.Entry
+entry_from t = record {
+  source = number_on t;
+  kind = unwrap_or (read_by entry_kind_of (label t).text) entry_kind.Baptism;
+  page = text_or_empty (text_from field.Page (below t));
+  item = unwrap_or (read_by item_of (text_from field.Item (below t))) first_item;
+  date = date_from (text_from field.Date (below t));
+  place = option_map place_number (event_place_from (first (under field.Date (below t))));
+  text = text_or_empty (text_from field.Text (below t));
+  mentions = map mention_from (under field.Mention (below t));
+}
+
+abbrev pub other_on : Option (Tree Label) → model.Other
+other_on None = record { tag = word field.Other; value = value.Text []; carried = [] }
+other_on (Some t) = record { tag = (line_of (label t)).tag; value = (line_of (label t)).value; carried = map (relabel line_of) (below t) }
+
+abbrev pub other_from : Tree Label → model.Other
+other_from t = other_on (first (below t))
+
 abbrev pub record_from : Tree Label → Option Record
 record_from t =
     if bytes_eq (tag_of t) (word field.Place) then Some (kind.Place (place_from t))
@@ -156,4 +203,7 @@ record_from t =
     else (if bytes_eq (tag_of t) (word field.Source) then Some (kind.Source (source_from t))
     else (if bytes_eq (tag_of t) (word field.Person) then Some (kind.Person (person_from t))
     else (if bytes_eq (tag_of t) (word field.Family) then Some (kind.Family (family_from t))
-    else (if bytes_eq (tag_of t) (word field.Citation) then Some (kind.Citation (citation_from t)) else None)))))
+    else (if bytes_eq (tag_of t) (word field.Citation) then Some (kind.Citation (citation_from t))
+    else (if bytes_eq (tag_of t) (word field.Event) then Some (kind.Event (event_from t))
+    else (if bytes_eq (tag_of t) (word field.Entry) then Some (kind.Entry (entry_from t))
+    else (if bytes_eq (tag_of t) (word field.Other) then Some (kind.Other (other_from t)) else None))))))))

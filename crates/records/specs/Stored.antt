@@ -1,16 +1,12 @@
 -- How a record is kept: a tree of lines, listed in order with their depths. The first line has the word of the kind; each
 -- field stands on a line with a word of its own, and a line may have a text and the number of a record together. The
 -- carried lines of a part stand last, below one line. So nothing is escaped, and a carried line may have any tag.
-use Rattle.std.specs.Prelude.{ℕ, List, [], ◌∷◌, ◌++◌, map, codes, Option, Some, None, option_map}
-use Rattle.records.specs.Tree.{Tree, node, forest_of, flat, relabel}
-use Rattle.records.specs.Line.{Label, Lines, Branches, label_of}
+use Rattle.std.specs.Prelude.{ℕ, List, [], ◌∷◌, ◌++◌, map, codes, Option, Some, None, option_map, decimal}
+use Rattle.stored_lines.specs.Tree.{Tree, node, forest_of, flat, relabel}
+use Rattle.stored_lines.specs.Line.{Label, Lines, Branches, label_for, label_of}
 use Rattle.records.specs.Model as model
-use Rattle.records.specs.declared.words.Quality.{Quality}
-use Rattle.records.specs.declared.words.Quality.TheVariants as quality
-use Rattle.records.specs.declared.words.Sex.{Sex}
-use Rattle.records.specs.declared.words.Sex.TheVariants as sex
-use Rattle.records.specs.declared.words.Partnership.{Partnership}
-use Rattle.records.specs.declared.words.Partnership.TheVariants as partnership
+use Rattle.record_fields.specs.Words.{quality_word, sex_word, partnership_word, entry_kind_word, role_word}
+use Rattle.record_fields.specs.Dated.{date_text}
 use Rattle.records.specs.declared.field.Field.{Field}
 use Rattle.records.specs.declared.field.Field.TheVariants as field
 use Rattle.records.specs.declared.record.Record.{Record}
@@ -32,23 +28,19 @@ word field.Name = codes "name"
 word field.Sex = codes "sex"
 word field.Partner = codes "partner"
 word field.Child = codes "child"
+word field.Event = codes "event"
+word field.Date = codes "date"
+word field.Participant = codes "participant"
+word field.Entry = codes "entry"
+word field.Page = codes "page"
+word field.Item = codes "item"
+word field.Text = codes "text"
+word field.Mention = codes "mention"
+word field.Role = codes "role"
+word field.Reason = codes "reason"
+word field.Other = codes "other"
 word field.Side = codes "side"
 word field.Carried = codes "carried"
-
-abbrev pub quality_word : Quality → List ℕ
-quality_word quality.Unreliable = codes "0"
-quality_word quality.Questionable = codes "1"
-quality_word quality.Secondary = codes "2"
-quality_word quality.Primary = codes "3"
-
-abbrev pub sex_word : Sex → List ℕ
-sex_word sex.Male = codes "M"
-sex_word sex.Female = codes "F"
-sex_word sex.Unknown = codes "U"
-
-abbrev pub partnership_word : Partnership → List ℕ
-partnership_word partnership.Husband = codes "husband"
-partnership_word partnership.Wife = codes "wife"
 
 -- a line and those below it
 abbrev pub branch : Field → Option (List ℕ) → Option ℕ → Branches → Tree Label
@@ -99,6 +91,45 @@ abbrev pub family_tree : model.Family → Tree Label
 family_tree f = branch field.Family None None (map partner_tree f.partners
     ++ (map child_tree f.children ++ lines_below field.Carried f.carried))
 
+-- a date and a place stand on one line
+abbrev pub when_trees : Option (List ℕ) → Option model.EventPlace → Branches
+when_trees date None = text_trees field.Date date
+when_trees date (Some p) = branch field.Date date (Some p.place) (lines_below field.Carried p.carried) ∷ []
+
+abbrev pub participant_tree : model.Participant → Tree Label
+participant_tree p = branch field.Participant (Some p.role) (Some p.person) (lines_below field.Carried p.carried)
+
+-- the first line below that of an event has the event's own tag, and its value
+abbrev pub tag_tree : model.Event → Tree Label
+tag_tree e = node (record { tag = e.tag; text = Some e.value; target = None }) (forest_of [])
+
+abbrev pub event_tree : model.Event → Tree Label
+event_tree e = branch field.Event None (Some e.owner) (tag_tree e ∷ (when_trees (option_map date_text e.date) e.place
+    ++ (map participant_tree e.participants ++ lines_below field.Carried e.carried)))
+
+abbrev pub link_person : model.Link → ℕ
+link_person l = l.person
+
+abbrev pub link_reason : model.Link → List ℕ
+link_reason l = l.reason
+
+abbrev pub mention_tree : model.Mention → Tree Label
+mention_tree m = branch field.Mention (Some m.name) (option_map link_person m.link)
+    (text_trees field.Role (Some (role_word m.role)) ++ text_trees field.Reason (option_map link_reason m.link))
+
+-- a place without carried lines
+abbrev pub bare_place : ℕ → model.EventPlace
+bare_place n = record { place = n; carried = [] }
+
+abbrev pub entry_tree : model.Entry → Tree Label
+entry_tree e = branch field.Entry (Some (entry_kind_word e.kind)) (Some e.source) (text_trees field.Page (Some e.page)
+    ++ (text_trees field.Item (Some (decimal e.item.number)) ++ (when_trees (option_map date_text e.date) (option_map bare_place e.place)
+    ++ (text_trees field.Text (Some e.text) ++ map mention_tree e.mentions))))
+
+-- the one line below that of another record is the record's own, with its carried lines
+abbrev pub other_tree : model.Other → Tree Label
+other_tree o = branch field.Other None None (node (label_for o.tag o.value) (forest_of (map (relabel label_of) o.carried)) ∷ [])
+
 abbrev pub record_tree : Record → Tree Label
 record_tree (kind.Place p) = place_tree p
 record_tree (kind.Repo r) = repo_tree r
@@ -106,6 +137,9 @@ record_tree (kind.Source s) = source_tree s
 record_tree (kind.Person p) = person_tree p
 record_tree (kind.Family f) = family_tree f
 record_tree (kind.Citation c) = citation_tree c
+record_tree (kind.Event e) = event_tree e
+record_tree (kind.Entry e) = entry_tree e
+record_tree (kind.Other o) = other_tree o
 
 -- the lines that a record is kept as
 abbrev pub stored : Record → List (ℕ × Label)

@@ -1,9 +1,9 @@
 //! Citations.
 
-use crate::carried::Carried;
-use crate::words::Quality;
+use record_fields::Quality;
 use record_text::Text;
 use std::marker::Model;
+use stored_lines::Carried;
 
 /// Where in a source something stands.
 #[derive(Drop)]
@@ -19,7 +19,7 @@ pub struct Citation {
 
 impl Model for Citation {
     ghost use Rattle.std.specs.Coded.{codes};
-    ghost use Rattle.records.specs.Line.{lines_code, value_code};
+    ghost use Rattle.stored_lines.specs.Line.{lines_code, value_code};
     ghost use Rattle.records.specs.Model as model;
 
     ghost Value = { model.Citation };

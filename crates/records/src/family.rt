@@ -1,8 +1,8 @@
 //! Families.
 
-use crate::carried::Carried;
-use crate::words::Partnership;
+use record_fields::Partnership;
 use std::marker::Model;
+use stored_lines::Carried;
 
 /// A partner in a family. A membership has two sides, each with carried lines of its own.
 #[derive(Drop)]
@@ -18,7 +18,7 @@ pub struct Partner {
 
 impl Model for Partner {
     ghost use Rattle.std.specs.Coded.{codes};
-    ghost use Rattle.records.specs.Line.{lines_code, value_code};
+    ghost use Rattle.stored_lines.specs.Line.{lines_code, value_code};
     ghost use Rattle.records.specs.Model as model;
 
     ghost Value = { model.Partner };
@@ -41,7 +41,7 @@ pub struct Child {
 
 impl Model for Child {
     ghost use Rattle.std.specs.Coded.{codes};
-    ghost use Rattle.records.specs.Line.{lines_code, value_code};
+    ghost use Rattle.stored_lines.specs.Line.{lines_code, value_code};
     ghost use Rattle.records.specs.Model as model;
 
     ghost Value = { model.Child };
@@ -61,7 +61,7 @@ pub struct Family {
 
 impl Model for Family {
     ghost use Rattle.std.specs.Coded.{codes};
-    ghost use Rattle.records.specs.Line.{lines_code, value_code};
+    ghost use Rattle.stored_lines.specs.Line.{lines_code, value_code};
     ghost use Rattle.records.specs.Model as model;
 
     ghost Value = { model.Family };

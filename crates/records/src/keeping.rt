@@ -1,15 +1,15 @@
 //! Records kept as lines, and read again.
 
-ghost use Rattle.std.specs.Prelude.{◌≡◌, ◌≢◌, ◌↔◌, ◌⊎◌, IfOk, IfErr, IsTrue, MatchOption};
+ghost use Rattle.std.specs.Prelude.{◌≡◌, ◌≢◌, ◌⊎◌, IfOk, IfErr, MatchOption};
 ghost use Rattle.records.specs.Stored.{stored};
 ghost use Rattle.records.specs.declared.record.Record.{Record};
 ghost use Rattle.record_text.specs.declared.refusal.RefusalKind.TheVariants as kinds;
 
 use crate::kinds::{branch_of_record, record_in};
 use crate::record::Record;
-use crate::stored::{StoredLine, branch_of_lines, lines_of_branch};
-use record_text::{RefusalKind, Text};
+use record_text::RefusalKind;
 use std::alloc::{AllocError, Global};
+use stored_lines::{StoredLine, are_same, branch_of_lines, lines_of_branch};
 
 /// The lines that a record is kept as.
 pub fn lines_of(alloc: Global, record: &Record) -> Result<Vec<StoredLine>, AllocError>
@@ -31,6 +31,20 @@ pub fn record_of(alloc: Global, lines: &[StoredLine]) -> Result<Record, RefusalK
     }
 }
 
+impl Record {
+    /// The same record in memory of its own.
+    #[tactic(auto, using(crate::proofs::Back::copied_back))]
+    pub fn copy(&self, alloc: Global) -> Result<Record, AllocError>
+        ensures { IfOk result (λ r. r ≡ self.now) }
+    {
+        let branch = branch_of_record(alloc, self)?;
+        match record_in(alloc, &branch)? {
+            Some(copy) => Ok(copy),
+            None => unreachable!(),
+        }
+    }
+}
+
 /// The record that is kept as these lines. `None`: no record is.
 fn found_in(alloc: Global, lines: &[StoredLine]) -> Result<Option<Record>, AllocError>
     ensures { IfOk result (λ found. MatchOption found
@@ -47,41 +61,5 @@ fn found_in(alloc: Global, lines: &[StoredLine]) -> Result<Option<Record>, Alloc
         Ok(Some(found))
     } else {
         Ok(None)
-    }
-}
-
-/// Whether the lines are the same.
-fn are_same(a: &[StoredLine], b: &[StoredLine]) -> bool
-    ensures { IsTrue result ↔ (a.now ≡ b.now) }
-{
-    if a.len() != b.len() {
-        return false;
-    }
-    'pairs: for i in 0..a.len() {
-        if !is_same(&a[i], &b[i]) {
-            return false;
-        }
-    }
-    true
-}
-
-fn is_same(a: &StoredLine, b: &StoredLine) -> bool
-    ensures { IsTrue result ↔ (a.now ≡ b.now) }
-{
-    a.depth == b.depth
-        && a.tag.as_str() == b.tag.as_str()
-        && is_same_text(&a.text, &b.text)
-        && a.target == b.target
-}
-
-fn is_same_text(a: &Option<Text>, b: &Option<Text>) -> bool
-    ensures { IsTrue result ↔ (a.now ≡ b.now) }
-{
-    match a {
-        Some(x) => match b {
-            Some(y) => x.as_str() == y.as_str(),
-            None => false,
-        },
-        None => b.is_none(),
     }
 }

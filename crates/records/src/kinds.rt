@@ -4,10 +4,12 @@ ghost use Rattle.std.specs.Prelude.{◌≡◌, IfOk};
 ghost use Rattle.records.specs.Stored.{record_tree};
 ghost use Rattle.records.specs.Reading.{record_from};
 
-use crate::branch::Branch;
 use crate::citation::Citation;
+use crate::entry::Entry;
+use crate::event::Event;
 use crate::family::Family;
 use crate::field::Field;
+use crate::other::Other;
 use crate::part::Part;
 use crate::person::Person;
 use crate::place::Place;
@@ -15,6 +17,7 @@ use crate::reading::has_word;
 use crate::record::Record;
 use crate::source::{Repo, Source};
 use std::alloc::{AllocError, Global};
+use stored_lines::Branch;
 
 /// The branch of a record.
 pub(crate) fn branch_of_record(alloc: Global, record: &Record) -> Result<Branch, AllocError>
@@ -27,6 +30,9 @@ pub(crate) fn branch_of_record(alloc: Global, record: &Record) -> Result<Branch,
         Record::Person(person) => person.write(alloc),
         Record::Family(family) => family.write(alloc),
         Record::Citation(citation) => citation.write(alloc),
+        Record::Event(event) => event.write(alloc),
+        Record::Entry(entry) => entry.write(alloc),
+        Record::Other(other) => other.write(alloc),
     }
 }
 
@@ -47,6 +53,12 @@ pub(crate) fn record_in(alloc: Global, branch: &Branch) -> Result<Option<Record>
         Record::Family(Family::read(alloc, branch)?)
     } else if has_word(branch, Field::Citation) {
         Record::Citation(Citation::read(alloc, branch)?)
+    } else if has_word(branch, Field::Event) {
+        Record::Event(Event::read(alloc, branch)?)
+    } else if has_word(branch, Field::Entry) {
+        Record::Entry(Entry::read(alloc, branch)?)
+    } else if has_word(branch, Field::Other) {
+        Record::Other(Other::read(alloc, branch)?)
     } else {
         return Ok(None);
     };

@@ -1,14 +1,14 @@
 //! Parts of records: what stands on a line of its own, with the lines below it.
 
 ghost use Rattle.std.specs.Prelude.{◌≡◌, ◌++◌, map, IfOk, OnOk};
-ghost use Rattle.records.specs.Tree.{Tree};
-ghost use Rattle.records.specs.Line.{Label};
+ghost use Rattle.stored_lines.specs.Tree.{Tree};
+ghost use Rattle.stored_lines.specs.Line.{Label};
 ghost use Rattle.records.specs.Reading.{under};
 
-use crate::branch::Branch;
 use crate::field::Field;
 use crate::reading::has_word;
 use std::alloc::{AllocError, Global};
+use stored_lines::Branch;
 
 /// What is kept as a branch.
 pub trait Part: Drop {

@@ -1,9 +1,9 @@
 //! Persons.
 
-use crate::carried::Carried;
-use crate::words::Sex;
+use record_fields::Sex;
 use record_text::Text;
 use std::marker::Model;
+use stored_lines::Carried;
 
 /// A name of a person.
 #[derive(Drop)]
@@ -15,7 +15,7 @@ pub struct Name {
 
 impl Model for Name {
     ghost use Rattle.std.specs.Coded.{codes};
-    ghost use Rattle.records.specs.Line.{lines_code, value_code};
+    ghost use Rattle.stored_lines.specs.Line.{lines_code, value_code};
     ghost use Rattle.records.specs.Model as model;
 
     ghost Value = { model.Name };
@@ -35,7 +35,7 @@ pub struct Person {
 
 impl Model for Person {
     ghost use Rattle.std.specs.Coded.{codes};
-    ghost use Rattle.records.specs.Line.{lines_code, value_code};
+    ghost use Rattle.stored_lines.specs.Line.{lines_code, value_code};
     ghost use Rattle.records.specs.Model as model;
 
     ghost Value = { model.Person };

@@ -1,19 +1,22 @@
 //! Persons and families as branches.
 
 ghost use Rattle.std.specs.Prelude.{◌≡◌, IfOk, Some, option_map};
-ghost use Rattle.records.specs.Stored.{name_tree, person_tree, partner_tree, child_tree, family_tree, sex_word, partnership_word};
-ghost use Rattle.records.specs.Reading.{name_from, person_from, partner_from, child_from, family_from, sex_from, partnership_from, text_or_empty};
+ghost use Rattle.records.specs.Stored.{name_tree, person_tree, partner_tree, child_tree, family_tree};
+ghost use Rattle.std.specs.Option.{unwrap_or};
+ghost use Rattle.record_fields.specs.Words.{sex_word, partnership_word, sex_of, partnership_of};
+ghost use Rattle.record_fields.specs.declared.words.Partnership.TheVariants as partnerships;
+ghost use Rattle.records.specs.Reading.{name_from, person_from, partner_from, child_from, family_from, read_by};
 
-use crate::branch::Branch;
 use crate::family::{Child, Family, Partner};
 use crate::field::Field;
 use crate::part::{Part, parts_at, push_parts};
 use crate::person::{Name, Person};
 use crate::reading::{children_of, lines_at, number_or_zero, text_at, text_or_none};
-use crate::words::{Partnership, Sex};
 use crate::writing::{push_lines, push_text};
+use record_fields::{Partnership, Sex};
 use record_text::Text;
 use std::alloc::{AllocError, Global};
+use stored_lines::Branch;
 
 impl Part for Name {
     ghost kept_as = { name_tree };
@@ -24,7 +27,7 @@ impl Part for Name {
         let mut below = Vec::new(alloc);
         push_lines(alloc, &mut below, Field::Carried, &self.carried)?;
         let text = Some(self.text.copy(alloc)?);
-        Branch::new(alloc, Field::Name, text, None, below)
+        Field::Name.branch(alloc, text, None, below)
     }
 
     fn read(alloc: Global, branch: &Branch) -> Result<Name, AllocError> {
@@ -46,7 +49,7 @@ impl Part for Person {
         push_parts(alloc, &mut below, &self.names)?;
         push_text(alloc, &mut below, Field::Sex, sex_text(alloc, self.sex)?)?;
         push_lines(alloc, &mut below, Field::Carried, &self.carried)?;
-        Branch::new(alloc, Field::Person, None, None, below)
+        Field::Person.branch(alloc, None, None, below)
     }
 
     fn read(alloc: Global, branch: &Branch) -> Result<Person, AllocError> {
@@ -69,13 +72,13 @@ impl Part for Partner {
         push_lines(alloc, &mut below, Field::Side, &self.carried_by_person)?;
         push_lines(alloc, &mut below, Field::Carried, &self.carried)?;
         let text = partnership_text(alloc, self.partnership)?;
-        Branch::new(alloc, Field::Partner, text, Some(self.person), below)
+        Field::Partner.branch(alloc, text, Some(self.person), below)
     }
 
     fn read(alloc: Global, branch: &Branch) -> Result<Partner, AllocError> {
         let parts = children_of(branch);
         Ok(Partner {
-            partnership: partnership_in(alloc, &branch.text)?,
+            partnership: partnership_in(&branch.text),
             person: number_or_zero(branch.target),
             carried: lines_at(alloc, parts, Field::Carried)?,
             carried_by_person: lines_at(alloc, parts, Field::Side)?,
@@ -92,7 +95,7 @@ impl Part for Child {
         let mut below = Vec::new(alloc);
         push_lines(alloc, &mut below, Field::Side, &self.carried_by_person)?;
         push_lines(alloc, &mut below, Field::Carried, &self.carried)?;
-        Branch::new(alloc, Field::Child, None, Some(self.person), below)
+        Field::Child.branch(alloc, None, Some(self.person), below)
     }
 
     fn read(alloc: Global, branch: &Branch) -> Result<Child, AllocError> {
@@ -115,7 +118,7 @@ impl Part for Family {
         push_parts(alloc, &mut below, &self.partners)?;
         push_parts(alloc, &mut below, &self.children)?;
         push_lines(alloc, &mut below, Field::Carried, &self.carried)?;
-        Branch::new(alloc, Field::Family, None, None, below)
+        Field::Family.branch(alloc, None, None, below)
     }
 
     fn read(alloc: Global, branch: &Branch) -> Result<Family, AllocError> {
@@ -129,7 +132,7 @@ impl Part for Family {
 }
 
 /// The letter of a sex as a text, where there is one.
-#[tactic(auto, using(crate::proofs::Fields::sex_is_plain))]
+#[tactic(auto, using(record_fields::proofs::Worded::sex_is_plain))]
 fn sex_text(alloc: Global, sex: Option<Sex>) -> Result<Option<Text>, AllocError>
     ensures { IfOk result (λ t. t ≡ option_map sex_word sex) }
 {
@@ -141,26 +144,28 @@ fn sex_text(alloc: Global, sex: Option<Sex>) -> Result<Option<Text>, AllocError>
 
 /// The sex of a text, where there is one.
 fn sex_in(text: &Option<Text>) -> Option<Sex>
-    ensures { result ≡ option_map sex_from text.now }
+    ensures { result ≡ read_by sex_of text.now }
 {
     match text {
         None => None,
-        Some(text) => Some(Sex::of_word(text.as_str())),
+        Some(text) => Sex::from_word(text.as_str()),
     }
 }
 
 /// The word of a partnership as a text.
-#[tactic(auto, using(crate::proofs::Fields::partnership_is_plain))]
+#[tactic(auto, using(record_fields::proofs::Worded::partnership_is_plain))]
 fn partnership_text(alloc: Global, partnership: Partnership) -> Result<Option<Text>, AllocError>
     ensures { IfOk result (λ t. t ≡ Some (partnership_word partnership)) }
 {
     Ok(Some(Text::of_words(alloc, partnership.as_str())?))
 }
 
-/// The partnership of a text.
-fn partnership_in(alloc: Global, text: &Option<Text>) -> Result<Partnership, AllocError>
-    ensures { IfOk result (λ p. p ≡ partnership_from (text_or_empty text.now)) }
+/// The partnership of a text; of other words that of a husband.
+fn partnership_in(text: &Option<Text>) -> Partnership
+    ensures { result ≡ unwrap_or (read_by partnership_of text.now) partnerships.Husband }
 {
-    let text = text_or_none(alloc, text)?;
-    Ok(Partnership::of_word(text.as_str()))
+    match text {
+        None => Partnership::Husband,
+        Some(text) => Partnership::from_word(text.as_str()).unwrap_or(Partnership::Husband),
+    }
 }

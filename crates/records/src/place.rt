@@ -1,8 +1,8 @@
 //! Places.
 
-use crate::carried::Carried;
 use record_text::Text;
 use std::marker::Model;
+use stored_lines::Carried;
 
 /// A place, within another or none.
 #[derive(Drop)]
@@ -15,7 +15,7 @@ pub struct Place {
 
 impl Model for Place {
     ghost use Rattle.std.specs.Coded.{codes};
-    ghost use Rattle.records.specs.Line.{lines_code, value_code};
+    ghost use Rattle.stored_lines.specs.Line.{lines_code, value_code};
     ghost use Rattle.records.specs.Model as model;
 
     ghost Value = { model.Place };

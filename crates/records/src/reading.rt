@@ -4,11 +4,10 @@ ghost use Rattle.std.specs.Prelude.{◌≡◌, IfOk, option_copied, bytes_eq};
 ghost use Rattle.records.specs.Reading.{below, tag_of, under, first, text_or_empty, number_or_0, number_at as number_of_first, lines_from, text_from};
 ghost use Rattle.records.specs.Stored.{word};
 
-use crate::branch::{Branch, carried_of, copied};
-use crate::carried::Carried;
 use crate::field::Field;
 use record_text::Text;
 use std::alloc::{AllocError, Global};
+use stored_lines::{Branch, Carried, carried_of, copied};
 
 /// The carried lines below the line of a field.
 pub(crate) fn lines_at(
@@ -49,7 +48,7 @@ pub(crate) fn number_at(branches: &[Branch], field: Field) -> u32
 }
 
 /// The first branch with the word of a field.
-fn first_under(branches: &[Branch], field: Field) -> Option<&Branch>
+pub(crate) fn first_under(branches: &[Branch], field: Field) -> Option<&Branch>
     ensures { option_copied result ≡ first (under field branches.now) }
 {
     'branches: for branch in branches {
@@ -68,7 +67,7 @@ pub(crate) fn has_word(branch: &Branch, field: Field) -> bool
 }
 
 /// The branches right below a branch.
-#[tactic(auto, using(crate::proofs::Back::list_of_forest_of))]
+#[tactic(auto, using(stored_lines::proofs::Back::list_of_forest_of))]
 pub(crate) fn children_of(branch: &Branch) -> &[Branch]
     ensures { result.now ≡ below branch.now }
 {

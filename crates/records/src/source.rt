@@ -1,8 +1,8 @@
 //! Repositories and sources.
 
-use crate::carried::Carried;
 use record_text::Text;
 use std::marker::Model;
+use stored_lines::Carried;
 
 /// A repository.
 #[derive(Drop)]
@@ -13,7 +13,7 @@ pub struct Repo {
 
 impl Model for Repo {
     ghost use Rattle.std.specs.Coded.{codes};
-    ghost use Rattle.records.specs.Line.{lines_code, value_code};
+    ghost use Rattle.stored_lines.specs.Line.{lines_code, value_code};
     ghost use Rattle.records.specs.Model as model;
 
     ghost Value = { model.Repo };
@@ -34,7 +34,7 @@ pub struct Holding {
 
 impl Model for Holding {
     ghost use Rattle.std.specs.Coded.{codes};
-    ghost use Rattle.records.specs.Line.{lines_code, value_code};
+    ghost use Rattle.stored_lines.specs.Line.{lines_code, value_code};
     ghost use Rattle.records.specs.Model as model;
 
     ghost Value = { model.Holding };
@@ -56,7 +56,7 @@ pub struct Source {
 
 impl Model for Source {
     ghost use Rattle.std.specs.Coded.{codes};
-    ghost use Rattle.records.specs.Line.{lines_code, value_code};
+    ghost use Rattle.stored_lines.specs.Line.{lines_code, value_code};
     ghost use Rattle.records.specs.Model as model;
 
     ghost Value = { model.Source };

@@ -1,20 +1,21 @@
 //! Places, repositories, sources and citations as branches.
 
 ghost use Rattle.std.specs.Prelude.{◌≡◌, IfOk, option_map};
-ghost use Rattle.records.specs.Stored.{place_tree, repo_tree, holding_tree, source_tree, citation_tree, quality_word};
-ghost use Rattle.records.specs.Reading.{place_from, repo_from, holding_from, source_from, citation_from, quality_from};
+ghost use Rattle.records.specs.Stored.{place_tree, repo_tree, holding_tree, source_tree, citation_tree};
+ghost use Rattle.record_fields.specs.Words.{quality_word, quality_of};
+ghost use Rattle.records.specs.Reading.{place_from, repo_from, holding_from, source_from, citation_from, read_by};
 
-use crate::branch::{Branch, copied};
 use crate::citation::Citation;
 use crate::field::Field;
 use crate::part::{Part, parts_at, push_parts};
 use crate::place::Place;
 use crate::reading::{children_of, lines_at, number_at, number_or_zero, text_at, text_or_none};
 use crate::source::{Holding, Repo, Source};
-use crate::words::Quality;
 use crate::writing::{push_lines, push_text};
+use record_fields::Quality;
 use record_text::Text;
 use std::alloc::{AllocError, Global};
+use stored_lines::{Branch, copied};
 
 impl Part for Place {
     ghost kept_as = { place_tree };
@@ -25,7 +26,7 @@ impl Part for Place {
         let mut below = Vec::new(alloc);
         push_lines(alloc, &mut below, Field::Carried, &self.carried)?;
         let text = Some(self.name.copy(alloc)?);
-        Branch::new(alloc, Field::Place, text, self.parent, below)
+        Field::Place.branch(alloc, text, self.parent, below)
     }
 
     fn read(alloc: Global, branch: &Branch) -> Result<Place, AllocError> {
@@ -47,7 +48,7 @@ impl Part for Repo {
         let mut below = Vec::new(alloc);
         push_lines(alloc, &mut below, Field::Carried, &self.carried)?;
         let text = copied(alloc, &self.name)?;
-        Branch::new(alloc, Field::Repo, text, None, below)
+        Field::Repo.branch(alloc, text, None, below)
     }
 
     fn read(alloc: Global, branch: &Branch) -> Result<Repo, AllocError> {
@@ -68,7 +69,7 @@ impl Part for Holding {
         let mut below = Vec::new(alloc);
         push_lines(alloc, &mut below, Field::Carried, &self.carried)?;
         let text = copied(alloc, &self.call_number)?;
-        Branch::new(alloc, Field::Holding, text, Some(self.repo), below)
+        Field::Holding.branch(alloc, text, Some(self.repo), below)
     }
 
     fn read(alloc: Global, branch: &Branch) -> Result<Holding, AllocError> {
@@ -103,7 +104,7 @@ impl Part for Source {
         push_parts(alloc, &mut below, &self.holdings)?;
         push_lines(alloc, &mut below, Field::Carried, &self.carried)?;
         let text = copied(alloc, &self.title)?;
-        Branch::new(alloc, Field::Source, text, None, below)
+        Field::Source.branch(alloc, text, None, below)
     }
 
     fn read(alloc: Global, branch: &Branch) -> Result<Source, AllocError> {
@@ -126,13 +127,7 @@ impl Part for Citation {
     fn write(&self, alloc: Global) -> Result<Branch, AllocError> {
         let mut below = Vec::new(alloc);
         let page = copied(alloc, &self.page)?;
-        below.push(Branch::new(
-            alloc,
-            Field::Source,
-            page,
-            Some(self.source),
-            Vec::new(alloc),
-        )?)?;
+        below.push(Field::Source.branch(alloc, page, Some(self.source), Vec::new(alloc))?)?;
         push_text(
             alloc,
             &mut below,
@@ -140,7 +135,7 @@ impl Part for Citation {
             quality_text(alloc, self.quality)?,
         )?;
         push_lines(alloc, &mut below, Field::Carried, &self.carried)?;
-        Branch::new(alloc, Field::Citation, None, Some(self.owner), below)
+        Field::Citation.branch(alloc, None, Some(self.owner), below)
     }
 
     fn read(alloc: Global, branch: &Branch) -> Result<Citation, AllocError> {
@@ -156,7 +151,7 @@ impl Part for Citation {
 }
 
 /// The word of a quality as a text, where there is one.
-#[tactic(auto, using(crate::proofs::Fields::quality_is_plain))]
+#[tactic(auto, using(record_fields::proofs::Worded::quality_is_plain))]
 fn quality_text(alloc: Global, quality: Option<Quality>) -> Result<Option<Text>, AllocError>
     ensures { IfOk result (λ t. t ≡ option_map quality_word quality) }
 {
@@ -168,10 +163,10 @@ fn quality_text(alloc: Global, quality: Option<Quality>) -> Result<Option<Text>,
 
 /// The quality of a text, where there is one.
 fn quality_in(text: &Option<Text>) -> Option<Quality>
-    ensures { result ≡ option_map quality_from text.now }
+    ensures { result ≡ read_by quality_of text.now }
 {
     match text {
         None => None,
-        Some(text) => Some(Quality::of_word(text.as_str())),
+        Some(text) => Quality::from_word(text.as_str()),
     }
 }

@@ -3,11 +3,10 @@
 ghost use Rattle.std.specs.Prelude.{◌≡◌, ◌++◌, option_map, IfOk, OnOk};
 ghost use Rattle.records.specs.Stored.{lines_below, text_trees};
 
-use crate::branch::{Branch, branches_of};
-use crate::carried::Carried;
 use crate::field::Field;
 use record_text::Text;
 use std::alloc::{AllocError, Global};
+use stored_lines::{Branch, Carried, branches_of};
 
 /// Adds the line of a text, where there is one.
 pub(crate) fn push_text(
@@ -19,7 +18,7 @@ pub(crate) fn push_text(
     ensures { OnOk result (below.new.items ≡ below.old.items ++ text_trees field text) }
 {
     if let Some(text) = text {
-        below.push(Branch::new(alloc, field, Some(text), None, Vec::new(alloc))?)?;
+        below.push(field.branch(alloc, Some(text), None, Vec::new(alloc))?)?;
     }
     Ok(())
 }
@@ -37,6 +36,6 @@ pub(crate) fn push_lines(
         return Ok(());
     }
     let lines = branches_of(alloc, carried)?;
-    below.push(Branch::new(alloc, field, None, None, lines)?)?;
+    below.push(field.branch(alloc, None, None, lines)?)?;
     Ok(())
 }

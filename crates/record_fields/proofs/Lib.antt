@@ -1,0 +1,4 @@
+pub mod Dated
+pub mod Dates
+pub mod Items
+pub mod Worded

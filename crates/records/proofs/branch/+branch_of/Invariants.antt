@@ -1,7 +1,0 @@
-use Rattle.std.proofs.Common.{◌≡◌, take, map}
-use Rattle.records.specs.Tree.{relabel}
-use Rattle.records.specs.Line.{label_of}
-use Rattle.records.proofs.branch.+branch_of.Given as goal
-
-abbrev pub invariant-children : goal.invariant-children
-invariant-children l = l.children.items ≡ map (relabel label_of) (take l.child-index l.child-items)

@@ -1,7 +1,0 @@
-use Rattle.std.proofs.Common.{◌≡◌, take, map}
-use Rattle.records.specs.Tree.{relabel}
-use Rattle.records.specs.Line.{label_of}
-use Rattle.records.proofs.branch.branches_of.Given as goal
-
-abbrev pub invariant-lines : goal.invariant-lines
-invariant-lines l = l.branches.items ≡ map (relabel label_of) (take l.line-index l.carried)

@@ -1,5 +1,0 @@
-use Rattle.std.proofs.Common.{◌≡◌, take}
-use Rattle.records.proofs.carried.Carried.+copy.Given as goal
-
-abbrev pub invariant-children : goal.invariant-children
-invariant-children l = l.children.items ≡ take l.child-index l.child-items

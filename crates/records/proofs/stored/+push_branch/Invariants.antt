@@ -1,6 +1,0 @@
-use Rattle.std.proofs.Common.{◌≡◌, ◌++◌, ◌∷◌, take}
-use Rattle.records.specs.Tree.{flat_all, forest_of, label}
-use Rattle.records.proofs.stored.+push_branch.Given as goal
-
-abbrev pub invariant-children : goal.invariant-children
-invariant-children l = l.out.items ≡ l.fn.out.items ++ ((l.depth, label l.branch) ∷ flat_all l.below (forest_of (take l.child-index l.child-items)))

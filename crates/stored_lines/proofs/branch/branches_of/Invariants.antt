@@ -1,0 +1,7 @@
+use Rattle.std.proofs.Common.{◌≡◌, take, map}
+use Rattle.stored_lines.specs.Tree.{relabel}
+use Rattle.stored_lines.specs.Line.{label_of}
+use Rattle.stored_lines.proofs.branch.branches_of.Given as goal
+
+abbrev pub invariant-lines : goal.invariant-lines
+invariant-lines l = l.branches.items ≡ map (relabel label_of) (take l.line-index l.carried)

@@ -1,0 +1,23 @@
+//! Trees of lines, and the lines as they are stored: a branch is a line with those below it, and a stored
+//! line has its depth. Carried lines, which a record keeps beside its fields, are branches too.
+//!
+//! It stands on `record_text`, whose texts and tags stand on the lines. What the words on lines mean is for
+//! `records` to say.
+//!
+//! Callers may rely on: lines are those of one branch at the most, and `branch_of_lines` finds it; carried
+//! lines that are made branches are read from them again.
+#![tactic(auto)]
+
+mod branch;
+mod carried;
+mod comparing;
+pub mod laws;
+mod stored;
+
+pub use branch::{Branch, branches_of, carried_of, copied, value_of};
+pub use carried::{Carried, Value};
+pub use comparing::are_same;
+pub use stored::{StoredLine, branch_of_lines, lines_of_branch};
+
+#[cfg(test)]
+mod tests;
