@@ -11,6 +11,7 @@
 mod branch;
 mod carried;
 mod citation;
+mod copying;
 mod family;
 mod field;
 mod keeping;
