@@ -1,0 +1,20 @@
+-- What a new archive holds is sound.
+use Rattle.std.proofs.Common.{◌≡◌, ℕ, sym, subst, ◌∙◌}
+use Rattle.std.specs.Prelude.{Some, None}
+use Rattle.std.specs.Ordering.{nat_cmp}
+use Rattle.std.specs.FinMap.{get, empty, get-empty}
+use Rattle.records.specs.declared.record.Record.{Record}
+use Rattle.archive_state.specs.Content.{Content, nothing}
+use Rattle.archive_state.specs.Sound.{IsSound}
+
+-- nothing stands in an empty map
+none_there : {X : Type 0} (n : ℕ) (x : X) → get (empty {X = X} {R = nat_cmp}) n ≡ Some x → ⊥
+none_there {X} n x e = let no : get (empty {X = X} {R = nat_cmp}) n ≡ None = get-empty nat_cmp n in cc
+
+pub nothing_is_sound : IsSound nothing
+nothing_is_sound = record {
+  named = λ n r e. absurd (none_there n r e);
+}
+
+pub sound_if_nothing : (c : Content) → c ≡ nothing → IsSound c
+sound_if_nothing c e = subst IsSound (sym e) nothing_is_sound

@@ -1,0 +1,9 @@
+pub mod Changes
+pub mod Content
+pub mod Links
+pub mod Looks
+pub mod Paths
+pub mod Reports
+pub mod Slips
+pub mod Sound
+pub mod Tokens
