@@ -1,7 +1,9 @@
+pub mod Carried
 pub mod Changes
 pub mod Content
 pub mod Links
 pub mod Looks
+pub mod Merging
 pub mod Paths
 pub mod Reports
 pub mod Slips

@@ -1,5 +1,6 @@
--- The paths of places: a rule of our own (docs/FORMATS.md).
-use Rattle.std.specs.Prelude.{ℕ, ◌≡◌, ◌<◌, List, [], ◌∷◌, ◌++◌, Option, Some, None, codes, MatchOption}
+-- The names and the paths of places: rules of our own (docs/FORMATS.md).
+use Rattle.std.specs.Prelude.{ℕ, ◌≡◌, ◌<◌, ◌≤◌, ◌==◌, List, [], ◌∷◌, ◌++◌, length, map, Option, Some, None, codes, if◌then◌else◌, MatchOption}
+use Rattle.std.specs.List.{slice_split}
 use Rattle.std.specs.FinMap.{get}
 use Rattle.records.specs.Model as model
 use Rattle.records.specs.declared.record.Record.TheVariants as kind
@@ -29,3 +30,27 @@ HasPath m n path = (names : List (List ℕ)) × Climbs m n names × (joined name
 -- the lowest of the numbers of which P holds; none where it holds of none
 abbrev pub IsLowest : (ℕ → Type 0) → Option ℕ → Type 0
 IsLowest P found = MatchOption found ((n : ℕ) → ¬ (P n)) (λ n. P n × ((k : ℕ) → k < n → ¬ (P k)))
+
+-- without the spaces in front; without those at both ends
+abbrev pub from_word : List ℕ → List ℕ
+from_word [] = []
+from_word (b ∷ bs) = if b == 32 then from_word bs else b ∷ bs
+
+abbrev pub backwards : List ℕ → List ℕ
+backwards [] = []
+backwards (b ∷ bs) = backwards bs ++ (b ∷ [])
+
+abbrev pub trimmed : List ℕ → List ℕ
+trimmed t = backwards (from_word (backwards (from_word t)))
+
+-- the parts of a text between commas
+abbrev pub parts : List ℕ → List (List ℕ)
+parts t = slice_split (λ b. b == 44) t
+
+-- the parts, freed of spaces at the ends and joined again, give the text
+abbrev pub IsNormal : List ℕ → Type 0
+IsNormal t = joined (map trimmed (parts t)) ≡ t
+
+-- at most 32 parts and 4,096 bytes
+abbrev pub IsWithinLimits : List ℕ → Type 0
+IsWithinLimits path = (length (parts path) ≤ 32) × (length path ≤ 4096)
