@@ -1,6 +1,7 @@
 -- A `BTreeMap` under numbers, seen as the finite map of its entries.
 use Rattle.std.proofs.Common.{◌≡◌, ℕ, List, [], ◌∷◌, cond, refl, sym, ap, ◌∙◌}
-use Rattle.std.specs.Prelude.{Some, None}
+use Rattle.std.specs.Prelude.{Some, None, Result, Ok, Err}
+use Rattle.std.specs.Result.{OnErr}
 use Rattle.std.specs.Ordering.{nat_cmp}
 use Rattle.std.specs.Cmp.{nat_cmp_total, eq_by_cmp_equiv}
 use Rattle.std.specs.Map.{lookup}
@@ -42,3 +43,8 @@ module _ {Z : Type 0} where
 
   pub get_text : (es : List (String Z × Receipt)) (q : List ℕ) → get (receipts_of es) q ≡ lookup (is_at (λ k. slice_cmp nat_cmp q (string_bytes k))) es
   get_text es q = get-from_entries nat_list_cmp_total (map (λ e. (string_bytes e.0, e.1)) es) q ∙ find_text es q
+
+-- what holds, holds where there is an error
+pub on_err : {A E P : Type 0} (r : Result A E) → P → OnErr r P
+on_err (Ok a) p = tt
+on_err (Err e) p = p

@@ -106,4 +106,49 @@ impl State {
         }
         None
     }
+
+    /// Sets the number that the next record or slip gets.
+    pub fn set_next(&mut self, next: u64)
+        ensures { self.new ≡ record self.old { next = next } }
+    {
+        self.next = next;
+    }
+
+    /// Puts a record at a number, and answers the one that stood there. Where memory is refused nothing is
+    /// changed; it is refused only where none stood there.
+    pub fn put_record(&mut self, number: u32, value: Record) -> Result<Option<Record>, AllocError>
+        ensures ok { OnOk result (self.new ≡ record self.old { records = map.insert self.old.records number value }) }
+        ensures before { IfOk result (λ found. found ≡ map.get self.old.records number) }
+        ensures err { OnErr result (self.new ≡ self.old) }
+        ensures absent { OnErr result (map.get self.old.records number ≡ None) }
+    {
+        Ok(self.records.insert(number, value)?)
+    }
+
+    /// Takes the record of a number out, and answers it.
+    pub fn remove_record(&mut self, number: u32) -> Option<Record>
+        ensures removed { self.new ≡ record self.old { records = map.remove self.old.records number } }
+        ensures before { result ≡ map.get self.old.records number }
+    {
+        self.records.remove(&number)
+    }
+
+    /// Puts a slip at a number, and answers the one that stood there. Where memory is refused nothing is
+    /// changed; it is refused only where none stood there.
+    pub fn put_slip(&mut self, number: u32, slip: Slip) -> Result<Option<Slip>, AllocError>
+        ensures ok { OnOk result (self.new ≡ record self.old { slips = map.insert self.old.slips number slip }) }
+        ensures before { IfOk result (λ found. found ≡ map.get self.old.slips number) }
+        ensures err { OnErr result (self.new ≡ self.old) }
+        ensures absent { OnErr result (map.get self.old.slips number ≡ None) }
+    {
+        Ok(self.slips.insert(number, slip)?)
+    }
+
+    /// Takes the slip of a number out, and answers it.
+    pub fn remove_slip(&mut self, number: u32) -> Option<Slip>
+        ensures removed { self.new ≡ record self.old { slips = map.remove self.old.slips number } }
+        ensures before { result ≡ map.get self.old.slips number }
+    {
+        self.slips.remove(&number)
+    }
 }
