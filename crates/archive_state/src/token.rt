@@ -47,6 +47,13 @@ impl Token {
         self.string.as_str()
     }
 
+    /// The token as a string that the caller owns. Takes no memory.
+    pub fn into_string(self) -> String
+        ensures { string_bytes result ≡ self }
+    {
+        self.string
+    }
+
     /// The same token in memory of its own.
     pub fn copy(&self, alloc: Global) -> Result<Token, AllocError>
         ensures { IfOk result (λ t. t ≡ self.now) }
