@@ -1,13 +1,12 @@
 -- The path of a place, one name after the other.
-use Rattle.std.proofs.Common.{◌≡◌, ◌≢◌, ℕ, ◌<◌, ◌≤◌, List, [], ◌∷◌, ◌++◌, length, refl, sym, ap, subst, ◌∙◌, ◌↔◌, arith, Bool, true, false, append-nil}
+use Rattle.std.proofs.Common.{◌≡◌, ◌≢◌, ℕ, ◌<◌, ◌≤◌, List, [], ◌∷◌, ◌++◌, length, refl, sym, ap, subst, ◌∙◌, ◌↔◌, arith, Bool, false, append-nil}
 use Rattle.std.specs.Prelude.{Option, Some, None, codes, IsTrue}
 use Rattle.std.proofs.lemmas.List.{append_cancel_left}
 use Rattle.std.specs.FinMap.{get}
 use Rattle.records.specs.Model as model
-use Rattle.records.specs.declared.record.Record.{Record}
 use Rattle.records.specs.declared.record.Record.TheVariants as kind
 use Rattle.archive_state.specs.Content.{Records}
-use Rattle.archive_state.specs.Paths.{IsPlaceAt, Climbs, joined, HasPath}
+use Rattle.archive_state.specs.Paths.{IsPlaceAt, joined, HasPath}
 
 no_length : (xs : List ℕ) → length xs ≡ 0 → xs ≡ []
 no_length [] e = refl
@@ -65,30 +64,34 @@ pub other_name_iff : (m : Records) (n : ℕ) (p : model.Place) (path : List ℕ)
 other_name_iff m n p path at apart = (λ t. absurd (same_false t), λ h. let f = front m n p.name p.parent path (path_goes m n p path at h) in absurd (apart f.0 f.1))
 
 pub alone_iff : (m : Records) (n : ℕ) (p : model.Place) (path rest : List ℕ) (b : Bool) → IsPlaceAt m n p → path ≡ p.name ++ rest → p.parent ≡ None → IsTrue b ↔ (length rest ≡ 0) → IsTrue b ↔ HasPath m n path
-alone_iff m n p path rest b at e none empty =
-    (λ t. goes_path m n p path None at none (e ∙ ap (λ r. p.name ++ r) (no_length rest (empty.0 t)) ∙ append-nil p.name),
-     λ h. let same : path ≡ p.name = rw none at (path_goes m n p path at h) in
-          empty.1 (ap length (append_cancel_left p.name rest [] (sym e ∙ same ∙ sym (append-nil p.name)))))
+alone_iff m n p path rest b at e none empty = (
+  λ t. goes_path m n p path None at none (e ∙ ap (λ r. p.name ++ r) (no_length rest (empty.0 t)) ∙ append-nil p.name),
+  λ h. let same : path ≡ p.name = rw none at (path_goes m n p path at h) in
+      empty.1 (ap length (append_cancel_left p.name rest [] (sym e ∙ same ∙ sym (append-nil p.name)))),
+)
 
 pub above_iff : (m : Records) (n q : ℕ) (p : model.Place) (path : List ℕ) → IsPlaceAt m n p → p.parent ≡ Some q → n ≤ q → IsTrue false ↔ HasPath m n path
-above_iff m n q p path at is above =
-    (λ t. absurd (same_false t),
-     λ h. let g : Goes m n p.name (Some q) path = rw is at (path_goes m n p path at h) in
-          let less : q < n = g.0 in
-          absurd (omega arith))
+above_iff m n q p path at is above = (
+  λ t. absurd (same_false t),
+  λ h. let g : Goes m n p.name (Some q) path = rw is at (path_goes m n p path at h) in
+      let less : q < n = g.0 in
+      absurd (omega arith),
+)
 
 pub other_end_iff : (m : Records) (n q : ℕ) (p : model.Place) (path rest : List ℕ) → IsPlaceAt m n p → path ≡ p.name ++ rest → p.parent ≡ Some q → ((above : List ℕ) → rest ≢ codes ", " ++ above) → IsTrue false ↔ HasPath m n path
-other_end_iff m n q p path rest at e is apart =
-    (λ t. absurd (same_false t),
-     λ h. let g : Goes m n p.name (Some q) path = rw is at (path_goes m n p path at h) in
-          absurd (apart g.1.0 (append_cancel_left p.name rest (codes ", " ++ g.1.0) (sym e ∙ g.1.1))))
+other_end_iff m n q p path rest at e is apart = (
+  λ t. absurd (same_false t),
+  λ h. let g : Goes m n p.name (Some q) path = rw is at (path_goes m n p path at h) in
+      absurd (apart g.1.0 (append_cancel_left p.name rest (codes ", " ++ g.1.0) (sym e ∙ g.1.1))),
+)
 
 pub within_iff : (m : Records) (n q : ℕ) (p : model.Place) (path rest above : List ℕ) (b : Bool) → IsPlaceAt m n p → path ≡ p.name ++ rest → p.parent ≡ Some q → q < n → rest ≡ codes ", " ++ above → IsTrue b ↔ HasPath m q above → IsTrue b ↔ HasPath m n path
-within_iff m n q p path rest above b at e is less f up =
-    (λ t. goes_path m n p path (Some q) at is (less, (above, e ∙ ap (λ r. p.name ++ r) f, up.0 t)),
-     λ h. let g : Goes m n p.name (Some q) path = rw is at (path_goes m n p path at h) in
-          let same : codes ", " ++ above ≡ codes ", " ++ g.1.0 = sym f ∙ append_cancel_left p.name rest (codes ", " ++ g.1.0) (sym e ∙ g.1.1) in
-          up.1 (subst (HasPath m q) (sym (append_cancel_left (codes ", ") above g.1.0 same)) g.1.2))
+within_iff m n q p path rest above b at e is less f up = (
+  λ t. goes_path m n p path (Some q) at is (less, (above, e ∙ ap (λ r. p.name ++ r) f, up.0 t)),
+  λ h. let g : Goes m n p.name (Some q) path = rw is at (path_goes m n p path at h) in
+      let same : codes ", " ++ above ≡ codes ", " ++ g.1.0 = sym f ∙ append_cancel_left p.name rest (codes ", " ++ g.1.0) (sym e ∙ g.1.1) in
+      up.1 (subst (HasPath m q) (sym (append_cancel_left (codes ", ") above g.1.0 same)) g.1.2),
+)
 
 -- where there is a path, something stands
 pub stands_there : (m : Records) (n : ℕ) (path : List ℕ) → HasPath m n path → get m n ≡ None → ⊥

@@ -1,6 +1,6 @@
 -- The lowest number that has a path, looked for along entries that rise.
-use Rattle.std.proofs.Common.{◌≡◌, ℕ, ◌<◌, List, [], ◌∷◌, refl, sym, ap, subst, ◌∙◌, cond, Bool, true, false, arith}
-use Rattle.std.specs.Prelude.{Option, Some, None, T, ◌&&◌, map}
+use Rattle.std.proofs.Common.{◌≡◌, ℕ, List, [], ◌∷◌, refl, sym, ap, subst, ◌∙◌, cond, Bool, true, false}
+use Rattle.std.specs.Prelude.{Some, None, T, ◌&&◌, map}
 use Rattle.std.specs.List.Sorted.{IsStrictlySortedBy}
 use Rattle.std.specs.Ordering.{nat_cmp, is_lt, is_eq}
 use Rattle.std.specs.Cmp.{nat_cmp_total, nat_cmp_is, ranked}
@@ -68,11 +68,14 @@ ahead_past m path e es h other = record {
 
 -- the first that has it is the lowest
 pub ahead_found : (m : Records) (path : List ℕ) (e : ℕ × Record) (es : List (ℕ × Record)) → Ahead m path (e ∷ es) → HasPath m e.0 path → IsLowest (λ n. HasPath m n path) (Some e.0)
-ahead_found m path e es h p = (p, λ k less q.
-    let lower : nat_cmp k e.0 ≡ Less = sym (nat_cmp_is k e.0 Less less) in
-    let below : T (below_all nat_cmp k es) = below_below k e.0 es lower (first (below_all nat_cmp e.0 es) (is_sorted nat_cmp es) h.rises) in
-    let gone : find nat_cmp k (e ∷ es) ≡ None = ap (λ o. cond (is_eq o) (Some e.1) (find nat_cmp k es)) lower ∙ not_found k es below in
-    stands_there m k path q (sym (h.holds k q) ∙ gone))
+ahead_found m path e es h p = (
+  p,
+  λ k less q.
+      let lower : nat_cmp k e.0 ≡ Less = sym (nat_cmp_is k e.0 Less less) in
+      let below : T (below_all nat_cmp k es) = below_below k e.0 es lower (first (below_all nat_cmp e.0 es) (is_sorted nat_cmp es) h.rises) in
+      let gone : find nat_cmp k (e ∷ es) ≡ None = ap (λ o. cond (is_eq o) (Some e.1) (find nat_cmp k es)) lower ∙ not_found k es below in
+      stands_there m k path q (sym (h.holds k q) ∙ gone),
+)
 
 -- where none is left, none has it
 pub ahead_none : (m : Records) (path : List ℕ) → Ahead m path [] → IsLowest (λ n. HasPath m n path) None

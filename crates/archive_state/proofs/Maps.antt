@@ -76,8 +76,8 @@ module _ {Z : Type 0} where
   find_put [] k v q = refl
   find_put (e ∷ es) k v q =
       elim (slice_cmp nat_cmp (string_bytes k) (string_bytes e.0)) as (λ o. slice_cmp nat_cmp (string_bytes k) (string_bytes e.0) ≡ o
-          → find (slice_cmp nat_cmp) q (map (λ f. (string_bytes f.0, f.1)) (match_ordering o ((k, v) ∷ e ∷ es) ((e.0, v) ∷ es) (e ∷ insert_entry string_cmp es k v)))
-          ≡ cond (eq_by_cmp (slice_cmp nat_cmp) q (string_bytes k)) (Some v) (find (slice_cmp nat_cmp) q (map (λ f. (string_bytes f.0, f.1)) (e ∷ es)))) [
+      → find (slice_cmp nat_cmp) q (map (λ f. (string_bytes f.0, f.1)) (match_ordering o ((k, v) ∷ e ∷ es) ((e.0, v) ∷ es) (e ∷ insert_entry string_cmp es k v)))
+      ≡ cond (eq_by_cmp (slice_cmp nat_cmp) q (string_bytes k)) (Some v) (find (slice_cmp nat_cmp) q (map (λ f. (string_bytes f.0, f.1)) (e ∷ es)))) [
         | Less ↦ λ p. refl
         | Equal ↦ λ p.
             let same : string_bytes k ≡ string_bytes e.0 = text_antisymmetric _ _ p in
@@ -86,8 +86,8 @@ module _ {Z : Type 0} where
         | Greater ↦ λ p.
             ap (cond (eq_by_cmp (slice_cmp nat_cmp) q (string_bytes e.0)) (Some e.1)) (find_put es k v q)
             ∙ apart (eq_by_cmp (slice_cmp nat_cmp) q (string_bytes k)) (eq_by_cmp (slice_cmp nat_cmp) q (string_bytes e.0)) v e.1 (find (slice_cmp nat_cmp) q (map (λ f. (string_bytes f.0, f.1)) es))
-              (λ t. let here : q ≡ string_bytes k = text_antisymmetric q (string_bytes k) (is_equal (slice_cmp nat_cmp q (string_bytes k)) t) in
-                    ap (λ x. eq_by_cmp (slice_cmp nat_cmp) x (string_bytes e.0)) here ∙ ap is_eq p)
+            (λ t. let here : q ≡ string_bytes k = text_antisymmetric q (string_bytes k) (is_equal (slice_cmp nat_cmp q (string_bytes k)) t) in
+            ap (λ x. eq_by_cmp (slice_cmp nat_cmp) x (string_bytes e.0)) here ∙ ap is_eq p)
       ] refl
 
   -- to put a receipt among the entries is to insert it under the text

@@ -1,5 +1,5 @@
 -- What a merge makes of records: in all of them one person's number becomes another's, and the two persons become one.
--- A rule of our own (docs/FORMATS.md).
+-- A rule of our own.
 use Rattle.std.specs.Prelude.{ℕ, List, [], ◌∷◌, ◌++◌, map, Option, Some, None, option_map, codes, ◌==◌, if◌then◌else◌}
 use Rattle.records.specs.Tree.{node, none, relabel}
 use Rattle.records.specs.Line.{Line, Lines}

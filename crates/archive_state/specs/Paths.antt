@@ -1,4 +1,4 @@
--- The names and the paths of places: rules of our own (docs/FORMATS.md).
+-- The names and the paths of places: rules of our own.
 use Rattle.std.specs.Prelude.{ℕ, ◌≡◌, ◌<◌, ◌≤◌, ◌==◌, List, [], ◌∷◌, ◌++◌, length, map, Option, Some, None, codes, if◌then◌else◌, MatchOption}
 use Rattle.std.specs.List.{slice_split}
 use Rattle.std.specs.FinMap.{get}

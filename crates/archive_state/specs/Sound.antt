@@ -1,6 +1,6 @@
--- What holds of a state that commands have made: each rule has a name. Rules of our own (docs/FORMATS.md), so that what
+-- What holds of a state that commands have made: each rule has a name. Rules of our own, so that what
 -- an archive holds can be written as GEDCOM and read again.
-use Rattle.std.specs.Prelude.{ℕ, ◌≡◌, ◌≢◌, ◌<◌, List, [], ◌∷◌, ◌++◌, Option, Some, None, Bool, true, false, ◌==◌, map, option_map, codes, MatchOption, IfSome}
+use Rattle.std.specs.Prelude.{ℕ, ◌≡◌, ◌≢◌, ◌<◌, List, [], ◌∷◌, ◌++◌, Option, Some, None, true, false, ◌==◌, map, option_map, codes, MatchOption, IfSome}
 use Rattle.std.specs.List.{list_any, flat_map}
 use Rattle.std.specs.FinMap.{FinMap, get, from_entries}
 use Rattle.std.specs.Ordering.{nat_cmp}

@@ -1,4 +1,4 @@
--- Tokens, by their bytes: a rule of our own (docs/FORMATS.md).
+-- Tokens, by their bytes: a rule of our own.
 use Rattle.std.specs.Prelude.{◌≡◌, ℕ, ◌<◌, ◌≤◌, Bool, true, ◌&&◌, nat_le, List, length}
 use Rattle.std.specs.List.{list_all}
 

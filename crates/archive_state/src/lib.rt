@@ -14,29 +14,22 @@ mod answer;
 mod changes;
 mod naming;
 mod paths;
-
 mod report;
 mod shown;
-
 mod slip;
 mod state;
-
 mod token;
 mod view;
-
 
 pub use answer::{Answer, Receipt};
 pub use changes::{Batch, Changes, Kept, Numbered, SlipChange};
 pub use naming::is_naming;
 pub use report::{Report, ReportLine, ReportWord};
 pub use shown::Shown;
-
 pub use slip::{Change, Slip};
 pub use state::State;
-
 pub use token::Token;
 pub use view::View;
 
-
-
-
+#[cfg(test)]
+mod tests;

@@ -3,12 +3,25 @@
 ghost use Rattle.std.specs.Prelude.{◌≡◌, List};
 ghost use Rattle.std.specs.List.{flat_map};
 ghost use Rattle.archive_state.specs.Links.{
-    Link, is_among, line_links, links, place_links, repo_links, holding_links, source_links, name_links,
-    person_links, partner_links, child_links, family_links, citation_links,
+  Link,
+  is_among,
+  line_links,
+  links,
+  place_links,
+  repo_links,
+  holding_links,
+  source_links,
+  name_links,
+  person_links,
+  partner_links,
+  child_links,
+  family_links,
+  citation_links,
 };
 
 use records::{
-    Carried, Child, Citation, Family, Holding, Name, Partner, Person, Place, Record, Repo, Source, Value,
+    Carried, Child, Citation, Family, Holding, Name, Partner, Person, Place, Record, Repo, Source,
+    Value,
 };
 
 /// Whether the number stands in the record, in a field or on a carried line.

@@ -154,7 +154,11 @@ impl State {
 
     /// Keeps a receipt under a token, and answers the one that was kept there. Where memory is refused nothing
     /// is changed.
-    pub fn put_receipt(&mut self, token: Token, receipt: Receipt) -> Result<Option<Receipt>, AllocError>
+    pub fn put_receipt(
+        &mut self,
+        token: Token,
+        receipt: Receipt,
+    ) -> Result<Option<Receipt>, AllocError>
         ensures ok { OnOk result (self.new ≡ record self.old { receipts = map.insert self.old.receipts token receipt }) }
         ensures before { IfOk result (λ found. found ≡ map.get self.old.receipts token) }
         ensures err { OnErr result (self.new ≡ self.old) }

@@ -10,7 +10,7 @@ use std::marker::Model;
 /// The most characters that a token has.
 const MAX_CHARACTERS: usize = 64;
 
-/// 1 to 64 characters from `!` to `~`. Contracts see a token as its bytes. Source: docs/FORMATS.md.
+/// 1 to 64 characters from `!` to `~`. Contracts see a token as its bytes. A rule of our own.
 #[derive(Debug, Drop)]
 pub struct Token {
     string: String,
@@ -51,7 +51,8 @@ impl Token {
     pub fn into_string(self) -> String
         ensures { string_bytes result ≡ self }
     {
-        self.string
+        let Token { string } = self;
+        string
     }
 
     /// The same token in memory of its own.

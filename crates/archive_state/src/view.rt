@@ -15,6 +15,9 @@ use crate::token::Token;
 use records::{Record, RefusalKind, Text};
 use std::alloc::Global;
 
+/// How many calls of a view of memory failed.
+const NO_FAILURES: u64 = 0;
+
 /// What an archive holds, to be looked at. A call answers what is there, or it is refused: with 1, or, where a
 /// read of the view's own failed, with 40 or 80. Each such failure is counted.
 pub trait View {
@@ -76,7 +79,7 @@ impl View for &State {
     ghost failed = { λ s. 0 };
 
     fn failures(&self) -> u64 {
-        0
+        NO_FAILURES
     }
 
     fn record_at(&mut self, alloc: Global, number: u32) -> Result<Option<Record>, RefusalKind> {
@@ -124,7 +127,7 @@ impl View for &Shown {
     ghost failed = { λ s. 0 };
 
     fn failures(&self) -> u64 {
-        0
+        NO_FAILURES
     }
 
     fn record_at(&mut self, alloc: Global, number: u32) -> Result<Option<Record>, RefusalKind> {

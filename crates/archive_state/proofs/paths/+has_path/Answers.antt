@@ -1,4 +1,4 @@
-use Rattle.std.proofs.Common.{◌≡◌, ◌≢◌, ◌++◌, ◌≤◌, ◌<◌, ℕ, List, sym, ap, ◌∙◌, codes, Some, None, arith, rules}
+use Rattle.std.proofs.Common.{◌≡◌, sym, ap, ◌∙◌, arith, rules}
 use Rattle.records.specs.Model as model
 use Rattle.archive_state.proofs.Climbing.{none_iff, other_name_iff, alone_iff, above_iff, other_end_iff, within_iff}
 use Rattle.archive_state.proofs.paths.+has_path.Goals as goal

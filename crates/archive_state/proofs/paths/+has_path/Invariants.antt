@@ -1,4 +1,3 @@
-use Rattle.std.proofs.Common.{ℕ}
 use Rattle.archive_state.proofs.paths.+has_path.Given as goal
 
 abbrev pub decreases-has_path : goal.decreases-has_path

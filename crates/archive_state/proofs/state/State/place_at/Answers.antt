@@ -1,4 +1,4 @@
-use Rattle.std.proofs.Common.{◌≡◌, ℕ, sym, subst, ◌∙◌, List}
+use Rattle.std.proofs.Common.{subst, ◌∙◌}
 use Rattle.archive_state.specs.Content.{Content}
 use Rattle.archive_state.specs.Paths.{HasPath}
 use Rattle.archive_state.proofs.Lowest.{Ahead, ahead_of_all, ahead_found, ahead_none}
