@@ -6,7 +6,7 @@ use Rattle.std.specs.FinMap.{get}
 use Rattle.records.specs.Model as model
 use Rattle.records.specs.declared.record.Record.TheVariants as kind
 use Rattle.archive_state.specs.Content.{Records}
-use Rattle.archive_state.specs.Paths.{IsPlaceAt, joined, HasPath}
+use Rattle.archive_state.specs.Paths.{IsPlaceAt, Climbs, joined, HasPath}
 
 no_length : (xs : List ℕ) → length xs ≡ 0 → xs ≡ []
 no_length [] e = refl
@@ -96,3 +96,28 @@ within_iff m n q p path rest above b at e is less f up = (
 -- where there is a path, something stands
 pub stands_there : (m : Records) (n : ℕ) (path : List ℕ) → HasPath m n path → get m n ≡ None → ⊥
 stands_there m n path h e = no_place m n path (λ p at. let both : None ≡ Some (kind.Place p) = sym e ∙ at in cc) h
+
+-- ---- a place has one path
+climbs_once : (m : Records) (n : ℕ) (xs ys : List (List ℕ)) → Climbs m n xs → Climbs m n ys → xs ≡ ys
+climbs_once m n [] ys h g = absurd h
+climbs_once m n (x ∷ []) [] h g = absurd g
+climbs_once m n (x ∷ (u ∷ xs)) [] h g = absurd g
+climbs_once m n (x ∷ []) (y ∷ []) (p, at, named, none) (q, found, called, nothing) =
+    let same : p ≡ q = one_place m n p q at found in
+    ap (λ t. t ∷ []) (sym named ∙ ap (λ (r : model.Place). r.name) same ∙ called)
+climbs_once m n (x ∷ []) (y ∷ (v ∷ ys)) (p, at, named, none) (q, found, called, (up, is_up, less, climbs)) =
+    let same : p ≡ q = one_place m n p q at found in
+    let both : None ≡ Some up = sym none ∙ ap (λ (r : model.Place). r.parent) same ∙ is_up in cc
+climbs_once m n (x ∷ (u ∷ xs)) (y ∷ []) (p, at, named, (up, is_up, less, climbs)) (q, found, called, none) =
+    let same : q ≡ p = one_place m n q p found at in
+    let both : None ≡ Some up = sym none ∙ ap (λ (r : model.Place). r.parent) same ∙ is_up in cc
+climbs_once m n (x ∷ (u ∷ xs)) (y ∷ (v ∷ ys)) (p, at, named, (up, is_up, less, climbs)) (q, found, called, (high, is_high, under, goes)) =
+    let same : p ≡ q = one_place m n p q at found in
+    let parents : Some up ≡ Some high = sym is_up ∙ ap (λ (r : model.Place). r.parent) same ∙ is_high in
+    let parent : high ≡ up = cc in
+    let rest : u ∷ xs ≡ v ∷ ys = climbs_once m up (u ∷ xs) (v ∷ ys) climbs (subst (λ k. Climbs m k (v ∷ ys)) parent goes) in
+    let first : x ≡ y = sym named ∙ ap (λ (r : model.Place). r.name) same ∙ called in
+    λ i. first i ∷ rest i
+
+pub path_once : (m : Records) (n : ℕ) (a b : List ℕ) → HasPath m n a → HasPath m n b → a ≡ b
+path_once m n a b (xs, h, e) (ys, g, f) = sym e ∙ ap joined (climbs_once m n xs ys h g) ∙ f

@@ -32,21 +32,42 @@ abbrev pub person_with : (ℕ → ℕ) → model.Person → model.Person
 person_with f p = record p { names = map (name_with f) p.names; carried = lines_with f p.carried }
 
 abbrev pub partner_with : (ℕ → ℕ) → model.Partner → model.Partner
-partner_with f p = record p { person = f p.person; carried = lines_with f p.carried; carried_by_person = lines_with f p.carried_by_person }
+partner_with f p = record p {
+  person = f p.person;
+  carried = lines_with f p.carried;
+  carried_by_person = lines_with f p.carried_by_person;
+}
 
 abbrev pub child_with : (ℕ → ℕ) → model.Child → model.Child
-child_with f c = record c { person = f c.person; carried = lines_with f c.carried; carried_by_person = lines_with f c.carried_by_person }
+child_with f c = record {
+  person = f c.person;
+  carried = lines_with f c.carried;
+  carried_by_person = lines_with f c.carried_by_person;
+}
 
 abbrev pub family_with : (ℕ → ℕ) → model.Family → model.Family
-family_with f x = record { partners = map (partner_with f) x.partners; children = map (child_with f) x.children; carried = lines_with f x.carried }
+family_with f x = record {
+  partners = map (partner_with f) x.partners;
+  children = map (child_with f) x.children;
+  carried = lines_with f x.carried;
+}
+
+abbrev pub place_with : (ℕ → ℕ) → model.Place → model.Place
+place_with f p = record p { parent = option_map f p.parent; carried = lines_with f p.carried }
+
+abbrev pub source_with : (ℕ → ℕ) → model.Source → model.Source
+source_with f s = record s { holdings = map (holding_with f) s.holdings; carried = lines_with f s.carried }
+
+abbrev pub citation_with : (ℕ → ℕ) → model.Citation → model.Citation
+citation_with f c = record c { owner = f c.owner; source = f c.source; carried = lines_with f c.carried }
 
 abbrev pub record_with : (ℕ → ℕ) → Record → Record
-record_with f (kind.Place p) = kind.Place (record p { parent = option_map f p.parent; carried = lines_with f p.carried })
+record_with f (kind.Place p) = kind.Place (place_with f p)
 record_with f (kind.Repo r) = kind.Repo (record r { carried = lines_with f r.carried })
-record_with f (kind.Source s) = kind.Source (record s { holdings = map (holding_with f) s.holdings; carried = lines_with f s.carried })
+record_with f (kind.Source s) = kind.Source (source_with f s)
 record_with f (kind.Person p) = kind.Person (person_with f p)
 record_with f (kind.Family x) = kind.Family (family_with f x)
-record_with f (kind.Citation c) = kind.Citation (record c { owner = f c.owner; source = f c.source; carried = lines_with f c.carried })
+record_with f (kind.Citation c) = kind.Citation (citation_with f c)
 
 -- ---- one of two
 -- the sex of the other where there is none yet
@@ -67,12 +88,19 @@ joined_person k g = record {
   carried = k.carried ++ (g.carried ++ second_sex k.sex g.sex);
 }
 
--- a child with the carried lines, on both sides, of each further child that is the same person
+-- a child with the carried lines of another, on both sides
+abbrev pub joined_child : model.Child → model.Child → model.Child
+joined_child c d = record {
+  person = c.person;
+  carried = c.carried ++ d.carried;
+  carried_by_person = c.carried_by_person ++ d.carried_by_person;
+}
+
+-- a child with the carried lines of each further child that is the same person
 abbrev pub child_of_all : ℕ → model.Child → List model.Child → model.Child
 child_of_all n c [] = c
 child_of_all n c (d ∷ ds) =
-    if d.person == n then child_of_all n (record c { carried = c.carried ++ d.carried; carried_by_person = c.carried_by_person ++ d.carried_by_person }) ds
-    else child_of_all n c ds
+    if d.person == n then child_of_all n (joined_child c d) ds else child_of_all n c ds
 
 abbrev pub others : ℕ → List model.Child → List model.Child
 others n [] = []

@@ -9,8 +9,8 @@ use Rattle.archive_state.specs.Content.{Records}
 abbrev pub IsPlaceAt : Records → ℕ → model.Place → Type 0
 IsPlaceAt m n p = get m n ≡ Some (kind.Place p)
 
--- these are the names of a place and of those that it is within, the innermost first; each has a smaller number than the
--- one before it
+-- these are the names of a place and of those that it is within, the innermost first; each place has a smaller number
+-- than the one before it
 abbrev pub Climbs : Records → ℕ → List (List ℕ) → Type 0
 Climbs m n [] = ⊥
 Climbs m n (name ∷ []) = (p : model.Place) × IsPlaceAt m n p × (p.name ≡ name) × (p.parent ≡ None)

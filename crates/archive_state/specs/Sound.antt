@@ -121,9 +121,12 @@ pub record IsSoundSlip (next : ℕ) (number : ℕ) (s : Slip) : Type 0 where
   pub named : EachIn (old_records s) (λ n r. EachOf (StandsIfThere (old_records s)) (links r))
   pub rules : HasSoundRecords next (old_records s)
 
+-- what holds of all that an archive holds
 pub record IsSound (c : Content) : Type 0 where
-  -- every number in a record names a record of the kind that is demanded there; one on a carried line names a record that
-  -- is written at level 0
+  -- every number in a record names a record of the kind that is demanded there; one on a carried line names a record
+  -- that is written at level 0
   pub named : EachIn c.records (λ n r. EachOf (Stands c.records) (links r))
+  -- each record keeps the rules on records
   pub rules : HasSoundRecords c.next c.records
+  -- each slip is sound
   pub slips : EachIn c.slips (IsSoundSlip c.next)

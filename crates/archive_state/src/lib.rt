@@ -12,6 +12,7 @@
 
 mod answer;
 mod changes;
+pub mod laws;
 mod naming;
 mod paths;
 mod report;

@@ -159,7 +159,8 @@ impl State {
         token: Token,
         receipt: Receipt,
     ) -> Result<Option<Receipt>, AllocError>
-        ensures ok { OnOk result (self.new ≡ record self.old { receipts = map.insert self.old.receipts token receipt }) }
+        ensures ok { OnOk result
+            (self.new ≡ record self.old { receipts = map.insert self.old.receipts token receipt }) }
         ensures before { IfOk result (λ found. found ≡ map.get self.old.receipts token) }
         ensures err { OnErr result (self.new ≡ self.old) }
     {
