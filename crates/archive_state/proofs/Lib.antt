@@ -1,0 +1,6 @@
+mod Entries
+mod Links
+mod Lowest
+mod Maps
+mod Climbing
+mod Soundness

@@ -1,0 +1,32 @@
+-- What a new archive holds is sound.
+use Rattle.std.proofs.Common.{◌≡◌, ℕ, sym, subst}
+use Rattle.std.specs.Prelude.{Some, None}
+use Rattle.std.specs.Ordering.{nat_cmp}
+use Rattle.std.specs.FinMap.{get, empty, get-empty}
+use Rattle.archive_state.specs.Content.{Content, nothing}
+use Rattle.archive_state.specs.Sound.{IsSound, HasSoundRecords}
+use Rattle.archive_state.proofs.Climbing.{stands_there}
+
+-- nothing stands in an empty map
+none_there : {X : Type 0} (n : ℕ) (x : X) → get (empty {X = X} {R = nat_cmp}) n ≡ Some x → ⊥
+none_there {X} n x e = let no : get (empty {X = X} {R = nat_cmp}) n ≡ None = get-empty nat_cmp n in cc
+
+pub no_records_are_sound : (next : ℕ) → HasSoundRecords next empty
+no_records_are_sound next = record {
+  numbered = λ n r e. absurd (none_there n r e);
+  parents = λ n r e. absurd (none_there n r e);
+  normal = λ n r e. absurd (none_there n r e);
+  paths = λ n path h. absurd (stands_there empty n path h (get-empty nat_cmp n));
+  once = λ n r e. absurd (none_there n r e);
+  tags = λ n r e. absurd (none_there n r e);
+}
+
+pub nothing_is_sound : IsSound nothing
+nothing_is_sound = record {
+  named = λ n r e. absurd (none_there n r e);
+  rules = no_records_are_sound 1;
+  slips = λ n s e. absurd (none_there n s e);
+}
+
+pub sound_if_nothing : (c : Content) → c ≡ nothing → IsSound c
+sound_if_nothing c e = subst IsSound (sym e) nothing_is_sound

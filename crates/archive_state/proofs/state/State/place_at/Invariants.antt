@@ -1,0 +1,5 @@
+use Rattle.archive_state.proofs.Lowest.{Ahead}
+use Rattle.archive_state.proofs.state.State.place_at.Given as goal
+
+abbrev pub invariant-records : goal.invariant-records
+invariant-records l = Ahead l.self.records l.path l.at-iterator

@@ -1,0 +1,45 @@
+-- What a call of a view does, and what is decided over a view.
+use Rattle.std.specs.Prelude.{ℕ, ◌≡◌, ◌-◌, ◌+◌, ◌^◌, ◌<◌, ◌≤◌, ◌⊎◌, Result, Ok, Err, Bool, true, false}
+use Rattle.std.specs.Result.{IfErr}
+use Rattle.record_text.specs.declared.refusal.RefusalKind.{RefusalKind}
+use Rattle.record_text.specs.declared.refusal.RefusalKind.TheVariants.{OutOfMemory, BadStored, Storage}
+use Rattle.archive_state.specs.Content.{Content}
+
+-- a count of failures rose: at its last value it counts as risen
+abbrev pub Rose : ℕ → ℕ → Type 0
+Rose before after = (before < after) ⊎ (after ≡ 2 ^ 64 - 1)
+
+-- the refusals that only a failure of the view's own reads may give: 40 and 80
+abbrev pub is_failure : RefusalKind → Bool
+is_failure BadStored = true
+is_failure Storage = true
+is_failure _ = false
+
+-- the refusals that may come in place of any other answer: 1, 40 and 80
+abbrev pub is_stop : RefusalKind → Bool
+is_stop OutOfMemory = true
+is_stop BadStored = true
+is_stop Storage = true
+is_stop _ = false
+
+-- the count does not fall, and has risen where a failure is answered
+abbrev pub CountsFailures : {A : Type 0} → ℕ → ℕ → Result A RefusalKind → Type 0
+CountsFailures before after r = (before ≤ after) × IfErr r (λ e. is_failure e ≡ true → Rose before after)
+
+-- the same of one call of a view, which counts one failure at the most
+abbrev pub CountsOne : {A : Type 0} → ℕ → ℕ → Result A RefusalKind → Type 0
+CountsOne before after r = CountsFailures before after r × (after ≤ before + 1)
+
+-- a look: its answer, or a stop
+abbrev pub Looked : {A : Type 0} → Result A RefusalKind → (A → Type 0) → Type 0
+Looked (Ok a) P = P a
+Looked (Err e) P = is_stop e ≡ true
+
+-- a view that is honest at the end was so at the start; there its content stayed, and P holds
+abbrev pub Keeps : Type 0 → Type 0 → Content → Content → Type 0 → Type 0
+Keeps honest_before honest_after before after P = honest_after → honest_before × (after ≡ before) × P
+
+-- what a function over a view decides: the right answer, the right refusal, or a stop
+abbrev pub Decided : {A : Type 0} → Result A RefusalKind → Result A RefusalKind → Type 0
+Decided (Ok a) right = right ≡ Ok a
+Decided (Err e) right = is_stop e ≡ false → right ≡ Err e

@@ -1,0 +1,164 @@
+//! What the layers above look at records through, wherever they are.
+
+ghost use Rattle.std.specs.Prelude.{◌≡◌, ℕ, ⊤};
+ghost use Rattle.std.specs.FinMap as map;
+ghost use Rattle.archive_state.specs.Content.{Content};
+ghost use Rattle.archive_state.specs.Links.{referrers};
+ghost use Rattle.archive_state.specs.Looks.{Keeps, Looked, CountsOne};
+ghost use Rattle.archive_state.specs.Paths.{HasPath, IsLowest};
+
+use crate::answer::Receipt;
+use crate::shown::Shown;
+use crate::slip::Slip;
+use crate::state::State;
+use crate::token::Token;
+use records::{Record, RefusalKind, Text};
+use std::alloc::Global;
+
+/// How many calls of a view of memory failed.
+const NO_FAILURES: u64 = 0;
+
+/// What an archive holds, to be looked at. A call answers what is there, or it is refused: with 1, or, where a
+/// read of the view's own failed, with 40 or 80. Each such failure is counted.
+pub trait View {
+    /// What it shows.
+    ghost content: { Self → Content };
+
+    /// Whether it shows that.
+    ghost is_honest: { Self → Type 0 };
+
+    /// How many of its calls failed.
+    ghost failed: { Self → ℕ };
+
+    /// How many of its calls failed. At its last value it counts as risen. Takes no memory.
+    fn failures(&self) -> u64
+        ensures { result ≡ failed self.now };
+
+    /// The record of a number.
+    fn record_at(&mut self, alloc: Global, number: u32) -> Result<Option<Record>, RefusalKind>
+        ensures shows { Keeps (is_honest self.old) (is_honest self.new) (content self.old) (content self.new)
+            (Looked result (λ found. found ≡ map.get (content self.old).records number)) }
+        ensures counts { CountsOne (failed self.old) (failed self.new) result };
+
+    /// The numbers of the records that name a number, ascending.
+    fn referrers(&mut self, alloc: Global, number: u32) -> Result<Vec<u32>, RefusalKind>
+        ensures shows { Keeps (is_honest self.old) (is_honest self.new) (content self.old) (content self.new)
+            (Looked result (λ found. found.items ≡ referrers (content self.old) number)) }
+        ensures counts { CountsOne (failed self.old) (failed self.new) result };
+
+    /// What is kept under a token.
+    fn receipt(&mut self, alloc: Global, token: &Token) -> Result<Option<Receipt>, RefusalKind>
+        ensures shows { Keeps (is_honest self.old) (is_honest self.new) (content self.old) (content self.new)
+            (Looked result (λ found. found ≡ map.get (content self.old).receipts token.now)) }
+        ensures counts { CountsOne (failed self.old) (failed self.new) result };
+
+    /// The slip of a number.
+    fn slip(&mut self, alloc: Global, number: u32) -> Result<Option<Slip>, RefusalKind>
+        ensures shows { Keeps (is_honest self.old) (is_honest self.new) (content self.old) (content self.new)
+            (Looked result (λ found. found ≡ map.get (content self.old).slips number)) }
+        ensures counts { CountsOne (failed self.old) (failed self.new) result };
+
+    /// The number that the next record or slip gets.
+    fn next(&mut self, alloc: Global) -> Result<u64, RefusalKind>
+        ensures shows { Keeps (is_honest self.old) (is_honest self.new) (content self.old) (content self.new)
+            (Looked result (λ next. next ≡ (content self.old).next)) }
+        ensures counts { CountsOne (failed self.old) (failed self.new) result };
+
+    /// The lowest number of a place that has this path.
+    fn place_at(&mut self, alloc: Global, path: &Text) -> Result<Option<u32>, RefusalKind>
+        ensures shows { Keeps (is_honest self.old) (is_honest self.new) (content self.old) (content self.new)
+            (Looked result (IsLowest (λ n. HasPath (content self.old).records n path.now))) }
+        ensures counts { CountsOne (failed self.old) (failed self.new) result };
+}
+
+impl View for &State {
+    ghost content = { λ s. s.now };
+
+    ghost is_honest = { λ s. ⊤ };
+
+    ghost failed = { λ s. 0 };
+
+    fn failures(&self) -> u64 {
+        NO_FAILURES
+    }
+
+    fn record_at(&mut self, alloc: Global, number: u32) -> Result<Option<Record>, RefusalKind> {
+        let state: &State = *self;
+        match state.record(number) {
+            None => Ok(None),
+            Some(record) => Ok(Some(record.copy(alloc)?)),
+        }
+    }
+
+    fn referrers(&mut self, alloc: Global, number: u32) -> Result<Vec<u32>, RefusalKind> {
+        let state: &State = *self;
+        Ok(state.referrers(alloc, number)?)
+    }
+
+    fn receipt(&mut self, _alloc: Global, token: &Token) -> Result<Option<Receipt>, RefusalKind> {
+        let state: &State = *self;
+        Ok(state.receipt(token).copied())
+    }
+
+    fn slip(&mut self, alloc: Global, number: u32) -> Result<Option<Slip>, RefusalKind> {
+        let state: &State = *self;
+        match state.slip(number) {
+            None => Ok(None),
+            Some(slip) => Ok(Some(slip.copy(alloc)?)),
+        }
+    }
+
+    fn next(&mut self, _alloc: Global) -> Result<u64, RefusalKind> {
+        let state: &State = *self;
+        Ok(state.next())
+    }
+
+    fn place_at(&mut self, _alloc: Global, path: &Text) -> Result<Option<u32>, RefusalKind> {
+        let state: &State = *self;
+        Ok(state.place_at(path))
+    }
+}
+
+impl View for &Shown {
+    ghost content = { λ s. s.now };
+
+    ghost is_honest = { λ s. ⊤ };
+
+    ghost failed = { λ s. 0 };
+
+    fn failures(&self) -> u64 {
+        NO_FAILURES
+    }
+
+    fn record_at(&mut self, alloc: Global, number: u32) -> Result<Option<Record>, RefusalKind> {
+        let shown: &Shown = *self;
+        let mut state = shown.as_state();
+        state.record_at(alloc, number)
+    }
+
+    fn referrers(&mut self, alloc: Global, number: u32) -> Result<Vec<u32>, RefusalKind> {
+        let shown: &Shown = *self;
+        Ok(shown.as_state().referrers(alloc, number)?)
+    }
+
+    fn receipt(&mut self, _alloc: Global, token: &Token) -> Result<Option<Receipt>, RefusalKind> {
+        let shown: &Shown = *self;
+        Ok(shown.as_state().receipt(token).copied())
+    }
+
+    fn slip(&mut self, alloc: Global, number: u32) -> Result<Option<Slip>, RefusalKind> {
+        let shown: &Shown = *self;
+        let mut state = shown.as_state();
+        View::slip(&mut state, alloc, number)
+    }
+
+    fn next(&mut self, _alloc: Global) -> Result<u64, RefusalKind> {
+        let shown: &Shown = *self;
+        Ok(shown.as_state().next())
+    }
+
+    fn place_at(&mut self, _alloc: Global, path: &Text) -> Result<Option<u32>, RefusalKind> {
+        let shown: &Shown = *self;
+        Ok(shown.as_state().place_at(path))
+    }
+}
