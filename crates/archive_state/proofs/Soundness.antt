@@ -3,6 +3,7 @@ use Rattle.std.proofs.Common.{◌≡◌, ℕ, sym, subst}
 use Rattle.std.specs.Prelude.{Some, None}
 use Rattle.std.specs.Ordering.{nat_cmp}
 use Rattle.std.specs.FinMap.{get, empty, get-empty}
+use Rattle.records.specs.declared.record.Record.TheVariants as kind
 use Rattle.archive_state.specs.Content.{Content, nothing}
 use Rattle.archive_state.specs.Sound.{IsSound, HasSoundRecords}
 use Rattle.archive_state.proofs.Climbing.{stands_there}
@@ -19,6 +20,11 @@ no_records_are_sound next = record {
   paths = λ n path h. absurd (stands_there empty n path h (get-empty nat_cmp n));
   once = λ n r e. absurd (none_there n r e);
   tags = λ n r e. absurd (none_there n r e);
+  trailers = λ n r e. absurd (none_there n r e);
+  places = λ n r e. absurd (none_there n r e);
+  events = λ n r e. absurd (none_there n r e);
+  mentions = λ n r e. absurd (none_there n r e);
+  keys = λ n k e h same. absurd (none_there n (kind.Entry e) h);
 }
 
 pub nothing_is_sound : IsSound nothing

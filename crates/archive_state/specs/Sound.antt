@@ -1,6 +1,6 @@
 -- What holds of a state that commands have made: each rule has a name. Rules of our own, so that what
 -- an archive holds can be written as GEDCOM and read again.
-use Rattle.std.specs.Prelude.{ℕ, ◌≡◌, ◌≢◌, ◌<◌, List, [], ◌∷◌, ◌++◌, length, Option, Some, None, true, false, ◌==◌, map, option_map, codes, MatchOption, IfSome}
+use Rattle.std.specs.Prelude.{ℕ, ◌≡◌, ◌≢◌, ◌<◌, List, [], ◌∷◌, ◌++◌, length, nat_lt, Option, Some, None, true, false, ◌==◌, map, option_map, codes, MatchOption, IfSome}
 use Rattle.std.specs.List.{list_any, flat_map}
 use Rattle.std.specs.FinMap.{FinMap, get, from_entries}
 use Rattle.std.specs.Ordering.{nat_cmp}
@@ -63,7 +63,7 @@ place_of _ = None
 
 -- the path of that place has a part that is not empty
 abbrev pub HasSaidPlace : Records → Record → Type 0
-HasSaidPlace m r = IfSome (place_of r) (λ p. (path : List ℕ) → HasPath m p path → list_any (λ part. 0 < length part) (parts path) ≡ true)
+HasSaidPlace m r = IfSome (place_of r) (λ p. (path : List ℕ) → HasPath m p path → list_any (λ part. nat_lt 0 (length part)) (parts path) ≡ true)
 
 -- an event has a tag of its owner's kind
 abbrev pub HasEventTag : Records → Record → Type 0

@@ -240,7 +240,7 @@ impl Linked for Entry {
 
 /// Whether the value is the number.
 fn value_names(value: &Value, number: u32) -> bool
-    ensures { result ≡ is_among number (value_links value) }
+    ensures { result ≡ is_among number (value_links «value».now) }
 {
     match value {
         Value::Ref(target) => *target == number,
