@@ -1,5 +1,4 @@
 mod Entries
-mod Links
 mod Lowest
 mod Maps
 mod Climbing

@@ -1,11 +1,10 @@
-pub mod Carried
 pub mod Changes
 pub mod Content
 pub mod Entries
-pub mod Links
 pub mod Looks
 pub mod Merging
 pub mod Paths
+pub mod Referrers
 pub mod Reports
 pub mod Slips
 pub mod Sound

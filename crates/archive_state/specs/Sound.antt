@@ -8,10 +8,10 @@ use Rattle.records.specs.Model as model
 use Rattle.records.specs.declared.record.Record.{Record}
 use Rattle.records.specs.declared.record.Record.TheVariants as kind
 use Rattle.archive_state.specs.declared.slip.Change.{Change}
-use Rattle.archive_state.specs.Carried.{carried_tags}
+use Rattle.record_links.specs.Carried.{carried_tags}
 use Rattle.archive_state.specs.Content.{Content, Records}
 use Rattle.archive_state.specs.Entries.{HasMentions, IsEntryAt, is_event_tag, is_role_of}
-use Rattle.archive_state.specs.Links.{Link, links, names, is_wanted}
+use Rattle.record_links.specs.Links.{Link, links, names, is_wanted}
 use Rattle.archive_state.specs.Merging.{merged}
 use Rattle.archive_state.specs.Paths.{HasPath, IsNormal, IsWithinLimits, parts}
 use Rattle.archive_state.specs.Slips.{Slip}

@@ -13,7 +13,6 @@
 mod answer;
 mod changes;
 pub mod laws;
-mod naming;
 mod paths;
 mod report;
 mod shown;
@@ -24,7 +23,6 @@ mod view;
 
 pub use answer::{Answer, Receipt};
 pub use changes::{Batch, Changes, Kept, Numbered, SlipChange};
-pub use naming::is_naming;
 pub use report::{Report, ReportLine, ReportWord};
 pub use shown::Shown;
 pub use slip::{Change, Slip};

@@ -4,14 +4,14 @@ ghost use Rattle.std.specs.Prelude.{◌≡◌, IfOk, OnOk, OnErr, Some, None, Ma
 ghost use Rattle.std.specs.FinMap as map;
 ghost use Rattle.archive_state.specs.Content.{nothing};
 ghost use Rattle.archive_state.specs.Sound.{IsSound};
-ghost use Rattle.archive_state.specs.Links.{referrers};
+ghost use Rattle.archive_state.specs.Referrers.{referrers};
 ghost use Rattle.archive_state.specs.Paths.{HasPath, IsLowest};
 
 use crate::answer::Receipt;
-use crate::naming::is_naming;
 use crate::paths::has_path;
 use crate::slip::Slip;
 use crate::token::Token;
+use record_links::is_naming;
 use records::{Record, Text};
 use std::alloc::{AllocError, Global};
 use std::collections::BTreeMap;

@@ -1,6 +1,5 @@
 use crate::{
     Answer, Change, Receipt, Report, ReportLine, ReportWord, Shown, Slip, State, Token, View,
-    is_naming,
 };
 use records::{
     Carried, Child, Citation, Family, Holding, Name, Partner, Partnership, Person, Place, Record,
@@ -329,15 +328,6 @@ fn a_place_without_smaller_parent_has_no_path(rt: HostRuntime) -> Result<(), Fai
     state.put_record(2, place(alloc, "Ashby", Some(3))?)?;
     assert!(rt; state.place_at(&text(alloc, "Ashby")?).is_none());
     assert!(rt; state.place_at(&text(alloc, "Ashby, Ashby")?).is_none());
-    Ok(())
-}
-
-#[test]
-fn a_record_names_what_its_carried_lines_name(rt: HostRuntime) -> Result<(), Fail> {
-    let alloc = rt.alloc();
-    let ann = person(alloc, "Ann /Lee/", pointer_below(alloc, 5)?)?;
-    assert!(rt; is_naming(&ann, 5));
-    assert!(rt; !is_naming(&ann, 7));
     Ok(())
 }
 

@@ -3,7 +3,7 @@
 ghost use Rattle.std.specs.Prelude.{◌≡◌, ℕ, ⊤};
 ghost use Rattle.std.specs.FinMap as map;
 ghost use Rattle.archive_state.specs.Content.{Content};
-ghost use Rattle.archive_state.specs.Links.{referrers};
+ghost use Rattle.archive_state.specs.Referrers.{referrers};
 ghost use Rattle.archive_state.specs.Looks.{Keeps, Looked, CountsOne};
 ghost use Rattle.archive_state.specs.Paths.{HasPath, IsLowest};
 

@@ -1,5 +1,5 @@
 use Rattle.std.proofs.Common.{sym, ap, ◌∙◌}
-use Rattle.archive_state.specs.Links.{naming, referrers}
+use Rattle.archive_state.specs.Referrers.{naming, referrers}
 use Rattle.archive_state.proofs.Entries.{entries_back}
 use Rattle.archive_state.proofs.state.State.referrers.Goals as goal
 

@@ -1,5 +1,5 @@
 use Rattle.std.proofs.Common.{◌≡◌, ◌++◌}
-use Rattle.archive_state.specs.Links.{naming, referrers}
+use Rattle.archive_state.specs.Referrers.{naming, referrers}
 use Rattle.archive_state.proofs.state.State.referrers.Given as goal
 
 abbrev pub invariant-records : goal.invariant-records

@@ -1,8 +1,7 @@
 -- The numbers in a record, each with what it has to name: GEDCOM 5.5.1, chapter 2, where each structure says what its
 -- pointers point to.
 use Rattle.std.specs.Prelude.{ℕ, List, [], ◌∷◌, ◌++◌, map, Option, Some, None, option_map, Bool, true, false, ◌==◌}
-use Rattle.std.specs.List.{list_any, flat_map, filter}
-use Rattle.std.specs.FinMap.{entries}
+use Rattle.std.specs.List.{list_any, flat_map}
 use Rattle.stored_lines.specs.Tree.{Tree, Forest, node, none, more}
 use Rattle.stored_lines.specs.Line.{Line, Lines}
 use Rattle.records.specs.Model as model
@@ -10,7 +9,6 @@ use Rattle.stored_lines.specs.declared.carried.Value.{Value}
 use Rattle.stored_lines.specs.declared.carried.Value.TheVariants as value
 use Rattle.records.specs.declared.record.Record.{Record}
 use Rattle.records.specs.declared.record.Record.TheVariants as kind
-use Rattle.archive_state.specs.Content.{Content}
 
 -- what a number may have to name: a holder has events, and what is cited is what a citation speaks of
 pub data Wanted : Type 0 where
@@ -132,11 +130,3 @@ names r = map (λ l. l.0) (links r)
 -- whether a number stands among links
 abbrev pub is_among : ℕ → List Link → Bool
 is_among n ls = list_any (λ l. l.0 == n) ls
-
--- the numbers of those that name a number, of records in the order of their numbers
-abbrev pub naming : ℕ → List (ℕ × Record) → List ℕ
-naming n es = map (λ e. e.0) (filter (λ e. is_among n (links e.1)) es)
-
--- the numbers of the records that name a number, ascending
-abbrev pub referrers : Content → ℕ → List ℕ
-referrers c n = naming n (entries c.records)

@@ -4,7 +4,7 @@ use Rattle.std.specs.Prelude.{◌||◌, ◌==◌}
 use Rattle.std.specs.List.{flat_map}
 use Rattle.stored_lines.specs.Tree.{Tree, forest_of}
 use Rattle.stored_lines.specs.Line.{Line}
-use Rattle.archive_state.specs.Links.{Link, is_among, line_links, forest_links}
+use Rattle.record_links.specs.Links.{Link, is_among, line_links, forest_links}
 
 or_assoc : (a b c : Bool) → (a || (b || c)) ≡ ((a || b) || c)
 or_assoc true b c = refl

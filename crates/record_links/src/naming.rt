@@ -2,7 +2,7 @@
 
 ghost use Rattle.std.specs.Prelude.{◌≡◌, List};
 ghost use Rattle.std.specs.List.{flat_map};
-ghost use Rattle.archive_state.specs.Links.{
+ghost use Rattle.record_links.specs.Links.{
   Link,
   is_among,
   value_links,

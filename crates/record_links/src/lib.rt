@@ -1,0 +1,13 @@
+//! The numbers in a record, and whether it names one.
+//!
+//! It stands on `records`, of which it knows all nine kinds.
+//!
+//! Callers may rely on: all fields of a record are looked at, and all its carried lines at any depth.
+#![tactic(auto)]
+
+mod naming;
+
+pub use naming::is_naming;
+
+#[cfg(test)]
+mod tests;
