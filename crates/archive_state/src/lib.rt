@@ -2,7 +2,7 @@
 //! the next number, the answers that are kept under tokens, and the slips of merges. Here, too, is what a
 //! request or an import changes, and the report of an import.
 //!
-//! It stands on `records` alone.
+//! It stands on `record_links` and `records`.
 //!
 //! Callers may rely on: a `View` that is honest at a call's end was honest at its start and has kept its
 //! content, and what the call answered is in that content; else it answers a refusal, and one that is a

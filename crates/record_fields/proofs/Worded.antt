@@ -1,6 +1,6 @@
 -- A word is that of one value, and each value is found by its word.
-use Rattle.std.specs.Prelude.{◌≡◌, ◌≢◌, ℕ, List, [], ◌∷◌, Bool, true, false, cond, Option, Some, None, bytes_eq, MatchOption, refl}
-use Rattle.std.proofs.Common.{ap, sym, ◌∙◌, lit<}
+use Rattle.std.specs.Prelude.{◌≡◌, ◌≢◌, ℕ, List, [], ◌∷◌, true, false, cond, Option, Some, None, bytes_eq, MatchOption, refl}
+use Rattle.std.proofs.Common.{ap, sym, ◌∙◌}
 use Rattle.std.proofs.Math.Dec.{lit≤}
 use Rattle.record_text.specs.Text.{IsPlain}
 use Rattle.record_fields.specs.Bytes.{bytes_are}

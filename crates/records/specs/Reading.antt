@@ -1,5 +1,5 @@
 -- What is read from a record's tree, each field by its word. No clause that callers see names these definitions.
-use Rattle.std.specs.Prelude.{ℕ, List, [], ◌∷◌, map, Option, Some, None, bytes_eq, if◌then◌else◌, option_map, codes}
+use Rattle.std.specs.Prelude.{ℕ, List, [], ◌∷◌, map, Option, Some, None, bytes_eq, if◌then◌else◌, option_map}
 use Rattle.std.specs.List.{filter}
 use Rattle.std.specs.Option.{unwrap_or}
 use Rattle.stored_lines.specs.Tree.{Tree, label, children, list_of, relabel}

@@ -106,7 +106,11 @@ fn carried_line_of(alloc: Global, branch: &Branch) -> Result<Carried, AllocError
 
 /// The value of a stored line; of one that has a text and a number the text, and of one that has neither
 /// an empty text.
-pub fn value_of(alloc: Global, text: &Option<Text>, target: Option<u32>) -> Result<Value, AllocError>
+pub fn value_of(
+    alloc: Global,
+    text: &Option<Text>,
+    target: Option<u32>,
+) -> Result<Value, AllocError>
     ensures { IfOk result (λ v. v ≡ value_for text.now target) }
 {
     if let Some(text) = text {
