@@ -117,16 +117,28 @@ fn family(alloc: Global, wife: u32, child: u32, side: u32) -> Result<Record, Fai
     }))
 }
 
+/// Puts a record where none stands.
+fn put(state: &mut State, number: u32, record: Record) -> Result<(), Fail> {
+    match state.put_record(number, record)? {
+        Some(_) => Err(Fail::from("a number that is free")),
+        None => Ok(()),
+    }
+}
+
 /// Two persons, their family, a source in a repository, a citation of the family, a receipt and a slip. They
 /// are put in another order than that of their numbers.
 fn family_of_ashby(alloc: Global) -> Result<State, Fail> {
     let mut state = State::new(alloc);
-    state.put_record(10, citation(alloc, 8, 5))?;
-    state.put_record(6, repo(alloc))?;
-    state.put_record(5, source(alloc, 6)?)?;
-    state.put_record(8, family(alloc, 7, 9, 6)?)?;
-    state.put_record(9, person(alloc, "Tom /Lee/", Vec::new(alloc))?)?;
-    state.put_record(7, person(alloc, "Ann /Lee/", pointer_below(alloc, 5)?)?)?;
+    put(&mut state, 10, citation(alloc, 8, 5))?;
+    put(&mut state, 6, repo(alloc))?;
+    put(&mut state, 5, source(alloc, 6)?)?;
+    put(&mut state, 8, family(alloc, 7, 9, 6)?)?;
+    put(&mut state, 9, person(alloc, "Tom /Lee/", Vec::new(alloc))?)?;
+    put(
+        &mut state,
+        7,
+        person(alloc, "Ann /Lee/", pointer_below(alloc, 5)?)?,
+    )?;
     state.put_slip(11, slip(alloc)?)?;
     state.put_receipt(token(alloc, "m1")?, receipt())?;
     state.set_next(12);
@@ -136,10 +148,10 @@ fn family_of_ashby(alloc: Global) -> Result<State, Fail> {
 /// Four places, two of them with one path.
 fn places_of_ashby(alloc: Global) -> Result<State, Fail> {
     let mut state = State::new(alloc);
-    state.put_record(4, place(alloc, "Ashby, Kent", None)?)?;
-    state.put_record(2, place(alloc, "Ashby", Some(1))?)?;
-    state.put_record(1, place(alloc, "Kent", None)?)?;
-    state.put_record(3, place(alloc, "Ashby", None)?)?;
+    put(&mut state, 4, place(alloc, "Ashby, Kent", None)?)?;
+    put(&mut state, 2, place(alloc, "Ashby", Some(1))?)?;
+    put(&mut state, 1, place(alloc, "Kent", None)?)?;
+    put(&mut state, 3, place(alloc, "Ashby", None)?)?;
     Ok(state)
 }
 
@@ -324,8 +336,8 @@ fn slips_and_receipts_are_put_and_taken_out(rt: HostRuntime) -> Result<(), Fail>
 fn a_place_without_smaller_parent_has_no_path(rt: HostRuntime) -> Result<(), Fail> {
     let alloc = rt.alloc();
     let mut state = State::new(alloc);
-    state.put_record(1, place(alloc, "Ashby", Some(1))?)?;
-    state.put_record(2, place(alloc, "Ashby", Some(3))?)?;
+    put(&mut state, 1, place(alloc, "Ashby", Some(1))?)?;
+    put(&mut state, 2, place(alloc, "Ashby", Some(3))?)?;
     assert!(rt; state.place_at(&text(alloc, "Ashby")?).is_none());
     assert!(rt; state.place_at(&text(alloc, "Ashby, Ashby")?).is_none());
     Ok(())

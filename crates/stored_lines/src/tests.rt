@@ -59,34 +59,97 @@ fn printed(alloc: Global, lines: &[StoredLine]) -> Result<String, Fail> {
     Ok(printed)
 }
 
-#[test]
-fn a_branch_is_listed_and_found_again(rt: HostRuntime) -> Result<(), Fail> {
-    let alloc = rt.alloc();
-    let branch = Branch {
+/// A place with the number of its parent and carried lines.
+fn place(alloc: Global) -> Result<Branch, Fail> {
+    Ok(Branch {
         tag: tag(alloc, "place")?,
-        text: copied(alloc, &Some(text(alloc, "Ashby")?))?,
+        text: Some(text(alloc, "Ashby")?),
         target: Some(3),
         children: branches_of(alloc, &carried(alloc)?)?,
-    };
+    })
+}
+
+/// The lines of the place.
+fn lines(alloc: Global) -> Result<Vec<StoredLine>, Fail> {
+    Ok(lines_of_branch(alloc, &place(alloc)?)?)
+}
+
+#[test]
+fn a_branch_is_listed(rt: HostRuntime) -> Result<(), Fail> {
+    let alloc = rt.alloc();
     let want = "0|place|Ashby|3\n1|NOTE|x|-\n2|SOUR|-|7\n";
-    let lines = lines_of_branch(alloc, &branch)?;
-    assert_eq!(rt; printed(alloc, &lines)?.as_str(), want);
-    let found = branch_of_lines(alloc, &lines)?.ok_or("a branch")?;
-    let again = lines_of_branch(alloc, &found)?;
-    assert!(rt; are_same(&lines, &again));
-    assert!(rt; !are_same(&lines, &again[1..]));
-    let kept = carried_of(alloc, &found.children)?;
-    assert_eq!(rt; kept.len(), 1);
-    assert_eq!(rt; kept[0].children.len(), 1);
-    assert!(rt; matches!(&kept[0].copy(alloc)?.children[0].value, Value::Ref(7)));
+    assert_eq!(rt; printed(alloc, &lines(alloc)?)?.as_str(), want);
+    Ok(())
+}
+
+/// The lines of the branch that is found of these.
+fn listed_again(alloc: Global, lines: &[StoredLine]) -> Result<String, Fail> {
+    match branch_of_lines(alloc, lines)? {
+        Some(branch) => printed(alloc, &lines_of_branch(alloc, &branch)?),
+        None => Ok(String::from_str(alloc, "none")?),
+    }
+}
+
+#[test]
+fn a_branch_is_found_again(rt: HostRuntime) -> Result<(), Fail> {
+    let alloc = rt.alloc();
+    let want = "0|place|Ashby|3\n1|NOTE|x|-\n2|SOUR|-|7\n";
+    assert_eq!(rt; listed_again(alloc, &lines(alloc)?)?.as_str(), want);
     Ok(())
 }
 
 #[test]
 fn lines_of_no_branch_are_found_to_be_none(rt: HostRuntime) -> Result<(), Fail> {
     let alloc = rt.alloc();
-    let lines = lines_of_branch(alloc, &branches_of(alloc, &carried(alloc)?)?[0])?;
-    assert!(rt; branch_of_lines(alloc, &[])?.is_none());
-    assert!(rt; branch_of_lines(alloc, &lines[1..])?.is_none());
+    assert_eq!(rt; listed_again(alloc, &[])?.as_str(), "none");
+    let lines = lines(alloc)?;
+    if let [_first, below @ ..] = lines.as_slice() {
+        assert_eq!(rt; listed_again(alloc, below)?.as_str(), "none");
+        assert!(rt; !are_same(&lines, below));
+    }
+    assert!(rt; are_same(&lines, &lines));
+    assert_eq!(rt; lines.len(), 3);
+    Ok(())
+}
+
+/// The number below the first of carried lines.
+fn number_below(lines: &[Carried]) -> u32 {
+    match lines.first() {
+        Some(line) => match line.children.first() {
+            Some(below) => number_of(&below.value),
+            None => 0,
+        },
+        None => 0,
+    }
+}
+
+/// The number of a value, or 0.
+fn number_of(value: &Value) -> u32 {
+    match value {
+        Value::Ref(number) => *number,
+        Value::Text(_) => 0,
+    }
+}
+
+#[test]
+fn carried_lines_are_read_again_and_copied(rt: HostRuntime) -> Result<(), Fail> {
+    let alloc = rt.alloc();
+    let read = carried_of(alloc, &branches_of(alloc, &carried(alloc)?)?)?;
+    assert_eq!(rt; number_below(&read), 7);
+    if let Some(line) = read.first() {
+        let copy = one(alloc, line.copy(alloc)?)?;
+        assert_eq!(rt; number_below(&copy), 7);
+    }
+    Ok(())
+}
+
+#[test]
+fn a_text_is_copied(rt: HostRuntime) -> Result<(), Fail> {
+    let alloc = rt.alloc();
+    let word = Some(text(alloc, "x")?);
+    if let Some(copy) = copied(alloc, &word)? {
+        assert_eq!(rt; copy.as_str(), "x");
+    }
+    assert!(rt; copied(alloc, &None)?.is_none());
     Ok(())
 }
