@@ -4,6 +4,7 @@ use crate::{
     RefusalKind, Repo, Role, Sex, Source, StoredLine, Tag, Text, Value, lines_of, record_of,
 };
 use std::alloc::Global;
+use std::process::Abort;
 use std::test::Fail;
 
 /// A tag that is one.
@@ -209,67 +210,127 @@ fn printed(alloc: Global, lines: &[StoredLine]) -> Result<String, Fail> {
     Ok(printed)
 }
 
-#[test]
-fn a_record_is_kept_as_its_lines_and_read_again(rt: HostRuntime) -> Result<(), Fail> {
-    let alloc = rt.alloc();
-    let repo = Record::Repo(Repo {
+/// A repository without a name.
+fn repo(alloc: Global) -> Record {
+    Record::Repo(Repo {
         name: None,
         carried: Vec::new(alloc),
-    });
-    for (record, want) in [
-        (
-            place(alloc)?,
-            "0|place|Ashby|3\n1|carried|-|-\n2|_UID|x|-\n3|carried|-|7\n",
-        ),
-        (repo, "0|repo|-|-\n"),
-        (
-            source(alloc)?,
-            "0|source|Ashby register|-\n1|publisher||-\n1|holding|PR 1/1|2\n",
-        ),
-        (
-            citation(alloc)?,
-            "0|citation|-|2\n1|source|f. 3|1\n1|quality|2|-\n",
-        ),
-        (
-            person(alloc)?,
-            "0|person|-|-\n1|name|John /Smith/|-\n2|carried|-|-\n3|_UID|x|-\n4|carried|-|7\n1|sex|M|-\n",
-        ),
-        (
-            family(alloc)?,
-            "0|family|-|-\n1|partner|wife|4\n2|side|-|-\n3|_UID|x|-\n4|carried|-|7\n\
-1|child|-|5\n2|carried|-|-\n3|_UID|x|-\n4|carried|-|7\n",
-        ),
-        (
-            event(alloc)?,
-            "0|event|-|1\n1|BIRT|Y|-\n1|date|@#DJULIAN@ 11 FEB 1731/32|3\n2|carried|-|-\n3|_UID|x|-\n4|carried|-|7\n\
-1|participant|witness|2\n",
-        ),
-        (bare_event(alloc, "", None)?, "0|event|-|1\n1|date||-\n"),
-        (
-            bare_event(alloc, "in harvest", None)?,
-            "0|event|-|1\n1|date||-\n1|date|in harvest|-\n",
-        ),
-        (
-            bare_event(alloc, "", Some(3))?,
-            "0|event|-|1\n1|date||-\n1|date|-|3\n",
-        ),
-        (
-            entry(alloc)?,
-            "0|entry|BAPTISM|4\n1|page|f. 3|-\n1|item|12|-\n1|date|15 APR 1699/00|3\n1|text||-\n\
-1|mention|John|-\n2|role|child|-\n1|mention|Tom Lee|7\n2|role|father|-\n2|reason|same farm|-\n",
-        ),
-        (
-            other(alloc)?,
-            "0|other|-|-\n1|NOTE|Lost|-\n2|_UID|x|-\n3|carried|-|7\n",
-        ),
-    ] {
-        let lines = lines_of(alloc, &record)?;
-        assert_eq!(rt; printed(alloc, &lines)?.as_str(), want);
-        let again = record_of(alloc, &lines).ok().ok_or("a record")?;
-        let kept = lines_of(alloc, &again.copy(alloc)?)?;
-        assert_eq!(rt; printed(alloc, &kept)?.as_str(), want);
-    }
+    })
+}
+
+/// The lines of the record that is read from lines and copied.
+fn read_again(alloc: Global, lines: &[StoredLine]) -> Result<String, Fail> {
+    let record = record_of(alloc, lines).ok().ok_or("a record")?;
+    let copy = record.copy(alloc)?;
+    printed(alloc, &lines_of(alloc, &copy)?)
+}
+
+/// The record is kept as these lines, and read from them again.
+fn expect_kept(rt: &impl Abort, alloc: Global, record: &Record, want: &str) -> Result<(), Fail> {
+    let lines = lines_of(alloc, record)?;
+    assert_eq!(rt; printed(alloc, &lines)?.as_str(), want);
+    assert_eq!(rt; read_again(alloc, &lines)?.as_str(), want);
     Ok(())
+}
+
+#[test]
+fn a_repository_is_kept_and_read_again(rt: HostRuntime) -> Result<(), Fail> {
+    let alloc = rt.alloc();
+    expect_kept(&rt, alloc, &repo(alloc), "0|repo|-|-\n")
+}
+
+#[test]
+fn a_place_is_kept_and_read_again(rt: HostRuntime) -> Result<(), Fail> {
+    let alloc = rt.alloc();
+    let want = "0|place|Ashby|3\n1|carried|-|-\n2|_UID|x|-\n3|carried|-|7\n";
+    expect_kept(&rt, alloc, &place(alloc)?, want)
+}
+
+#[test]
+fn a_source_is_kept_and_read_again(rt: HostRuntime) -> Result<(), Fail> {
+    let alloc = rt.alloc();
+    let want = "0|source|Ashby register|-\n1|publisher||-\n1|holding|PR 1/1|2\n";
+    expect_kept(&rt, alloc, &source(alloc)?, want)
+}
+
+#[test]
+fn a_citation_is_kept_and_read_again(rt: HostRuntime) -> Result<(), Fail> {
+    let alloc = rt.alloc();
+    let want = "0|citation|-|2\n1|source|f. 3|1\n1|quality|2|-\n";
+    expect_kept(&rt, alloc, &citation(alloc)?, want)
+}
+
+#[test]
+fn a_person_is_kept_and_read_again(rt: HostRuntime) -> Result<(), Fail> {
+    let alloc = rt.alloc();
+    let want =
+        "0|person|-|-\n1|name|John /Smith/|-\n2|carried|-|-\n3|_UID|x|-\n4|carried|-|7\n1|sex|M|-\n";
+    expect_kept(&rt, alloc, &person(alloc)?, want)
+}
+
+#[test]
+fn a_family_is_kept_and_read_again(rt: HostRuntime) -> Result<(), Fail> {
+    let alloc = rt.alloc();
+    let want = "0|family|-|-\n1|partner|wife|4\n2|side|-|-\n3|_UID|x|-\n4|carried|-|7\n\
+1|child|-|5\n2|carried|-|-\n3|_UID|x|-\n4|carried|-|7\n";
+    expect_kept(&rt, alloc, &family(alloc)?, want)
+}
+
+#[test]
+fn an_event_is_kept_and_read_again(rt: HostRuntime) -> Result<(), Fail> {
+    let alloc = rt.alloc();
+    let want =
+        "0|event|-|1\n1|BIRT|Y|-\n1|date|@#DJULIAN@ 11 FEB 1731/32|3\n2|carried|-|-\n3|_UID|x|-\n4|carried|-|7\n\
+1|participant|witness|2\n";
+    expect_kept(&rt, alloc, &event(alloc)?, want)
+}
+
+#[test]
+fn an_event_without_date_and_place_is_kept_and_read_again(rt: HostRuntime) -> Result<(), Fail> {
+    let alloc = rt.alloc();
+    let want = "0|event|-|1\n1|date||-\n";
+    expect_kept(&rt, alloc, &bare_event(alloc, "", None)?, want)
+}
+
+#[test]
+fn an_event_with_a_date_alone_is_kept_and_read_again(rt: HostRuntime) -> Result<(), Fail> {
+    let alloc = rt.alloc();
+    let want = "0|event|-|1\n1|date||-\n1|date|in harvest|-\n";
+    expect_kept(&rt, alloc, &bare_event(alloc, "in harvest", None)?, want)
+}
+
+#[test]
+fn an_event_with_a_place_alone_is_kept_and_read_again(rt: HostRuntime) -> Result<(), Fail> {
+    let alloc = rt.alloc();
+    let want = "0|event|-|1\n1|date||-\n1|date|-|3\n";
+    expect_kept(&rt, alloc, &bare_event(alloc, "", Some(3))?, want)
+}
+
+#[test]
+fn an_entry_is_kept_and_read_again(rt: HostRuntime) -> Result<(), Fail> {
+    let alloc = rt.alloc();
+    let want = "0|entry|BAPTISM|4\n1|page|f. 3|-\n1|item|12|-\n1|date|15 APR 1699/00|3\n1|text||-\n\
+1|mention|John|-\n2|role|child|-\n1|mention|Tom Lee|7\n2|role|father|-\n2|reason|same farm|-\n";
+    expect_kept(&rt, alloc, &entry(alloc)?, want)
+}
+
+#[test]
+fn another_record_is_kept_and_read_again(rt: HostRuntime) -> Result<(), Fail> {
+    let alloc = rt.alloc();
+    let want = "0|other|-|-\n1|NOTE|Lost|-\n2|_UID|x|-\n3|carried|-|7\n";
+    expect_kept(&rt, alloc, &other(alloc)?, want)
+}
+
+/// Whether the lines of a person with one more are refused as those of no record.
+fn is_refused_with(alloc: Global, depth: u32, word: &str, words: &str) -> Result<bool, Fail> {
+    let mut lines = lines_of(alloc, &person(alloc)?)?;
+    lines.push(StoredLine {
+        depth,
+        tag: tag(alloc, word)?,
+        text: Some(text(alloc, words)?),
+        target: None,
+    })?;
+    Ok(record_of(alloc, &lines).err() == Some(RefusalKind::BadStored))
 }
 
 #[test]
@@ -282,33 +343,28 @@ fn lines_of_no_record_are_refused(rt: HostRuntime) -> Result<(), Fail> {
         (0, "name", "x"),
         (2, "name", "x"),
     ] {
-        let mut lines = lines_of(alloc, &person(alloc)?)?;
-        lines.push(StoredLine {
-            depth,
-            tag: tag(alloc, word)?,
-            text: Some(text(alloc, words)?),
-            target: None,
-        })?;
-        let refused = record_of(alloc, &lines).err().ok_or("a record")?;
-        assert!(rt; refused == RefusalKind::BadStored, "at {word}");
+        assert!(rt; is_refused_with(alloc, depth, word, words)?, "at {word}");
     }
-    let none = record_of(alloc, &[]).err().ok_or("a record")?;
-    assert!(rt; none == RefusalKind::BadStored);
+    assert!(rt; record_of(alloc, &[]).err() == Some(RefusalKind::BadStored));
     Ok(())
+}
+
+/// Whether an event with a line of a date in these words is a record.
+fn is_record_with_date(alloc: Global, words: &str) -> Result<bool, Fail> {
+    let mut lines = lines_of(alloc, &bare_event(alloc, "", None)?)?;
+    lines.push(StoredLine {
+        depth: 1,
+        tag: tag(alloc, "date")?,
+        text: Some(text(alloc, words)?),
+        target: None,
+    })?;
+    Ok(record_of(alloc, &lines).is_ok())
 }
 
 #[test]
 fn a_date_in_another_spelling_is_no_record(rt: HostRuntime) -> Result<(), Fail> {
     let alloc = rt.alloc();
-    for (words, is_kept) in [("1 JAN 1700", true), ("1 jan 1700", false)] {
-        let mut lines = lines_of(alloc, &bare_event(alloc, "", None)?)?;
-        lines.push(StoredLine {
-            depth: 1,
-            tag: tag(alloc, "date")?,
-            text: Some(text(alloc, words)?),
-            target: None,
-        })?;
-        assert!(rt; record_of(alloc, &lines).is_ok() == is_kept, "at {words}");
-    }
+    assert!(rt; is_record_with_date(alloc, "1 JAN 1700")?);
+    assert!(rt; !is_record_with_date(alloc, "1 jan 1700")?);
     Ok(())
 }
