@@ -3,9 +3,9 @@ use Rattle.std.specs.Prelude.{ℕ, List, [], ◌∷◌, ◌++◌, Option, Some, 
 use Rattle.std.specs.List.{flat_map}
 use Rattle.stored_lines.specs.Tree.{Tree, Forest, node, none, more}
 use Rattle.stored_lines.specs.Line.{Line, Lines}
-use Rattle.records.specs.Model as model
-use Rattle.records.specs.declared.record.Record.{Record}
-use Rattle.records.specs.declared.record.Record.TheVariants as kind
+use Rattle.record_kinds.specs.Model as model
+use Rattle.record_kinds.specs.declared.record.Record.{Record}
+use Rattle.record_kinds.specs.declared.record.Record.TheVariants as kind
 
 abbrev pub family_carried : model.Family → Lines
 family_carried f = flat_map (λ (p : model.Partner). p.carried ++ p.carried_by_person) f.partners

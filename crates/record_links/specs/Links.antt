@@ -4,11 +4,11 @@ use Rattle.std.specs.Prelude.{ℕ, List, [], ◌∷◌, ◌++◌, map, Option, S
 use Rattle.std.specs.List.{list_any, flat_map}
 use Rattle.stored_lines.specs.Tree.{Tree, Forest, node, none, more}
 use Rattle.stored_lines.specs.Line.{Line, Lines}
-use Rattle.records.specs.Model as model
+use Rattle.record_kinds.specs.Model as model
 use Rattle.stored_lines.specs.declared.carried.Value.{Value}
 use Rattle.stored_lines.specs.declared.carried.Value.TheVariants as value
-use Rattle.records.specs.declared.record.Record.{Record}
-use Rattle.records.specs.declared.record.Record.TheVariants as kind
+use Rattle.record_kinds.specs.declared.record.Record.{Record}
+use Rattle.record_kinds.specs.declared.record.Record.TheVariants as kind
 
 -- what a number may have to name: a holder has events, and what is cited is what a citation speaks of
 pub data Wanted : Type 0 where

@@ -4,7 +4,7 @@ use Rattle.std.specs.Option.{unwrap_or}
 use Rattle.std.proofs.Common.{ap, sym, ◌∙◌}
 use Rattle.stored_lines.specs.Tree.{Tree, node, forest_of, list_of, flat, relabel}
 use Rattle.stored_lines.specs.Line.{Label, Lines, Branches, label_for, label_of, line_of}
-use Rattle.records.specs.Model as model
+use Rattle.record_kinds.specs.Model as model
 use Rattle.records.specs.Stored.{word, branch, lines_below, text_trees, place_tree, repo_tree, holding_tree, source_tree, citation_tree, name_tree, person_tree, partner_tree, child_tree, family_tree, when_trees, participant_tree, event_tree, link_person, link_reason, mention_tree, bare_place, entry_tree, other_tree, record_tree, stored}
 use Rattle.records.specs.Reading.{under, first, text_at, number_at, below_all, lines_from, text_from, read_by, text_or_empty, place_from, repo_from, holding_from, source_from, citation_from, name_from, person_from, partner_from, child_from, family_from, event_place_from, participant_from, event_from, link_from, mention_from, place_number, entry_from, other_on, other_from, record_from}
 use Rattle.stored_lines.proofs.Back.{list_of_forest_of, line_back, lines_back, flat_one}
@@ -21,8 +21,8 @@ use Rattle.records.proofs.Segments.{IsOf, Segment, laid, chosen, under-one}
 use Rattle.record_fields.specs.declared.words.Partnership.TheVariants as partnership
 use Rattle.records.specs.declared.field.Field.{Field}
 use Rattle.records.specs.declared.field.Field.TheVariants as field
-use Rattle.records.specs.declared.record.Record.{Record}
-use Rattle.records.specs.declared.record.Record.TheVariants as kind
+use Rattle.record_kinds.specs.declared.record.Record.{Record}
+use Rattle.record_kinds.specs.declared.record.Record.TheVariants as kind
 
 -- what a field has on the lines below a line, where these are segments
 field-of : (g : Field) (ss : List Segment) (ts : Branches) → chosen g ss ≡ ts ++ [] → under g (list_of (forest_of (laid ss))) ≡ ts

@@ -4,7 +4,7 @@ use Rattle.std.specs.List.{filter}
 use Rattle.std.specs.Option.{unwrap_or}
 use Rattle.stored_lines.specs.Tree.{Tree, label, children, list_of, relabel}
 use Rattle.stored_lines.specs.Line.{Label, Lines, Branches, line_of}
-use Rattle.records.specs.Model as model
+use Rattle.record_kinds.specs.Model as model
 use Rattle.records.specs.Stored.{word}
 use Rattle.record_fields.specs.Words.{quality_of, sex_of, partnership_of, entry_kind_of, role_of}
 use Rattle.record_fields.specs.Items.{first_item, item_of}
@@ -15,8 +15,8 @@ use Rattle.record_fields.specs.declared.entry_words.Role.TheVariants as role
 use Rattle.stored_lines.specs.declared.carried.Value.TheVariants as value
 use Rattle.records.specs.declared.field.Field.{Field}
 use Rattle.records.specs.declared.field.Field.TheVariants as field
-use Rattle.records.specs.declared.record.Record.{Record}
-use Rattle.records.specs.declared.record.Record.TheVariants as kind
+use Rattle.record_kinds.specs.declared.record.Record.{Record}
+use Rattle.record_kinds.specs.declared.record.Record.TheVariants as kind
 
 -- the lines right below a line
 abbrev pub below : Tree Label → Branches
@@ -79,7 +79,11 @@ abbrev pub repo_from : Tree Label → model.Repo
 repo_from t = record { name = (label t).text; carried = lines_from field.Carried (below t) }
 
 abbrev pub holding_from : Tree Label → model.Holding
-holding_from t = record { repo = number_on t; call_number = (label t).text; carried = lines_from field.Carried (below t) }
+holding_from t = record {
+  repo = number_on t;
+  call_number = (label t).text;
+  carried = lines_from field.Carried (below t);
+}
 
 abbrev pub source_from : Tree Label → model.Source
 source_from t = record {
@@ -191,7 +195,11 @@ entry_from t = record {
 
 abbrev pub other_on : Option (Tree Label) → model.Other
 other_on None = record { tag = word field.Other; value = value.Text []; carried = [] }
-other_on (Some t) = record { tag = (line_of (label t)).tag; value = (line_of (label t)).value; carried = map (relabel line_of) (below t) }
+other_on (Some t) = record {
+  tag = (line_of (label t)).tag;
+  value = (line_of (label t)).value;
+  carried = map (relabel line_of) (below t);
+}
 
 abbrev pub other_from : Tree Label → model.Other
 other_from t = other_on (first (below t))

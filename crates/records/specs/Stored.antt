@@ -1,16 +1,16 @@
--- How a record is kept: a tree of lines, listed in order with their depths. The first line has the word of the kind; each
--- field stands on a line with a word of its own, and a line may have a text and the number of a record together. The
--- carried lines of a part stand last, below one line. So nothing is escaped, and a carried line may have any tag.
+-- How a record is kept: a tree of lines, listed in order with their depths. The first line has the word of the kind;
+-- each field stands on a line with a word of its own, and a line may have a text and the number of a record together.
+-- The carried lines of a part stand last, below one line. So nothing is escaped, and a carried line may have any tag.
 use Rattle.std.specs.Prelude.{ℕ, List, [], ◌∷◌, ◌++◌, map, codes, Option, Some, None, option_map, decimal}
 use Rattle.stored_lines.specs.Tree.{Tree, node, forest_of, flat, relabel}
 use Rattle.stored_lines.specs.Line.{Label, Lines, Branches, label_for, label_of}
-use Rattle.records.specs.Model as model
+use Rattle.record_kinds.specs.Model as model
 use Rattle.record_fields.specs.Words.{quality_word, sex_word, partnership_word, entry_kind_word, role_word}
 use Rattle.record_fields.specs.Dated.{date_text}
 use Rattle.records.specs.declared.field.Field.{Field}
 use Rattle.records.specs.declared.field.Field.TheVariants as field
-use Rattle.records.specs.declared.record.Record.{Record}
-use Rattle.records.specs.declared.record.Record.TheVariants as kind
+use Rattle.record_kinds.specs.declared.record.Record.{Record}
+use Rattle.record_kinds.specs.declared.record.Record.TheVariants as kind
 
 -- the word of a kind or a field
 abbrev pub word : Field → List ℕ
@@ -85,7 +85,8 @@ partner_tree p = branch field.Partner (Some (partnership_word p.partnership)) (S
     (lines_below field.Side p.carried_by_person ++ lines_below field.Carried p.carried)
 
 abbrev pub child_tree : model.Child → Tree Label
-child_tree c = branch field.Child None (Some c.person) (lines_below field.Side c.carried_by_person ++ lines_below field.Carried c.carried)
+child_tree c = branch field.Child None (Some c.person)
+    (lines_below field.Side c.carried_by_person ++ lines_below field.Carried c.carried)
 
 abbrev pub family_tree : model.Family → Tree Label
 family_tree f = branch field.Family None None (map partner_tree f.partners
@@ -123,12 +124,14 @@ bare_place n = record { place = n; carried = [] }
 
 abbrev pub entry_tree : model.Entry → Tree Label
 entry_tree e = branch field.Entry (Some (entry_kind_word e.kind)) (Some e.source) (text_trees field.Page (Some e.page)
-    ++ (text_trees field.Item (Some (decimal e.item.number)) ++ (when_trees (option_map date_text e.date) (option_map bare_place e.place)
+    ++ (text_trees field.Item (Some (decimal e.item.number))
+    ++ (when_trees (option_map date_text e.date) (option_map bare_place e.place)
     ++ (text_trees field.Text (Some e.text) ++ map mention_tree e.mentions))))
 
 -- the one line below that of another record is the record's own, with its carried lines
 abbrev pub other_tree : model.Other → Tree Label
-other_tree o = branch field.Other None None (node (label_for o.tag o.value) (forest_of (map (relabel label_of) o.carried)) ∷ [])
+other_tree o = branch field.Other None None
+    (node (label_for o.tag o.value) (forest_of (map (relabel label_of) o.carried)) ∷ [])
 
 abbrev pub record_tree : Record → Tree Label
 record_tree (kind.Place p) = place_tree p

@@ -10,14 +10,13 @@ ghost use Rattle.records.specs.Stored.{mention_tree, entry_tree, link_person, li
 ghost use Rattle.records.specs.Reading.{mention_from, entry_from, link_from, read_by, place_number, event_place_from, first, under};
 ghost use Rattle.records.specs.declared.field.Field.TheVariants as field;
 
-use crate::entry::{Entry, Link, Mention};
-use crate::event::EventPlace;
 use crate::event_parts::{date_at, date_words, place_at, push_when};
 use crate::field::Field;
 use crate::part::{Part, parts_at, push_parts};
 use crate::reading::{children_of, number_or_zero, text_at, text_or_none};
 use crate::writing::push_text;
 use record_fields::{EntryKind, Item, Role};
+use record_kinds::{Entry, EventPlace, Link, Mention};
 use record_text::Text;
 use std::alloc::{AllocError, Global};
 use stored_lines::Branch;
@@ -102,7 +101,8 @@ fn bare(alloc: Global, place: Option<u32>) -> Option<EventPlace>
 
 /// The number of the place on the line of a date.
 fn number_at_date(alloc: Global, branches: &[Branch]) -> Result<Option<u32>, AllocError>
-    ensures { IfOk result (λ n. n ≡ option_map place_number (event_place_from (first (under field.Date branches.now)))) }
+    ensures { IfOk result (λ n. n
+        ≡ option_map place_number (event_place_from (first (under field.Date branches.now)))) }
 {
     match place_at(alloc, branches)? {
         None => Ok(None),

@@ -6,12 +6,12 @@ ghost use Rattle.records.specs.Stored.{participant_tree, event_tree, when_trees}
 ghost use Rattle.records.specs.Reading.{participant_from, event_from, event_place_from, text_from, first, under, tag_or_event, text_or_empty, text_at as text_of_first, rest};
 ghost use Rattle.records.specs.declared.field.Field.TheVariants as field;
 
-use crate::event::{Event, EventPlace, Participant};
 use crate::field::Field;
 use crate::part::{Part, parts_at, push_parts};
 use crate::reading::{children_of, first_under, lines_at, number_or_zero, text_at, text_or_none};
 use crate::writing::{push_lines, push_text};
 use record_fields::Date;
+use record_kinds::{Event, EventPlace, Participant};
 use record_text::{Tag, Text};
 use std::alloc::{AllocError, Global};
 use stored_lines::{Branch, Carried};

@@ -2,11 +2,11 @@
 
 ghost use Rattle.std.specs.Prelude.{◌≡◌, ◌≢◌, ◌⊎◌, IfOk, IfErr, MatchOption};
 ghost use Rattle.records.specs.Stored.{stored};
-ghost use Rattle.records.specs.declared.record.Record.{Record};
+ghost use Rattle.record_kinds.specs.declared.record.Record.{Record};
 ghost use Rattle.record_text.specs.declared.refusal.RefusalKind.TheVariants as kinds;
 
 use crate::kinds::{branch_of_record, record_in};
-use crate::record::Record;
+use record_kinds::Record;
 use record_text::RefusalKind;
 use std::alloc::{AllocError, Global};
 use stored_lines::{StoredLine, are_same, branch_of_lines, lines_of_branch};
@@ -31,17 +31,15 @@ pub fn record_of(alloc: Global, lines: &[StoredLine]) -> Result<Record, RefusalK
     }
 }
 
-impl Record {
-    /// The same record in memory of its own.
-    #[tactic(auto, using(crate::proofs::Back::copied_back))]
-    pub fn copy(&self, alloc: Global) -> Result<Record, AllocError>
-        ensures { IfOk result (λ r. r ≡ self.now) }
-    {
-        let branch = branch_of_record(alloc, self)?;
-        match record_in(alloc, &branch)? {
-            Some(copy) => Ok(copy),
-            None => unreachable!(),
-        }
+/// The same record in memory of its own.
+#[tactic(auto, using(crate::proofs::Back::copied_back))]
+pub fn copy_record(record: &Record, alloc: Global) -> Result<Record, AllocError>
+    ensures { IfOk result (λ r. r ≡ «record».now) }
+{
+    let kept = branch_of_record(alloc, record)?;
+    match record_in(alloc, &kept)? {
+        Some(copy) => Ok(copy),
+        None => unreachable!(),
     }
 }
 

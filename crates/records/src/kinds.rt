@@ -4,18 +4,10 @@ ghost use Rattle.std.specs.Prelude.{◌≡◌, IfOk};
 ghost use Rattle.records.specs.Stored.{record_tree};
 ghost use Rattle.records.specs.Reading.{record_from};
 
-use crate::citation::Citation;
-use crate::entry::Entry;
-use crate::event::Event;
-use crate::family::Family;
 use crate::field::Field;
-use crate::other::Other;
 use crate::part::Part;
-use crate::person::Person;
-use crate::place::Place;
 use crate::reading::has_word;
-use crate::record::Record;
-use crate::source::{Repo, Source};
+use record_kinds::{Citation, Entry, Event, Family, Other, Person, Place, Record, Repo, Source};
 use std::alloc::{AllocError, Global};
 use stored_lines::Branch;
 

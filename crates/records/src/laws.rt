@@ -2,7 +2,7 @@
 
 ghost use Rattle.std.specs.Prelude.{◌≡◌};
 ghost use Rattle.records.specs.Stored.{stored};
-ghost use Rattle.records.specs.declared.record.Record.{Record};
+ghost use Rattle.record_kinds.specs.declared.record.Record.{Record};
 
 /// Lines are those of one record at the most. So `record_of` of what `lines_of` gives for a record is that
 /// record, want of memory apart.

@@ -7,9 +7,9 @@ ghost use Rattle.records.specs.Stored.{other_tree};
 ghost use Rattle.records.specs.Reading.{other_from};
 
 use crate::field::Field;
-use crate::other::Other;
 use crate::part::Part;
 use crate::reading::children_of;
+use record_kinds::Other;
 use record_text::{Tag, Text};
 use std::alloc::{AllocError, Global};
 use stored_lines::{Branch, Value, branches_of, carried_of, value_of};

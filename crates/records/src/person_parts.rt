@@ -7,13 +7,12 @@ ghost use Rattle.record_fields.specs.Words.{sex_word, partnership_word, sex_of, 
 ghost use Rattle.record_fields.specs.declared.words.Partnership.TheVariants as partnerships;
 ghost use Rattle.records.specs.Reading.{name_from, person_from, partner_from, child_from, family_from, read_by};
 
-use crate::family::{Child, Family, Partner};
 use crate::field::Field;
 use crate::part::{Part, parts_at, push_parts};
-use crate::person::{Name, Person};
 use crate::reading::{children_of, lines_at, number_or_zero, text_at, text_or_none};
 use crate::writing::{push_lines, push_text};
 use record_fields::{Partnership, Sex};
+use record_kinds::{Child, Family, Name, Partner, Person};
 use record_text::Text;
 use std::alloc::{AllocError, Global};
 use stored_lines::Branch;

@@ -5,14 +5,12 @@ ghost use Rattle.records.specs.Stored.{place_tree, repo_tree, holding_tree, sour
 ghost use Rattle.record_fields.specs.Words.{quality_word, quality_of};
 ghost use Rattle.records.specs.Reading.{place_from, repo_from, holding_from, source_from, citation_from, read_by};
 
-use crate::citation::Citation;
 use crate::field::Field;
 use crate::part::{Part, parts_at, push_parts};
-use crate::place::Place;
 use crate::reading::{children_of, lines_at, number_at, number_or_zero, text_at, text_or_none};
-use crate::source::{Holding, Repo, Source};
 use crate::writing::{push_lines, push_text};
 use record_fields::Quality;
+use record_kinds::{Citation, Holding, Place, Repo, Source};
 use record_text::Text;
 use std::alloc::{AllocError, Global};
 use stored_lines::{Branch, copied};

@@ -1,7 +1,8 @@
 use crate::{
     Carried, Child, Citation, Date, Entry, EntryKind, Event, EventPlace, Family, Holding, Item,
     Link, Mention, Name, Other, Participant, Partner, Partnership, Person, Place, Quality, Record,
-    RefusalKind, Repo, Role, Sex, Source, StoredLine, Tag, Text, Value, lines_of, record_of,
+    RefusalKind, Repo, Role, Sex, Source, StoredLine, Tag, Text, Value, copy_record, lines_of,
+    record_of,
 };
 use std::alloc::Global;
 use std::process::Abort;
@@ -221,7 +222,7 @@ fn repo(alloc: Global) -> Record {
 /// The lines of the record that is read from lines and copied.
 fn read_again(alloc: Global, lines: &[StoredLine]) -> Result<String, Fail> {
     let record = record_of(alloc, lines).ok().ok_or("a record")?;
-    let copy = record.copy(alloc)?;
+    let copy = copy_record(&record, alloc)?;
     printed(alloc, &lines_of(alloc, &copy)?)
 }
 

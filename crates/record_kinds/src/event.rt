@@ -17,7 +17,7 @@ pub struct EventPlace {
 impl Model for EventPlace {
     ghost use Rattle.std.specs.Coded.{codes};
     ghost use Rattle.stored_lines.specs.Line.{lines_code, value_code};
-    ghost use Rattle.records.specs.Model as model;
+    ghost use Rattle.record_kinds.specs.Model as model;
 
     ghost Value = { model.EventPlace };
 
@@ -39,7 +39,7 @@ pub struct Participant {
 impl Model for Participant {
     ghost use Rattle.std.specs.Coded.{codes};
     ghost use Rattle.stored_lines.specs.Line.{lines_code, value_code};
-    ghost use Rattle.records.specs.Model as model;
+    ghost use Rattle.record_kinds.specs.Model as model;
 
     ghost Value = { model.Participant };
 
@@ -67,11 +67,19 @@ impl Model for Event {
     ghost use Rattle.std.specs.Coded.{codes};
     ghost use Rattle.stored_lines.specs.Line.{lines_code, value_code};
     ghost use Rattle.record_fields.specs.Codes.{date_code};
-    ghost use Rattle.records.specs.Model as model;
+    ghost use Rattle.record_kinds.specs.Model as model;
 
     ghost Value = { model.Event };
 
     ghost coded = { Prim.hlevel (codes, date_code, lines_code, value_code) };
 
-    ghost view = { λ a. record { owner = a.owner; tag = a.tag; value = a.value; date = a.date; place = a.place; participants = a.participants.items; carried = a.carried.items } };
+    ghost view = { λ a. record {
+      owner = a.owner;
+      tag = a.tag;
+      value = a.value;
+      date = a.date;
+      place = a.place;
+      participants = a.participants.items;
+      carried = a.carried.items;
+    } };
 }

@@ -14,7 +14,7 @@ pub struct Repo {
 impl Model for Repo {
     ghost use Rattle.std.specs.Coded.{codes};
     ghost use Rattle.stored_lines.specs.Line.{lines_code, value_code};
-    ghost use Rattle.records.specs.Model as model;
+    ghost use Rattle.record_kinds.specs.Model as model;
 
     ghost Value = { model.Repo };
 
@@ -35,7 +35,7 @@ pub struct Holding {
 impl Model for Holding {
     ghost use Rattle.std.specs.Coded.{codes};
     ghost use Rattle.stored_lines.specs.Line.{lines_code, value_code};
-    ghost use Rattle.records.specs.Model as model;
+    ghost use Rattle.record_kinds.specs.Model as model;
 
     ghost Value = { model.Holding };
 
@@ -57,11 +57,17 @@ pub struct Source {
 impl Model for Source {
     ghost use Rattle.std.specs.Coded.{codes};
     ghost use Rattle.stored_lines.specs.Line.{lines_code, value_code};
-    ghost use Rattle.records.specs.Model as model;
+    ghost use Rattle.record_kinds.specs.Model as model;
 
     ghost Value = { model.Source };
 
     ghost coded = { Prim.hlevel (codes, lines_code, value_code) };
 
-    ghost view = { λ a. record { title = a.title; author = a.author; publisher = a.publisher; holdings = a.holdings.items; carried = a.carried.items } };
+    ghost view = { λ a. record {
+      title = a.title;
+      author = a.author;
+      publisher = a.publisher;
+      holdings = a.holdings.items;
+      carried = a.carried.items;
+    } };
 }

@@ -16,7 +16,7 @@ pub struct Name {
 impl Model for Name {
     ghost use Rattle.std.specs.Coded.{codes};
     ghost use Rattle.stored_lines.specs.Line.{lines_code, value_code};
-    ghost use Rattle.records.specs.Model as model;
+    ghost use Rattle.record_kinds.specs.Model as model;
 
     ghost Value = { model.Name };
 
@@ -36,7 +36,7 @@ pub struct Person {
 impl Model for Person {
     ghost use Rattle.std.specs.Coded.{codes};
     ghost use Rattle.stored_lines.specs.Line.{lines_code, value_code};
-    ghost use Rattle.records.specs.Model as model;
+    ghost use Rattle.record_kinds.specs.Model as model;
 
     ghost Value = { model.Person };
 

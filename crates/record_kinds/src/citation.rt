@@ -20,11 +20,17 @@ pub struct Citation {
 impl Model for Citation {
     ghost use Rattle.std.specs.Coded.{codes};
     ghost use Rattle.stored_lines.specs.Line.{lines_code, value_code};
-    ghost use Rattle.records.specs.Model as model;
+    ghost use Rattle.record_kinds.specs.Model as model;
 
     ghost Value = { model.Citation };
 
     ghost coded = { Prim.hlevel (codes, lines_code, value_code) };
 
-    ghost view = { λ a. record { owner = a.owner; source = a.source; page = a.page; quality = a.quality; carried = a.carried.items } };
+    ghost view = { λ a. record {
+      owner = a.owner;
+      source = a.source;
+      page = a.page;
+      quality = a.quality;
+      carried = a.carried.items;
+    } };
 }

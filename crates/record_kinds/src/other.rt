@@ -15,7 +15,7 @@ pub struct Other {
 impl Model for Other {
     ghost use Rattle.std.specs.Coded.{codes};
     ghost use Rattle.stored_lines.specs.Line.{lines_code, value_code};
-    ghost use Rattle.records.specs.Model as model;
+    ghost use Rattle.record_kinds.specs.Model as model;
 
     ghost Value = { model.Other };
 

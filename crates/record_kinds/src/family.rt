@@ -19,13 +19,18 @@ pub struct Partner {
 impl Model for Partner {
     ghost use Rattle.std.specs.Coded.{codes};
     ghost use Rattle.stored_lines.specs.Line.{lines_code, value_code};
-    ghost use Rattle.records.specs.Model as model;
+    ghost use Rattle.record_kinds.specs.Model as model;
 
     ghost Value = { model.Partner };
 
     ghost coded = { Prim.hlevel (codes, lines_code, value_code) };
 
-    ghost view = { λ a. record { partnership = a.partnership; person = a.person; carried = a.carried.items; carried_by_person = a.carried_by_person.items } };
+    ghost view = { λ a. record {
+      partnership = a.partnership;
+      person = a.person;
+      carried = a.carried.items;
+      carried_by_person = a.carried_by_person.items;
+    } };
 }
 
 /// A child in a family.
@@ -42,13 +47,17 @@ pub struct Child {
 impl Model for Child {
     ghost use Rattle.std.specs.Coded.{codes};
     ghost use Rattle.stored_lines.specs.Line.{lines_code, value_code};
-    ghost use Rattle.records.specs.Model as model;
+    ghost use Rattle.record_kinds.specs.Model as model;
 
     ghost Value = { model.Child };
 
     ghost coded = { Prim.hlevel (codes, lines_code, value_code) };
 
-    ghost view = { λ a. record { person = a.person; carried = a.carried.items; carried_by_person = a.carried_by_person.items } };
+    ghost view = { λ a. record {
+      person = a.person;
+      carried = a.carried.items;
+      carried_by_person = a.carried_by_person.items;
+    } };
 }
 
 /// A family, with its partners and its children in order.
@@ -62,11 +71,15 @@ pub struct Family {
 impl Model for Family {
     ghost use Rattle.std.specs.Coded.{codes};
     ghost use Rattle.stored_lines.specs.Line.{lines_code, value_code};
-    ghost use Rattle.records.specs.Model as model;
+    ghost use Rattle.record_kinds.specs.Model as model;
 
     ghost Value = { model.Family };
 
     ghost coded = { Prim.hlevel (codes, lines_code, value_code) };
 
-    ghost view = { λ a. record { partners = a.partners.items; children = a.children.items; carried = a.carried.items } };
+    ghost view = { λ a. record {
+      partners = a.partners.items;
+      children = a.children.items;
+      carried = a.carried.items;
+    } };
 }

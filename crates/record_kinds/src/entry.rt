@@ -14,7 +14,7 @@ pub struct Link {
 
 impl Model for Link {
     ghost use Rattle.std.specs.Coded.{codes};
-    ghost use Rattle.records.specs.Model as model;
+    ghost use Rattle.record_kinds.specs.Model as model;
 
     ghost Value = { model.Link };
 
@@ -34,7 +34,7 @@ pub struct Mention {
 
 impl Model for Mention {
     ghost use Rattle.std.specs.Coded.{codes};
-    ghost use Rattle.records.specs.Model as model;
+    ghost use Rattle.record_kinds.specs.Model as model;
 
     ghost Value = { model.Mention };
 
@@ -63,11 +63,20 @@ pub struct Entry {
 impl Model for Entry {
     ghost use Rattle.std.specs.Coded.{codes};
     ghost use Rattle.record_fields.specs.Codes.{date_code};
-    ghost use Rattle.records.specs.Model as model;
+    ghost use Rattle.record_kinds.specs.Model as model;
 
     ghost Value = { model.Entry };
 
     ghost coded = { Prim.hlevel (codes, date_code) };
 
-    ghost view = { λ a. record { source = a.source; kind = a.kind; page = a.page; item = a.item; date = a.date; place = a.place; text = a.text; mentions = a.mentions.items } };
+    ghost view = { λ a. record {
+      source = a.source;
+      kind = a.kind;
+      page = a.page;
+      item = a.item;
+      date = a.date;
+      place = a.place;
+      text = a.text;
+      mentions = a.mentions.items;
+    } };
 }
