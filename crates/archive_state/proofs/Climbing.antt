@@ -3,8 +3,8 @@ use Rattle.std.proofs.Common.{◌≡◌, ◌≢◌, ℕ, ◌<◌, ◌≤◌, Lis
 use Rattle.std.specs.Prelude.{Option, Some, None, codes, IsTrue}
 use Rattle.std.proofs.lemmas.List.{append_cancel_left}
 use Rattle.std.specs.FinMap.{get}
-use Rattle.records.specs.Model as model
-use Rattle.records.specs.declared.record.Record.TheVariants as kind
+use Rattle.record_kinds.specs.Model as model
+use Rattle.record_kinds.specs.declared.record.Record.TheVariants as kind
 use Rattle.archive_state.specs.Content.{Records}
 use Rattle.archive_state.specs.Paths.{IsPlaceAt, Climbs, joined, HasPath}
 

@@ -8,7 +8,7 @@ use Rattle.std.specs.declared.cmp.Ordering.{Ordering}
 use Rattle.std.specs.declared.cmp.Ordering.TheVariants.{Less, Equal, Greater}
 use Rattle.std.specs.FinMap.Entries.{below_all}
 use Rattle.std.specs.FinMap.{find, is_sorted, get, from_entries, get-from_entries}
-use Rattle.records.specs.declared.record.Record.{Record}
+use Rattle.record_kinds.specs.declared.record.Record.{Record}
 use Rattle.archive_state.specs.Content.{Records}
 use Rattle.archive_state.specs.Paths.{HasPath, IsLowest}
 use Rattle.archive_state.proofs.Entries.{sorted_of}

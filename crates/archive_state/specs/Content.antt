@@ -5,7 +5,7 @@ use Rattle.std.specs.Cmp.Lexicographic.{slice_cmp}
 use Rattle.std.specs.FinMap.{FinMap, empty, from_entries}
 use Rattle.std.specs.String.{string_bytes}
 use Rattle.std.specs.declared.string.String.{String}
-use Rattle.records.specs.declared.record.Record.{Record}
+use Rattle.record_kinds.specs.declared.record.Record.{Record}
 use Rattle.archive_state.specs.declared.answer.Receipt.{Receipt}
 use Rattle.archive_state.specs.Slips.{Slip}
 

@@ -5,9 +5,9 @@ use Rattle.std.specs.List.{list_any}
 use Rattle.std.specs.Str.{bytes_eq}
 use Rattle.std.specs.FinMap.{get}
 use Rattle.std.specs.Prelude.{Some}
-use Rattle.records.specs.Model as model
-use Rattle.records.specs.declared.record.Record.{Record}
-use Rattle.records.specs.declared.record.Record.TheVariants as kind
+use Rattle.record_kinds.specs.Model as model
+use Rattle.record_kinds.specs.declared.record.Record.{Record}
+use Rattle.record_kinds.specs.declared.record.Record.TheVariants as kind
 use Rattle.record_fields.specs.declared.entry_words.EntryKind.{EntryKind}
 use Rattle.record_fields.specs.declared.entry_words.EntryKind.TheVariants as entry_kind
 use Rattle.record_fields.specs.declared.entry_words.Role.{Role}

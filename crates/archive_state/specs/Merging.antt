@@ -3,13 +3,13 @@
 use Rattle.std.specs.Prelude.{ℕ, List, [], ◌∷◌, ◌++◌, map, Option, Some, None, option_map, codes, ◌==◌, if◌then◌else◌}
 use Rattle.stored_lines.specs.Tree.{node, none, relabel}
 use Rattle.stored_lines.specs.Line.{Line, Lines}
-use Rattle.records.specs.Model as model
+use Rattle.record_kinds.specs.Model as model
 use Rattle.record_fields.specs.Words.{sex_word}
 use Rattle.stored_lines.specs.declared.carried.Value.{Value}
 use Rattle.stored_lines.specs.declared.carried.Value.TheVariants as value
 use Rattle.record_fields.specs.declared.words.Sex.{Sex}
-use Rattle.records.specs.declared.record.Record.{Record}
-use Rattle.records.specs.declared.record.Record.TheVariants as kind
+use Rattle.record_kinds.specs.declared.record.Record.{Record}
+use Rattle.record_kinds.specs.declared.record.Record.TheVariants as kind
 
 -- ---- a record with each number changed
 abbrev pub value_with : (ℕ → ℕ) → Value → Value

@@ -2,8 +2,8 @@
 use Rattle.std.specs.Prelude.{ℕ, ◌≡◌, ◌<◌, ◌≤◌, ◌==◌, List, [], ◌∷◌, ◌++◌, length, map, Option, Some, None, codes, if◌then◌else◌, MatchOption}
 use Rattle.std.specs.List.{slice_split}
 use Rattle.std.specs.FinMap.{get}
-use Rattle.records.specs.Model as model
-use Rattle.records.specs.declared.record.Record.TheVariants as kind
+use Rattle.record_kinds.specs.Model as model
+use Rattle.record_kinds.specs.declared.record.Record.TheVariants as kind
 use Rattle.archive_state.specs.Content.{Records}
 
 abbrev pub IsPlaceAt : Records → ℕ → model.Place → Type 0

@@ -1,7 +1,7 @@
 //! The paths of places: a place's name, and where it has a parent, then comma, space and the parent's path.
 
 ghost use Rattle.std.specs.Prelude.{◌≡◌, ◌≢◌, ◌↔◌, ◌++◌, ℕ, List, IsTrue, MatchOption};
-ghost use Rattle.records.specs.Model as model;
+ghost use Rattle.record_kinds.specs.Model as model;
 ghost use Rattle.archive_state.specs.Paths.{HasPath, IsPlaceAt};
 
 use crate::state::State;

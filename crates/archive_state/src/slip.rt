@@ -2,7 +2,7 @@
 
 ghost use Rattle.std.specs.Prelude.{◌≡◌, IfOk};
 
-use records::Record;
+use records::{Record, copy_record};
 use std::alloc::{AllocError, Global};
 use std::marker::Model;
 
@@ -48,7 +48,7 @@ impl Change {
     {
         Ok(Change {
             number: self.number,
-            old: self.old.copy(alloc)?,
+            old: copy_record(&self.old, alloc)?,
             new: copied(alloc, &self.new)?,
         })
     }
@@ -78,6 +78,6 @@ fn copied(alloc: Global, found: &Option<Record>) -> Result<Option<Record>, Alloc
 {
     match found {
         None => Ok(None),
-        Some(record) => Ok(Some(record.copy(alloc)?)),
+        Some(record) => Ok(Some(copy_record(record, alloc)?)),
     }
 }

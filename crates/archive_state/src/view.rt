@@ -12,7 +12,7 @@ use crate::shown::Shown;
 use crate::slip::Slip;
 use crate::state::State;
 use crate::token::Token;
-use records::{Record, RefusalKind, Text};
+use records::{Record, RefusalKind, Text, copy_record};
 use std::alloc::Global;
 
 /// How many calls of a view of memory failed.
@@ -86,7 +86,7 @@ impl View for &State {
         let state: &State = *self;
         match state.record(number) {
             None => Ok(None),
-            Some(record) => Ok(Some(record.copy(alloc)?)),
+            Some(record) => Ok(Some(copy_record(record, alloc)?)),
         }
     }
 

@@ -1,5 +1,5 @@
 use Rattle.std.proofs.Common.{◌≡◌, sym, ap, ◌∙◌, arith, rules}
-use Rattle.records.specs.Model as model
+use Rattle.record_kinds.specs.Model as model
 use Rattle.archive_state.proofs.Climbing.{none_iff, other_name_iff, alone_iff, above_iff, other_end_iff, within_iff}
 use Rattle.archive_state.proofs.paths.+has_path.Goals as goal
 
