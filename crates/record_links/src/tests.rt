@@ -1,16 +1,56 @@
 use crate::is_naming;
-use records::{
-    Carried, Entry, EntryKind, Event, EventPlace, Item, Link, Mention, Other, Participant, Person,
-    Record, Role, Tag, Text, Value,
-};
+use records::{Record, StoredLine, Tag, Text, record_of};
 use std::alloc::Global;
+use std::process::Abort;
 use std::test::Fail;
 
-/// A text that is one.
-fn text(alloc: Global, words: &str) -> Result<Text, Fail> {
-    let text = Text::try_new(String::from_str(alloc, words)?);
-    Ok(text.ok_or("a text")?)
-}
+/// A stored line: its depth, its word, its text and the number of a record. `-` is no text, 0 no number.
+type Row = (u32, &'static str, &'static str, u32);
+
+/// A person with a carried line, below which another points to 5.
+const PERSON: [Row; 4] = [
+    (0, "person", "-", 0),
+    (1, "carried", "-", 0),
+    (2, "_SEE", "below", 0),
+    (3, "_SEE", "-", 5),
+];
+
+/// An event of 1 in place 2, in which 4 took part; below each of the three a line points to a number.
+const EVENT: [Row; 13] = [
+    (0, "event", "-", 1),
+    (1, "BIRT", "", 0),
+    (1, "date", "-", 2),
+    (2, "carried", "-", 0),
+    (3, "_SEE", "below", 0),
+    (4, "_SEE", "-", 3),
+    (1, "participant", "", 4),
+    (2, "carried", "-", 0),
+    (3, "_SEE", "below", 0),
+    (4, "_SEE", "-", 6),
+    (1, "carried", "-", 0),
+    (2, "_SEE", "below", 0),
+    (3, "_SEE", "-", 8),
+];
+
+/// A burial of source 3 in place 5, linked to person 7.
+const ENTRY: [Row; 8] = [
+    (0, "entry", "BURIAL", 3),
+    (1, "page", "f. 3", 0),
+    (1, "item", "1", 0),
+    (1, "date", "-", 5),
+    (1, "text", "", 0),
+    (1, "mention", "Tho. Lee", 7),
+    (2, "role", "buried", 0),
+    (2, "reason", "same farm", 0),
+];
+
+/// Another record, whose value is 2.
+const OTHER: [Row; 4] = [
+    (0, "other", "-", 0),
+    (1, "_TASK", "-", 2),
+    (2, "_SEE", "below", 0),
+    (3, "_SEE", "-", 9),
+];
 
 /// A tag that is one.
 fn tag(alloc: Global, word: &str) -> Result<Tag, Fail> {
@@ -18,110 +58,72 @@ fn tag(alloc: Global, word: &str) -> Result<Tag, Fail> {
     Ok(tag.ok_or("a tag")?)
 }
 
-/// A list of one.
-fn one<T: Drop>(alloc: Global, item: T) -> Result<Vec<T>, Fail> {
-    let mut items = Vec::new(alloc);
-    items.push(item)?;
-    Ok(items)
-}
-
-/// A carried line `_SEE` whose one line below it points to a number.
-fn pointer_below(alloc: Global, number: u32) -> Result<Vec<Carried>, Fail> {
-    let below = Carried {
-        tag: tag(alloc, "_SEE")?,
-        value: Value::Ref(number),
-        children: Vec::new(alloc),
-    };
-    let line = Carried {
-        tag: tag(alloc, "_SEE")?,
-        value: Value::Text(text(alloc, "below")?),
-        children: one(alloc, below)?,
-    };
-    one(alloc, line)
-}
-
-/// The numbers from 1 to 9 that the record names.
-fn named(alloc: Global, record: &Record) -> Result<String, Fail> {
-    let mut found = Vec::new(alloc);
-    for number in 1..=9u32 {
-        if is_naming(record, number) {
-            found.push(number)?;
-        }
+/// The text of a row.
+fn text_of(alloc: Global, words: &str) -> Result<Option<Text>, Fail> {
+    if words == "-" {
+        return Ok(None);
     }
-    Ok(format!(in alloc; "{found:?}")?)
+    let text = Text::try_new(String::from_str(alloc, words)?);
+    Ok(Some(text.ok_or("a text")?))
+}
+
+/// The line of a row.
+fn line(alloc: Global, row: Row) -> Result<StoredLine, Fail> {
+    let (depth, word, words, number) = row;
+    Ok(StoredLine {
+        depth,
+        tag: tag(alloc, word)?,
+        text: text_of(alloc, words)?,
+        target: if number == 0 { None } else { Some(number) },
+    })
+}
+
+/// The lines of a table.
+fn lines(alloc: Global, rows: &[Row]) -> Result<Vec<StoredLine>, Fail> {
+    let mut lines = Vec::new(alloc);
+    for row in rows {
+        lines.push(line(alloc, *row)?)?;
+    }
+    Ok(lines)
+}
+
+/// The record that is kept as the rows.
+fn read(alloc: Global, rows: &[Row]) -> Result<Record, Fail> {
+    let lines = lines(alloc, rows)?;
+    match record_of(alloc, &lines) {
+        Ok(record) => Ok(record),
+        Err(_) => Err(Fail::from("a record")),
+    }
+}
+
+/// The record that is kept as the rows names these numbers, and no other up to 9.
+fn expect_names(rt: &impl Abort, alloc: Global, rows: &[Row], names: &[u32]) -> Result<(), Fail> {
+    let record = read(alloc, rows)?;
+    for number in 1..=9u32 {
+        assert!(rt;
+            is_naming(&record, number) == names.contains(&number),
+            "at {number}"
+        );
+    }
+    Ok(())
 }
 
 #[test]
 fn a_record_names_what_its_carried_lines_name(rt: HostRuntime) -> Result<(), Fail> {
-    let alloc = rt.alloc();
-    let person = Record::Person(Person {
-        names: Vec::new(alloc),
-        sex: None,
-        carried: pointer_below(alloc, 5)?,
-    });
-    assert_eq!(rt; named(alloc, &person)?.as_str(), "[5]");
-    Ok(())
+    expect_names(&rt, rt.alloc(), &PERSON, &[5])
 }
 
 #[test]
 fn an_event_names_its_owner_its_place_and_who_took_part(rt: HostRuntime) -> Result<(), Fail> {
-    let alloc = rt.alloc();
-    let place = EventPlace {
-        place: 2,
-        carried: pointer_below(alloc, 3)?,
-    };
-    let participant = Participant {
-        person: 4,
-        role: text(alloc, "")?,
-        carried: pointer_below(alloc, 6)?,
-    };
-    let event = Record::Event(Event {
-        owner: 1,
-        tag: tag(alloc, "BIRT")?,
-        value: text(alloc, "")?,
-        date: None,
-        place: Some(place),
-        participants: one(alloc, participant)?,
-        carried: pointer_below(alloc, 8)?,
-    });
-    assert_eq!(rt; named(alloc, &event)?.as_str(), "[1, 2, 3, 4, 6, 8]");
-    Ok(())
+    expect_names(&rt, rt.alloc(), &EVENT, &[1, 2, 3, 4, 6, 8])
 }
 
 #[test]
 fn an_entry_names_its_source_its_place_and_who_is_linked(rt: HostRuntime) -> Result<(), Fail> {
-    let alloc = rt.alloc();
-    let link = Link {
-        person: 7,
-        reason: text(alloc, "same farm")?,
-    };
-    let mention = Mention {
-        role: Role::Buried,
-        name: text(alloc, "Tho. Lee")?,
-        link: Some(link),
-    };
-    let entry = Record::Entry(Entry {
-        source: 3,
-        kind: EntryKind::Burial,
-        page: text(alloc, "f. 3")?,
-        item: Item::first(),
-        date: None,
-        place: Some(5),
-        text: text(alloc, "")?,
-        mentions: one(alloc, mention)?,
-    });
-    assert_eq!(rt; named(alloc, &entry)?.as_str(), "[3, 5, 7]");
-    Ok(())
+    expect_names(&rt, rt.alloc(), &ENTRY, &[3, 5, 7])
 }
 
 #[test]
 fn another_record_names_its_value(rt: HostRuntime) -> Result<(), Fail> {
-    let alloc = rt.alloc();
-    let other = Record::Other(Other {
-        tag: tag(alloc, "_TASK")?,
-        value: Value::Ref(2),
-        carried: pointer_below(alloc, 9)?,
-    });
-    assert_eq!(rt; named(alloc, &other)?.as_str(), "[2, 9]");
-    Ok(())
+    expect_names(&rt, rt.alloc(), &OTHER, &[2, 9])
 }
