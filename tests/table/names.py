@@ -32,6 +32,7 @@ CROSS_REFERENCES = (
     refuses("a cross reference that is not closed", between("1 A", "0 @I1 INDI", "0 B"), 12, 3),
     refuses("a cross reference that is not closed, in the last line", HEAD + b"0 @T TRLR", 12, 2),
     refuses("a cross reference at the end of its line", between("0 @A@"), 12, 2),
+    refuses("a cross reference of a person and its tag without space", between("0 @I1@NOTE"), 12, 2),
     refuses("a cross reference and its tag without space", between("0 @A@NOTE"), 12, 2),
     refuses("a cross reference that begins with a space", between("0 @ A@ NOTE"), 12, 2),
     refuses("a cross reference that begins with #", between("0 @#D@ NOTE"), 12, 2),

@@ -24,6 +24,7 @@ ONE_LINE = (
     refuses("too long before a line behind the trailer", AFTER + b"x" * (LONGEST + 1), 14, 3),
     # 15, 10
     refuses("U+0000 before UTF-8", between(b"1 \xff\0"), 15, 2),
+    refuses("U+0000 before UTF-8 in a tag", between(b"0 N\0\xff"), 15, 2),
     refuses("U+0000 before UTF-8 in a value", between(b"1 NOTE \0\xff"), 15, 2),
     refuses("U+0000 before the level", between(b"\0A"), 15, 2),
     refuses("U+0000 before a cross reference", between(b"0 @A\0 B"), 15, 2),

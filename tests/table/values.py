@@ -42,6 +42,7 @@ AT_SIGNS = (
     reads("an escape with a tab behind it",
           between("1 DATE @#DJULIAN@\t1700"), between("1 DATE @@#DJULIAN@@\t1700")),
     reads("an escape of no character", between("1 NOTE @#@ a"), between("1 NOTE @@#@@ a")),
+    same("an escape of no character whose @ are doubled", between("1 NOTE @@#@@ x")),
     reads("an escape that is not closed", between("1 NOTE @#D a"), between("1 NOTE @@#D a")),
     # the first @ begins none, as no space follows the next @
     reads("an escape behind what is none",
@@ -137,6 +138,9 @@ CUTS = (
     # behind 199 there is a space, and 198 is between two letters
     reads("no cut beside a space",
           between("1 NOTE " + "x" * 199 + " y"), between("1 NOTE " + "x" * 198, "2 CONC x y")),
+    reads("no cut beside a space, and a line break at the end",
+          between("1 NOTE " + "x" * 199 + " y", "2 CONT"),
+          between("1 NOTE " + "x" * 198, "2 CONC x y", "2 CONT")),
     reads("no cut before a space",
           between("1 NOTE " + "x" * 200 + " "), between("1 NOTE " + "x" * 199, "2 CONC x ")),
     reads("no cut behind a space", between("1 NOTE " + "x" * 199 + " yz"),
@@ -172,6 +176,9 @@ CUTS = (
     same("100 doubled @ stand on one line", between("1 NOTE " + "@@" * 100)),
     reads("101 doubled @ are cut", between("1 NOTE " + "@@" * 101),
           between("1 NOTE " + "@@" * 100, "2 CONC @@")),
+    reads("10,000 doubled @ are 100 pieces",
+          between("1 NOTE " + "@@" * 10_000),
+          between("1 NOTE " + "@@" * 100, *["2 CONC " + "@@" * 100] * 99)),
     reads("a doubled @ is never cut", between("1 NOTE x" + "@" * 399),
           between("1 NOTE x" + "@@" * 99, "2 CONC " + "@@" * 100, "2 CONC @@")),
     same("an escape in 200 characters", between("1 NOTE " + "x" * 185 + JULIAN)),

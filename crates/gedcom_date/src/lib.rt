@@ -31,6 +31,3 @@ pub use period::Period;
 pub use texts::{Interpreted, Phrase, Verbatim};
 pub use value::{DateValue, Span};
 pub use writing::write_date;
-
-#[cfg(test)]
-mod tests;

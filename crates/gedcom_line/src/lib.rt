@@ -21,6 +21,3 @@ pub use fault::{LineFault, LineKind};
 pub use line::{LineRef, read_line, write_line};
 pub use splitting::{Mark, TextPart, split_text};
 pub use values::Value;
-
-#[cfg(test)]
-mod tests;
