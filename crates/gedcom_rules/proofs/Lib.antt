@@ -8,3 +8,4 @@ pub mod Unbroken
 pub mod Standings
 pub mod Levels
 pub mod Walks
+pub mod Decided

@@ -87,6 +87,10 @@ pub record OverLimit (b : List ℕ) (f : Fault) : Type 0 where
 abbrev pub Decides : List ℕ → Fault → Type 0
 Decides b f = FaultIn [] (file_pieces (within b)).ended f ⊎ OverLimit b f
 
+-- The bytes so far decide no fault.
+abbrev pub IsOpen : List ℕ → Type 0
+IsOpen b = (f : Fault) → ¬ (Decides b f)
+
 -- no piece is faulty, but no trailer stands
 pub record EndsEarly (b : List ℕ) (f : Fault) : Type 0 where
   pub lines : List Parts
