@@ -21,3 +21,6 @@ pub use deciding::{MAX_FILE, judge_bytes, judge_end};
 pub use fault::{TreeFault, TreeKind};
 pub use judging::judge_piece;
 pub use seen::{Seen, is_continuation, is_trailer};
+
+#[cfg(test)]
+mod tests;
