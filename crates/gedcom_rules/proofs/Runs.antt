@@ -11,10 +11,10 @@ use Rattle.gedcom_line.proofs.Steps.{both, eqb_false, eqb_no}
 use Rattle.gedcom_rules.specs.declared.fault.TreeKind.{TreeKind}
 use Rattle.gedcom_rules.specs.Rules.{Progress, progress_of, last_level, is_in_head, is_trailer, has_name, standing, standing_at, max_text, first_broken}
 use Rattle.gedcom_rules.specs.Continuing.{belongs, adds}
-use Rattle.gedcom_rules.specs.Faults.{max_line, Clean, Fault, FaultIn}
+use Rattle.gedcom_rules.specs.Faults.{max_line, Clean, Fault, FaultIn, Judged}
 use Rattle.gedcom_rules.specs.Judging.{continue_at, above_after, after, next, judge, advance, then_run, run, fault_behind}
 use Rattle.gedcom_rules.proofs.Cuts.{cases_bool, AllPieces}
-use Rattle.gedcom_rules.proofs.Judged.{judge_blank, judge_keeps, judge_faulty, Judged, judged}
+use Rattle.gedcom_rules.proofs.Judged.{judge_blank, judge_keeps, judge_faulty, judged}
 use Rattle.std.proofs.Math.Bool.{and-false, and-true, or-false}
 
 -- one line more

@@ -13,6 +13,7 @@ mod deciding;
 mod fault;
 mod header;
 mod judging;
+pub mod laws;
 mod seen;
 mod standing;
 
