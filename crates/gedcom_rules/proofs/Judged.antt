@@ -8,7 +8,7 @@ use Rattle.gedcom_line.proofs.Whole.{reading_line, line_reading, reading_blank, 
 use Rattle.gedcom_rules.specs.declared.fault.TreeKind.{TreeKind}
 use Rattle.gedcom_rules.specs.declared.fault.TreeKind.TheVariants.{TooLong}
 use Rattle.gedcom_rules.specs.Rules.{Progress, progress_of, first_broken, of_line}
-use Rattle.gedcom_rules.specs.Faults.{max_line, IsFaulty}
+use Rattle.gedcom_rules.specs.Faults.{max_line, IsFaulty, Judged}
 use Rattle.gedcom_rules.specs.Judging.{judge, judge_read, kept}
 
 pub judge_long : (q : Progress) (p : List ℕ) → max_line < length p → judge q p ≡ Err TooLong
@@ -29,12 +29,6 @@ pub judge_faulty : (before : List Parts) (p : List ℕ) (k : TreeKind) → IsFau
 judge_faulty before p k (inl h) = judge_long (progress_of before) p h.1 ∙ ap Err (sym h.0)
 judge_faulty before p k (inr (s, inl n)) = judge_short (progress_of before) p s ∙ ap (judge_read (progress_of before) p) (fault_reading p n.0 n.1.0) ∙ ap Err (sym n.1.1)
 judge_faulty before p k (inr (s, inr b)) = judge_short (progress_of before) p s ∙ ap (judge_read (progress_of before) p) (line_reading p b.0 b.1.0) ∙ ap (kept b.0) b.1.1
-
--- what an answer says of the piece
-abbrev pub Judged : List Parts → List ℕ → Result (Option Parts) TreeKind → Type 0
-Judged before p (Ok None) = (length p ≤ max_line) × IsBlank p
-Judged before p (Ok (Some l)) = (length p ≤ max_line) × (Line p l × (first_broken (progress_of before) l ≡ None))
-Judged before p (Err k) = IsFaulty before p k
 
 kept_judged : (before : List Parts) (p : List ℕ) (l : Parts) → length p ≤ max_line → Line p l → (o : Option TreeKind) → first_broken (progress_of before) l ≡ o → Judged before p (kept l o)
 kept_judged before p l s h None e = (s, (h, e))

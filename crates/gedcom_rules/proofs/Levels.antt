@@ -1,5 +1,5 @@
 -- A line that breaks no rule finds a place among the open lines.
-use Rattle.std.proofs.Common.{◌≡◌, ℕ, ◌+◌, ◌≤◌, Bool, true, false, eqb, not, List, refl, sym, ap, ◌∙◌, inl, inr, arith, Option, Some, Ok}
+use Rattle.std.proofs.Common.{◌≡◌, ℕ, ◌+◌, ◌≤◌, true, false, eqb, not, List, refl, sym, ap, ◌∙◌, inl, inr, arith, Option, Some, Ok}
 use Rattle.std.proofs.lemmas.Bool.{eqb-true, ltb-false}
 use Rattle.gedcom_line.specs.Reading.{Parts}
 use Rattle.gedcom_line.proofs.Steps.{both}
@@ -9,10 +9,7 @@ use Rattle.gedcom_rules.specs.Depth.{depth}
 use Rattle.gedcom_rules.proofs.Cuts.{cases_bool}
 use Rattle.gedcom_rules.proofs.Judged.{judge_some}
 use Rattle.gedcom_rules.proofs.Unbroken.{Unbroken, unbroken}
-
-not_not : (b : Bool) → not b ≡ false → b ≡ true
-not_not true e = refl
-not_not false e = absurd cc
+use Rattle.gedcom_rules.proofs.Bools.{not_not, counted}
 
 head_level : (l : Parts) → is_head l ≡ true → l.level ≡ 0
 head_level l h = eqb-true l.level 0 (both (eqb l.level 0) _ h).0
@@ -33,9 +30,6 @@ judged_level q p l n h d = unbroken_level q l n (unbroken q l (judge_some q p l 
 -- how many stand open behind it
 pub depth_after : (q : Progress) (l : Parts) → depth (after q l) ≡ l.level + 1
 depth_after q l = rw (counted q.count) refl
-  where
-    counted : (n : ℕ) → eqb (n + 1) 0 ≡ false
-    counted n = grind arith
 
 -- what judging a piece leaves
 pub advanced : (q r : Progress) (p : List ℕ) (o : Option Parts) → judge q p ≡ Ok o → r ≡ next q o → advance q (judge q p) ≡ Ok r

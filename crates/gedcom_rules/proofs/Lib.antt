@@ -1,3 +1,4 @@
+pub mod Bools
 pub mod Cuts
 pub mod Sizes
 pub mod Marks
@@ -8,3 +9,4 @@ pub mod Unbroken
 pub mod Standings
 pub mod Levels
 pub mod Walks
+pub mod Decided

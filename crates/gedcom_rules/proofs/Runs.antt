@@ -11,10 +11,11 @@ use Rattle.gedcom_line.proofs.Steps.{both, eqb_false, eqb_no}
 use Rattle.gedcom_rules.specs.declared.fault.TreeKind.{TreeKind}
 use Rattle.gedcom_rules.specs.Rules.{Progress, progress_of, last_level, is_in_head, is_trailer, has_name, standing, standing_at, max_text, first_broken}
 use Rattle.gedcom_rules.specs.Continuing.{belongs, adds}
-use Rattle.gedcom_rules.specs.Faults.{max_line, Clean, Fault, FaultIn}
+use Rattle.gedcom_rules.specs.Faults.{max_line, Clean, Fault, FaultIn, Judged}
 use Rattle.gedcom_rules.specs.Judging.{continue_at, above_after, after, next, judge, advance, then_run, run, fault_behind}
 use Rattle.gedcom_rules.proofs.Cuts.{cases_bool, AllPieces}
-use Rattle.gedcom_rules.proofs.Judged.{judge_blank, judge_keeps, judge_faulty, Judged, judged}
+use Rattle.gedcom_rules.proofs.Judged.{judge_blank, judge_keeps, judge_faulty, judged}
+use Rattle.std.proofs.Math.Bool.{and-false, and-true, or-false}
 
 -- one line more
 pub last_level-push : (ls : List Parts) (l : Parts) → last_level (ls ++ l ∷ []) ≡ l.level
@@ -22,20 +23,12 @@ last_level-push [] l = refl
 last_level-push (m ∷ []) l = refl
 last_level-push (m ∷ n ∷ ls) l = last_level-push (n ∷ ls) l
 
-or_false : (b : Bool) → (b || false) ≡ b
-or_false true = refl
-or_false false = refl
-
 any-push : (ls : List Parts) (l : Parts) → list_any is_trailer (ls ++ l ∷ []) ≡ (list_any is_trailer ls || is_trailer l)
-any-push [] l = or_false (is_trailer l)
+any-push [] l = or-false (is_trailer l)
 any-push (m ∷ ms) l = elim (is_trailer m) as (λ v. (v || list_any is_trailer (ms ++ l ∷ [])) ≡ ((v || list_any is_trailer ms) || is_trailer l)) [ true ↦ refl | false ↦ any-push ms l ]
 
-and_true : (b : Bool) → (b && true) ≡ b
-and_true true = refl
-and_true false = refl
-
 all-push : (p : Parts → Bool) (ls : List Parts) (l : Parts) → list_all p (ls ++ l ∷ []) ≡ (list_all p ls && p l)
-all-push p [] l = and_true (p l)
+all-push p [] l = and-true (p l)
 all-push p (m ∷ ms) l = elim (p m) as (λ v. (v && list_all p (ms ++ l ∷ [])) ≡ ((v && list_all p ms) && p l)) [ true ↦ all-push p ms l | false ↦ refl ]
 
 head-push : (ls : List Parts) (l : Parts) → is_in_head (ls ++ l ∷ []) ≡ (eqb (length ls) 0 || (is_in_head ls && not (eqb l.level 0)))
@@ -46,11 +39,7 @@ head-push (m ∷ ms) l =
 
 -- what stands open
 deeper_push : (n : ℕ) (ms : List Parts) (l : Parts) → ltb n l.level ≡ false → list_all (λ m. ltb n m.level) (ms ++ l ∷ []) ≡ false
-deeper_push n ms l h = all-push (λ m. ltb n m.level) ms l ∙ rw h (and_false (list_all (λ m. ltb n m.level) ms))
-  where
-    and_false : (b : Bool) → (b && false) ≡ false
-    and_false true = refl
-    and_false false = refl
+deeper_push n ms l h = all-push (λ m. ltb n m.level) ms l ∙ rw h (and-false (list_all (λ m. ltb n m.level) ms))
 
 -- a line of the level, or of a lower one, closes what stood open there
 at_own : (n : ℕ) (ls : List Parts) (l : Parts) → eqb l.level n ≡ true → standing_at n (ls ++ l ∷ []) ≡ Some (standing l [])
@@ -59,11 +48,7 @@ at_own n (m ∷ ms) l h =
     let same : l.level ≡ n = eqb-true l.level n h in
     let no_less : ltb n l.level ≡ false = le-ltb n l.level (omega (arith, same)) in
     let all : list_all (λ k. ltb n k.level) (ms ++ l ∷ []) ≡ false = deeper_push n ms l no_less in
-    rw (all, and_false (eqb m.level n)) (at_own n ms l h)
-  where
-    and_false : (b : Bool) → (b && false) ≡ false
-    and_false true = refl
-    and_false false = refl
+    rw (all, and-false (eqb m.level n)) (at_own n ms l h)
 
 at_lower : (n : ℕ) (ls : List Parts) (l : Parts) → eqb l.level n ≡ false → ltb l.level n ≡ true → standing_at n (ls ++ l ∷ []) ≡ None
 at_lower n [] l h k = rw h refl
@@ -71,11 +56,7 @@ at_lower n (m ∷ ms) l h k =
     let less : l.level < n = ltb-true l.level n k in
     let no_less : ltb n l.level ≡ false = le-ltb n l.level (omega (arith, less)) in
     let all : list_all (λ j. ltb n j.level) (ms ++ l ∷ []) ≡ false = deeper_push n ms l no_less in
-    rw (all, and_false (eqb m.level n)) (at_lower n ms l h k)
-  where
-    and_false : (b : Bool) → (b && false) ≡ false
-    and_false true = refl
-    and_false false = refl
+    rw (all, and-false (eqb m.level n)) (at_lower n ms l h k)
 
 -- what goes on with a line among lines that are all deeper than it
 pub belongs_deeper : (n : ℕ) (ms : List Parts) (l : Parts) → list_all (λ m. ltb n m.level) ms ≡ true → ltb n l.level ≡ true → belongs n (ms ++ l ∷ []) ≡ belongs n ms ++ cond (is_continuation l.tag && eqb l.level (n + 1)) (l ∷ []) []
@@ -104,7 +85,7 @@ at_deeper n [] l h k = rw h refl
 at_deeper n (m ∷ ms) l h k =
     let other : l.level ≡ n → ⊥ = eqb_no l.level n h in
     let deep : ltb n l.level ≡ true = lt-ltb n l.level (omega (arith, other, ltb-false l.level n k)) in
-    let all : list_all (λ j. ltb n j.level) (ms ++ l ∷ []) ≡ list_all (λ j. ltb n j.level) ms = all-push (λ j. ltb n j.level) ms l ∙ rw deep (and_true (list_all (λ j. ltb n j.level) ms)) in
+    let all : list_all (λ j. ltb n j.level) (ms ++ l ∷ []) ≡ list_all (λ j. ltb n j.level) ms = all-push (λ j. ltb n j.level) ms l ∙ rw deep (and-true (list_all (λ j. ltb n j.level) ms)) in
     rw all (elim (cases_bool (eqb m.level n && list_all (λ j. ltb n j.level) ms)) [
       | inl e ↦ rw e (ap Some (ap (standing m) (belongs_deeper n ms l (both (eqb m.level n) _ e).1 deep) ∙ continued_step n m l (belongs n ms)))
       | inr e ↦ rw e (at_deeper n ms l h k)
@@ -124,7 +105,7 @@ pub same_function : {A B : Type 0} (f g : A → B) → ((x : A) → f x ≡ g x)
 same_function f g h = λ i x. h x i
 
 any_by-push : (test : Parts → Bool) (ls : List Parts) (l : Parts) → list_any test (ls ++ l ∷ []) ≡ (list_any test ls || test l)
-any_by-push test [] l = or_false (test l)
+any_by-push test [] l = or-false (test l)
 any_by-push test (m ∷ ms) l = elim (test m) as (λ v. (v || list_any test (ms ++ l ∷ [])) ≡ ((v || list_any test ms) || test l)) [ true ↦ refl | false ↦ any_by-push test ms l ]
 
 pub progress-push : (ls : List Parts) (l : Parts) → progress_of (ls ++ l ∷ []) ≡ after (progress_of ls) l

@@ -1,5 +1,5 @@
 -- What stands open behind a line, as the code keeps it.
-use Rattle.std.proofs.Common.{◌≡◌, ℕ, zero, suc, ◌+◌, ◌-◌, ◌<◌, ◌≤◌, Bool, true, false, cond, eqb, ltb, ◌&&◌, ◌||◌, List, [], ◌∷◌, ◌++◌, length, length-append, take, set, get_or, refl, sym, ap, ◌∙◌, inl, inr, arith, Option, Some, None}
+use Rattle.std.proofs.Common.{◌≡◌, ℕ, zero, suc, ◌+◌, ◌-◌, ◌<◌, ◌≤◌, Bool, true, false, cond, eqb, ltb, ◌||◌, List, [], ◌∷◌, ◌++◌, length, length-append, take, set, get_or, refl, sym, ap, ◌∙◌, inl, inr, arith, Option, Some, None}
 use Rattle.std.specs.Prelude.{option_map, slice_get}
 use Rattle.std.proofs.lemmas.Bool.{eqb-true, ltb-true, ltb-false}
 use Rattle.std.proofs.lemmas.Option.{slice_get_past}
@@ -13,6 +13,8 @@ use Rattle.gedcom_rules.specs.Rules.{Standing, standing}
 use Rattle.gedcom_rules.specs.Judging.{continue_at, above_after}
 use Rattle.gedcom_rules.specs.Views.{standing_view, standings}
 use Rattle.gedcom_rules.proofs.Cuts.{cases_bool}
+use Rattle.std.proofs.Math.Bool.{and-false}
+use Rattle.gedcom_rules.proofs.Bools.{eqb_same}
 
 get_front : (xs : List code.Standing) (k n : ℕ) → n < k → slice_get (take k xs) n ≡ slice_get xs n
 get_front xs zero n h = absurd (omega arith)
@@ -55,11 +57,7 @@ pub kept_above : (l : Parts) (stack : List code.Standing) (n : ℕ) → is_conti
 kept_above l stack n h = sym (same_option (continue_at n l) (standings stack n) (λ s. rw h refl))
 
 not_joined : (l : Parts) (n : ℕ) (s : Standing) → (l.level ≡ n + 1 → ⊥) → continue_at n l s ≡ s
-not_joined l n s h = rw (eqb_false l.level (n + 1) h, and_false (is_continuation l.tag)) refl
-  where
-    and_false : (b : Bool) → (b && false) ≡ false
-    and_false true = refl
-    and_false false = refl
+not_joined l n s h = rw (eqb_false l.level (n + 1) h, and-false (is_continuation l.tag)) refl
 
 -- a continuation makes the text of the last one longer
 pub joined_above : (l : Parts) (stack : List code.Standing) (k : ℕ) (above more : code.Standing) → is_continuation l.tag ≡ true → l.level ≡ length stack → k + 1 ≡ length stack → above ≡ get_or stack k above → standing_view more ≡ record { role = above.role; text = above.is_text; room = above.room - length (adds l) } → (n : ℕ) → standings (set stack k more) n ≡ option_map (continue_at n l) (standings stack n)
@@ -74,9 +72,6 @@ joined_above l stack k above more t lev len at view n = elim (cases_bool (eqb n 
       let none : l.level ≡ n + 1 → ⊥ = (λ h. other (omega (arith, h, lev, len))) in
       ap (option_map standing_view) (get_other stack more k n other) ∙ sym (same_option (continue_at n l) (standings stack n) (λ s. not_joined l n s none))
 ]
-  where
-    eqb_same : (x : ℕ) → eqb x x ≡ true
-    eqb_same x = grind arith
 
 pub none_above : (l : Parts) (stack : List code.Standing) (n : ℕ) → length stack ≡ 0 → standings stack n ≡ option_map (continue_at n l) (standings stack n)
 none_above l [] n h = refl

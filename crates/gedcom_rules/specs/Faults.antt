@@ -1,5 +1,5 @@
 -- Which fault a file of lines has, and which the bytes so far decide.
-use Rattle.std.specs.Prelude.{◌≡◌, ◌⊎◌, ℕ, ◌+◌, ◌<◌, ◌≤◌, Bool, true, false, not, ◌&&◌, ◌||◌, ◌==◌, nat_lt, if◌then◌else◌, List, [], ◌∷◌, ◌++◌, length, take, Option, Some, None, is_some, slice_get}
+use Rattle.std.specs.Prelude.{◌≡◌, ◌⊎◌, ℕ, ◌+◌, ◌<◌, ◌≤◌, Bool, true, false, not, ◌&&◌, ◌||◌, ◌==◌, nat_lt, if◌then◌else◌, List, [], ◌∷◌, ◌++◌, length, take, Option, Some, None, is_some, slice_get, Result, Ok, Err}
 use Rattle.std.specs.List.{list_any}
 use Rattle.gedcom_line.specs.Words.{is_end}
 use Rattle.gedcom_line.specs.Reading.{Parts}
@@ -37,6 +37,12 @@ BreaksFirst before p k = (l : Parts) × (Line p l × (first_broken (progress_of 
 -- what is wrong with a piece behind lines
 abbrev pub IsFaulty : List Parts → List ℕ → TreeKind → Type 0
 IsFaulty before p k = ((k ≡ TooLong) × (max_line < length p)) ⊎ ((length p ≤ max_line) × (IsNoLine p k ⊎ BreaksFirst before p k))
+
+-- What a piece is behind lines: blank, or a line that breaks no rule, or faulty for this reason first.
+abbrev pub Judged : List Parts → List ℕ → Result (Option Parts) TreeKind → Type 0
+Judged before p (Ok None) = (length p ≤ max_line) × IsBlank p
+Judged before p (Ok (Some l)) = (length p ≤ max_line) × (Line p l × (first_broken (progress_of before) l ≡ None))
+Judged before p (Err k) = IsFaulty before p k
 
 -- a refusal, and the line that it speaks of, counted from 1 without blank lines
 pub record Fault : Type 0 where
@@ -86,6 +92,10 @@ pub record OverLimit (b : List ℕ) (f : Fault) : Type 0 where
 -- The bytes so far decide the fault, however they go on. A piece is judged where it ends, within the most bytes of a file.
 abbrev pub Decides : List ℕ → Fault → Type 0
 Decides b f = FaultIn [] (file_pieces (within b)).ended f ⊎ OverLimit b f
+
+-- The bytes so far decide no fault.
+abbrev pub IsOpen : List ℕ → Type 0
+IsOpen b = (f : Fault) → ¬ (Decides b f)
 
 -- no piece is faulty, but no trailer stands
 pub record EndsEarly (b : List ℕ) (f : Fault) : Type 0 where

@@ -2,8 +2,8 @@
 
 ghost use Rattle.std.specs.Prelude.{◌≡◌, true, false, ◌⊎◌, ◌+◌, ◌<◌, ◌≤◌, Option, Some, None, Ok, Err, MatchResult, IfOk, length, option_map, ◌^◌};
 ghost use Rattle.gedcom_rules.specs.Pieces.{pieces};
-ghost use Rattle.gedcom_rules.specs.Faults.{IsLineless, extra, overflows as overflow_test, within};
-ghost use Rattle.gedcom_rules.specs.Judging.{run, start, decided, unended, open_fault as fault_of_open};
+ghost use Rattle.gedcom_rules.specs.Faults.{IsLineless, IsOpen, Decides, extra, overflows as overflow_test, within};
+ghost use Rattle.gedcom_rules.specs.Judging.{run, start, unended, open_fault as fault_of_open};
 ghost use Rattle.gedcom_rules.specs.Rules.{Progress};
 ghost use Rattle.gedcom_rules.specs.Views.{HasRun, fault_view, progress};
 
@@ -81,10 +81,9 @@ fn limited(bytes: &[u8]) -> (&[u8], Option<u8>)
 }
 
 /// Judges the bytes: the fault that they decide, however they go on.
-#[tactic(auto, unfolding(crate::specs::Judging::decided))]
 pub fn judge_bytes(alloc: Global, bytes: &[u8]) -> Result<(), TreeFault>
-    ensures { MatchResult result (λ _. decided bytes.now ≡ None)
-        (λ f. IsLineless TreeKind.OutOfMemory (fault_view f) ⊎ (decided bytes.now ≡ Some (fault_view f))) }
+    ensures { MatchResult result (λ _. IsOpen bytes.now)
+        (λ f. IsLineless TreeKind.OutOfMemory (fault_view f) ⊎ Decides bytes.now (fault_view f)) }
 {
     let (front, next) = limited(bytes);
     match judge_all(alloc, skip_mark(front)) {

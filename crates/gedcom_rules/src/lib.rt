@@ -13,6 +13,7 @@ mod deciding;
 mod fault;
 mod header;
 mod judging;
+pub mod laws;
 mod seen;
 mod standing;
 
@@ -21,3 +22,6 @@ pub use deciding::{MAX_FILE, judge_bytes, judge_end};
 pub use fault::{TreeFault, TreeKind};
 pub use judging::judge_piece;
 pub use seen::{Seen, is_continuation, is_trailer};
+
+#[cfg(test)]
+mod tests;

@@ -16,6 +16,7 @@ use Rattle.gedcom_rules.proofs.Judged.{judge_some, judge_none}
 use Rattle.gedcom_rules.proofs.Unbroken.{Unbroken, unbroken}
 use Rattle.gedcom_rules.proofs.Levels.{first_level}
 use Rattle.gedcom_tree.proofs.Joined.{unbroken_continues}
+use Rattle.gedcom_rules.proofs.Bools.{eqb_same, counted}
 
 -- nor beyond the open nodes: nothing stands below a continuation
 not_below : (q : Progress) (l : Parts) → Unbroken q l → option_map_or (λ s. is_continued s.role) (q.above q.last) false ≡ true → l.level ≡ q.last + 1 → ⊥
@@ -68,12 +69,6 @@ role_continued t = elim (cases_bool (is_continuation t)) [
 
 pub node_depth_after : (q : Progress) (l : Parts) → node_depth (after q l) ≡ cond (is_continuation l.tag) l.level (l.level + 1)
 node_depth_after q l = rw (counted q.count, eqb_same l.level, role_continued l.tag) refl
-  where
-    counted : (n : ℕ) → eqb (n + 1) 0 ≡ false
-    counted n = grind arith
-
-    eqb_same : (x : ℕ) → eqb x x ≡ true
-    eqb_same x = grind arith
 
 grown_none : (q : Progress) (p : List ℕ) (g : Nodes) → judge q p ≡ Ok None → g ≡ grow g p
 unfolding grow

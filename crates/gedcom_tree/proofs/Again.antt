@@ -22,7 +22,8 @@ use Rattle.gedcom_tree.proofs.Lines.{Keeps, keeps_clean, lines_pieces, text_line
 use Rattle.gedcom_tree.proofs.Numbered.{numbered, numbered_same, lines_nil, lines_cons, lines_read, no_trailer}
 use Rattle.gedcom_tree.proofs.Parted.{Written, own_written}
 use Rattle.gedcom_tree.proofs.Roles.{own_role}
-use Rattle.gedcom_tree.proofs.Kept.{Stands, counted, role_at, above_own, name_apart, head_after, gedcom_after, own_stands, no_set, no_version, Heads, own_unbroken}
+use Rattle.gedcom_rules.proofs.Bools.{counted}
+use Rattle.gedcom_tree.proofs.Kept.{Stands, role_at, above_own, name_apart, head_after, gedcom_after, own_stands, no_set, no_version, Heads, own_unbroken}
 use Rattle.gedcom_tree.proofs.Continued.{keeps_line, more_keeps}
 
 -- what keeps_header says of the first node, there and behind its own line

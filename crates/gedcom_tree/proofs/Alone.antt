@@ -11,7 +11,7 @@ use Rattle.std.proofs.lemmas.Slice.Eq.{bytes_eq-Decides}
 use Rattle.gedcom_line.specs.Escape.{escaped, escaped_from}
 use Rattle.gedcom_line.specs.Reading.{skip}
 use Rattle.gedcom_line.specs.Words.{is_space}
-use Rattle.gedcom_line.specs.Split.{char_count, canonical, marked}
+use Rattle.gedcom_line.specs.Split.{char_count, IsShort, canonical, marked}
 use Rattle.gedcom_line.specs.Value.{Meaning, Text, Pointer, meaning}
 use Rattle.gedcom_line.specs.declared.splitting.Mark.TheVariants.{Cont}
 use Rattle.gedcom_line.proofs.Steps.{both, either, neither, not_false, eqb_no, all_front}
@@ -23,7 +23,6 @@ use Rattle.gedcom_line.proofs.Pointers.{escaped_no_pointer, pointer_meant}
 use Rattle.gedcom_tree.specs.Forest.{own_raw, more_parts}
 use Rattle.gedcom_rules.specs.Rules.{is_set, is_charset, is_version, is_version_value, max_header_text}
 use Rattle.gedcom_tree.specs.Text.{IsNodeValue, is_charset_node, is_version_node}
-use Rattle.gedcom_tree.proofs.Measured.{IsShort}
 use Rattle.gedcom_tree.proofs.Numbered.{marked_pointer}
 
 -- a text of one part

@@ -12,7 +12,9 @@ use Rattle.gedcom_rules.specs.Continuing.{belongs}
 use Rattle.gedcom_rules.specs.Judging.{continue_at, after}
 use Rattle.gedcom_rules.proofs.Cuts.{cases_bool}
 use Rattle.gedcom_rules.proofs.Unbroken.{Unbroken}
-use Rattle.gedcom_tree.proofs.Fitting.{Fits, above_own, above_deeper, above_kept, parent_at, counted}
+use Rattle.gedcom_rules.proofs.Bools.{counted}
+use Rattle.gedcom_tree.proofs.Fitting.{Fits, above_own, above_deeper, above_kept, parent_at}
+use Rattle.std.proofs.Math.Bool.{and-true}
 
 -- what a tag is known by stays as a line is continued
 pub role_kept : (test : Role → Bool) (n : ℕ) (l : Parts) (o : Option Standing) → option_map_or (λ s. test s.role) (option_map (continue_at n l) o) false ≡ option_map_or (λ s. test s.role) o false
@@ -22,15 +24,11 @@ role_kept test n l (Some s) = elim (cases_bool (is_continuation l.tag && eqb l.l
 pub role_above : (test : Role → Bool) (q : Progress) (l : Parts) (n : ℕ) → n < l.level → option_map_or (λ s. test s.role) ((after q l).above n) false ≡ option_map_or (λ s. test s.role) (q.above n) false
 role_above test q l n h = ap (λ (o : Option Standing). option_map_or (λ s. test s.role) o false) (above_deeper q l n h) ∙ role_kept test n l (q.above n)
 
-and_true : (b : Bool) → (b && true) ≡ b
-and_true true = refl
-and_true false = refl
-
 -- a line below level 0 stays inside the header
 pub in_head_kept : (q : Progress) (l : Parts) → eqb q.count 0 ≡ false → 0 < l.level → (after q l).in_head ≡ q.in_head
 in_head_kept q l c h =
     let some : eqb l.level 0 ≡ false = eqb_false l.level 0 (λ e. absurd (omega (arith, e))) in
-    rw (c, some) (and_true q.in_head)
+    rw (c, some) (and-true q.in_head)
 
 names_set_kept : (q : Progress) (l : Parts) (n : ℕ) (r : Role) → eqb q.count 0 ≡ false → 0 < l.level → names_set (after q l) n r ≡ names_set q n r
 names_set_kept q l n r c h = ap (λ (b : Bool). b && eqb n 1 && is_charset_tag r) (in_head_kept q l c h)

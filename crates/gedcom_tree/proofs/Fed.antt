@@ -8,10 +8,10 @@ use Rattle.gedcom_rules.specs.declared.fault.TreeFault.{TreeFault}
 use Rattle.gedcom_rules.specs.declared.fault.TreeKind.TheVariants.{OutOfMemory}
 use Rattle.gedcom_rules.specs.Pieces.{pieces, file_pieces}
 use Rattle.gedcom_tree.specs.Forest.{Item}
-use Rattle.gedcom_rules.specs.Faults.{IsLineless, Fault, max_file, within, extra, Decides, FaultOf}
+use Rattle.gedcom_rules.specs.Faults.{IsLineless, Fault, max_file, within, extra, Decides, IsOpen, FaultOf}
 use Rattle.gedcom_tree.specs.Reading.{then_trace, trace_run, traced, no_trace, no_nodes, grown, Reader, reader_of, finished}
 use Rattle.gedcom_rules.specs.Judging.{open_fault, decided}
-use Rattle.gedcom_tree.specs.State.{Holds, IsOpen, Finishes}
+use Rattle.gedcom_tree.specs.State.{Holds, Finishes}
 use Rattle.gedcom_rules.specs.Views.{fault_view}
 use Rattle.gedcom_tree.proofs.Traced.{traced_start, trace_run-append}
 use Rattle.gedcom_rules.proofs.Limits.{within-append, extra-append, within_front, extra_front}
@@ -19,7 +19,8 @@ use Rattle.gedcom_rules.proofs.Marks.{resumed, file_pieces-append}
 use Rattle.gedcom_tree.proofs.Gathered.{grown-append}
 use Rattle.gedcom_tree.specs.Text.{IsForest}
 use Rattle.gedcom_tree.proofs.Shaped.{reads_forest}
-use Rattle.gedcom_tree.proofs.Ends.{decided_is, undecided, decided_small, finishes}
+use Rattle.gedcom_rules.proofs.Decided.{decided_is, undecided, decided_small}
+use Rattle.gedcom_tree.proofs.Ends.{finishes}
 
 -- what more bytes make of what bytes left
 abbrev pub further : Reader → List ℕ → Reader

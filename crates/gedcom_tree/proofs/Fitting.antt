@@ -84,7 +84,3 @@ parent_at q k n e =
     let some : eqb k 0 ≡ false = eqb_false k 0 (λ h. absurd (omega (arith, h))) in
     let less : k - 1 ≡ n = omega arith in
     rw (some, less) refl
-
--- the first line is in front of a progress that counts some
-pub counted : (n : ℕ) → eqb (n + 1) 0 ≡ false
-counted n = eqb_false (n + 1) 0 (λ e. absurd (omega (arith, e)))

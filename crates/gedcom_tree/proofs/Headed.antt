@@ -19,15 +19,12 @@ use Rattle.gedcom_rules.specs.Judging.{after}
 use Rattle.gedcom_tree.specs.Text.{is_charset_node, is_version_node, keeps_header}
 use Rattle.gedcom_rules.proofs.Cuts.{cases_bool}
 use Rattle.gedcom_rules.proofs.Unbroken.{Unbroken}
-use Rattle.gedcom_tree.proofs.Fitting.{Fit, Fits, above_own, counted}
+use Rattle.gedcom_tree.proofs.Fitting.{Fit, Fits, above_own}
 use Rattle.gedcom_tree.proofs.Valued.{unescaped_each}
 use Rattle.gedcom_tree.proofs.Named.{continued_open}
 use Rattle.gedcom_tree.proofs.Closed.{role_above, in_head_kept, set_none, version_none}
 use Rattle.gedcom_tree.proofs.Charsets.{charset_unescaped, charset_no_pointer}
-
-pub not_not : (b : Bool) → not b ≡ false → b ≡ true
-not_not true e = refl
-not_not false e = absurd cc
+use Rattle.gedcom_rules.proofs.Bools.{not_not, counted}
 
 -- a test that must hold where the others do
 unless_three : (a b c v : Bool) → (a ≡ true → b ≡ true → c ≡ true → v ≡ true) → (a && b && c && not v) ≡ false

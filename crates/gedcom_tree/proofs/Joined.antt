@@ -15,14 +15,12 @@ use Rattle.gedcom_rules.specs.Continuing.{belongs, adds}
 use Rattle.gedcom_rules.proofs.Cuts.{cases_bool}
 use Rattle.gedcom_rules.proofs.Runs.{belongs_deeper}
 use Rattle.gedcom_rules.proofs.Unbroken.{Unbroken}
+use Rattle.std.proofs.Math.Bool.{and-false, or-true}
+use Rattle.gedcom_rules.proofs.Bools.{not_not, eqb_same}
 
 cond_same : {A : Type 0} (b : Bool) (x : A) → cond b x x ≡ x
 cond_same true x = refl
 cond_same false x = refl
-
-and_false : (b : Bool) → (b && false) ≡ false
-and_false true = refl
-and_false false = refl
 
 -- a line that continues none of these
 pub belongs-push : (n : ℕ) (ls : List Parts) (l : Parts) → (is_continuation l.tag && eqb l.level (n + 1)) ≡ false → belongs n (ls ++ l ∷ []) ≡ belongs n ls
@@ -39,7 +37,7 @@ belongs_closed n (m ∷ ms) l h = elim (cases_bool (ltb n m.level)) [
 
 -- a continuation belongs to a line one level above alone
 pub belongs_other : (n k : ℕ) (ls : List Parts) (c : Parts) → c.level ≡ k + 1 → (n ≡ k → ⊥) → belongs n (ls ++ c ∷ []) ≡ belongs n ls
-belongs_other n k ls c h d = belongs-push n ls c (rw (eqb_false c.level (n + 1) (λ e. d (omega (arith, e, h)))) (and_false (is_continuation c.tag)))
+belongs_other n k ls c h d = belongs-push n ls c (rw (eqb_false c.level (n + 1) (λ e. d (omega (arith, e, h)))) (and-false (is_continuation c.tag)))
 
 pub forest_of-push : (n : ℕ) (ls : List Parts) (l : Parts) → is_continuation l.tag ≡ false → forest_of n (ls ++ l ∷ []) ≡ forest_of n ls ++ node_of (n + length ls) l [] ∷ []
 unfolding forest_of
@@ -115,7 +113,7 @@ not_deeper k n (m ∷ ms) s h o = elim (cases_bool (eqb m.level k && list_all (�
       let rest : standing_at k ms ≡ Some s = rw e at h in
       elim (cases_bool (is_continuation m.tag)) [
         | inl c ↦ rw c (not_deeper k (n + 1) ms s rest o)
-        | inr c ↦ rw (c, not_deeper k (n + 1) ms s rest o) (and_false (ltb k m.level))
+        | inr c ↦ rw (c, not_deeper k (n + 1) ms s rest o) (and-false (ltb k m.level))
       ]
 ]
 
@@ -128,9 +126,6 @@ belongs_past k m ms c e h = elim (cases_bool (eqb m.level k)) [
       rw same (belongs_closed k ms c closed)
   | inr q ↦ belongs_other m.level k ms c h (λ z. let bad : eqb k k ≡ false = rw z at q in let good : eqb m.level k ≡ true = rw z (eqb_same k) in absurd cc)
 ]
-  where
-    eqb_same : (x : ℕ) → eqb x x ≡ true
-    eqb_same x = grind arith
 
 -- a continuation makes the text of the node one level above longer
 pub forest_longer : (n k : ℕ) (ls : List Parts) (c : Parts) (s : Standing) → standing_at k ls ≡ Some s → is_continued s.role ≡ false → is_continuation c.tag ≡ true → c.level ≡ k + 1 → forest_of n (ls ++ c ∷ []) ≡ extended k (adds c) (forest_of n ls)
@@ -151,13 +146,10 @@ forest_longer n k (m ∷ ms) c s h o t l = elim (cases_bool (eqb m.level k && li
       elim (cases_bool (is_continuation m.tag)) [
         | inl g ↦ rw g (forest_longer (n + 1) k ms c s rest o t l)
         | inr g ↦
-            rw (g, belongs_past k m ms c e l, not_deeper k (n + 1) ms s rest o, and_false (eqb m.level k))
+            rw (g, belongs_past k m ms c e l, not_deeper k (n + 1) ms s rest o, and-false (eqb m.level k))
             (ap (λ (f : List Item). node_of n m (belongs m.level ms) ∷ f) (forest_longer (n + 1) k ms c s rest o t l))
       ]
 ]
-  where
-    eqb_same : (x : ℕ) → eqb x x ≡ true
-    eqb_same x = grind arith
 
 -- what stands above a continuation that breaks no rule
 pub record Continues (q : Progress) (l : Parts) : Type 0 where
@@ -176,7 +168,7 @@ pub unbroken_continues : (q : Progress) (l : Parts) → Unbroken q l → is_cont
 unbroken_continues q l u t = elim (cases_bool (eqb l.level 0)) [
   | inl e ↦
       let h : (is_some l.xref || true) ≡ false = rw (t, e) at u.goes_on in
-      absurd (let bad : true ≡ false = sym (or_true (is_some l.xref)) ∙ h in cc)
+      absurd (let bad : true ≡ false = sym (or-true (is_some l.xref)) ∙ h in cc)
   | inr e ↦
       let h : (is_some l.xref || not (option_map_or (may_go_on q (l.level - 1)) (q.above (l.level - 1)) false)) ≡ false = rw (t, e) at u.goes_on in
       let c : option_map_or (λ s. is_continued s.role) (q.above (l.level - 1)) false ≡ false = rw e at u.above in
@@ -185,17 +177,9 @@ unbroken_continues q l u t = elim (cases_bool (eqb l.level 0)) [
       record { level = l.level - 1; deeper = some_level l.level e; above = r.0; at = r.1.0; text = r.1.1.0; own = r.1.1.1 }
 ]
   where
-    or_true : (b : Bool) → (b || true) ≡ true
-    or_true true = refl
-    or_true false = refl
-
     or_right : (a b : Bool) → (a || b) ≡ false → b ≡ false
     or_right true b h = absurd cc
     or_right false b h = h
-
-    not_not : (b : Bool) → not b ≡ false → b ≡ true
-    not_not true h = refl
-    not_not false h = absurd cc
 
     some_level : (n : ℕ) → eqb n 0 ≡ false → n ≡ n - 1 + 1
     some_level zero h = absurd (let bad : true ≡ false = h in cc)

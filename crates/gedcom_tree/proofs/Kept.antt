@@ -1,5 +1,5 @@
 -- What the lines of nodes leave for the nodes behind them, and which rules the lines of a node keep there.
-use Rattle.std.proofs.Common.{◌≡◌, ℕ, ◌+◌, ◌-◌, ◌<◌, ◌≤◌, Bool, true, false, cond, eqb, ltb, not, ◌&&◌, ◌||◌, List, [], ◌∷◌, length, refl, ap, ◌∙◌, subst, inl, inr, arith, Option, Some, None, codes, eq-eqb}
+use Rattle.std.proofs.Common.{◌≡◌, ℕ, ◌+◌, ◌-◌, ◌<◌, ◌≤◌, Bool, true, false, cond, eqb, ltb, not, ◌&&◌, List, [], ◌∷◌, length, refl, ap, ◌∙◌, subst, inl, inr, arith, Option, Some, None, codes, eq-eqb}
 use Rattle.std.specs.Prelude.{option_map}
 use Rattle.std.specs.Option.{option_map_or}
 use Rattle.std.specs.List.{list_any}
@@ -21,6 +21,8 @@ use Rattle.gedcom_rules.proofs.Unbroken.{Unbroken}
 use Rattle.gedcom_tree.proofs.Numbered.{mark_continues}
 use Rattle.gedcom_tree.proofs.Alone.{charset_again, version_again}
 use Rattle.gedcom_tree.proofs.Roles.{own_role, charset_role, gedcom_role, version_role, continued_charset, continued_version}
+use Rattle.std.proofs.Math.Bool.{and-false, and-true, or-true}
+use Rattle.gedcom_rules.proofs.Bools.{counted}
 
 -- What is left for the nodes is, where the last node is of the level, h tells that the header goes on, and u that the last
 -- node of level 1 is GEDC.
@@ -32,9 +34,6 @@ pub record Stands (q : Progress) (level : ℕ) (h u : Bool) (is : List Item) : T
   pub open_ : (k : ℕ) → k ≤ level → option_map_or (λ s. is_continued s.role) (q.above k) false ≡ false
   pub names : (x : List ℕ) → list_any (is_called x) is ≡ true → q.named x ≡ false
   pub gedcom : 1 ≤ level → h ≡ true → option_map_or (λ s. is_gedcom_tag s.role) (q.above 1) false ≡ u
-
-pub counted : (n : ℕ) → eqb (n + 1) 0 ≡ false
-counted n = eqb_false (n + 1) 0 (λ e. absurd (omega (arith, e)))
 
 -- what stands open below a deeper line keeps its role
 pub above_below : (above : ℕ → Option Standing) (l : Parts) (n : ℕ) → n < l.level → above_after above l n ≡ option_map (continue_at n l) (above n)
@@ -67,18 +66,6 @@ name_apart (Some y) is x h k = elim (cases_bool (bytes_eq x y)) [
       absurd cc
 ]
 
-or_true : (b : Bool) → (b || true) ≡ true
-or_true true = refl
-or_true false = refl
-
-and_true : (b : Bool) → (b && true) ≡ b
-and_true true = refl
-and_true false = refl
-
-and_false : (b : Bool) → (b && false) ≡ false
-and_false true = refl
-and_false false = refl
-
 -- behind the own line of a node
 abbrev pub head_after : Bool → Item → Bool
 head_after h i = h && not (eqb i.level 0)
@@ -108,7 +95,7 @@ own_stands q level h u i is s n rise apart = record {
   in_head = rw (s.count, s.in_head) refl;
   open_ = open_after q.above i level n.own rise s.open_;
   names = λ x k.
-      let free : q.named x ≡ false = s.names x (rw k (or_true (is_called x i))) in
+      let free : q.named x ≡ false = s.names x (rw k (or-true (is_called x i))) in
       rw free (name_apart i.xref is x apart k);
   gedcom = λ ge hh. gedcom_own q level h u i is s n.own rise ge (both h (not (eqb i.level 0)) hh).0;
 }
@@ -119,7 +106,7 @@ part_stands q level h u is p s = record {
   count = counted q.count;
   done = rw (s.done, counted level) refl;
   last = omega arith;
-  in_head = rw (s.count, s.in_head, counted level) (and_true h);
+  in_head = rw (s.count, s.in_head, counted level) (and-true h);
   open_ = λ k le. role_below is_continued q.above (part_line (level + 1) p) k (omega (arith, le)) ∙ s.open_ k le;
   names = λ x k. rw (s.names x k) refl;
   gedcom = λ ge hh. role_below is_gedcom_tag q.above (part_line (level + 1) p) 1 (omega (arith, ge)) ∙ s.gedcom ge hh;
@@ -135,10 +122,10 @@ part_top q level room r p top =
 
 -- what names neither the character set nor the version
 pub no_set : (q : Progress) (level : ℕ) (r : Role) → is_charset_tag r ≡ false → names_set q level r ≡ false
-no_set q level r h = rw h (and_false (q.in_head && eqb level 1))
+no_set q level r h = rw h (and-false (q.in_head && eqb level 1))
 
 pub no_version : (q : Progress) (level : ℕ) (r : Role) → is_version_tag r ≡ false → names_version q level r ≡ false
-no_version q level r h = rw (h, and_false (q.in_head && eqb level 2)) refl
+no_version q level r h = rw (h, and-false (q.in_head && eqb level 2)) refl
 
 -- what a node of the header that names one of the two has
 pub record Heads (h u : Bool) (i : Item) : Type 0 where

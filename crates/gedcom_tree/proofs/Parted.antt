@@ -6,18 +6,19 @@ use Rattle.gedcom_line.specs.Words.{is_word}
 use Rattle.gedcom_line.specs.Line.{IsContinuation}
 use Rattle.gedcom_line.specs.Reading.{Parts}
 use Rattle.gedcom_line.specs.Spelling.{spelling, IsInner, IsLine}
-use Rattle.gedcom_line.specs.Split.{char_count, Part, canonical, EachPart}
+use Rattle.gedcom_line.specs.Split.{char_count, IsShort, Part, canonical, EachPart}
 use Rattle.gedcom_line.specs.Value.{Meaning, Text, Pointer}
 use Rattle.gedcom_line.specs.declared.splitting.Mark.{Mark}
 use Rattle.gedcom_line.specs.declared.splitting.Mark.TheVariants.{Conc, Cont}
 use Rattle.gedcom_line.proofs.Steps.{both}
 use Rattle.gedcom_line.proofs.Again.{inner_nil}
-use Rattle.gedcom_line.proofs.Counts.{char_count-le-length, char_count-nil}
+use Rattle.gedcom_line.proofs.Counts.{char_count-nil}
 use Rattle.gedcom_line.proofs.Inner.{escaped_inner, canonical_inner}
+use Rattle.gedcom_line.proofs.Lengths.{xref_chars, canonical_short}
 use Rattle.gedcom_rules.specs.Faults.{max_line}
 use Rattle.gedcom_tree.specs.Forest.{Item, mark_tag, part_line, first_text, rest_parts, own_raw, more_parts, own_line}
 use Rattle.gedcom_tree.specs.Text.{is_tag, IsNodeValue, IsNodeOf}
-use Rattle.gedcom_tree.proofs.Measured.{marked_length, line_fits, IsShort, canonical_short}
+use Rattle.gedcom_tree.proofs.Measured.{line_fits}
 
 -- the first part, and the others
 first_each : (P : List ℕ → Type 0) (ps : List Part) → P [] → EachPart P ps → P (first_text ps)
@@ -34,7 +35,7 @@ own_inner (Pointer p) h = h.1.1.0
 
 own_short : (v : Meaning) → IsNodeValue v → char_count (own_raw v) ≤ 200
 own_short (Text t) h = first_each IsShort (canonical t) (omega (arith, char_count-nil)) (canonical_short t)
-own_short (Pointer p) h = omega (arith, char_count-le-length p, marked_length p h)
+own_short (Pointer p) h = omega (arith, xref_chars p h)
 
 -- what each continuation of a value has
 pub record PartsFit (ps : List Part) : Type 0 where

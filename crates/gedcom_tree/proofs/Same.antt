@@ -7,7 +7,7 @@ use Rattle.gedcom_line.specs.Split.{char_count, Part}
 use Rattle.gedcom_tree.specs.File.{ReadsFile}
 use Rattle.gedcom_tree.specs.Forest.{Item, part_line, more_parts, own_line, node_lines, lines_of}
 use Rattle.gedcom_tree.specs.Text.{line_text, trailer, node_text, text, EachNode, IsForest, unnumbered, IsSame}
-use Rattle.gedcom_tree.proofs.Measured.{line_short}
+use Rattle.gedcom_line.proofs.Lengths.{spelling_chars}
 use Rattle.gedcom_tree.proofs.Numbered.{lines_nil, lines_cons}
 use Rattle.gedcom_tree.proofs.Parted.{Written, own_written, part_written, PartsFit, more_fit}
 use Rattle.gedcom_tree.proofs.Again.{text_again, trailer_written}
@@ -34,7 +34,7 @@ EachShort [] = Unit {0}
 EachShort (l ∷ ls) = (char_count (spelling l) ≤ 300) × EachShort ls
 
 short_line : (l : Parts) → Written l → char_count (spelling l) ≤ 300
-short_line l w = line_short l w.line w.chars
+short_line l w = spelling_chars l w.line w.chars
 
 short_parts : (level : ℕ) (ps : List Part) (rest : List Parts) → level ≤ 99 → PartsFit ps → EachShort rest → EachShort (map (part_line level) ps ++ rest)
 short_parts level [] rest low f k = k

@@ -22,7 +22,8 @@ use Rattle.gedcom_tree.proofs.Computed.{reads_computed}
 use Rattle.gedcom_tree.proofs.Fitting.{Fit, Fits, clean_fits}
 use Rattle.gedcom_tree.proofs.Valued.{fit_value}
 use Rattle.gedcom_tree.proofs.Named.{fits_rises, fits_distinct}
-use Rattle.gedcom_tree.proofs.Headed.{not_not, fits_header}
+use Rattle.gedcom_rules.proofs.Bools.{not_not}
+use Rattle.gedcom_tree.proofs.Headed.{fits_header}
 
 continues_of : (t : List ℕ) → IsContinuation t → is_continuation t ≡ true
 continues_of t (inl h) = rw h refl

@@ -14,7 +14,8 @@ use Rattle.gedcom_rules.proofs.Judged.{judge_long}
 use Rattle.gedcom_rules.proofs.Runs.{run-append, run_err, run_nil}
 use Rattle.gedcom_rules.proofs.Limits.{within_small, extra_small, within-append, front_same, extra_same}
 use Rattle.gedcom_rules.proofs.Marks.{resumed, file_pieces-append, long_resumed}
-use Rattle.gedcom_tree.proofs.Ends.{decided_is, is_decided, decides_fault, no_overflow}
+use Rattle.gedcom_rules.proofs.Decided.{decided_is, is_decided, no_overflow}
+use Rattle.gedcom_tree.proofs.Ends.{decides_fault}
 
 -- the first piece is not shorter than this
 abbrev Longer : ℕ → Pieces → Type 0

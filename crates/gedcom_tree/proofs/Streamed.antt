@@ -15,7 +15,8 @@ use Rattle.std.proofs.lemmas.Bool.{le-leb}
 use Rattle.gedcom_tree.specs.Text.{EachNode, IsForest, IsLow, text, node_text, line_text, trailer}
 use Rattle.gedcom_tree.proofs.Shaped.{reads_forest}
 use Rattle.gedcom_tree.proofs.Fed.{decided_front}
-use Rattle.gedcom_tree.proofs.Ends.{decided_is, is_decided, decides_fault, decides_of_file, fault_of_file}
+use Rattle.gedcom_rules.proofs.Decided.{decided_is, is_decided}
+use Rattle.gedcom_tree.proofs.Ends.{decides_fault, decides_of_file, fault_of_file}
 
 pub finishes_read : (b : List ℕ) (r : Result (List Item) Fault) → Finishes b r → ReadAs b r
 finishes_read b (Ok f) h = h

@@ -12,6 +12,7 @@ use Rattle.gedcom_rules.specs.Judging.{start, above_after, after, judge, advance
 use Rattle.gedcom_tree.specs.Reading.{Trace, standing_in, table, progress_from, no_trace, name_on, trace_after, trace_advance, then_trace, trace_run, traced}
 use Rattle.gedcom_rules.proofs.Cuts.{cases_bool}
 use Rattle.gedcom_rules.proofs.Runs.{same_function}
+use Rattle.std.proofs.Math.Bool.{or-false}
 
 table_in : (f : ℕ → Option Standing) (n k : ℕ) → k < n → standing_in (table f n) k ≡ f k
 table_in f zero k h = absurd (omega arith)
@@ -38,13 +39,9 @@ any_more : (x : List ℕ) (names more : List (List ℕ)) → list_any (bytes_eq 
 any_more x [] more = refl
 any_more x (n ∷ ns) more = elim (bytes_eq x n) as (λ v. (v || list_any (bytes_eq x) (ns ++ more)) ≡ ((v || list_any (bytes_eq x) ns) || list_any (bytes_eq x) more)) [ true ↦ refl | false ↦ any_more x ns more ]
 
-or_false : (b : Bool) → (b || false) ≡ b
-or_false true = refl
-or_false false = refl
-
 name_has : (x : List ℕ) (l : Parts) (o : Option (List ℕ)) → l.xref ≡ o → list_any (bytes_eq x) (name_on o) ≡ has_name x l
 name_has x l None e = rw e refl
-name_has x l (Some y) e = rw e (or_false (bytes_eq x y))
+name_has x l (Some y) e = rw e (or-false (bytes_eq x y))
 
 names_after : (x : List ℕ) (names : List (List ℕ)) (l : Parts) → list_any (bytes_eq x) (names ++ name_on l.xref) ≡ (list_any (bytes_eq x) names || has_name x l)
 names_after x names l = any_more x names (name_on l.xref) ∙ ap (λ (b : Bool). list_any (bytes_eq x) names || b) (name_has x l l.xref refl)

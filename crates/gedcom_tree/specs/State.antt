@@ -1,6 +1,6 @@
 -- A reader of a file in pieces: what it owes for the bytes that it has been fed.
 use Rattle.std.specs.Prelude.{◌≡◌, ◌⊎◌, List, ℕ, Option, Some, None, Result, Ok, Err}
-use Rattle.gedcom_rules.specs.Faults.{Fault, IsLineless, Decides, FaultOf}
+use Rattle.gedcom_rules.specs.Faults.{Fault, IsLineless, Decides, IsOpen, FaultOf}
 use Rattle.gedcom_tree.specs.File.{ReadsFile}
 use Rattle.gedcom_tree.specs.Forest.{Item}
 use Rattle.gedcom_tree.specs.Reading.{Reader, reader_of}
@@ -9,10 +9,6 @@ use Rattle.gedcom_rules.specs.declared.fault.TreeKind.TheVariants.{OutOfMemory}
 -- the reader has been fed these bytes, and has answered no fault
 abbrev pub Holds : Reader → List ℕ → Type 0
 Holds r b = r ≡ reader_of b
-
--- no fault is decided yet
-abbrev pub IsOpen : List ℕ → Type 0
-IsOpen b = (f : Fault) → ¬ (Decides b f)
 
 -- What `feed` answers once these are the bytes fed: nothing where no fault is decided, else the one that is, which the
 -- reader keeps. Memory may be wanting.

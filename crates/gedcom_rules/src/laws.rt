@@ -1,0 +1,16 @@
+//! Laws of judging, over the definitions that the contracts cite.
+
+ghost use Rattle.std.specs.Prelude.{◌≡◌, ◌++◌, ◌∷◌, [], ℕ, List};
+ghost use Rattle.gedcom_line.specs.Line.{IsPiece};
+ghost use Rattle.gedcom_line.specs.Reading.{Parts};
+ghost use Rattle.gedcom_rules.specs.Faults.{Judged};
+ghost use Rattle.gedcom_rules.specs.Judging.{after, judge, start};
+ghost use Rattle.gedcom_rules.specs.Rules.{progress_of};
+
+/// What `judge_piece` computes is what the definitions say: behind lines, which leave what was computed of
+/// them, a piece is blank, or a line that breaks no rule, or faulty for that reason first.
+pub fn judging_is_as_defined()
+    ensures none { start ≡ progress_of [] }
+    ensures piece { (before : List Parts) (p : List ℕ) → IsPiece p → Judged before p (judge (progress_of before) p) }
+    ensures line { (before : List Parts) (l : Parts) → progress_of (before ++ l ∷ []) ≡ after (progress_of before) l }
+{}
