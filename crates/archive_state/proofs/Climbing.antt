@@ -12,7 +12,7 @@ no_length : (xs : List ℕ) → length xs ≡ 0 → xs ≡ []
 no_length [] e = refl
 no_length (x ∷ xs) e = absurd (omega arith)
 
-same_false : IsTrue false → ⊥
+pub same_false : IsTrue false → ⊥
 same_false t = cc
 
 -- one place has one record

@@ -1,4 +1,5 @@
 mod Entries
+mod Keyed
 mod Lowest
 mod Maps
 mod Climbing

@@ -1,13 +1,10 @@
 -- What a call of a view does, and what is decided over a view.
-use Rattle.std.specs.Prelude.{ℕ, ◌≡◌, ◌-◌, ◌+◌, ◌^◌, ◌<◌, ◌≤◌, ◌⊎◌, Result, Ok, Err, Bool, true, false}
+use Rattle.std.specs.Prelude.{ℕ, ◌≡◌, ◌+◌, ◌≤◌, Result, Ok, Err, Bool, true, false}
 use Rattle.std.specs.Result.{IfErr}
 use Rattle.record_text.specs.declared.refusal.RefusalKind.{RefusalKind}
 use Rattle.record_text.specs.declared.refusal.RefusalKind.TheVariants.{OutOfMemory, BadStored, Storage}
+use Rattle.devices.specs.Devices.{Rose}
 use Rattle.archive_state.specs.Content.{Content}
-
--- a count of failures rose: at its last value it counts as risen
-abbrev pub Rose : ℕ → ℕ → Type 0
-Rose before after = (before < after) ⊎ (after ≡ 2 ^ 64 - 1)
 
 -- the refusals that only a failure of the view's own reads may give: 40 and 80
 abbrev pub is_failure : RefusalKind → Bool

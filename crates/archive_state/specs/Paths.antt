@@ -1,6 +1,6 @@
 -- The names and the paths of places: rules of our own.
-use Rattle.std.specs.Prelude.{ℕ, ◌≡◌, ◌<◌, ◌≤◌, ◌==◌, List, [], ◌∷◌, ◌++◌, length, map, Option, Some, None, codes, if◌then◌else◌, MatchOption}
-use Rattle.std.specs.List.{slice_split}
+use Rattle.std.specs.Prelude.{ℕ, ◌≡◌, ◌<◌, ◌≤◌, ◌==◌, nat_lt, Bool, List, [], ◌∷◌, ◌++◌, length, map, Option, Some, None, codes, if◌then◌else◌, MatchOption}
+use Rattle.std.specs.List.{list_any, slice_split}
 use Rattle.std.specs.FinMap.{get}
 use Rattle.record_kinds.specs.Model as model
 use Rattle.record_kinds.specs.declared.record.Record.TheVariants as kind
@@ -54,3 +54,7 @@ IsNormal t = joined (map trimmed (parts t)) ≡ t
 -- at most 32 parts and 4,096 bytes
 abbrev pub IsWithinLimits : List ℕ → Type 0
 IsWithinLimits path = (length (parts path) ≤ 32) × (length path ≤ 4096)
+
+-- a part that is not empty, freed of spaces at the ends
+abbrev pub has_part : List ℕ → Bool
+has_part path = list_any (λ part. nat_lt 0 (length (trimmed part))) (parts path)

@@ -1,6 +1,6 @@
 -- What holds of a state that commands have made: each rule has a name. Rules of our own, so that what
 -- an archive holds can be written as GEDCOM and read again.
-use Rattle.std.specs.Prelude.{ℕ, ◌≡◌, ◌≢◌, ◌<◌, List, [], ◌∷◌, ◌++◌, length, nat_lt, Option, Some, None, true, false, ◌==◌, map, option_map, codes, MatchOption, IfSome}
+use Rattle.std.specs.Prelude.{ℕ, ◌≡◌, ◌≢◌, ◌<◌, List, [], ◌∷◌, ◌++◌, Option, Some, None, true, false, ◌==◌, map, option_map, codes, MatchOption, IfSome}
 use Rattle.std.specs.List.{list_any, flat_map}
 use Rattle.std.specs.FinMap.{FinMap, get, from_entries}
 use Rattle.std.specs.Ordering.{nat_cmp}
@@ -13,7 +13,7 @@ use Rattle.archive_state.specs.Content.{Content, Records}
 use Rattle.archive_state.specs.Entries.{HasMentions, IsEntryAt, is_event_tag, is_role_of}
 use Rattle.record_links.specs.Links.{Link, links, names, is_wanted}
 use Rattle.archive_state.specs.Merging.{merged}
-use Rattle.archive_state.specs.Paths.{HasPath, IsNormal, IsWithinLimits, parts}
+use Rattle.archive_state.specs.Paths.{HasPath, IsNormal, IsWithinLimits, has_part}
 use Rattle.archive_state.specs.Slips.{Slip}
 
 -- each of a finite map, with its number
@@ -63,7 +63,7 @@ place_of _ = None
 
 -- the path of that place has a part that is not empty
 abbrev pub HasSaidPlace : Records → Record → Type 0
-HasSaidPlace m r = IfSome (place_of r) (λ p. (path : List ℕ) → HasPath m p path → list_any (λ part. nat_lt 0 (length part)) (parts path) ≡ true)
+HasSaidPlace m r = IfSome (place_of r) (λ p. (path : List ℕ) → HasPath m p path → has_part path ≡ true)
 
 -- an event has a tag of its owner's kind
 abbrev pub HasEventTag : Records → Record → Type 0

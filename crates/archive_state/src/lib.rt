@@ -12,6 +12,7 @@
 
 mod answer;
 mod changes;
+mod keys;
 pub mod laws;
 mod paths;
 mod report;

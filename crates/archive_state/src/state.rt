@@ -5,14 +5,16 @@ ghost use Rattle.std.specs.FinMap as map;
 ghost use Rattle.archive_state.specs.Content.{nothing};
 ghost use Rattle.archive_state.specs.Sound.{IsSound};
 ghost use Rattle.archive_state.specs.Referrers.{referrers};
+ghost use Rattle.archive_state.specs.Entries.{IsEntryAt};
 ghost use Rattle.archive_state.specs.Paths.{HasPath, IsLowest};
 
 use crate::answer::Receipt;
+use crate::keys::is_entry_of;
 use crate::paths::has_path;
 use crate::slip::Slip;
 use crate::token::Token;
 use record_links::is_naming;
-use records::{Record, Text};
+use records::{EntryKind, Item, Record, Text};
 use std::alloc::{AllocError, Global};
 use std::collections::BTreeMap;
 use std::marker::Model;
@@ -102,6 +104,18 @@ impl State {
         'records: for (at, _record) in &self.records {
             if has_path(self, *at, path.as_str().as_bytes()) {
                 return Some(*at);
+            }
+        }
+        None
+    }
+
+    /// The lowest number of an entry of this source, kind, page and item. Takes no memory.
+    pub fn entry_at(&self, source: u32, kind: EntryKind, page: &Text, item: Item) -> Option<u32>
+        ensures { IsLowest (λ n. IsEntryAt self.now.records source kind page.now item n) result }
+    {
+        'records: for (number, record) in &self.records {
+            if is_entry_of(record, source, kind, page, item) {
+                return Some(*number);
             }
         }
         None

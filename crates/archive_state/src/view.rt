@@ -3,6 +3,7 @@
 ghost use Rattle.std.specs.Prelude.{◌≡◌, ℕ, ⊤};
 ghost use Rattle.std.specs.FinMap as map;
 ghost use Rattle.archive_state.specs.Content.{Content};
+ghost use Rattle.archive_state.specs.Entries.{IsEntryAt};
 ghost use Rattle.archive_state.specs.Referrers.{referrers};
 ghost use Rattle.archive_state.specs.Looks.{Keeps, Looked, CountsOne};
 ghost use Rattle.archive_state.specs.Paths.{HasPath, IsLowest};
@@ -12,7 +13,7 @@ use crate::shown::Shown;
 use crate::slip::Slip;
 use crate::state::State;
 use crate::token::Token;
-use records::{Record, RefusalKind, Text, copy_record};
+use records::{EntryKind, Item, Record, RefusalKind, Text, copy_record};
 use std::alloc::Global;
 
 /// How many calls of a view of memory failed.
@@ -69,6 +70,19 @@ pub trait View {
         ensures shows { Keeps (is_honest self.old) (is_honest self.new) (content self.old) (content self.new)
             (Looked result (IsLowest (λ n. HasPath (content self.old).records n path.now))) }
         ensures counts { CountsOne (failed self.old) (failed self.new) result };
+
+    /// The lowest number of an entry of this source, kind, page and item.
+    fn entry_at(
+        &mut self,
+        alloc: Global,
+        source: u32,
+        kind: EntryKind,
+        page: &Text,
+        item: Item,
+    ) -> Result<Option<u32>, RefusalKind>
+        ensures shows { Keeps (is_honest self.old) (is_honest self.new) (content self.old) (content self.new)
+            (Looked result (IsLowest (λ n. IsEntryAt (content self.old).records source kind page.now item n))) }
+        ensures counts { CountsOne (failed self.old) (failed self.new) result };
 }
 
 impl View for &State {
@@ -117,6 +131,18 @@ impl View for &State {
         let state: &State = *self;
         Ok(state.place_at(path))
     }
+
+    fn entry_at(
+        &mut self,
+        _alloc: Global,
+        source: u32,
+        kind: EntryKind,
+        page: &Text,
+        item: Item,
+    ) -> Result<Option<u32>, RefusalKind> {
+        let state: &State = *self;
+        Ok(state.entry_at(source, kind, page, item))
+    }
 }
 
 impl View for &Shown {
@@ -160,5 +186,17 @@ impl View for &Shown {
     fn place_at(&mut self, _alloc: Global, path: &Text) -> Result<Option<u32>, RefusalKind> {
         let shown: &Shown = *self;
         Ok(shown.as_state().place_at(path))
+    }
+
+    fn entry_at(
+        &mut self,
+        _alloc: Global,
+        source: u32,
+        kind: EntryKind,
+        page: &Text,
+        item: Item,
+    ) -> Result<Option<u32>, RefusalKind> {
+        let shown: &Shown = *self;
+        Ok(shown.as_state().entry_at(source, kind, page, item))
     }
 }
