@@ -48,7 +48,7 @@ impl Change {
     {
         Ok(Change {
             number: self.number,
-            old: copy_record(&self.old, alloc)?,
+            old: copy_record(alloc, &self.old)?,
             new: copied(alloc, &self.new)?,
         })
     }
@@ -78,6 +78,6 @@ fn copied(alloc: Global, found: &Option<Record>) -> Result<Option<Record>, Alloc
 {
     match found {
         None => Ok(None),
-        Some(record) => Ok(Some(copy_record(record, alloc)?)),
+        Some(record) => Ok(Some(copy_record(alloc, record)?)),
     }
 }

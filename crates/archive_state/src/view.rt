@@ -100,7 +100,7 @@ impl View for &State {
         let state: &State = *self;
         match state.record(number) {
             None => Ok(None),
-            Some(record) => Ok(Some(copy_record(record, alloc)?)),
+            Some(record) => Ok(Some(copy_record(alloc, record)?)),
         }
     }
 

@@ -33,7 +33,7 @@ pub fn record_of(alloc: Global, lines: &[StoredLine]) -> Result<Record, RefusalK
 
 /// The same record in memory of its own.
 #[tactic(auto, using(crate::proofs::Back::copied_back))]
-pub fn copy_record(record: &Record, alloc: Global) -> Result<Record, AllocError>
+pub fn copy_record(alloc: Global, record: &Record) -> Result<Record, AllocError>
     ensures { IfOk result (λ r. r ≡ «record».now) }
 {
     let kept = branch_of_record(alloc, record)?;

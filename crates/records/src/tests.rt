@@ -80,7 +80,7 @@ fn expect_lines(rt: &impl Abort, alloc: Global, record: &Record, rows: &[Row]) -
 
 /// A copy of the record is kept as the rows.
 fn expect_copy(rt: &impl Abort, alloc: Global, record: &Record, rows: &[Row]) -> Result<(), Fail> {
-    let copy = copy_record(record, alloc)?;
+    let copy = copy_record(alloc, record)?;
     expect_lines(rt, alloc, &copy, rows)
 }
 
