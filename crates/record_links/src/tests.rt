@@ -105,6 +105,7 @@ fn expect_names(rt: &impl Abort, alloc: Global, rows: &[Row], names: &[u32]) -> 
             "at {number}"
         );
     }
+    drop(record);
     Ok(())
 }
 

@@ -81,7 +81,9 @@ fn expect_lines(rt: &impl Abort, alloc: Global, record: &Record, rows: &[Row]) -
 /// A copy of the record is kept as the rows.
 fn expect_copy(rt: &impl Abort, alloc: Global, record: &Record, rows: &[Row]) -> Result<(), Fail> {
     let copy = copy_record(alloc, record)?;
-    expect_lines(rt, alloc, &copy, rows)
+    let kept = expect_lines(rt, alloc, &copy, rows);
+    drop(copy);
+    kept
 }
 
 /// The record and its copy are kept as the rows.
@@ -92,14 +94,18 @@ fn expect_both(rt: &impl Abort, alloc: Global, record: &Record, rows: &[Row]) ->
 
 /// The record that was built and its copy are kept as the rows.
 fn expect_kept(rt: &impl Abort, alloc: Global, record: Record, rows: &[Row]) -> Result<(), Fail> {
-    expect_both(rt, alloc, &record, rows)
+    let kept = expect_both(rt, alloc, &record, rows);
+    drop(record);
+    kept
 }
 
 /// What is read from the rows is the record that is meant. It and its copy are kept as them again.
 fn expect_read(rt: &impl Abort, alloc: Global, rows: &[Row], meant: Meant) -> Result<(), Fail> {
     let record = read(alloc, rows)?;
     assert!(rt; is_meant(&record, meant));
-    expect_both(rt, alloc, &record, rows)
+    let kept = expect_both(rt, alloc, &record, rows);
+    drop(record);
+    kept
 }
 
 /// The record that is kept as the rows.
