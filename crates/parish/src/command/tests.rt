@@ -46,6 +46,15 @@ impl Write for Once<'_> {
     }
 }
 
+/// The words of a command line.
+fn words_of(alloc: Global, line: &[&str]) -> Result<Vec<String>, AllocError> {
+    let mut words = Vec::new(alloc);
+    for word in line {
+        words.push(word.to_string(alloc)?)?;
+    }
+    Ok(words)
+}
+
 /// Runs a command line over streams, and gives its status.
 fn run<R: Read + Drop, W: Write + Drop, F: Write + Drop>(
     alloc: Global,
@@ -54,14 +63,27 @@ fn run<R: Read + Drop, W: Write + Drop, F: Write + Drop>(
     output: W,
     faults: F,
 ) -> Result<u8, AllocError> {
-    let mut words = Vec::new(alloc);
-    for word in line {
-        words.push(word.to_string(alloc)?)?;
-    }
+    let words = words_of(alloc, line)?;
     let mut input = Counted::new(input);
     let mut output = Counted::new(output);
     let mut faults = Counted::new(faults);
     Ok(command(alloc, &words, &mut input, &mut output, &mut faults))
+}
+
+/// Whether `norm` of the input ends with the status, and writes and tells this, the latter in one write.
+fn is_normalised(
+    alloc: Global,
+    input: &str,
+    (status, output, faults): (u8, &str, &str),
+) -> Result<bool, AllocError> {
+    let (mut out, mut told) = (Vec::new(alloc), Vec::new(alloc));
+    let once = Once { bytes: &mut told };
+    let found = run(alloc, &["parish", "norm"], input.as_bytes(), &mut out, once)?;
+    Ok(
+        found == status
+            && out.as_slice() == output.as_bytes()
+            && told.as_slice() == faults.as_bytes(),
+    )
 }
 
 #[test]
@@ -74,15 +96,17 @@ fn norm_writes_the_forest_or_tells_the_refusal_in_one_write(
         ("", 1, "", "parish: 21 NoHead at line 1\n"),
     ];
     for (input, status, output, faults) in rows {
-        let (mut out, mut told) = (Vec::new(rt.alloc()), Vec::new(rt.alloc()));
-        let once = Once { bytes: &mut told };
-        let line = ["parish", "norm"];
-        let found = run(rt.alloc(), &line, input.as_bytes(), &mut out, once)?;
-        assert_eq!(rt; found, status, "{input:?}");
-        assert_eq!(rt; out.as_slice(), output.as_bytes());
-        assert_eq!(rt; told.as_slice(), faults.as_bytes());
+        let as_wanted = is_normalised(rt.alloc(), input, (status, output, faults))?;
+        assert!(rt; as_wanted, "{input:?}");
     }
     Ok(())
+}
+
+/// The status of a command line, and whether it wrote and told nothing.
+fn silence_of(alloc: Global, line: &[&str]) -> Result<(u8, bool, bool), AllocError> {
+    let (mut out, mut told) = (Vec::new(alloc), Vec::new(alloc));
+    let status = run(alloc, line, b"".as_slice(), &mut out, &mut told)?;
+    Ok((status, out.is_empty(), told.is_empty()))
 }
 
 #[test]
@@ -94,35 +118,55 @@ fn texts_go_where_they_belong(rt: HostRuntime) -> Result<(), AllocError> {
         (&["parish"], 2),
     ];
     for (line, status) in lines {
-        let (mut out, mut told) = (Vec::new(rt.alloc()), Vec::new(rt.alloc()));
-        let found = run(rt.alloc(), line, b"".as_slice(), &mut out, &mut told)?;
-        assert_eq!(rt; found, status, "{line:?}");
-        assert_eq!(rt; out.is_empty(), status == 2);
-        assert_eq!(rt; told.is_empty(), status == 0);
+        let found = silence_of(rt.alloc(), line)?;
+        assert_eq!(rt; found, (status, status == 2, status == 0), "{line:?}");
     }
     Ok(())
 }
 
+/// Whether the command line ends with 1 over these streams, and tells the refusal.
+fn is_told<R: Read + Drop, W: Write + Drop>(
+    alloc: Global,
+    line: &[&str],
+    input: R,
+    output: W,
+    refusal: &str,
+) -> Result<bool, AllocError> {
+    let mut told = Vec::new(alloc);
+    let status = run(alloc, line, input, output, &mut told)?;
+    Ok(status == 1 && told.as_slice() == refusal.as_bytes())
+}
+
+/// Whether the command line ends with the status over an input and faults that fail, and writes nothing.
+fn is_kept<R: Read + Drop>(
+    alloc: Global,
+    line: &[&str],
+    input: R,
+    status: u8,
+) -> Result<bool, AllocError> {
+    let mut out = Vec::new(alloc);
+    let found = run(alloc, line, input, &mut out, Broken)?;
+    Ok(found == status && out.is_empty())
+}
+
 #[test]
-fn a_stream_that_fails_is_told_where_that_can_be(rt: HostRuntime) -> Result<(), AllocError> {
-    let alloc = rt.alloc();
+fn a_stream_that_fails_is_told(rt: HostRuntime) -> Result<(), AllocError> {
+    let (alloc, norm) = (rt.alloc(), ["parish", "norm"]);
     let file = b"0 HEAD\n0 TRLR\n".as_slice();
-    let norm = ["parish", "norm"];
-    let (mut out, mut told) = (Vec::new(alloc), Vec::new(alloc));
+    let write_failed = "parish: 95 WriteFailed\n";
+    assert!(rt; is_told(alloc, &norm, Broken, Broken, "parish: 94 ReadFailed\n")?);
+    assert!(rt; is_told(alloc, &norm, file, Broken, write_failed)?);
+    assert!(rt; is_told(alloc, &["parish", "--help"], file, Broken, write_failed)?);
+    Ok(())
+}
 
-    assert_eq!(rt; run(alloc, &norm, Broken, &mut out, &mut told)?, 1);
-    assert_eq!(rt; run(alloc, &norm, file, Broken, &mut told)?, 1);
-    assert_eq!(rt;
-        run(alloc, &["parish", "--help"], file, Broken, &mut told)?,
-        1
-    );
-    let lines = "parish: 94 ReadFailed\nparish: 95 WriteFailed\nparish: 95 WriteFailed\n";
-    assert_eq!(rt; told.as_slice(), lines.as_bytes());
-
-    assert_eq!(rt; run(alloc, &norm, Broken, &mut out, Broken)?, 1);
-    assert_eq!(rt; run(alloc, &["parish"], file, &mut out, Broken)?, 2);
+#[test]
+fn the_status_tells_alone_where_faults_fail_too(rt: HostRuntime) -> Result<(), AllocError> {
+    let (alloc, norm) = (rt.alloc(), ["parish", "norm"]);
+    let file = b"0 HEAD\n0 TRLR\n".as_slice();
+    assert!(rt; is_kept(alloc, &norm, Broken, 1)?);
+    assert!(rt; is_kept(alloc, &["parish"], file, 2)?);
     assert_eq!(rt; run(alloc, &norm, file, Broken, Broken)?, 1);
-    assert!(rt; out.is_empty());
     Ok(())
 }
 
