@@ -9,15 +9,15 @@ use records::{Entry, EntryKind, Item, Record, Text};
 
 /// Whether the record is an entry of that source, kind, page and item.
 pub(crate) fn is_entry_of(
-    record: &Record,
+    found: &Record,
     source: u32,
     kind: EntryKind,
     page: &Text,
     item: Item,
 ) -> bool
-    ensures { IsTrue result ↔ ((e : model.Entry) × (record.now ≡ variant.Entry e) × HasKey source kind page.now item e) }
+    ensures { IsTrue result ↔ ((e : model.Entry) × (found.now ≡ variant.Entry e) × HasKey source kind page.now item e) }
 {
-    match record {
+    match found {
         Record::Entry(entry) => has_key(entry, source, kind, page, item),
         _ => false,
     }

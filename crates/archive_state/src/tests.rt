@@ -471,15 +471,29 @@ fn a_view_answers_the_lowest_entry_of_a_key(rt: HostRuntime) -> Result<(), Fail>
 #[test]
 fn a_record_that_is_put_stands_and_one_taken_out_is_gone(rt: HostRuntime) -> Result<(), Fail> {
     let alloc = rt.alloc();
-    let eva = Record::Person(person(alloc, "Eva /Ray/")?);
     let mut state = places_of_ashby(alloc)?;
+    put_and_take_out(&rt, alloc, &mut state)?;
+    look_at_changed_places(&rt, alloc, &mut &state)
+}
+
+/// Puts a person at the number of a place, and takes a place out.
+fn put_and_take_out(rt: &impl Abort, alloc: Global, state: &mut State) -> Result<(), Fail> {
+    let eva = Record::Person(person(alloc, "Eva /Ray/")?);
     let before = state.put_record(3, eva)?;
     assert!(rt; called(&before) == "Ashby");
     let gone = state.remove_record(2);
     assert!(rt; called(&gone) == "Ashby");
-    let mut view = &state;
-    assert!(rt; is_called_at(alloc, &mut view, 3, "Eva /Ray/"));
-    assert!(rt; place_of(alloc, &mut view, "Ashby, Kent")? == Some(4));
+    Ok(())
+}
+
+/// Looks at the places behind that.
+fn look_at_changed_places<V: View>(
+    rt: &impl Abort,
+    alloc: Global,
+    view: &mut V,
+) -> Result<(), Fail> {
+    assert!(rt; is_called_at(alloc, view, 3, "Eva /Ray/"));
+    assert!(rt; place_of(alloc, view, "Ashby, Kent")? == Some(4));
     Ok(())
 }
 
