@@ -30,6 +30,3 @@ pub use slip::{Change, Slip};
 pub use state::State;
 pub use token::Token;
 pub use view::View;
-
-#[cfg(test)]
-mod tests;

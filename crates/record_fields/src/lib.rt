@@ -17,6 +17,3 @@ pub use date::Date;
 pub use entry_words::{EntryKind, Role};
 pub use item::Item;
 pub use words::{Partnership, Quality, Sex};
-
-#[cfg(test)]
-mod tests;

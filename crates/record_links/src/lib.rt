@@ -8,6 +8,3 @@
 mod naming;
 
 pub use naming::is_naming;
-
-#[cfg(test)]
-mod tests;

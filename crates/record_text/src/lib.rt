@@ -19,6 +19,3 @@ pub use naming::{display, surname, surname_key};
 pub use refusal::{Refusal, RefusalKind, RefusalText, Unit};
 pub use tag::Tag;
 pub use text::Text;
-
-#[cfg(test)]
-mod tests;

@@ -31,6 +31,3 @@ pub use record_text::{
     Refusal, RefusalKind, RefusalText, Tag, Text, Unit, display, surname, surname_key,
 };
 pub use stored_lines::{Carried, StoredLine, Value};
-
-#[cfg(test)]
-mod tests;

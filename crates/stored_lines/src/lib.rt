@@ -18,6 +18,3 @@ pub use branch::{Branch, branches_of, carried_of, copied, value_of};
 pub use carried::{Carried, Value};
 pub use comparing::are_same;
 pub use stored::{StoredLine, branch_of_lines, lines_of_branch};
-
-#[cfg(test)]
-mod tests;

@@ -1,7 +1,9 @@
 //! Tests in small functions that answer whether something is so: a test that holds memory at many places costs
 //! the proof a path for each.
 
-use crate::{Refusal, RefusalKind, RefusalText, Tag, Text, Unit, display, surname, surname_key};
+use record_text::{
+    Refusal, RefusalKind, RefusalText, Tag, Text, Unit, display, surname, surname_key,
+};
 use std::alloc::{AllocError, Global};
 
 /// Every refusal.

@@ -1,4 +1,4 @@
-use crate::{
+use archive_state::{
     Answer, Change, Receipt, Report, ReportLine, ReportWord, Shown, Slip, State, Token, View,
 };
 use records::{

@@ -4,7 +4,7 @@ mod rows;
 mod shown;
 mod values;
 
-use crate::{Record, RefusalKind, StoredLine, Text, copy_record, lines_of, record_of};
+use records::{Record, RefusalKind, StoredLine, Text, copy_record, lines_of, record_of};
 use rows::Row;
 use shown::{Meant, is_meant};
 use std::alloc::Global;

@@ -1,4 +1,4 @@
-use crate::is_naming;
+use record_links::is_naming;
 use records::{Record, StoredLine, Tag, Text, record_of};
 use std::alloc::Global;
 use std::process::Abort;

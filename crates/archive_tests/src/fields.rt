@@ -1,4 +1,4 @@
-use crate::{Date, EntryKind, Item, Partnership, Quality, Role, Sex};
+use record_fields::{Date, EntryKind, Item, Partnership, Quality, Role, Sex};
 use std::alloc::{AllocError, Global};
 
 /// Whether the answer is the date of that spelling.

@@ -1,7 +1,7 @@
 //! The records of the tables of rows, built from values. Each part is built in a function of its own, since each `?`
 //! gives back all that the function holds.
 
-use crate::{
+use records::{
     Carried, Child, Citation, Date, Entry, EntryKind, Event, EventPlace, Family, Holding, Item,
     Link, Mention, Name, Other, Participant, Partner, Partnership, Person, Place, Quality, Record,
     Repo, Role, Sex, Source, Tag, Text, Value,

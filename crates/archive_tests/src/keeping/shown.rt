@@ -1,7 +1,7 @@
 //! Whether a record is the one that a table of rows is meant to be, field by field. What is looked at is
 //! borrowed, so these take no memory.
 
-use crate::{
+use records::{
     Carried, Child, Citation, Date, Entry, EntryKind, Event, EventPlace, Family, Holding, Link,
     Mention, Name, Other, Participant, Partner, Partnership, Person, Place, Quality, Record, Repo,
     Role, Sex, Source, Text, Value,

@@ -1,10 +1,10 @@
-use crate::{
-    Branch, Carried, StoredLine, Value, are_same, branch_of_lines, branches_of, carried_of, copied,
-    lines_of_branch,
-};
 use record_text::{Tag, Text};
 use std::alloc::Global;
 use std::test::Fail;
+use stored_lines::{
+    Branch, Carried, StoredLine, Value, are_same, branch_of_lines, branches_of, carried_of, copied,
+    lines_of_branch,
+};
 
 /// A tag that is one.
 fn tag(alloc: Global, word: &str) -> Result<Tag, Fail> {
