@@ -20,6 +20,3 @@ pub mod laws;
 
 pub use calendar::{Calendar, CalendarDate, Extent, Year};
 pub use days::{first_day, last_day};
-
-#[cfg(test)]
-mod tests;

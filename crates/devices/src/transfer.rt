@@ -115,6 +115,3 @@ pub fn write_bytes<W: Write + Device>(
     }
     Ok(())
 }
-
-#[cfg(test)]
-mod tests;

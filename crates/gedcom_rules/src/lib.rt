@@ -22,6 +22,3 @@ pub use deciding::{MAX_FILE, judge_bytes, judge_end};
 pub use fault::{TreeFault, TreeKind};
 pub use judging::judge_piece;
 pub use seen::{Seen, is_continuation, is_trailer};
-
-#[cfg(test)]
-mod tests;

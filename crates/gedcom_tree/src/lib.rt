@@ -25,6 +25,3 @@ pub use node::{Node, NodeValue};
 pub use normal::{normalise, read_forest};
 pub use reader::TreeReader;
 pub use writing::write_forest;
-
-#[cfg(test)]
-mod tests;

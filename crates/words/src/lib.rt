@@ -12,6 +12,3 @@ pub mod laws;
 mod reading;
 
 pub use reading::{Asked, Refused, read_words};
-
-#[cfg(test)]
-mod tests;

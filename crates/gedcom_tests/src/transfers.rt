@@ -1,7 +1,6 @@
 //! Devices over memory that move some bytes a call, and one call of which fails.
 
-use super::{TransferError, read_up_to, write_bytes};
-use crate::device::{Counted, Device};
+use devices::{Counted, Device, TransferError, read_up_to, write_bytes};
 use std::io;
 use std::io::{ErrorKind, Read, Write};
 

@@ -1,4 +1,4 @@
-use crate::{Seen, TreeFault, TreeKind, judge_bytes, judge_end, judge_piece};
+use gedcom_rules::{Seen, TreeFault, TreeKind, judge_bytes, judge_end, judge_piece};
 
 /// Bytes, the number of the fault that they decide, and its line; 0 and 0 where they decide none.
 const DECIDED: [(&str, u8, u32); 19] = [

@@ -1,6 +1,6 @@
 //! Happy paths and worked days: that a date is there is what no clause says.
 
-use crate::{Calendar, CalendarDate, Extent, Year, first_day, last_day};
+use calendar_days::{Calendar, CalendarDate, Extent, Year, first_day, last_day};
 
 /// Whether the calendar has the date, with that first and last day.
 fn has_days(calendar: Calendar, extent: Extent, first: i32, last: i32) -> bool {

@@ -1,4 +1,4 @@
-use crate::{Counted, TreeFault, TreeKind, TreeReader, normalise, write_forest};
+use gedcom_tree::{Counted, TreeFault, TreeKind, TreeReader, normalise, write_forest};
 use std::alloc::Global;
 use std::test::Fail;
 
