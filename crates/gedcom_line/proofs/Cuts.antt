@@ -8,14 +8,14 @@ use Rattle.std.proofs.lemmas.List.{take-append-drop, append-nil, length-take-le,
 use Rattle.std.proofs.lemmas.List.Concat.{flat_map-append}
 use Rattle.std.proofs.lemmas.List.Splits.{slice_split_at, slice_split_none}
 use Rattle.std.proofs.lemmas.Str.{length-encode, len_utf8_bounds, IsCharBoundary-past_char, IsUtf8-drop}
-use Rattle.std.proofs.lemmas.Bool.{eqb-true, leb-true, leb-false, cases_order, le-leb}
+use Rattle.std.proofs.lemmas.Bool.{eqb-true, leb-true, leb-false, cases_order, le-leb, not-true}
 use Rattle.std.proofs.lemmas.Bool.Decides.{nat_tests}
 use Rattle.gedcom_line.specs.Escape.{escaped}
 use Rattle.gedcom_line.specs.Split.{begins_char, char_count, is_short, may_cut, is_good_cut, greatest, cut_len, MayCut, IsGoodCut, IsCut, Parts, parts_by, segment_parts, Part, marked, between, added, joined, canonical, is_lf, NoLf, part}
 use Rattle.gedcom_line.specs.declared.splitting.Mark.{Mark}
 use Rattle.gedcom_line.specs.declared.splitting.TextPart.{TextPart}
 use Rattle.gedcom_line.specs.declared.splitting.Mark.TheVariants.{Conc, Cont}
-use Rattle.gedcom_line.proofs.Steps.{both, not_false, eqb_false, eqb_no}
+use Rattle.gedcom_line.proofs.Steps.{both, eqb_false, eqb_no}
 use Rattle.gedcom_line.proofs.Doubled.{cases_bool}
 use Rattle.gedcom_line.proofs.Counts.{char_count-le-length, escaped_le_double, short_nil}
 
@@ -71,7 +71,7 @@ pub good_true : (s : List ℕ) (p : ℕ) → 0 < p → p < length s → is_good_
 good_true s p lt le h =
     let b = both (not (eqb (get_or s (p - 1) 0) 32) && not (eqb (get_or s p 0) 32)) (may_cut s p) h in
     let a = both (not (eqb (get_or s (p - 1) 0) 32)) (not (eqb (get_or s p 0) 32)) b.0 in
-    record { may = may_true s p lt le b.1; before = eqb_no (get_or s (p - 1) 0) 32 (not_false _ a.0); after = eqb_no (get_or s p 0) 32 (not_false _ a.1) }
+    record { may = may_true s p lt le b.1; before = eqb_no (get_or s (p - 1) 0) 32 (not-true _ a.0); after = eqb_no (get_or s p 0) 32 (not-true _ a.1) }
 
 pub good_from : (s : List ℕ) (p : ℕ) → IsGoodCut s p → is_good_cut s p ≡ true
 good_from s p g = rw (eqb_false (get_or s (p - 1) 0) 32 g.before, eqb_false (get_or s p 0) 32 g.after, may_from s p g.may) refl

@@ -3,12 +3,12 @@ use Rattle.std.proofs.Common.{◌≡◌, ◌≢◌, ℕ, suc, Bool, true, false,
 use Rattle.std.specs.Prelude.{is_some, unwrap_or}
 use Rattle.std.specs.List.{position_or_len, before_first, after_first, list_all}
 use Rattle.std.specs.Option.{option_map_or}
-use Rattle.std.proofs.lemmas.Bool.{eqb-true, ltb-true}
+use Rattle.std.proofs.lemmas.Bool.{eqb-true, ltb-true, not-true}
 use Rattle.std.proofs.lemmas.List.{append-nil}
 use Rattle.gedcom_line.specs.Words.{is_at}
 use Rattle.gedcom_line.specs.Past.{past_char}
 use Rattle.gedcom_line.specs.Escape.{NoAt, ends_escape, begins_escape, escaped_from, escaped, unescaped, past_pair}
-use Rattle.gedcom_line.proofs.Steps.{both, not_false, eqb_false, eqb_no, at_parts, all_front}
+use Rattle.gedcom_line.proofs.Steps.{both, eqb_false, eqb_no, at_parts, all_front}
 
 tail_no_at : (c : ℕ) (cs : List ℕ) → NoAt (c ∷ cs) → NoAt cs
 tail_no_at c cs h = λ i lt. h (suc i) (omega arith)
@@ -76,7 +76,7 @@ ends_after : (front ds : List ℕ) → list_all (λ b. not (is_at b)) front ≡ 
 ends_after [] ds h = inl (refl, (ds, refl))
 ends_after (c ∷ cs) ds h =
     let k = both (not (is_at c)) (list_all (λ b. not (is_at b)) cs) h in
-    inr (eqb_no c 64 (not_false (is_at c) k.0), ends_after cs ds k.1)
+    inr (eqb_no c 64 (not-true (is_at c) k.0), ends_after cs ds k.1)
 
 pub space_after : (t : List ℕ) → is_some (past_char 32 t) ≡ true → (ds : List ℕ) × (t ≡ 32 ∷ ds)
 space_after [] e = absurd cc

@@ -4,7 +4,7 @@ use Rattle.std.specs.Char.{encode_utf8, IsScalar}
 use lib.Utf8.{scalar}
 use Rattle.std.specs.List.{list_all, position_or_len, before_first}
 use Rattle.std.specs.Str.{IsUtf8, encode_utf8_all, all_scalars}
-use Rattle.std.proofs.lemmas.Bool.{eqb-true, cases_eq, cases_lt}
+use Rattle.std.proofs.lemmas.Bool.{eqb-true, cases_eq, cases_lt, not-true, not-false}
 use Rattle.std.proofs.lemmas.Bool.Decides.{nat_tests}
 use Rattle.std.proofs.lemmas.List.{append-nil, take_all}
 use Rattle.std.proofs.lemmas.List.Sums.{split_at_first, prefix_len_stops, AllPass-from_list_all}
@@ -15,7 +15,7 @@ use Rattle.gedcom_line.specs.Split.{EachPart, is_short, cut_len, parts_by, segme
 use Rattle.gedcom_line.specs.Spelling.{is_inner, is_textual, IsInner}
 use Rattle.gedcom_line.specs.declared.splitting.Mark.{Mark}
 use Rattle.gedcom_line.specs.declared.splitting.Mark.TheVariants.{Conc, Cont}
-use Rattle.gedcom_line.proofs.Steps.{both, not_false, eqb_no, all_front}
+use Rattle.gedcom_line.proofs.Steps.{both, eqb_no, all_front}
 use Rattle.gedcom_line.proofs.Doubled.{escaped_skip, cases_bool}
 use Rattle.gedcom_line.proofs.Counts.{escaped_step}
 use Rattle.gedcom_line.proofs.Cuts.{cut_may_be, canonical_step, canonical_last}
@@ -109,14 +109,10 @@ inner_all [] h k = refl
 inner_all (x ∷ xs) h k =
     let r = both (is_textual x) (list_all is_textual xs) h in
     let s = both (not (is_lf x)) (list_all (λ b. not (is_lf b)) xs) k in
-    rw (inner_char x r.0 (not_false (is_lf x) s.0), inner_all xs r.1 s.1) refl
+    rw (inner_char x r.0 (not-true (is_lf x) s.0), inner_all xs r.1 s.1) refl
 
 no_lf_of : (t : List ℕ) → list_all (λ b. not (is_lf b)) t ≡ true → NoLf t
-no_lf_of t h = λ i lt e. eqb_no (get_or t i 0) 10 (not_false _ (AllPass-from_list_all (λ b. not (is_lf b)) t h i 0 lt)) e
-
-not_not : (b : Bool) → not b ≡ false → b ≡ true
-not_not true e = refl
-not_not false e = absurd cc
+no_lf_of t h = λ i lt e. eqb_no (get_or t i 0) 10 (not-true _ (AllPass-from_list_all (λ b. not (is_lf b)) t h i 0 lt)) e
 
 last_inner : (t : List ℕ) → IsUtf8 t → list_all is_textual t ≡ true → length t ≤ position_or_len is_lf t → EachPart IsInner (canonical t)
 last_inner t u h ge =
@@ -138,7 +134,7 @@ record Cut (t : List ℕ) : Type 0 where
 cut_of : (t : List ℕ) → IsUtf8 t → list_all is_textual t ≡ true → position_or_len is_lf t < length t → Cut t
 cut_of t u h lt =
     let n : ℕ = position_or_len is_lf t in
-    let lf : get_or t n 0 ≡ 10 = eqb-true (get_or t n 0) 10 (not_not _ (prefix_len_stops (λ x. not (is_lf x)) t 0 lt)) in
+    let lf : get_or t n 0 ≡ 10 = eqb-true (get_or t n 0) 10 (not-false _ (prefix_len_stops (λ x. not (is_lf x)) t 0 lt)) in
     let none : list_all (λ b. not (is_lf b)) (take n t) ≡ true = all_front (λ b. not (is_lf b)) t in
     record {
       front = take n t;

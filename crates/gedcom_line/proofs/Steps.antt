@@ -25,10 +25,6 @@ pub both : (a b : Bool) → (a && b) ≡ true → (a ≡ true) × (b ≡ true)
 both true b e = (refl, e)
 both false b e = absurd cc
 
-pub not_false : (b : Bool) → not b ≡ true → b ≡ false
-not_false true e = absurd cc
-not_false false e = refl
-
 -- the front that passes, and the rest
 pub stops_skip : (p : ℕ → Bool) (t : List ℕ) → Stops p (drop (prefix_len p t) t)
 stops_skip p [] = tt

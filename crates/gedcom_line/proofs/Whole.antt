@@ -3,7 +3,7 @@ use Rattle.std.proofs.Common.{◌≡◌, ℕ, ◌<◌, Bool, true, false, cond, 
 use Rattle.std.specs.List.{list_all, list_any}
 use Rattle.std.specs.Option.{ok_or}
 use Rattle.std.specs.Str.{IsUtf8, is_utf8, bytes_eq}
-use Rattle.std.proofs.lemmas.Bool.{eqb-true}
+use Rattle.std.proofs.lemmas.Bool.{eqb-true, not-true}
 use Rattle.std.proofs.lemmas.Slice.Eq.{bytes_eq-Decides}
 use Rattle.std.proofs.lemmas.Str.{is_utf8-from_IsUtf8, IsUtf8-from_is_utf8, IsUtf8-from_ascii}
 use Rattle.gedcom_line.specs.Words.{is_white}
@@ -11,7 +11,7 @@ use Rattle.gedcom_line.specs.Line.{HasLevel, HasXref, IsPiece, IsText, IsBlank, 
 use Rattle.gedcom_line.specs.Reading.{Parts, skip, level_at, xref_at, tag_at, is_continuation, with_tag, text_at, ◌>>=r◌, reading_from, reading}
 use Rattle.gedcom_line.specs.declared.fault.LineKind.{LineKind}
 use Rattle.gedcom_line.specs.declared.fault.LineKind.TheVariants.{NotUtf8, BadLevel, BadXref, BadTag, Nul}
-use Rattle.gedcom_line.proofs.Steps.{not_false, spans_only, some_is, both, either, eqb_false, level_spelled, spelled_level, xref_spelled, spelled_xref, tag_spelled, spelled_tag}
+use Rattle.gedcom_line.proofs.Steps.{spans_only, some_is, both, either, eqb_false, level_spelled, spelled_level, xref_spelled, spelled_xref, tag_spelled, spelled_tag}
 use Rattle.gedcom_line.proofs.Texts.{is_utf8_false}
 use Rattle.gedcom_line.proofs.Spans.{in_class_ascii}
 use Rattle.gedcom_line.specs.declared.class.Class.TheVariants.{White}
@@ -78,7 +78,7 @@ put n x t l e = elim (chosen (eqb n 99 && not (is_continuation t.0)) (Err BadLev
 
 put_fault : (n : ℕ) (x : Option (List ℕ)) (t : List ℕ × List ℕ) (k : LineKind) → with_tag n x t ≡ Err k → (BadLevel ≡ k) × ((n ≡ 99) × (¬ (IsContinuation t.0)))
 put_fault n x t k e = elim (chosen (eqb n 99 && not (is_continuation t.0)) (Err BadLevel) (Ok (record { level = n; xref = x; tag = t.0; raw = t.1 })) (Err k) e) [
-  | inl h ↦ let b = both (eqb n 99) (not (is_continuation t.0)) h.0 in (err_is {A = Parts} BadLevel k h.1, (eqb-true n 99 b.0, λ c. let y : is_continuation t.0 ≡ true = is_continuation_of t.0 c in let z : is_continuation t.0 ≡ false = not_false _ b.1 in absurd cc))
+  | inl h ↦ let b = both (eqb n 99) (not (is_continuation t.0)) h.0 in (err_is {A = Parts} BadLevel k h.1, (eqb-true n 99 b.0, λ c. let y : is_continuation t.0 ≡ true = is_continuation_of t.0 c in let z : is_continuation t.0 ≡ false = not-true _ b.1 in absurd cc))
   | inr h ↦ absurd (let bad : Ok (record { level = n; xref = x; tag = t.0; raw = t.1 }) ≡ Err k = h.1 in cc)
 ]
 

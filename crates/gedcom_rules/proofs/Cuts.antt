@@ -1,11 +1,12 @@
 -- A file's first piece, and the rest.
 use Rattle.std.proofs.Common.{◌≡◌, ℕ, suc, ◌+◌, ◌<◌, ◌≤◌, Bool, true, false, not, List, [], ◌∷◌, ◌++◌, length, ◌-◌, take, drop, length-drop, refl, ◌∙◌, arith, inl, inr, ◌⊎◌}
+use Rattle.std.proofs.lemmas.Bool.{not-true}
 use Rattle.std.specs.List.{prefix_len, list_all}
 use Rattle.std.proofs.Math.Numerals.{one-add}
 use Rattle.std.proofs.lemmas.List.{take_all}
 use Rattle.gedcom_line.specs.Words.{is_end}
 use Rattle.gedcom_line.specs.Line.{IsPiece}
-use Rattle.gedcom_line.proofs.Steps.{both, not_false, all_front}
+use Rattle.gedcom_line.proofs.Steps.{both, all_front}
 use Rattle.gedcom_rules.specs.Pieces.{pieces, onto_first}
 
 pub cases_bool : (b : Bool) → (b ≡ true) ⊎ (b ≡ false)
@@ -44,7 +45,7 @@ none_any : (t : List ℕ) → list_all (λ x. not (is_end x)) t ≡ true → IsP
 none_any [] h = refl
 none_any (x ∷ xs) h =
     let r = both (not (is_end x)) (list_all (λ y. not (is_end y)) xs) h in
-    let e : is_end x ≡ false = not_false (is_end x) r.0 in
+    let e : is_end x ≡ false = not-true (is_end x) r.0 in
     rw (e, none_any xs r.1) refl
 
 pub first_piece : (b : List ℕ) (n : ℕ) → n ≡ prefix_len (λ x. not (is_end x)) b → IsPiece (take n b)

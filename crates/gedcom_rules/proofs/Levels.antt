@@ -1,6 +1,6 @@
 -- A line that breaks no rule finds a place among the open lines.
 use Rattle.std.proofs.Common.{◌≡◌, ℕ, ◌+◌, ◌≤◌, true, false, eqb, not, List, refl, sym, ap, ◌∙◌, inl, inr, arith, Option, Some, Ok}
-use Rattle.std.proofs.lemmas.Bool.{eqb-true, ltb-false}
+use Rattle.std.proofs.lemmas.Bool.{eqb-true, ltb-false, not-false}
 use Rattle.gedcom_line.specs.Reading.{Parts}
 use Rattle.gedcom_line.proofs.Steps.{both}
 use Rattle.gedcom_rules.specs.Rules.{Progress, is_head}
@@ -9,13 +9,13 @@ use Rattle.gedcom_rules.specs.Depth.{depth}
 use Rattle.gedcom_rules.proofs.Cuts.{cases_bool}
 use Rattle.gedcom_rules.proofs.Judged.{judge_some}
 use Rattle.gedcom_rules.proofs.Unbroken.{Unbroken, unbroken}
-use Rattle.gedcom_rules.proofs.Bools.{not_not, counted}
+use Rattle.gedcom_rules.proofs.Bools.{counted}
 
 head_level : (l : Parts) → is_head l ≡ true → l.level ≡ 0
 head_level l h = eqb-true l.level 0 (both (eqb l.level 0) _ h).0
 
 pub first_level : (q : Progress) (l : Parts) → Unbroken q l → eqb q.count 0 ≡ true → l.level ≡ 0
-first_level q l u e = let head : not (is_head l) ≡ false = rw e at u.head in head_level l (not_not (is_head l) head)
+first_level q l u e = let head : not (is_head l) ≡ false = rw e at u.head in head_level l (not-false (is_head l) head)
 
 -- the level of the next line is not beyond the open lines
 pub unbroken_level : (q : Progress) (l : Parts) (n : ℕ) → Unbroken q l → n ≡ depth q → l.level ≤ n

@@ -1,7 +1,7 @@
 -- What stands open behind a line, as the code keeps it.
 use Rattle.std.proofs.Common.{◌≡◌, ℕ, zero, suc, ◌+◌, ◌-◌, ◌<◌, ◌≤◌, Bool, true, false, cond, eqb, ltb, ◌||◌, List, [], ◌∷◌, ◌++◌, length, length-append, take, set, get_or, refl, sym, ap, ◌∙◌, inl, inr, arith, Option, Some, None}
 use Rattle.std.specs.Prelude.{option_map, slice_get}
-use Rattle.std.proofs.lemmas.Bool.{eqb-true, ltb-true, ltb-false}
+use Rattle.std.proofs.lemmas.Bool.{eqb-true, ltb-true, ltb-false, eq-eqb}
 use Rattle.std.proofs.lemmas.Option.{slice_get_past}
 use Rattle.std.specs.Str.{bytes_eq}
 use Rattle.std.proofs.lemmas.Slice.Eq.{bytes_eq-Decides}
@@ -14,7 +14,6 @@ use Rattle.gedcom_rules.specs.Judging.{continue_at, above_after}
 use Rattle.gedcom_rules.specs.Views.{standing_view, standings}
 use Rattle.gedcom_rules.proofs.Cuts.{cases_bool}
 use Rattle.std.proofs.Math.Bool.{and-false}
-use Rattle.gedcom_rules.proofs.Bools.{eqb_same}
 
 get_front : (xs : List code.Standing) (k n : ℕ) → n < k → slice_get (take k xs) n ≡ slice_get xs n
 get_front xs zero n h = absurd (omega arith)
@@ -66,7 +65,7 @@ joined_above l stack k above more t lev len at view n = elim (cases_bool (eqb n 
       let same : n ≡ k = eqb-true n k e in
       let here : l.level ≡ k + 1 = lev ∙ sym len in
       let in_ : k < length stack = omega (arith, len) in
-      rw (same, get_set stack more k in_, get_is stack k above in_ at, t, here, eqb_same (k + 1)) (ap Some view)
+      rw (same, get_set stack more k in_, get_is stack k above in_ at, t, here, eq-eqb (k + 1) (k + 1) refl) (ap Some view)
   | inr e ↦
       let other : n ≡ k → ⊥ = eqb_no n k e in
       let none : l.level ≡ n + 1 → ⊥ = (λ h. other (omega (arith, h, lev, len))) in

@@ -3,7 +3,7 @@ use Rattle.std.proofs.Common.{◌≡◌, ℕ, ◌+◌, ◌-◌, ◌<◌, ◌≤�
 use Rattle.std.specs.Option.{option_map_or}
 use Rattle.std.specs.Str.{bytes_eq}
 use Rattle.std.specs.Prelude.{codes}
-use Rattle.std.proofs.lemmas.Bool.{ltb-false}
+use Rattle.std.proofs.lemmas.Bool.{ltb-false, eq-eqb}
 use Rattle.gedcom_line.specs.Reading.{Parts, is_continuation}
 use Rattle.gedcom_line.proofs.Steps.{neither}
 use Rattle.gedcom_rules.specs.Rules.{Progress, role_of, is_continued, is_trailer}
@@ -16,7 +16,7 @@ use Rattle.gedcom_rules.proofs.Judged.{judge_some, judge_none}
 use Rattle.gedcom_rules.proofs.Unbroken.{Unbroken, unbroken}
 use Rattle.gedcom_rules.proofs.Levels.{first_level}
 use Rattle.gedcom_tree.proofs.Joined.{unbroken_continues}
-use Rattle.gedcom_rules.proofs.Bools.{eqb_same, counted}
+use Rattle.gedcom_rules.proofs.Bools.{counted}
 
 -- nor beyond the open nodes: nothing stands below a continuation
 not_below : (q : Progress) (l : Parts) → Unbroken q l → option_map_or (λ s. is_continued s.role) (q.above q.last) false ≡ true → l.level ≡ q.last + 1 → ⊥
@@ -68,7 +68,7 @@ role_continued t = elim (cases_bool (is_continuation t)) [
 ]
 
 pub node_depth_after : (q : Progress) (l : Parts) → node_depth (after q l) ≡ cond (is_continuation l.tag) l.level (l.level + 1)
-node_depth_after q l = rw (counted q.count, eqb_same l.level, role_continued l.tag) refl
+node_depth_after q l = rw (counted q.count, eq-eqb l.level l.level refl, role_continued l.tag) refl
 
 grown_none : (q : Progress) (p : List ℕ) (g : Nodes) → judge q p ≡ Ok None → g ≡ grow g p
 unfolding grow

@@ -3,10 +3,10 @@ use Rattle.std.proofs.Common.{◌≡◌, ℕ, ◌+◌, ◌≤◌, Bool, true, fa
 use Rattle.std.specs.Option.{option_map_or}
 use Rattle.std.specs.List.{flat_map, list_any}
 use Rattle.std.specs.Str.{bytes_eq}
-use Rattle.std.proofs.lemmas.Bool.{eqb-true, leb-true, le-ltb}
+use Rattle.std.proofs.lemmas.Bool.{eqb-true, leb-true, le-ltb, not-true}
 use Rattle.gedcom_line.specs.Reading.{Parts}
 use Rattle.gedcom_line.specs.Spelling.{spelling}
-use Rattle.gedcom_line.proofs.Steps.{both, not_false}
+use Rattle.gedcom_line.proofs.Steps.{both}
 use Rattle.gedcom_line.proofs.Again.{inner_nil}
 use Rattle.gedcom_line.proofs.Counts.{char_count-nil}
 use Rattle.gedcom_rules.specs.Pieces.{all_pieces}
@@ -91,7 +91,7 @@ items_keep (i ∷ is) q level h u s n r d k =
     let low : i.level ≤ level + 1 = leb-true i.level (level + 1) rise.0 in
     let apart = both (not (option_map_or (λ x. list_any (is_called x) is) i.xref false)) (are_distinct is) d in
     let heads = header_heads h u i is k in
-    node_lines_keep q i is (head_after h i) (gedcom_after u i) n.0 (own_unbroken q level h u i is s n.0 low heads.0) (heads_after h u i heads.0) (own_stands q level h u i is s n.0 low (not_false _ apart.0)) (λ p t. items_keep is p i.level (head_after h i) (gedcom_after u i) t n.1 rise.1 apart.1 heads.1)
+    node_lines_keep q i is (head_after h i) (gedcom_after u i) n.0 (own_unbroken q level h u i is s n.0 low heads.0) (heads_after h u i heads.0) (own_stands q level h u i is s n.0 low (not-true _ apart.0)) (λ p t. items_keep is p i.level (head_after h i) (gedcom_after u i) t n.1 rise.1 apart.1 heads.1)
 
 -- the first node
 first_head : (i : Item) → (eqb i.level 0 && bytes_eq i.tag (codes "HEAD")) ≡ true → i.level ≡ 0
@@ -137,7 +137,7 @@ forest_keeps (i ∷ is) h =
     let n : IsNodeOf i = h.nodes.0 in
     let top : i.level ≡ 0 = first_head i h.head in
     let apart = both (not (option_map_or (λ x. list_any (is_called x) is) i.xref false)) (are_distinct is) h.names in
-    node_lines_keep start i is true false n (first_unbroken i n h.head) (first_heads i top) (first_stands i is n top (not_false _ apart.0))
+    node_lines_keep start i is true false n (first_unbroken i n h.head) (first_heads i top) (first_stands i is n top (not-true _ apart.0))
     (λ p s. items_keep is p i.level true false s h.nodes.1 (subst (λ (k : ℕ). rises k is ≡ true) (sym top) h.levels) apart.1 h.header)
 
 -- the text is cut into the lines

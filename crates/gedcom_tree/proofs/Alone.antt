@@ -3,7 +3,7 @@ use Rattle.std.proofs.Common.{◌≡◌, ◌≢◌, ℕ, ◌*◌, ◌<◌, ◌�
 use Rattle.std.specs.Char.{to_ascii_lowercase}
 use Rattle.std.specs.List.{list_all, list_any, prefix_len}
 use Rattle.std.specs.Str.{bytes_eq}
-use Rattle.std.proofs.lemmas.Bool.{leb-true, le-leb}
+use Rattle.std.proofs.lemmas.Bool.{leb-true, le-leb, not-true}
 use Rattle.std.proofs.lemmas.Bool.Decides.{nat_tests}
 use Rattle.std.proofs.lemmas.List.{take-append-drop}
 use Rattle.std.proofs.lemmas.List.Sums.{AllPass-from_list_all}
@@ -14,7 +14,7 @@ use Rattle.gedcom_line.specs.Words.{is_space}
 use Rattle.gedcom_line.specs.Split.{char_count, IsShort, canonical, marked}
 use Rattle.gedcom_line.specs.Value.{Meaning, Text, Pointer, meaning}
 use Rattle.gedcom_line.specs.declared.splitting.Mark.TheVariants.{Cont}
-use Rattle.gedcom_line.proofs.Steps.{both, either, neither, not_false, eqb_no, all_front}
+use Rattle.gedcom_line.proofs.Steps.{both, either, neither, eqb_no, all_front}
 use Rattle.gedcom_line.proofs.Again.{all-append}
 use Rattle.gedcom_line.proofs.Counts.{char_count-cons, char_count-le-length, escaped_step}
 use Rattle.gedcom_line.proofs.Cuts.{canonical_last, segment_short}
@@ -27,7 +27,7 @@ use Rattle.gedcom_tree.proofs.Numbered.{marked_pointer}
 
 -- a text of one part
 each_not : (c : ℕ) (t : List ℕ) → list_all (λ b. not (eqb b c)) t ≡ true → (i : ℕ) → i < length t → get_or t i 0 ≢ c
-each_not c t h i lt e = eqb_no (get_or t i 0) c (not_false _ (AllPass-from_list_all (λ b. not (eqb b c)) t h i 0 lt)) e
+each_not c t h i lt e = eqb_no (get_or t i 0) c (not-true _ (AllPass-from_list_all (λ b. not (eqb b c)) t h i 0 lt)) e
 
 one_part : (t : List ℕ) → list_all (λ b. not (eqb b 10)) t ≡ true → IsShort t → canonical t ≡ record { mark = Cont; text = t } ∷ []
 one_part t h s = canonical_last t (each_not 10 t h) ∙ ap (marked Cont) (segment_short t (le-leb (char_count (escaped t)) 200 s))
@@ -121,6 +121,6 @@ version_one t h n =
 pub version_again : (v : Meaning) → IsNodeValue v → is_version_node v ≡ true → OneLine (λ raw. is_version_value (meaning raw) ≡ true) v
 version_again (Text t) w h =
     let r = both (is_version t) (not (list_any (λ b. eqb b 10) t)) h in
-    let one : canonical t ≡ record { mark = Cont; text = t } ∷ [] = version_one t r.0 (not_false _ r.1) in
+    let one : canonical t ≡ record { mark = Cont; text = t } ∷ [] = version_one t r.0 (not-true _ r.1) in
     record { reads = rw (one, escaped_no_pointer t, unescaped-escaped t) r.0; alone = rw one refl }
 version_again (Pointer p) w h = record { reads = rw (pointer_meant p p (marked_pointer p w)) refl; alone = refl }

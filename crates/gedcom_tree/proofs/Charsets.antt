@@ -3,7 +3,7 @@ use Rattle.std.proofs.Common.{◌≡◌, ℕ, Bool, true, false, leb, not, ◌||
 use Rattle.std.specs.Char.{to_ascii_lowercase}
 use Rattle.std.specs.List.{list_all, prefix_len}
 use Rattle.std.specs.Str.{bytes_eq}
-use Rattle.std.proofs.lemmas.Bool.{eqb-true}
+use Rattle.std.proofs.lemmas.Bool.{eqb-true, not-true}
 use Rattle.std.proofs.lemmas.List.{take-append-drop}
 use Rattle.std.proofs.lemmas.List.Sums.{AllPass-from_list_all}
 use Rattle.std.proofs.lemmas.Slice.Eq.{bytes_eq-Decides}
@@ -11,7 +11,7 @@ use Rattle.gedcom_line.specs.Words.{is_space, is_at}
 use Rattle.gedcom_line.specs.Reading.{skip}
 use Rattle.gedcom_line.specs.Escape.{NoAt, unescaped}
 use Rattle.gedcom_line.specs.Value.{pointer_from, pointer_in}
-use Rattle.gedcom_line.proofs.Steps.{either, both, not_false, eqb_no, all_front, spans_made, past_at}
+use Rattle.gedcom_line.proofs.Steps.{either, both, eqb_no, all_front, spans_made, past_at}
 use Rattle.gedcom_line.proofs.Doubled.{unescaped_all}
 use Rattle.gedcom_rules.specs.Rules.{max_header_text, is_set, is_charset}
 use Rattle.gedcom_rules.proofs.Cuts.{cases_bool}
@@ -62,7 +62,7 @@ charset_lacks t h =
     ]
 
 no_at_of : (t : List ℕ) → lacks_at t ≡ true → NoAt t
-no_at_of t h = λ i lt e. eqb_no (get_or t i 0) 64 (not_false _ (AllPass-from_list_all (λ b. not (is_at b)) t h i 0 lt)) e
+no_at_of t h = λ i lt e. eqb_no (get_or t i 0) 64 (not-true _ (AllPass-from_list_all (λ b. not (is_at b)) t h i 0 lt)) e
 
 pub charset_unescaped : (t : List ℕ) → is_charset t ≡ true → unescaped t ≡ t
 charset_unescaped t h = unescaped_all t (no_at_of t (charset_lacks t h))

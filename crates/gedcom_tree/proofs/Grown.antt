@@ -2,7 +2,7 @@
 use Rattle.std.proofs.Common.{◌≡◌, ℕ, zero, suc, ◌+◌, ◌<◌, Bool, true, false, eqb, ltb, subst, List, [], ◌∷◌, ◌++◌, map, length, get_or, set, refl, sym, ap, ◌∙◌, append_assoc, arith}
 use Rattle.std.proofs.lemmas.List.{append-nil, map-append}
 use Rattle.std.specs.List.{list_all}
-use Rattle.std.proofs.lemmas.Bool.{lt-ltb, le-ltb}
+use Rattle.std.proofs.lemmas.Bool.{lt-ltb, le-ltb, eq-eqb}
 use Rattle.gedcom_line.proofs.Steps.{both}
 use Rattle.gedcom_tree.specs.Forest.{Item, longer, longer_node, extended}
 use Rattle.gedcom_tree.specs.Flat.{value_said, flat, flats, flat_step, all_at, said, flat_open, built}
@@ -12,7 +12,6 @@ use Rattle.gedcom_tree.specs.declared.node.Node.TheOpen.{Node-F}
 use Rattle.gedcom_tree.specs.declared.node.Node.TheFolds.{fold_out-Node, ind-Node}
 use Rattle.gedcom_tree.proofs.Joined.{extended_deeper}
 use Rattle.std.proofs.Math.Bool.{and-false}
-use Rattle.gedcom_rules.proofs.Bools.{eqb_same}
 
 pub flat_out : (n : Node) (level : ℕ) → flat n level ≡ said level n ∷ flats (level + 1) (out-Node n).children.items
 flat_out n level = ap (λ (f : ℕ → List Item). f level) (fold_out-Node (ℕ → List Item) flat_step n)
@@ -127,7 +126,7 @@ not_all k [] b i h = rw (h, le-ltb k k (omega arith)) refl
 not_all k (x ∷ xs) b i h = rw (not_all k xs b i h) (and-false (ltb k x.level))
 
 extended_at : (k : ℕ) (t : List ℕ) (a b : List Item) (i : Item) → i.level ≡ k → list_all (λ j. ltb k j.level) b ≡ true → extended k t (a ++ i ∷ b) ≡ a ++ longer_node t i ∷ b
-extended_at k t [] b i h d = rw (h, eqb_same k, d, extended_deeper k t b d) refl
+extended_at k t [] b i h d = rw (h, eq-eqb k k refl, d, extended_deeper k t b d) refl
 extended_at k t (x ∷ xs) b i h d = rw (not_all k xs b i h, and-false (eqb x.level k), extended_at k t xs b i h d) refl
 
 open_last : (roots front : List Node) (n : Node) → built roots (front ++ n ∷ []) ≡ (flats 0 roots ++ flat_open 0 front) ++ said (length front) n ∷ flats (length front + 1) (out-Node n).children.items

@@ -4,14 +4,14 @@ use Rattle.std.specs.Prelude.{is_some}
 use Rattle.std.specs.Option.{option_map_or}
 use Rattle.std.specs.List.{list_all, list_any}
 use Rattle.std.specs.Str.{bytes_eq}
-use Rattle.std.proofs.lemmas.Bool.{eqb-true}
+use Rattle.std.proofs.lemmas.Bool.{eqb-true, not-true, not-false}
 use Rattle.std.proofs.lemmas.Bool.Decides.{nat_tests}
 use Rattle.std.proofs.lemmas.Slice.Eq.{bytes_eq-Decides}
 use Rattle.gedcom_line.specs.Reading.{Parts, is_continuation}
 use Rattle.gedcom_line.specs.Escape.{unescaped}
 use Rattle.gedcom_line.specs.Spelling.{is_inner, IsInner}
 use Rattle.gedcom_line.specs.Value.{Text, Pointer, meaning, value_of, pointer_in}
-use Rattle.gedcom_line.proofs.Steps.{both, not_false, eqb_no}
+use Rattle.gedcom_line.proofs.Steps.{both, eqb_no}
 use Rattle.gedcom_rules.specs.Rules.{Progress, Standing, parent, role_of, is_continued, is_charset_tag, is_gedcom_tag, is_version_tag, names_set, names_version, is_charset, is_version, is_version_value}
 use Rattle.gedcom_rules.specs.Continuing.{belongs}
 use Rattle.gedcom_tree.specs.Forest.{continued, forest_of}
@@ -24,7 +24,7 @@ use Rattle.gedcom_tree.proofs.Valued.{unescaped_each}
 use Rattle.gedcom_tree.proofs.Named.{continued_open}
 use Rattle.gedcom_tree.proofs.Closed.{role_above, in_head_kept, set_none, version_none}
 use Rattle.gedcom_tree.proofs.Charsets.{charset_unescaped, charset_no_pointer}
-use Rattle.gedcom_rules.proofs.Bools.{not_not, counted}
+use Rattle.gedcom_rules.proofs.Bools.{counted}
 
 -- a test that must hold where the others do
 unless_three : (a b c v : Bool) → (a ≡ true → b ≡ true → c ≡ true → v ≡ true) → (a && b && c && not v) ≡ false
@@ -41,7 +41,7 @@ unless_four true false c d v h = refl
 unless_four false b c d v h = refl
 
 implied : (a b : Bool) → (a && not b) ≡ false → a ≡ true → b ≡ true
-implied true b e h = not_not b e
+implied true b e h = not-false b e
 implied false b e h = absurd cc
 
 -- the tags of the header
@@ -124,7 +124,7 @@ in_head_before : (q : Progress) (l : Parts) → eqb q.count 0 ≡ false → (aft
 in_head_before q l c h =
     let k : (q.in_head && not (eqb l.level 0)) ≡ true = rw c at h in
     let r = both q.in_head (not (eqb l.level 0)) k in
-    (r.0, not_false (eqb l.level 0) r.1)
+    (r.0, not-true (eqb l.level 0) r.1)
 
 -- a deeper line leaves what stands open at level 1
 under_deeper : (q : Progress) (l : Parts) (under : Bool) → eqb q.count 0 ≡ false → Under q under → eqb l.level 1 ≡ false → Under (after q l) under

@@ -3,7 +3,7 @@ use Rattle.std.proofs.Common.{◌≡◌, ℕ, zero, suc, ◌+◌, ◌-◌, ◌<�
 use Rattle.std.specs.Prelude.{is_some}
 use Rattle.std.specs.Option.{option_map_or}
 use Rattle.std.specs.List.{list_all, flat_map}
-use Rattle.std.proofs.lemmas.Bool.{eqb-true, ltb-true, lt-ltb, le-ltb}
+use Rattle.std.proofs.lemmas.Bool.{eqb-true, ltb-true, lt-ltb, le-ltb, not-false, eq-eqb}
 use Rattle.std.proofs.lemmas.List.Concat.{flat_map-append}
 use Rattle.gedcom_line.specs.Reading.{Parts, is_continuation}
 use Rattle.gedcom_line.specs.Escape.{unescaped}
@@ -16,7 +16,6 @@ use Rattle.gedcom_rules.proofs.Cuts.{cases_bool}
 use Rattle.gedcom_rules.proofs.Runs.{belongs_deeper}
 use Rattle.gedcom_rules.proofs.Unbroken.{Unbroken}
 use Rattle.std.proofs.Math.Bool.{and-false, or-true}
-use Rattle.gedcom_rules.proofs.Bools.{not_not, eqb_same}
 
 cond_same : {A : Type 0} (b : Bool) (x : A) → cond b x x ≡ x
 cond_same true x = refl
@@ -124,7 +123,7 @@ belongs_past k m ms c e h = elim (cases_bool (eqb m.level k)) [
       let same : m.level ≡ k = eqb-true m.level k q in
       let closed : list_all (λ j. ltb k j.level) ms ≡ false = rw q at e in
       rw same (belongs_closed k ms c closed)
-  | inr q ↦ belongs_other m.level k ms c h (λ z. let bad : eqb k k ≡ false = rw z at q in let good : eqb m.level k ≡ true = rw z (eqb_same k) in absurd cc)
+  | inr q ↦ belongs_other m.level k ms c h (λ z. let bad : eqb k k ≡ false = rw z at q in let good : eqb m.level k ≡ true = rw z (eq-eqb k k refl) in absurd cc)
 ]
 
 -- a continuation makes the text of the node one level above longer
@@ -137,9 +136,9 @@ forest_longer n k (m ∷ ms) c s h o t l = elim (cases_bool (eqb m.level k && li
       let r = both (eqb m.level k) (list_all (λ j. ltb k j.level) ms) e in
       let same : m.level ≡ k = eqb-true m.level k r.0 in
       let deep : ltb k c.level ≡ true = lt-ltb k c.level (omega (arith, l)) in
-      let one : (is_continuation c.tag && eqb c.level (k + 1)) ≡ true = rw (t, l) (eqb_same (k + 1)) in
+      let one : (is_continuation c.tag && eqb c.level (k + 1)) ≡ true = rw (t, l) (eq-eqb (k + 1) (k + 1) refl) in
       let more : belongs k (ms ++ c ∷ []) ≡ belongs k ms ++ c ∷ [] = rw one at (belongs_deeper k ms c r.1 deep) in
-      rw (own, same, eqb_same k, deeper_items k (n + 1) ms r.1, extended_deeper k (adds c) (forest_of (n + 1) ms) (deeper_items k (n + 1) ms r.1), more, same_items k (n + 1) ms c r.1 t l)
+      rw (own, same, eq-eqb k k refl, deeper_items k (n + 1) ms r.1, extended_deeper k (adds c) (forest_of (n + 1) ms) (deeper_items k (n + 1) ms r.1), more, same_items k (n + 1) ms c r.1 t l)
       (ap (λ (v : Meaning). record { line = n; level = k; xref = m.xref; tag = m.tag; value = v } ∷ forest_of (n + 1) ms) (continued-push (meaning m.raw) (belongs k ms) c))
   | inr e ↦
       let rest : standing_at k ms ≡ Some s = rw e at h in
@@ -172,7 +171,7 @@ unbroken_continues q l u t = elim (cases_bool (eqb l.level 0)) [
   | inr e ↦
       let h : (is_some l.xref || not (option_map_or (may_go_on q (l.level - 1)) (q.above (l.level - 1)) false)) ≡ false = rw (t, e) at u.goes_on in
       let c : option_map_or (λ s. is_continued s.role) (q.above (l.level - 1)) false ≡ false = rw e at u.above in
-      let g : option_map_or (may_go_on q (l.level - 1)) (q.above (l.level - 1)) false ≡ true = not_not _ (or_right (is_some l.xref) _ h) in
+      let g : option_map_or (may_go_on q (l.level - 1)) (q.above (l.level - 1)) false ≡ true = not-false _ (or_right (is_some l.xref) _ h) in
       let r = above_some q (l.level - 1) (q.above (l.level - 1)) refl c g in
       record { level = l.level - 1; deeper = some_level l.level e; above = r.0; at = r.1.0; text = r.1.1.0; own = r.1.1.1 }
 ]

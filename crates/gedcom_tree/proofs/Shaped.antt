@@ -2,7 +2,7 @@
 use Rattle.std.proofs.Common.{◌≡◌, ℕ, ◌+◌, ◌≤◌, true, false, eqb, ltb, leb, List, [], ◌∷◌, length, refl, sym, subst, inl, inr, arith, codes}
 use Rattle.std.specs.List.{list_any}
 use Rattle.std.specs.Str.{bytes_eq}
-use Rattle.std.proofs.lemmas.Bool.{eqb-true, le-leb, lt-ltb}
+use Rattle.std.proofs.lemmas.Bool.{eqb-true, le-leb, lt-ltb, not-false}
 use Rattle.std.proofs.lemmas.Slice.Eq.{bytes_eq-Decides}
 use Rattle.gedcom_line.specs.Reading.{Parts, is_continuation}
 use Rattle.gedcom_line.specs.Line.{IsContinuation}
@@ -22,7 +22,6 @@ use Rattle.gedcom_tree.proofs.Computed.{reads_computed}
 use Rattle.gedcom_tree.proofs.Fitting.{Fit, Fits, clean_fits}
 use Rattle.gedcom_tree.proofs.Valued.{fit_value}
 use Rattle.gedcom_tree.proofs.Named.{fits_rises, fits_distinct}
-use Rattle.gedcom_rules.proofs.Bools.{not_not}
 use Rattle.gedcom_tree.proofs.Headed.{fits_header}
 
 continues_of : (t : List ℕ) → IsContinuation t → is_continuation t ≡ true
@@ -71,7 +70,7 @@ head_other l h = rw ((first_is l h).level, (first_is l h).tag) refl
 shaped_lines : (l : Parts) (ls : List Parts) → Fits start (l ∷ ls) → IsForest (forest_of 1 (l ∷ ls))
 unfolding forest_of
 shaped_lines l ls f =
-    let head : is_head l ≡ true = not_not (is_head l) f.0.rules.head in
+    let head : is_head l ≡ true = not-false (is_head l) f.0.rules.head in
     let own : is_continuation l.tag ≡ false = head_own l head in
     let low : l.level ≤ 0 = omega (arith, (first_is l head).level) in
     let nodes : EachNode (forest_of 1 (l ∷ ls)) = fits_nodes 1 start (l ∷ ls) f in
@@ -94,7 +93,7 @@ clean_head (p ∷ ps) l ls (s, inl h) = clean_head ps l ls h.1
 clean_head (p ∷ ps) l ls (s, inr h) =
     let r = clean_fits (h.0 ∷ []) ps (l ∷ ls) h.1.1.1 in
     let first : l ≡ h.0 = same_first l h.0 ls r.0 r.1.0 in
-    let head : is_head h.0 ≡ true = not_not (is_head h.0) (unbroken start h.0 h.1.1.0).head in
+    let head : is_head h.0 ≡ true = not-false (is_head h.0) (unbroken start h.0 h.1.1.0).head in
     subst (λ (m : Parts). is_head m ≡ true) (sym first) head
 
 lines_shaped : (ps : List (List ℕ)) (ls : List Parts) → Clean [] ps ls → Fits start (untrailed ls) → list_any is_trailer ls ≡ true → IsForest (forest_of 1 (untrailed ls))
