@@ -1,6 +1,6 @@
 -- What a request or an import changes.
 use Rattle.std.specs.Prelude.{ℕ, List, Option}
-use Rattle.archive_state.specs.declared.answer.Answer.{Answer}
+use Rattle.receipts.specs.declared.answer.Answer.{Answer}
 use Rattle.archive_state.specs.declared.changes.Numbered.{Numbered}
 use Rattle.archive_state.specs.declared.changes.Kept.{Kept}
 use Rattle.archive_state.specs.declared.changes.SlipChange.{SlipChange}

@@ -6,7 +6,7 @@ use Rattle.std.specs.FinMap.{FinMap, empty, from_entries}
 use Rattle.std.specs.String.{string_bytes}
 use Rattle.std.specs.declared.string.String.{String}
 use Rattle.record_kinds.specs.declared.record.Record.{Record}
-use Rattle.archive_state.specs.declared.answer.Receipt.{Receipt}
+use Rattle.receipts.specs.declared.answer.Receipt.{Receipt}
 use Rattle.archive_state.specs.Slips.{Slip}
 
 -- from numbers to records

@@ -1,11 +1,8 @@
 pub mod Changes
 pub mod Content
 pub mod Entries
-pub mod Looks
 pub mod Merging
 pub mod Paths
 pub mod Referrers
-pub mod Reports
 pub mod Slips
 pub mod Sound
-pub mod Tokens

@@ -1,8 +1,7 @@
 //! What a request or an import changes.
 
-use crate::answer::{Answer, Receipt};
 use crate::slip::Slip;
-use crate::token::Token;
+use receipts::{Answer, Receipt, Token};
 use records::Record;
 use std::marker::Model;
 

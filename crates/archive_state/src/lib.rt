@@ -1,32 +1,21 @@
-//! The state of an archive, and the view through which the layers above look at it: records by their numbers,
-//! the next number, the answers that are kept under tokens, and the slips of merges. Here, too, is what a
-//! request or an import changes, and the report of an import.
+//! The state of an archive: records by their numbers, the next number, the receipts that are kept under tokens,
+//! and the slips of merges. Here, too, is what a request or an import changes. Tokens, answers, receipts and
+//! reports are those of `receipts`, and are handed on from here.
 //!
-//! It stands on `record_links` and `records`.
+//! It stands on `record_links`, `records` and `receipts`.
 //!
-//! Callers may rely on: a `View` that is honest at a call's end was honest at its start and has kept its
-//! content, and what the call answered is in that content; else it answers a refusal, and one that is a
-//! failure of its own reads only where its count of failures rose. A reference to a `State` or to a `Shown`
-//! is such a view: honest always, and without failures.
+//! Callers may rely on: a call of `State` answers what the maps have, and one that changes them makes that one
+//! change and no other.
 #![tactic(auto)]
 
-mod answer;
 mod changes;
 mod keys;
 pub mod laws;
 mod paths;
-mod report;
-mod shown;
 mod slip;
 mod state;
-mod token;
-mod view;
 
-pub use answer::{Answer, Receipt};
 pub use changes::{Batch, Changes, Kept, Numbered, SlipChange};
-pub use report::{Report, ReportLine, ReportWord};
-pub use shown::Shown;
+pub use receipts::{Answer, Receipt, Report, ReportLine, ReportWord, Token};
 pub use slip::{Change, Slip};
 pub use state::State;
-pub use token::Token;
-pub use view::View;

@@ -8,11 +8,10 @@ ghost use Rattle.archive_state.specs.Referrers.{referrers};
 ghost use Rattle.archive_state.specs.Entries.{IsEntryAt};
 ghost use Rattle.archive_state.specs.Paths.{HasPath, IsLowest};
 
-use crate::answer::Receipt;
 use crate::keys::is_entry_of;
 use crate::paths::has_path;
 use crate::slip::Slip;
-use crate::token::Token;
+use receipts::{Receipt, Token};
 use record_links::is_naming;
 use records::{EntryKind, Item, Record, Text};
 use std::alloc::{AllocError, Global};

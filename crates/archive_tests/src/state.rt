@@ -1,6 +1,5 @@
-use archive_state::{
-    Answer, Change, Receipt, Report, ReportLine, ReportWord, Shown, Slip, State, Token, View,
-};
+use archive_state::{Answer, Change, Receipt, Report, ReportLine, ReportWord, Slip, State, Token};
+use archive_view::{Shown, View};
 use records::{
     Carried, Child, Citation, Entry, EntryKind, Family, Holding, Item, Name, Partner, Partnership,
     Person, Place, Record, Repo, Source, Tag, Text, Value,

@@ -5,14 +5,11 @@ ghost use Rattle.std.specs.FinMap as map;
 ghost use Rattle.archive_state.specs.Content.{Content};
 ghost use Rattle.archive_state.specs.Entries.{IsEntryAt};
 ghost use Rattle.archive_state.specs.Referrers.{referrers};
-ghost use Rattle.archive_state.specs.Looks.{Keeps, Looked, CountsOne};
+ghost use Rattle.archive_view.specs.Looks.{Keeps, Looked, CountsOne};
 ghost use Rattle.archive_state.specs.Paths.{HasPath, IsLowest};
 
-use crate::answer::Receipt;
 use crate::shown::Shown;
-use crate::slip::Slip;
-use crate::state::State;
-use crate::token::Token;
+use archive_state::{Receipt, Slip, State, Token};
 use records::{EntryKind, Item, Record, RefusalKind, Text, copy_record};
 use std::alloc::Global;
 

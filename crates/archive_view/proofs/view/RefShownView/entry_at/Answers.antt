@@ -2,7 +2,7 @@ use Rattle.std.proofs.Common.{subst, rules}
 use Rattle.archive_state.specs.Content.{Content}
 use Rattle.archive_state.specs.Entries.{IsEntryAt}
 use Rattle.archive_state.specs.Paths.{IsLowest}
-use Rattle.archive_state.proofs.view.RefShownView.entry_at.Goals as goal
+use Rattle.archive_view.proofs.view.RefShownView.entry_at.Goals as goal
 
 pub returns-clause-shows : goal.returns-clause-shows
 returns-clause-shows c =

@@ -1,7 +1,7 @@
 -- The words of a report.
 use Rattle.std.specs.Prelude.{ℕ, List, codes}
-use Rattle.archive_state.specs.declared.report.ReportWord.{ReportWord}
-use Rattle.archive_state.specs.declared.report.ReportWord.TheVariants as reported
+use Rattle.receipts.specs.declared.report.ReportWord.{ReportWord}
+use Rattle.receipts.specs.declared.report.ReportWord.TheVariants as reported
 
 abbrev pub report_word : ReportWord → List ℕ
 report_word reported.Dangling = codes "dangling"

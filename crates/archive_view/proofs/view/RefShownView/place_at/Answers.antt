@@ -1,7 +1,7 @@
 use Rattle.std.proofs.Common.{subst, rules}
 use Rattle.archive_state.specs.Content.{Content}
 use Rattle.archive_state.specs.Paths.{HasPath, IsLowest}
-use Rattle.archive_state.proofs.view.RefShownView.place_at.Goals as goal
+use Rattle.archive_view.proofs.view.RefShownView.place_at.Goals as goal
 
 pub returns-clause-shows : goal.returns-clause-shows
 returns-clause-shows c =

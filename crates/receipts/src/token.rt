@@ -2,7 +2,7 @@
 
 ghost use Rattle.std.specs.Prelude.{◌≡◌, ◌↔◌, IfOk, IsTrue, MatchOption, string_bytes};
 ghost use Rattle.std.specs.List.{list_all};
-ghost use Rattle.archive_state.specs.Tokens.{IsToken, is_printable as printable};
+ghost use Rattle.receipts.specs.Tokens.{IsToken, is_printable as printable};
 
 use std::alloc::{AllocError, Global};
 use std::marker::Model;
@@ -18,7 +18,7 @@ pub struct Token {
 
 impl Model for Token {
     ghost use Rattle.std.specs.Prelude.{List, ℕ, string_bytes};
-    ghost use Rattle.archive_state.specs.Tokens.{IsToken};
+    ghost use Rattle.receipts.specs.Tokens.{IsToken};
 
     ghost Value = { List ℕ };
 

@@ -1,7 +1,7 @@
 //! The report of an import: which lines of the file were not taken over as they stood.
 
 ghost use Rattle.std.specs.Prelude.{◌≡◌};
-ghost use Rattle.archive_state.specs.Reports.{report_word};
+ghost use Rattle.receipts.specs.Reports.{report_word};
 
 use std::marker::Model;
 
@@ -47,7 +47,7 @@ pub struct Report {
 
 impl Model for Report {
     ghost use Rattle.std.specs.Prelude.{List};
-    ghost use Rattle.archive_state.specs.declared.report.ReportLine.{ReportLine};
+    ghost use Rattle.receipts.specs.declared.report.ReportLine.{ReportLine};
 
     ghost Value = { List ReportLine };
 

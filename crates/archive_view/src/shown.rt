@@ -2,7 +2,7 @@
 
 ghost use Rattle.std.specs.Prelude.{◌≡◌};
 
-use crate::state::State;
+use archive_state::State;
 use std::marker::Model;
 
 /// A state in which the living are masked, so that all of it may be shown. Contracts see what it holds.
