@@ -1,0 +1,41 @@
+-- What a request does: an accepted one acts once, and its answer is kept under its token for good. Rules of our own.
+use Rattle.std.specs.Prelude.{ℕ, List, [], ◌∷◌, ◌≡◌, Option, Some, None, Result, Ok, Err, Bool, true, false, if◌then◌else◌}
+use Rattle.std.specs.Str.{bytes_eq}
+use Rattle.std.specs.FinMap.{get, insert}
+use Rattle.record_text.specs.declared.refusal.RefusalKind.{RefusalKind}
+use Rattle.record_text.specs.declared.refusal.RefusalKind.TheVariants.{OutOfMemory, TokenReused}
+use Rattle.archive_state.specs.Content.{Content}
+use Rattle.archive_state.specs.declared.answer.Answer.{Answer}
+use Rattle.archive_state.specs.declared.answer.Receipt.{Receipt}
+use Rattle.commands.specs.Bytes.{digest_of}
+use Rattle.archive_core.specs.Steps.{Step, step}
+use Rattle.archive_core.specs.declared.request.Request.{Request}
+
+-- an accepted step, with its answer kept
+abbrev pub kept_under : List ℕ → List ℕ → Step → Step
+kept_under token digest (Ok done) =
+    Ok (record done.0 { receipts = insert done.0.receipts token (record { digest = digest; answer = done.1 }) }, done.1)
+kept_under token digest (Err e) = Err e
+
+-- the kept answer, where the command is the same
+abbrev pub answered_again : Content → List ℕ → Receipt → Step
+answered_again c digest receipt = if bytes_eq receipt.digest digest then Ok (c, receipt.answer) else Err TokenReused
+
+-- what a request leaves and is answered, by what is kept under its token
+abbrev pub served : Content → Request → Option Receipt → Step
+served c r None = kept_under r.token (digest_of r.command) (step c r.command)
+served c r (Some receipt) = answered_again c (digest_of r.command) receipt
+
+abbrev pub outcome : Content → Request → Step
+outcome c r = served c r (get c.receipts r.token)
+
+-- a request with this answer or refusal leaves that; want of memory may come in place of any other, and changes nothing
+abbrev pub Does : Content → Request → Result Answer RefusalKind → Content → Type 0
+Does c r (Ok answer) after = outcome c r ≡ Ok (after, answer)
+Does c r (Err OutOfMemory) after = after ≡ c
+Does c r (Err e) after = (outcome c r ≡ Err e) × (after ≡ c)
+
+-- requests one after the other, each with its answer or refusal
+abbrev pub Runs : Content → List (Request × Result Answer RefusalKind) → Content → Type 0
+Runs c [] after = after ≡ c
+Runs c (done ∷ more) after = (between : Content) × Does c done.0 done.1 between × Runs between more after
