@@ -1,5 +1,5 @@
 -- What a request does: an accepted one acts once, and its answer is kept under its token for good. Rules of our own.
-use Rattle.std.specs.Prelude.{ℕ, List, [], ◌∷◌, ◌≡◌, Option, Some, None, Result, Ok, Err, Bool, true, false, if◌then◌else◌}
+use Rattle.std.specs.Prelude.{ℕ, ◌+◌, ◌⊎◌, Bool, true, false, List, [], ◌∷◌, ◌≡◌, Option, Some, None, Result, Ok, Err, if◌then◌else◌}
 use Rattle.std.specs.Str.{bytes_eq}
 use Rattle.std.specs.FinMap.{get, insert}
 use Rattle.record_text.specs.declared.refusal.RefusalKind.{RefusalKind}
@@ -29,13 +29,25 @@ served c r (Some receipt) = answered_again c (digest_of r.command) receipt
 abbrev pub outcome : Content → Request → Step
 outcome c r = served c r (get c.receipts r.token)
 
--- a request with this answer or refusal leaves that; want of memory may come in place of any other, and changes nothing
+-- want of memory
+abbrev pub is_want : RefusalKind → Bool
+is_want OutOfMemory = true
+is_want _ = false
+
+-- a request with this answer or refusal leaves that; a refusal changes nothing, and want of memory may come in place of any
 abbrev pub Does : Content → Request → Result Answer RefusalKind → Content → Type 0
 Does c r (Ok answer) after = outcome c r ≡ Ok (after, answer)
-Does c r (Err OutOfMemory) after = after ≡ c
-Does c r (Err e) after = (outcome c r ≡ Err e) × (after ≡ c)
+Does c r (Err e) after = (after ≡ c) × (is_want e ≡ false → outcome c r ≡ Err e)
 
--- requests one after the other, each with its answer or refusal
-abbrev pub Runs : Content → List (Request × Result Answer RefusalKind) → Content → Type 0
+-- a request, with its answer or refusal
+abbrev pub Done : Type 0
+Done = Request × Result Answer RefusalKind
+
+-- requests one after the other
+abbrev pub Runs : Content → List Done → Content → Type 0
 Runs c [] after = after ≡ c
 Runs c (done ∷ more) after = (between : Content) × Does c done.0 done.1 between × Runs between more after
+
+-- nothing is made, and the next number stays; or one record gets the next number, which rises above it
+abbrev pub Draws : Content → Answer → Content → Type 0
+Draws c a after = ((after.next ≡ c.next) × (a.count ≡ 0)) ⊎ ((after.next ≡ c.next + 1) × (a.first ≡ c.next) × (a.count ≡ 1))

@@ -1,6 +1,6 @@
 -- What each command makes of an archive, or the refusal that it gets: the texts are looked at first, then each number in
 -- the order of its field, then what is the command's own, and last whether a number is left. Rules of our own.
-use Rattle.std.specs.Prelude.{ℕ, ◌+◌, List, [], ◌∷◌, ◌++◌, Bool, false, not, ◌||◌, ◌==◌, Option, Some, None, option_map, Result, Ok, Err}
+use Rattle.std.specs.Prelude.{ℕ, ◌+◌, List, [], ◌∷◌, ◌++◌, Bool, false, not, ◌||◌, ◌==◌, Option, Some, None, option_map, Result, Ok}
 use Rattle.std.specs.List.{list_any}
 use Rattle.std.specs.FinMap.{insert}
 use Rattle.record_text.specs.declared.refusal.RefusalKind.{RefusalKind}
@@ -93,7 +93,9 @@ or_kept_place (Some n) (Some p) = Some (record p { place = n })
 
 abbrev pub with_fields : List ℕ → Option Date → Option ℕ → model.Event → model.Event
 with_fields value date place e = record e {
-  value = or_kept_text value e.value; date = or_kept_date date e.date; place = or_kept_place place e.place;
+  value = or_kept_text value e.value;
+  date = or_kept_date date e.date;
+  place = or_kept_place place e.place;
 }
 
 -- ---- the commands
@@ -139,7 +141,13 @@ new_event c owner tag value date place =
     and_then (tag_in o t) (λ tag.
     and_then (room c) (λ n.
     made c n (kind.Event (record {
-      owner = owner; tag = tag; value = v; date = d; place = option_map plain_place place; participants = []; carried = [];
+      owner = owner;
+      tag = tag;
+      value = v;
+      date = d;
+      place = option_map plain_place place;
+      participants = [];
+      carried = [];
     })))))))))
 
 abbrev pub amended : Content → ℕ → List ℕ → Option GivenDate → Option ℕ → Step

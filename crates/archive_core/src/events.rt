@@ -44,7 +44,7 @@ pub(crate) fn new_event<V: View>(
 ) -> Result<Changes, RefusalKind>
     ensures decides { Keeps (V.is_honest view.old) (V.is_honest view.new) (V.content view.old) (V.content view.new)
         (Plans (V.content view.old) result
-            (steps.new_event (V.content view.old) owner tag.now value.now date.now place)) }
+        (steps.new_event (V.content view.old) owner tag.now value.now date.now place)) }
     ensures counts { CountsFailures (V.failed view.old) (V.failed view.new) result }
 {
     let tag = text_in(alloc, tag)?;
@@ -90,7 +90,7 @@ pub(crate) fn further_participant<V: View>(
 ) -> Result<Changes, RefusalKind>
     ensures decides { Keeps (V.is_honest view.old) (V.is_honest view.new) (V.content view.old) (V.content view.new)
         (Plans (V.content view.old) result
-            (steps.further_participant (V.content view.old) number person role.now)) }
+        (steps.further_participant (V.content view.old) number person role.now)) }
     ensures counts { CountsFailures (V.failed view.old) (V.failed view.new) result }
 {
     let role = text_in(alloc, role)?;
@@ -143,8 +143,14 @@ fn plain_event(
     place: Option<u32>,
 ) -> Event
     ensures { result ≡ record {
-        owner = owner; tag = tag; value = value; date = date; place = option_map steps.plain_place place;
-        participants = []; carried = [] } }
+      owner = owner;
+      tag = tag;
+      value = value;
+      date = date;
+      place = option_map steps.plain_place place;
+      participants = [];
+      carried = [];
+    } }
 {
     Event {
         owner,

@@ -98,7 +98,11 @@ fn is_same(husband: Option<u32>, wife: Option<u32>) -> bool
 }
 
 /// A family of these partners.
-fn plain_family(alloc: Global, husband: Option<u32>, wife: Option<u32>) -> Result<Family, AllocError>
+fn plain_family(
+    alloc: Global,
+    husband: Option<u32>,
+    wife: Option<u32>,
+) -> Result<Family, AllocError>
     ensures { IfOk result (λ f. f ≡ record { partners = steps.plain_partners husband wife; children = []; carried = [] }) }
 {
     let mut partners = Vec::new(alloc);

@@ -10,6 +10,7 @@
 
 mod events;
 mod families;
+pub mod laws;
 mod looks;
 mod machine;
 mod making;

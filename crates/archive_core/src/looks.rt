@@ -42,7 +42,11 @@ pub(crate) fn date_in(alloc: Global, given: &Option<GivenDate>) -> Result<Option
 }
 
 /// The person of a number.
-pub(crate) fn person_at<V: View>(alloc: Global, view: &mut V, number: u32) -> Result<Person, RefusalKind>
+pub(crate) fn person_at<V: View>(
+    alloc: Global,
+    view: &mut V,
+    number: u32,
+) -> Result<Person, RefusalKind>
     ensures decides { Keeps (V.is_honest view.old) (V.is_honest view.new) (V.content view.old) (V.content view.new)
         (Decided result (checks.person_at (V.content view.old) number)) }
     ensures counts { CountsFailures (V.failed view.old) (V.failed view.new) result }
@@ -61,7 +65,11 @@ fn person_in(found: Option<Record>) -> Result<Person, RefusalKind>
 }
 
 /// The family of a number.
-pub(crate) fn family_at<V: View>(alloc: Global, view: &mut V, number: u32) -> Result<Family, RefusalKind>
+pub(crate) fn family_at<V: View>(
+    alloc: Global,
+    view: &mut V,
+    number: u32,
+) -> Result<Family, RefusalKind>
     ensures decides { Keeps (V.is_honest view.old) (V.is_honest view.new) (V.content view.old) (V.content view.new)
         (Decided result (checks.family_at (V.content view.old) number)) }
     ensures counts { CountsFailures (V.failed view.old) (V.failed view.new) result }
@@ -80,7 +88,11 @@ fn family_in(found: Option<Record>) -> Result<Family, RefusalKind>
 }
 
 /// The event of a number.
-pub(crate) fn event_at<V: View>(alloc: Global, view: &mut V, number: u32) -> Result<Event, RefusalKind>
+pub(crate) fn event_at<V: View>(
+    alloc: Global,
+    view: &mut V,
+    number: u32,
+) -> Result<Event, RefusalKind>
     ensures decides { Keeps (V.is_honest view.old) (V.is_honest view.new) (V.content view.old) (V.content view.new)
         (Decided result (checks.event_at (V.content view.old) number)) }
     ensures counts { CountsFailures (V.failed view.old) (V.failed view.new) result }
@@ -99,7 +111,11 @@ fn event_in(found: Option<Record>) -> Result<Event, RefusalKind>
 }
 
 /// What the record of a number is, where an event may be of it.
-pub(crate) fn owner_at<V: View>(alloc: Global, view: &mut V, number: u32) -> Result<Owner, RefusalKind>
+pub(crate) fn owner_at<V: View>(
+    alloc: Global,
+    view: &mut V,
+    number: u32,
+) -> Result<Owner, RefusalKind>
     ensures decides { Keeps (V.is_honest view.old) (V.is_honest view.new) (V.content view.old) (V.content view.new)
         (Decided result (checks.owner_at (V.content view.old) number)) }
     ensures counts { CountsFailures (V.failed view.old) (V.failed view.new) result }

@@ -16,7 +16,11 @@ use records::RefusalKind;
 use std::alloc::Global;
 
 /// What a request changes, and its answer.
-pub fn decide<V: View>(alloc: Global, view: &mut V, request: &Request) -> Result<Changes, RefusalKind>
+pub fn decide<V: View>(
+    alloc: Global,
+    view: &mut V,
+    request: &Request,
+) -> Result<Changes, RefusalKind>
     ensures decides { Keeps (V.is_honest view.old) (V.is_honest view.new) (V.content view.old) (V.content view.new)
         (Chooses (V.content view.old) result (outcome (V.content view.old) request.now)) }
     ensures counts { CountsFailures (V.failed view.old) (V.failed view.new) result }
@@ -61,7 +65,7 @@ fn decide_anew<V: View>(
 ) -> Result<Changes, RefusalKind>
     ensures decides { Keeps (V.is_honest view.old) (V.is_honest view.new) (V.content view.old) (V.content view.new)
         (Chooses (V.content view.old) result
-            (kept_under «request».now.token digest (step (V.content view.old) «request».now.command))) }
+        (kept_under «request».now.token digest (step (V.content view.old) «request».now.command))) }
     ensures counts { CountsFailures (V.failed view.old) (V.failed view.new) result }
 {
     let token = request.token.copy(alloc)?;
@@ -72,7 +76,8 @@ fn decide_anew<V: View>(
 /// The changes, with the receipt of their answer.
 fn with_receipt(changes: Changes, token: Token, digest: [u8; 32]) -> Changes
     ensures { result ≡ record changes {
-        kept = Some (record { token = token; receipt = record { digest = digest; answer = changes.answer } }) } }
+      kept = Some (record { token = token; receipt = record { digest = digest; answer = changes.answer } });
+    } }
 {
     let mut changes = changes;
     let receipt = Receipt {

@@ -1,6 +1,6 @@
 //! The changes of one record, and what goes into records.
 
-ghost use Rattle.std.specs.Prelude.{◌≡◌, ◌+◌, ◌++◌, ◌∷◌, [], IfOk, OnOk, None};
+ghost use Rattle.std.specs.Prelude.{◌≡◌, ◌+◌, ◌∷◌, [], IfOk, None};
 ghost use Rattle.archive_state.specs.Looks.{Keeps, Decided, CountsFailures};
 ghost use Rattle.archive_core.specs.Checks as checks;
 
@@ -22,13 +22,24 @@ pub(crate) fn room<V: View>(alloc: Global, view: &mut V) -> Result<u32, RefusalK
 }
 
 /// A new record at the next number.
-pub(crate) fn made(alloc: Global, number: u32, record: Record) -> Result<Changes, AllocError>
+pub(crate) fn made(alloc: Global, number: u32, value: Record) -> Result<Changes, AllocError>
     ensures { IfOk result (λ c. c ≡ record {
-        puts = record { number = number; «record» = «record» } ∷ []; removals = []; next = number + 1;
-        answer = record { first = number; count = 1 }; kept = None; slip = None }) }
+      puts = record { number = number; «record» = value } ∷ [];
+      removals = [];
+      next = number + 1;
+      answer = record { first = number; count = 1 };
+      kept = None;
+      slip = None;
+    }) }
 {
     Ok(Changes {
-        puts: one(alloc, Numbered { number, record })?,
+        puts: one(
+            alloc,
+            Numbered {
+                number,
+                record: value,
+            },
+        )?,
         removals: Vec::new(alloc),
         next: u64::from(number) + 1,
         answer: Answer {
@@ -41,13 +52,29 @@ pub(crate) fn made(alloc: Global, number: u32, record: Record) -> Result<Changes
 }
 
 /// Another record at a number.
-pub(crate) fn changed(alloc: Global, number: u32, record: Record, next: u64) -> Result<Changes, AllocError>
+pub(crate) fn changed(
+    alloc: Global,
+    number: u32,
+    value: Record,
+    next: u64,
+) -> Result<Changes, AllocError>
     ensures { IfOk result (λ c. c ≡ record {
-        puts = record { number = number; «record» = «record» } ∷ []; removals = []; next = next;
-        answer = record { first = 0; count = 0 }; kept = None; slip = None }) }
+      puts = record { number = number; «record» = value } ∷ [];
+      removals = [];
+      next = next;
+      answer = record { first = 0; count = 0 };
+      kept = None;
+      slip = None;
+    }) }
 {
     Ok(Changes {
-        puts: one(alloc, Numbered { number, record })?,
+        puts: one(
+            alloc,
+            Numbered {
+                number,
+                record: value,
+            },
+        )?,
         removals: Vec::new(alloc),
         next,
         answer: Answer { first: 0, count: 0 },

@@ -8,18 +8,30 @@ use record_fields::Sex;
 #[derive(Drop)]
 pub enum Command {
     /// A new person.
-    Person { name: Field, sex: Option<Sex> },
+    Person {
+        name: Field,
+        sex: Option<Sex>,
+    },
     /// A further name of a person.
-    Name { person: u32, name: Field },
+    Name {
+        person: u32,
+        name: Field,
+    },
     /// The sex of a person.
-    Sex { person: u32, sex: Sex },
+    Sex {
+        person: u32,
+        sex: Sex,
+    },
     /// A new family, with its partners.
     Family {
         husband: Option<u32>,
         wife: Option<u32>,
     },
     /// A further child of a family.
-    Child { family: u32, person: u32 },
+    Child {
+        family: u32,
+        person: u32,
+    },
     /// A new event of a person or a family.
     Event {
         owner: u32,

@@ -78,7 +78,11 @@ fn sex_bytes(alloc: Global, person: u32, sex: Sex) -> Result<Vec<u8>, AllocError
     row_of_three(alloc, b"sex", person.as_bytes(), sex.as_str().as_bytes())
 }
 
-fn family_bytes(alloc: Global, husband: Option<u32>, wife: Option<u32>) -> Result<Vec<u8>, AllocError>
+fn family_bytes(
+    alloc: Global,
+    husband: Option<u32>,
+    wife: Option<u32>,
+) -> Result<Vec<u8>, AllocError>
     ensures { IfOk result (λ bytes. bytes.items ≡ bytes_of (command.Family husband wife)) }
 {
     let husband = number_or_empty(alloc, husband)?;
@@ -138,7 +142,12 @@ fn amend_bytes(
     )
 }
 
-fn participant_bytes(alloc: Global, event: u32, person: u32, role: &Field) -> Result<Vec<u8>, AllocError>
+fn participant_bytes(
+    alloc: Global,
+    event: u32,
+    person: u32,
+    role: &Field,
+) -> Result<Vec<u8>, AllocError>
     ensures { IfOk result (λ bytes. bytes.items ≡ bytes_of (command.Participant event person role.now)) }
 {
     let event = event.to_string(alloc)?;
