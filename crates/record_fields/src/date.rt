@@ -72,6 +72,14 @@ impl Date {
         self.text.copy(alloc)
     }
 
+    /// The same date in memory of its own.
+    pub fn copy(&self, alloc: Global) -> Result<Date, AllocError>
+        ensures { IfOk result (λ date. date ≡ self.now) }
+    {
+        let text = self.text(alloc)?;
+        Ok(Date { text })
+    }
+
     /// The date whose canonical spelling the text is. `None`: it is that of no date.
     pub fn of_text(alloc: Global, text: &Text) -> Result<Option<Date>, AllocError>
         ensures { IfOk result (λ found. MatchOption found (¬ (IsWritten text.now)) (λ date. date.text ≡ text.now)) }

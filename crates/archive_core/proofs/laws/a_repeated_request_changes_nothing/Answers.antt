@@ -1,0 +1,5 @@
+use Rattle.archive_core.proofs.Following.{repeated}
+use Rattle.archive_core.proofs.laws.a_repeated_request_changes_nothing.Goals as goal
+
+pub returns : goal.returns
+returns c = repeated

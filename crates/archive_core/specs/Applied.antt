@@ -1,0 +1,57 @@
+-- What changes make of what an archive holds.
+use Rattle.std.specs.Prelude.{ℕ, List, [], ◌∷◌, ◌≡◌, Option, Some, None, Result, Ok, Err, true, false}
+use Rattle.std.specs.FinMap.{get, insert, remove}
+use Rattle.record_text.specs.declared.refusal.RefusalKind.{RefusalKind}
+use Rattle.archive_state.specs.Changes.{Changes}
+use Rattle.archive_state.specs.Content.{Content, Records, Receipts, Slips}
+use Rattle.archive_view.specs.Looks.{is_stop}
+use Rattle.archive_state.specs.Slips.{Slip}
+use Rattle.receipts.specs.declared.answer.Answer.{Answer}
+use Rattle.archive_state.specs.declared.changes.Numbered.{Numbered}
+use Rattle.archive_state.specs.declared.changes.Kept.{Kept}
+use Rattle.archive_state.specs.declared.changes.SlipChange.{SlipChange}
+use Rattle.archive_state.specs.declared.changes.SlipChange.TheVariants as change
+
+-- each number gets its record
+abbrev pub with_puts : Records → List Numbered → Records
+with_puts m [] = m
+with_puts m (put ∷ puts) = with_puts (insert m put.number put.«record») puts
+
+-- the records of these numbers are taken out
+abbrev pub without : Records → List ℕ → Records
+without m [] = m
+without m (n ∷ ns) = without (remove m n) ns
+
+abbrev pub with_kept : Receipts → Option Kept → Receipts
+with_kept m None = m
+with_kept m (Some kept) = insert m kept.token kept.receipt
+
+-- the slip that stands there is undone for good
+abbrev pub undone : Slips → ℕ → Option Slip → Slips
+undone m n None = m
+undone m n (Some slip) = insert m n (record slip { is_undone = true })
+
+abbrev pub with_slip : Slips → Option SlipChange → Slips
+with_slip m None = m
+with_slip m (Some (change.Made n slip)) = insert m n slip
+with_slip m (Some (change.Undone n)) = undone m n (get m n)
+
+-- what is there when the changes are made
+abbrev pub applied : Content → Changes → Content
+applied c changes = record {
+  records = without (with_puts c.records changes.puts) changes.removals;
+  next = changes.next;
+  receipts = with_kept c.receipts changes.kept;
+  slips = with_slip c.slips changes.slip;
+}
+
+-- code that decides a command: changes that, made, leave what is right, with the right answer, and keep no receipt yet; or
+-- the right refusal; or a stop
+abbrev pub Plans : Content → Result Changes RefusalKind → Result (Content × Answer) RefusalKind → Type 0
+Plans c (Ok changes) right = (right ≡ Ok (applied c changes, changes.answer)) × (changes.kept ≡ None)
+Plans c (Err e) right = is_stop e ≡ false → right ≡ Err e
+
+-- code that decides a request: changes that, made, leave what is right, with the right answer; or the right refusal; or a stop
+abbrev pub Chooses : Content → Result Changes RefusalKind → Result (Content × Answer) RefusalKind → Type 0
+Chooses c (Ok changes) right = right ≡ Ok (applied c changes, changes.answer)
+Chooses c (Err e) right = is_stop e ≡ false → right ≡ Err e

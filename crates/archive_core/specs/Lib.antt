@@ -1,0 +1,4 @@
+pub mod Applied
+pub mod Checks
+pub mod Machine
+pub mod Steps

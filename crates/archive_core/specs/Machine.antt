@@ -1,0 +1,53 @@
+-- What a request does: an accepted one acts once, and its answer is kept under its token for good. Rules of our own.
+use Rattle.std.specs.Prelude.{ℕ, ◌+◌, ◌⊎◌, Bool, true, false, List, [], ◌∷◌, ◌≡◌, Option, Some, None, Result, Ok, Err, if◌then◌else◌}
+use Rattle.std.specs.Str.{bytes_eq}
+use Rattle.std.specs.FinMap.{get, insert}
+use Rattle.record_text.specs.declared.refusal.RefusalKind.{RefusalKind}
+use Rattle.record_text.specs.declared.refusal.RefusalKind.TheVariants.{OutOfMemory, TokenReused}
+use Rattle.archive_state.specs.Content.{Content}
+use Rattle.receipts.specs.declared.answer.Answer.{Answer}
+use Rattle.receipts.specs.declared.answer.Receipt.{Receipt}
+use Rattle.commands.specs.Bytes.{digest_of}
+use Rattle.archive_core.specs.Steps.{Step, step}
+use Rattle.archive_core.specs.declared.request.Request.{Request}
+
+-- an accepted step, with its answer kept
+abbrev pub kept_under : List ℕ → List ℕ → Step → Step
+kept_under token digest (Ok done) =
+    Ok (record done.0 { receipts = insert done.0.receipts token (record { digest = digest; answer = done.1 }) }, done.1)
+kept_under token digest (Err e) = Err e
+
+-- the kept answer, where the command is the same
+abbrev pub answered_again : Content → List ℕ → Receipt → Step
+answered_again c digest receipt = if bytes_eq receipt.digest digest then Ok (c, receipt.answer) else Err TokenReused
+
+-- what a request leaves and is answered, by what is kept under its token
+abbrev pub served : Content → Request → Option Receipt → Step
+served c r None = kept_under r.token (digest_of r.command) (step c r.command)
+served c r (Some receipt) = answered_again c (digest_of r.command) receipt
+
+abbrev pub outcome : Content → Request → Step
+outcome c r = served c r (get c.receipts r.token)
+
+-- want of memory
+abbrev pub is_want : RefusalKind → Bool
+is_want OutOfMemory = true
+is_want _ = false
+
+-- a request with this answer or refusal leaves that; a refusal changes nothing, and want of memory may come in place of any
+abbrev pub Does : Content → Request → Result Answer RefusalKind → Content → Type 0
+Does c r (Ok answer) after = outcome c r ≡ Ok (after, answer)
+Does c r (Err e) after = (after ≡ c) × (is_want e ≡ false → outcome c r ≡ Err e)
+
+-- a request, with its answer or refusal
+abbrev pub Done : Type 0
+Done = Request × Result Answer RefusalKind
+
+-- requests one after the other
+abbrev pub Runs : Content → List Done → Content → Type 0
+Runs c [] after = after ≡ c
+Runs c (done ∷ more) after = (between : Content) × Does c done.0 done.1 between × Runs between more after
+
+-- nothing is made, and the next number stays; or one record gets the next number, which rises above it
+abbrev pub Draws : Content → Answer → Content → Type 0
+Draws c a after = ((after.next ≡ c.next) × (a.count ≡ 0)) ⊎ ((after.next ≡ c.next + 1) × (a.first ≡ c.next) × (a.count ≡ 1))

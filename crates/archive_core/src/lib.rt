@@ -1,0 +1,23 @@
+//! What a request does to an archive: its command is looked at, and either refused or done once, with its answer
+//! kept under the request's token for good.
+//!
+//! It stands on `archive_state` for the state and the view of it, on `records` for what stands in it, and on
+//! `commands` for the commands and their digests.
+//!
+//! Callers may rely on: `decide` over any view answers the changes that, made, are the step of the definitions, or
+//! its refusal, and changes nothing itself.
+#![tactic(auto)]
+
+mod events;
+mod families;
+pub mod laws;
+mod looks;
+mod machine;
+mod making;
+mod persons;
+mod places;
+mod request;
+
+pub use commands::{Command, Field, GivenDate};
+pub use machine::decide;
+pub use request::Request;

@@ -1,0 +1,127 @@
+//! The machine: a request is done once, and is answered again by its token.
+
+ghost use Rattle.std.specs.Prelude.{◌≡◌, Some};
+ghost use Rattle.archive_view.specs.Looks.{Keeps, CountsFailures};
+ghost use Rattle.archive_core.specs.Applied.{Chooses, Plans};
+ghost use Rattle.archive_core.specs.Machine.{answered_again, kept_under, outcome};
+ghost use Rattle.archive_core.specs.Steps.{step};
+
+use crate::events::{amended, further_participant, new_event};
+use crate::families::{further_child, new_family};
+use crate::persons::{further_name, new_person, new_sex};
+use crate::request::Request;
+use archive_state::{Changes, Kept, Receipt, Token};
+use archive_view::View;
+use commands::{Command, command_digest};
+use records::RefusalKind;
+use std::alloc::Global;
+
+/// What a request changes, and its answer.
+pub fn decide<V: View>(
+    alloc: Global,
+    view: &mut V,
+    request: &Request,
+) -> Result<Changes, RefusalKind>
+    ensures decides { Keeps (V.is_honest view.old) (V.is_honest view.new) (V.content view.old) (V.content view.new)
+        (Chooses (V.content view.old) result (outcome (V.content view.old) request.now)) }
+    ensures counts { CountsFailures (V.failed view.old) (V.failed view.new) result }
+{
+    let digest = command_digest(alloc, &request.command)?;
+    match view.receipt(alloc, &request.token)? {
+        Some(receipt) => answer_again(alloc, view, &receipt, &digest),
+        None => decide_anew(alloc, view, request, digest),
+    }
+}
+
+/// The kept answer, where the command is the same.
+fn answer_again<V: View>(
+    alloc: Global,
+    view: &mut V,
+    receipt: &Receipt,
+    digest: &[u8; 32],
+) -> Result<Changes, RefusalKind>
+    ensures decides { Keeps (V.is_honest view.old) (V.is_honest view.new) (V.content view.old) (V.content view.new)
+        (Chooses (V.content view.old) result (answered_again (V.content view.old) digest.now receipt.now)) }
+    ensures counts { CountsFailures (V.failed view.old) (V.failed view.new) result }
+{
+    if receipt.digest.as_slice() != digest.as_slice() {
+        return Err(RefusalKind::TokenReused);
+    }
+    Ok(Changes {
+        puts: Vec::new(alloc),
+        removals: Vec::new(alloc),
+        next: view.next(alloc)?,
+        answer: receipt.answer,
+        kept: None,
+        slip: None,
+    })
+}
+
+/// What a command changes, with its answer to keep.
+fn decide_anew<V: View>(
+    alloc: Global,
+    view: &mut V,
+    request: &Request,
+    digest: [u8; 32],
+) -> Result<Changes, RefusalKind>
+    ensures decides { Keeps (V.is_honest view.old) (V.is_honest view.new) (V.content view.old) (V.content view.new)
+        (Chooses (V.content view.old) result
+        (kept_under «request».now.token digest (step (V.content view.old) «request».now.command))) }
+    ensures counts { CountsFailures (V.failed view.old) (V.failed view.new) result }
+{
+    let token = request.token.copy(alloc)?;
+    let changes = decide_command(alloc, view, &request.command)?;
+    Ok(with_receipt(changes, token, digest))
+}
+
+/// The changes, with the receipt of their answer.
+fn with_receipt(changes: Changes, token: Token, digest: [u8; 32]) -> Changes
+    ensures { result ≡ record changes {
+      kept = Some (record { token = token; receipt = record { digest = digest; answer = changes.answer } });
+    } }
+{
+    let mut changes = changes;
+    let receipt = Receipt {
+        digest,
+        answer: changes.answer,
+    };
+    changes.kept = Some(Kept { token, receipt });
+    changes
+}
+
+/// What a command changes.
+fn decide_command<V: View>(
+    alloc: Global,
+    view: &mut V,
+    command: &Command,
+) -> Result<Changes, RefusalKind>
+    ensures decides { Keeps (V.is_honest view.old) (V.is_honest view.new) (V.content view.old) (V.content view.new)
+        (Plans (V.content view.old) result (step (V.content view.old) command.now)) }
+    ensures counts { CountsFailures (V.failed view.old) (V.failed view.new) result }
+{
+    match command {
+        Command::Person { name, sex } => new_person(alloc, view, name, *sex),
+        Command::Name { person, name } => further_name(alloc, view, *person, name),
+        Command::Sex { person, sex } => new_sex(alloc, view, *person, *sex),
+        Command::Family { husband, wife } => new_family(alloc, view, *husband, *wife),
+        Command::Child { family, person } => further_child(alloc, view, *family, *person),
+        Command::Event {
+            owner,
+            tag,
+            value,
+            date,
+            place,
+        } => new_event(alloc, view, *owner, tag, value, date, *place),
+        Command::Amend {
+            event,
+            value,
+            date,
+            place,
+        } => amended(alloc, view, *event, value, date, *place),
+        Command::Participant {
+            event,
+            person,
+            role,
+        } => further_participant(alloc, view, *event, *person, role),
+    }
+}

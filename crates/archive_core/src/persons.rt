@@ -1,0 +1,96 @@
+//! The commands on persons.
+
+ghost use Rattle.std.specs.Prelude.{◌≡◌, IfOk};
+ghost use Rattle.archive_view.specs.Looks.{Keeps, CountsFailures};
+ghost use Rattle.archive_core.specs.Applied.{Plans};
+ghost use Rattle.archive_core.specs.Steps as steps;
+
+use crate::looks::{person_at, text_in};
+use crate::making::{changed, made, one, room};
+use archive_state::Changes;
+use archive_view::View;
+use commands::Field;
+use records::{Name, Person, Record, RefusalKind, Sex, Text};
+use std::alloc::{AllocError, Global};
+
+/// A new person.
+pub(crate) fn new_person<V: View>(
+    alloc: Global,
+    view: &mut V,
+    name: &Field,
+    sex: Option<Sex>,
+) -> Result<Changes, RefusalKind>
+    ensures decides { Keeps (V.is_honest view.old) (V.is_honest view.new) (V.content view.old) (V.content view.new)
+        (Plans (V.content view.old) result (steps.new_person (V.content view.old) name.now sex)) }
+    ensures counts { CountsFailures (V.failed view.old) (V.failed view.new) result }
+{
+    let name = text_in(alloc, name)?;
+    let number = room(alloc, view)?;
+    let person = plain_person(alloc, name, sex)?;
+    Ok(made(alloc, number, Record::Person(person))?)
+}
+
+/// A further name of a person.
+pub(crate) fn further_name<V: View>(
+    alloc: Global,
+    view: &mut V,
+    number: u32,
+    name: &Field,
+) -> Result<Changes, RefusalKind>
+    ensures decides { Keeps (V.is_honest view.old) (V.is_honest view.new) (V.content view.old) (V.content view.new)
+        (Plans (V.content view.old) result (steps.further_name (V.content view.old) number name.now)) }
+    ensures counts { CountsFailures (V.failed view.old) (V.failed view.new) result }
+{
+    let name = text_in(alloc, name)?;
+    let person = person_at(alloc, view, number)?;
+    let person = with_name(alloc, person, name)?;
+    let next = view.next(alloc)?;
+    Ok(changed(alloc, number, Record::Person(person), next)?)
+}
+
+/// The sex of a person.
+pub(crate) fn new_sex<V: View>(
+    alloc: Global,
+    view: &mut V,
+    number: u32,
+    sex: Sex,
+) -> Result<Changes, RefusalKind>
+    ensures decides { Keeps (V.is_honest view.old) (V.is_honest view.new) (V.content view.old) (V.content view.new)
+        (Plans (V.content view.old) result (steps.new_sex (V.content view.old) number sex)) }
+    ensures counts { CountsFailures (V.failed view.old) (V.failed view.new) result }
+{
+    let mut person = person_at(alloc, view, number)?;
+    person.sex = Some(sex);
+    let next = view.next(alloc)?;
+    Ok(changed(alloc, number, Record::Person(person), next)?)
+}
+
+/// A name as a command gives it.
+fn plain_name(alloc: Global, text: Text) -> Name
+    ensures { result ≡ steps.plain_name text }
+{
+    Name {
+        text,
+        carried: Vec::new(alloc),
+    }
+}
+
+/// A person of one name.
+fn plain_person(alloc: Global, name: Text, sex: Option<Sex>) -> Result<Person, AllocError>
+    ensures { IfOk result (λ p. p ≡ steps.plain_person name sex) }
+{
+    Ok(Person {
+        names: one(alloc, plain_name(alloc, name))?,
+        sex,
+        carried: Vec::new(alloc),
+    })
+}
+
+/// Adds a name behind the others.
+fn with_name(alloc: Global, person: Person, name: Text) -> Result<Person, AllocError>
+    ensures { IfOk result (λ p. p ≡ steps.with_name name person) }
+{
+    let mut person = person;
+    person.names.push(plain_name(alloc, name))?;
+    Ok(person)
+}

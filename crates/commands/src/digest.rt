@@ -1,0 +1,199 @@
+//! The bytes of a command and their digest.
+
+ghost use Rattle.std.specs.Prelude.{◌≡◌, IfOk, codes, decimal, string_bytes};
+ghost use Rattle.record_fields.specs.Words.{sex_word};
+ghost use Rattle.commands.specs.Bytes.{bytes_of, digest_of, or_empty, spelt};
+ghost use Rattle.commands.specs.declared.command.Command.TheVariants as command;
+
+use crate::command::Command;
+use crate::field::Field;
+use crate::given::GivenDate;
+use crate::rows::{row_of_five, row_of_four, row_of_six, row_of_three};
+use record_fields::Sex;
+use sha2::{Digest, Sha256};
+use std::alloc::{AllocError, Global};
+
+/// The SHA-256 of the command's bytes: FIPS 180-4.
+pub fn command_digest(alloc: Global, command: &Command) -> Result<[u8; 32], AllocError>
+    ensures { IfOk result (λ digest. digest ≡ digest_of command.now) }
+{
+    let bytes = command_bytes(alloc, command)?;
+    Ok(Sha256::digest(bytes.as_slice()))
+}
+
+/// The bytes of a command: its verb and its fields as one row of CSV, numbers without leading zeros and dates in
+/// canonical spelling.
+pub fn command_bytes(alloc: Global, command: &Command) -> Result<Vec<u8>, AllocError>
+    ensures { IfOk result (λ bytes. bytes.items ≡ bytes_of command.now) }
+{
+    match command {
+        Command::Person { name, sex } => person_bytes(alloc, name, *sex),
+        Command::Name { person, name } => name_bytes(alloc, *person, name),
+        Command::Sex { person, sex } => sex_bytes(alloc, *person, *sex),
+        Command::Family { husband, wife } => family_bytes(alloc, *husband, *wife),
+        Command::Child { family, person } => child_bytes(alloc, *family, *person),
+        Command::Event {
+            owner,
+            tag,
+            value,
+            date,
+            place,
+        } => event_bytes(alloc, *owner, tag, value, date, *place),
+        Command::Amend {
+            event,
+            value,
+            date,
+            place,
+        } => amend_bytes(alloc, *event, value, date, *place),
+        Command::Participant {
+            event,
+            person,
+            role,
+        } => participant_bytes(alloc, *event, *person, role),
+    }
+}
+
+fn person_bytes(alloc: Global, name: &Field, sex: Option<Sex>) -> Result<Vec<u8>, AllocError>
+    ensures { IfOk result (λ bytes. bytes.items ≡ bytes_of (command.Person name.now sex)) }
+{
+    row_of_three(
+        alloc,
+        b"person",
+        name.as_str().as_bytes(),
+        letter_or_empty(sex).as_bytes(),
+    )
+}
+
+fn name_bytes(alloc: Global, person: u32, name: &Field) -> Result<Vec<u8>, AllocError>
+    ensures { IfOk result (λ bytes. bytes.items ≡ bytes_of (command.Name person name.now)) }
+{
+    let person = person.to_string(alloc)?;
+    row_of_three(alloc, b"name", person.as_bytes(), name.as_str().as_bytes())
+}
+
+fn sex_bytes(alloc: Global, person: u32, sex: Sex) -> Result<Vec<u8>, AllocError>
+    ensures { IfOk result (λ bytes. bytes.items ≡ bytes_of (command.Sex person sex)) }
+{
+    let person = person.to_string(alloc)?;
+    row_of_three(alloc, b"sex", person.as_bytes(), sex.as_str().as_bytes())
+}
+
+fn family_bytes(
+    alloc: Global,
+    husband: Option<u32>,
+    wife: Option<u32>,
+) -> Result<Vec<u8>, AllocError>
+    ensures { IfOk result (λ bytes. bytes.items ≡ bytes_of (command.Family husband wife)) }
+{
+    let husband = number_or_empty(alloc, husband)?;
+    let wife = number_or_empty(alloc, wife)?;
+    row_of_three(alloc, b"family", husband.as_bytes(), wife.as_bytes())
+}
+
+fn child_bytes(alloc: Global, family: u32, person: u32) -> Result<Vec<u8>, AllocError>
+    ensures { IfOk result (λ bytes. bytes.items ≡ bytes_of (command.Child family person)) }
+{
+    let family = family.to_string(alloc)?;
+    let person = person.to_string(alloc)?;
+    row_of_three(alloc, b"child", family.as_bytes(), person.as_bytes())
+}
+
+fn event_bytes(
+    alloc: Global,
+    owner: u32,
+    tag: &Field,
+    value: &Field,
+    date: &Option<GivenDate>,
+    place: Option<u32>,
+) -> Result<Vec<u8>, AllocError>
+    ensures { IfOk result (λ bytes. bytes.items ≡ bytes_of (command.Event owner tag.now value.now date.now place)) }
+{
+    let owner = owner.to_string(alloc)?;
+    let place = number_or_empty(alloc, place)?;
+    row_of_six(
+        alloc,
+        b"event",
+        owner.as_bytes(),
+        tag.as_str().as_bytes(),
+        value.as_str().as_bytes(),
+        date_or_empty(date).as_bytes(),
+        place.as_bytes(),
+    )
+}
+
+fn amend_bytes(
+    alloc: Global,
+    event: u32,
+    value: &Field,
+    date: &Option<GivenDate>,
+    place: Option<u32>,
+) -> Result<Vec<u8>, AllocError>
+    ensures { IfOk result (λ bytes. bytes.items ≡ bytes_of (command.Amend event value.now date.now place)) }
+{
+    let event = event.to_string(alloc)?;
+    let place = number_or_empty(alloc, place)?;
+    row_of_five(
+        alloc,
+        b"amend",
+        event.as_bytes(),
+        value.as_str().as_bytes(),
+        date_or_empty(date).as_bytes(),
+        place.as_bytes(),
+    )
+}
+
+fn participant_bytes(
+    alloc: Global,
+    event: u32,
+    person: u32,
+    role: &Field,
+) -> Result<Vec<u8>, AllocError>
+    ensures { IfOk result (λ bytes. bytes.items ≡ bytes_of (command.Participant event person role.now)) }
+{
+    let event = event.to_string(alloc)?;
+    let person = person.to_string(alloc)?;
+    row_of_four(
+        alloc,
+        participant_verb().as_bytes(),
+        event.as_bytes(),
+        person.as_bytes(),
+        role.as_str().as_bytes(),
+    )
+}
+
+/// The verb of a further participant, in a function of its own for the sake of the proof.
+fn participant_verb() -> &'static str
+    ensures { result.now ≡ codes "participant" }
+{
+    "participant"
+}
+
+/// A number as digits, or nothing.
+fn number_or_empty(alloc: Global, number: Option<u32>) -> Result<String, AllocError>
+    ensures { IfOk result (λ digits. string_bytes digits ≡ or_empty decimal number) }
+{
+    match number {
+        Some(number) => Ok(number.to_string(alloc)?),
+        None => Ok(String::new(alloc)),
+    }
+}
+
+/// The letter of a sex, or nothing.
+fn letter_or_empty(sex: Option<Sex>) -> &'static str
+    ensures { result.now ≡ or_empty sex_word sex }
+{
+    match sex {
+        Some(sex) => sex.as_str(),
+        None => "",
+    }
+}
+
+/// The canonical spelling of a date, or nothing.
+fn date_or_empty(date: &Option<GivenDate>) -> &str
+    ensures { result.now ≡ or_empty spelt date.now }
+{
+    match date {
+        Some(date) => date.spelling(),
+        None => "",
+    }
+}

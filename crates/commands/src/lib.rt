@@ -1,0 +1,20 @@
+//! Commands as a request gives them: the verbs and their fields, and the bytes of a command, of which a digest is
+//! kept under the request's token. This is the one home of the verbs and of the order of their fields.
+//!
+//! It stands on `record_text` and `record_fields` for texts and dates, on `gedcom_date` for the spelling of dates,
+//! and on `csv` and `sha2` of the kit. What a command does to an archive is for `archive_core` to say.
+//!
+//! Callers may rely on: the bytes of a command are its verb and its fields as one row of CSV, and its digest is
+//! their SHA-256; a date is kept in canonical spelling, so that two spellings of one date are one command.
+#![tactic(auto)]
+
+mod command;
+mod digest;
+mod field;
+mod given;
+mod rows;
+
+pub use command::Command;
+pub use digest::{command_bytes, command_digest};
+pub use field::Field;
+pub use given::GivenDate;

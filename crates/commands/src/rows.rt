@@ -1,0 +1,78 @@
+//! Rows of CSV: RFC 4180, section 2, as the default writer of `csv` writes them.
+
+ghost use Rattle.std.specs.Prelude.{◌≡◌, ◌∷◌, [], IfOk, map};
+ghost use Rattle.csv.specs.Writing.{default_writer, row_text};
+
+use csv::WriterBuilder;
+use std::alloc::{AllocError, Global};
+
+/// The bytes of a row of these fields.
+pub(crate) fn row_bytes(alloc: Global, fields: &[&[u8]]) -> Result<Vec<u8>, AllocError>
+    ensures { IfOk result (λ bytes. bytes.items ≡ row_text default_writer (map (λ f. f.now) fields.now)) }
+{
+    let mut writer = WriterBuilder::new().from_writer(Vec::new(alloc));
+    if writer.write_fields(fields).is_err() {
+        return Err(AllocError);
+    }
+    match writer.into_inner() {
+        Ok(bytes) => Ok(bytes),
+        Err(_) => Err(AllocError),
+    }
+}
+
+/// The bytes of a row of three fields.
+pub(crate) fn row_of_three<'a>(
+    alloc: Global,
+    first: &'a [u8],
+    second: &'a [u8],
+    third: &'a [u8],
+) -> Result<Vec<u8>, AllocError>
+    ensures { IfOk result (λ bytes. bytes.items ≡ row_text default_writer (first.now ∷ second.now ∷ third.now ∷ [])) }
+{
+    row_bytes(alloc, &[first, second, third])
+}
+
+/// The bytes of a row of four fields.
+pub(crate) fn row_of_four<'a>(
+    alloc: Global,
+    first: &'a [u8],
+    second: &'a [u8],
+    third: &'a [u8],
+    fourth: &'a [u8],
+) -> Result<Vec<u8>, AllocError>
+    ensures { IfOk result (λ bytes. bytes.items
+        ≡ row_text default_writer (first.now ∷ second.now ∷ third.now ∷ fourth.now ∷ [])) }
+{
+    row_bytes(alloc, &[first, second, third, fourth])
+}
+
+/// The bytes of a row of five fields.
+pub(crate) fn row_of_five<'a>(
+    alloc: Global,
+    first: &'a [u8],
+    second: &'a [u8],
+    third: &'a [u8],
+    fourth: &'a [u8],
+    fifth: &'a [u8],
+) -> Result<Vec<u8>, AllocError>
+    ensures { IfOk result (λ bytes. bytes.items
+        ≡ row_text default_writer (first.now ∷ second.now ∷ third.now ∷ fourth.now ∷ fifth.now ∷ [])) }
+{
+    row_bytes(alloc, &[first, second, third, fourth, fifth])
+}
+
+/// The bytes of a row of six fields.
+pub(crate) fn row_of_six<'a>(
+    alloc: Global,
+    first: &'a [u8],
+    second: &'a [u8],
+    third: &'a [u8],
+    fourth: &'a [u8],
+    fifth: &'a [u8],
+    sixth: &'a [u8],
+) -> Result<Vec<u8>, AllocError>
+    ensures { IfOk result (λ bytes. bytes.items
+        ≡ row_text default_writer (first.now ∷ second.now ∷ third.now ∷ fourth.now ∷ fifth.now ∷ sixth.now ∷ [])) }
+{
+    row_bytes(alloc, &[first, second, third, fourth, fifth, sixth])
+}
