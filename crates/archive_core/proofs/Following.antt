@@ -1,7 +1,7 @@
 -- What requests leave beside records: receipts, slips and the next number.
-use Rattle.std.proofs.Common.{◌≡◌, ℕ, ◌+◌, List, [], ◌∷◌, ◌++◌, Bool, true, false, refl, sym, ap, ◌∙◌, ◌⊎◌, inl, inr, cond, nat_le, subst}
+use Rattle.std.proofs.Common.{◌≡◌, ℕ, List, [], ◌∷◌, ◌++◌, true, false, refl, sym, ap, ◌∙◌, inl, inr, cond, nat_le, subst}
 use Rattle.std.specs.Prelude.{Option, Some, None, Result, Ok, Err, if◌then◌else◌, bytes_eq, not, ◌||◌, option_map}
-use Rattle.std.specs.FinMap.{get, insert, get-insert, IsAntisymmetric, nat_cmp-IsAntisymmetric, slice_cmp-IsAntisymmetric}
+use Rattle.std.specs.FinMap.{get, insert, get-insert, nat_cmp-IsAntisymmetric, slice_cmp-IsAntisymmetric}
 use Rattle.std.specs.Ordering.{nat_cmp, eq_by_cmp}
 use Rattle.std.specs.Cmp.{eq_by_cmp_equiv, Equal-is}
 use Rattle.std.specs.Cmp.Lexicographic.{slice_cmp, nat_list_cmp_total}
@@ -61,7 +61,13 @@ step_follows c (command.Event owner tag value date place) =
     then_follows c (text_in tag) _ (λ t. then_follows c (text_in value) _ (λ v. then_follows c (each date_in date) _ (λ d.
     then_follows c (owner_at c owner) _ (λ o. then_follows c (passed (each (said_place_at c) place)) _ (λ _. then_follows c (tag_in o t) _ (λ found.
     let event : model.Event = record {
-      owner = owner; tag = found; value = v; date = d; place = option_map plain_place place; participants = []; carried = [];
+      owner = owner;
+      tag = found;
+      value = v;
+      date = d;
+      place = option_map plain_place place;
+      participants = [];
+      carried = [];
     } in room_follows c (λ n. made c n (kind.Event event)) (made_follows c (kind.Event event))))))))
 step_follows c (command.Amend event value date place) =
     then_follows c (text_in value) _ (λ v. then_follows c (each date_in date) _ (λ d. then_follows c (event_at c event) _ (λ e.
