@@ -4,47 +4,12 @@ mod rows;
 mod shown;
 mod values;
 
+use crate::builders::{Row, line, lines, number_of, read};
 use records::{Record, RefusalKind, StoredLine, Text, copy_record, lines_of, record_of};
-use rows::Row;
 use shown::{Meant, is_meant};
 use std::alloc::Global;
 use std::process::Abort;
 use std::test::Fail;
-use values::{tag, text};
-
-/// The lines of a table.
-fn lines(alloc: Global, rows: &[Row]) -> Result<Vec<StoredLine>, Fail> {
-    let mut lines = Vec::new(alloc);
-    for row in rows {
-        lines.push(line(alloc, *row)?)?;
-    }
-    Ok(lines)
-}
-
-/// The line of a row.
-fn line(alloc: Global, row: Row) -> Result<StoredLine, Fail> {
-    let (depth, word, words, number) = row;
-    Ok(StoredLine {
-        depth,
-        tag: tag(alloc, word)?,
-        text: text_of(alloc, words)?,
-        target: number_of(number),
-    })
-}
-
-/// The text of a row.
-fn text_of(alloc: Global, words: &str) -> Result<Option<Text>, Fail> {
-    if words == "-" {
-        Ok(None)
-    } else {
-        Ok(Some(text(alloc, words)?))
-    }
-}
-
-/// The number of a row.
-fn number_of(number: u32) -> Option<u32> {
-    if number == 0 { None } else { Some(number) }
-}
 
 /// Whether the line is that of the row.
 fn is_row(line: &StoredLine, row: Row) -> bool {
@@ -106,15 +71,6 @@ fn expect_read(rt: &impl Abort, alloc: Global, rows: &[Row], meant: Meant) -> Re
     let kept = expect_both(rt, alloc, &record, rows);
     drop(record);
     kept
-}
-
-/// The record that is kept as the rows.
-fn read(alloc: Global, rows: &[Row]) -> Result<Record, Fail> {
-    let lines = lines(alloc, rows)?;
-    match record_of(alloc, &lines) {
-        Ok(record) => Ok(record),
-        Err(_) => Err(Fail::from("a record")),
-    }
 }
 
 #[test]

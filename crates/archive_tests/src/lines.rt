@@ -1,4 +1,4 @@
-use record_text::{Tag, Text};
+use crate::builders::{carried, one, tag, text};
 use std::alloc::Global;
 use std::test::Fail;
 use stored_lines::{
@@ -6,37 +6,11 @@ use stored_lines::{
     lines_of_branch,
 };
 
-/// A tag that is one.
-fn tag(alloc: Global, word: &str) -> Result<Tag, Fail> {
-    let tag = Tag::try_new(String::from_str(alloc, word)?);
-    Ok(tag.ok_or("a tag")?)
-}
-
-/// A text that is one.
-fn text(alloc: Global, words: &str) -> Result<Text, Fail> {
-    let text = Text::try_new(String::from_str(alloc, words)?);
-    Ok(text.ok_or("a text")?)
-}
-
-/// A list of one.
-fn one<T: Drop>(alloc: Global, item: T) -> Result<Vec<T>, Fail> {
-    let mut items = Vec::new(alloc);
-    items.push(item)?;
-    Ok(items)
-}
-
 /// `NOTE x`, with a pointer to 7 below it.
-fn carried(alloc: Global) -> Result<Vec<Carried>, Fail> {
-    let below = Carried {
-        tag: tag(alloc, "SOUR")?,
-        value: Value::Ref(7),
-        children: Vec::new(alloc),
-    };
-    let line = Carried {
-        tag: tag(alloc, "NOTE")?,
-        value: Value::Text(text(alloc, "x")?),
-        children: one(alloc, below)?,
-    };
+fn note(alloc: Global) -> Result<Vec<Carried>, Fail> {
+    let below = carried(alloc, "SOUR", Value::Ref(7), Vec::new(alloc))?;
+    let children = one(alloc, below)?;
+    let line = carried(alloc, "NOTE", Value::Text(text(alloc, "x")?), children)?;
     one(alloc, line)
 }
 
@@ -65,7 +39,7 @@ fn place(alloc: Global) -> Result<Branch, Fail> {
         tag: tag(alloc, "place")?,
         text: Some(text(alloc, "Ashby")?),
         target: Some(3),
-        children: branches_of(alloc, &carried(alloc)?)?,
+        children: branches_of(alloc, &note(alloc)?)?,
     })
 }
 
@@ -134,7 +108,7 @@ fn number_of(value: &Value) -> u32 {
 #[test]
 fn carried_lines_are_read_again_and_copied(rt: HostRuntime) -> Result<(), Fail> {
     let alloc = rt.alloc();
-    let read = carried_of(alloc, &branches_of(alloc, &carried(alloc)?)?)?;
+    let read = carried_of(alloc, &branches_of(alloc, &note(alloc)?)?)?;
     assert_eq!(rt; number_below(&read), 7);
     if let Some(line) = read.first() {
         let copy = one(alloc, line.copy(alloc)?)?;

@@ -1,11 +1,8 @@
+use crate::builders::{Row, read};
 use record_links::is_naming;
-use records::{Record, StoredLine, Tag, Text, record_of};
 use std::alloc::Global;
 use std::process::Abort;
 use std::test::Fail;
-
-/// A stored line: its depth, its word, its text and the number of a record. `-` is no text, 0 no number.
-type Row = (u32, &'static str, &'static str, u32);
 
 /// A person with a carried line, below which another points to 5.
 const PERSON: [Row; 4] = [
@@ -51,50 +48,6 @@ const OTHER: [Row; 4] = [
     (2, "_SEE", "below", 0),
     (3, "_SEE", "-", 9),
 ];
-
-/// A tag that is one.
-fn tag(alloc: Global, word: &str) -> Result<Tag, Fail> {
-    let tag = Tag::try_new(String::from_str(alloc, word)?);
-    Ok(tag.ok_or("a tag")?)
-}
-
-/// The text of a row.
-fn text_of(alloc: Global, words: &str) -> Result<Option<Text>, Fail> {
-    if words == "-" {
-        return Ok(None);
-    }
-    let text = Text::try_new(String::from_str(alloc, words)?);
-    Ok(Some(text.ok_or("a text")?))
-}
-
-/// The line of a row.
-fn line(alloc: Global, row: Row) -> Result<StoredLine, Fail> {
-    let (depth, word, words, number) = row;
-    Ok(StoredLine {
-        depth,
-        tag: tag(alloc, word)?,
-        text: text_of(alloc, words)?,
-        target: if number == 0 { None } else { Some(number) },
-    })
-}
-
-/// The lines of a table.
-fn lines(alloc: Global, rows: &[Row]) -> Result<Vec<StoredLine>, Fail> {
-    let mut lines = Vec::new(alloc);
-    for row in rows {
-        lines.push(line(alloc, *row)?)?;
-    }
-    Ok(lines)
-}
-
-/// The record that is kept as the rows.
-fn read(alloc: Global, rows: &[Row]) -> Result<Record, Fail> {
-    let lines = lines(alloc, rows)?;
-    match record_of(alloc, &lines) {
-        Ok(record) => Ok(record),
-        Err(_) => Err(Fail::from("a record")),
-    }
-}
 
 /// The record that is kept as the rows names these numbers, and no other up to 9.
 fn expect_names(rt: &impl Abort, alloc: Global, rows: &[Row], names: &[u32]) -> Result<(), Fail> {

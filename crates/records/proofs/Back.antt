@@ -1,5 +1,5 @@
 -- What is read from the tree that a record is kept as is that record.
-use Rattle.std.specs.Prelude.{ℕ, List, [], ◌∷◌, ◌++◌, ◌≡◌, ◌≢◌, map, Option, Some, None, true, false, cond, bytes_eq, refl, option_map, MatchOption, Bool, decimal}
+use Rattle.std.specs.Prelude.{ℕ, List, [], ◌∷◌, ◌++◌, ◌≡◌, ◌≢◌, map, Option, Some, None, true, false, cond, bytes_eq, refl, option_map, MatchOption, IfOk, Result, Ok, Err, Bool, decimal}
 use Rattle.std.specs.Option.{unwrap_or}
 use Rattle.std.proofs.Common.{ap, sym, ◌∙◌}
 use Rattle.stored_lines.specs.Tree.{Tree, node, forest_of, list_of, flat, relabel}
@@ -310,7 +310,7 @@ copy_is r x t o e h is = let same : Some x ≡ Some r = sym is ∙ e ∙ ap reco
 found-one : (ls : List (ℕ × Label)) (t : Tree Label) (r : Record) → ls ≡ flat 0 t → ls ≡ stored r → record_from t ≡ Some r
 found-one ls t r e f = ap record_from (flat_one t (record_tree r) (sym e ∙ f)) ∙ record_back r
 
-pub not_same : (ls : List (ℕ × Label)) (found : Option (Tree Label)) (t : Tree Label) (kept : Option Record) (x : Record) → MatchOption found ((u : Tree Label) → ls ≢ flat 0 u) (λ u. ls ≡ flat 0 u) → found ≡ Some t → kept ≡ record_from t → kept ≡ Some x → ls ≢ stored x → (r : Record) → ls ≢ stored r
+not_same : (ls : List (ℕ × Label)) (found : Option (Tree Label)) (t : Tree Label) (kept : Option Record) (x : Record) → MatchOption found ((u : Tree Label) → ls ≢ flat 0 u) (λ u. ls ≡ flat 0 u) → found ≡ Some t → kept ≡ record_from t → kept ≡ Some x → ls ≢ stored x → (r : Record) → ls ≢ stored r
 not_same ls None t kept x e is h k differs = absurd cc
 not_same ls (Some u) t kept x e is h k differs = λ r f.
     let same_tree : u ≡ t = cc in
@@ -318,3 +318,8 @@ not_same ls (Some u) t kept x e is h k differs = λ r f.
     let same : Some x ≡ Some r = sym k ∙ h ∙ found-one ls t r lines f in
     let one : r ≡ x = cc in
     differs (f ∙ ap stored one)
+
+pub one_kept : {E : Type 0} (ls : List (ℕ × Label)) (found : Option (Tree Label)) (t : Tree Label) (kept : Option Record) (x : Record) → MatchOption found ((u : Tree Label) → ls ≢ flat 0 u) (λ u. ls ≡ flat 0 u) → found ≡ Some t → kept ≡ record_from t → kept ≡ Some x → (r : Result (Option Record) E) → IfOk r (λ o. MatchOption o (ls ≢ stored x) (λ s. ls ≡ stored s)) → IfOk r (λ o. MatchOption o ((s : Record) → ls ≢ stored s) (λ s. ls ≡ stored s))
+one_kept ls found t kept x e is h k (Ok None) differs = not_same ls found t kept x e is h k differs
+one_kept ls found t kept x e is h k (Ok (Some s)) same = same
+one_kept ls found t kept x e is h k (Err _) _ = tt

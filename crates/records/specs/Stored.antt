@@ -65,9 +65,13 @@ repo_tree r = branch field.Repo r.name None (lines_below field.Carried r.carried
 abbrev pub holding_tree : model.Holding → Tree Label
 holding_tree h = branch field.Holding h.call_number (Some h.repo) (lines_below field.Carried h.carried)
 
+-- the lines below that of a source
+abbrev pub source_fields : model.Source → Branches
+source_fields s = text_trees field.Author s.author
+    ++ (text_trees field.Publisher s.publisher ++ (map holding_tree s.holdings ++ lines_below field.Carried s.carried))
+
 abbrev pub source_tree : model.Source → Tree Label
-source_tree s = branch field.Source s.title None (text_trees field.Author s.author
-    ++ (text_trees field.Publisher s.publisher ++ (map holding_tree s.holdings ++ lines_below field.Carried s.carried)))
+source_tree s = branch field.Source s.title None (source_fields s)
 
 abbrev pub citation_tree : model.Citation → Tree Label
 citation_tree c = branch field.Citation None (Some c.owner) ((branch field.Source c.page (Some c.source) [] ∷ [])
@@ -93,9 +97,12 @@ family_tree f = branch field.Family None None (map partner_tree f.partners
     ++ (map child_tree f.children ++ lines_below field.Carried f.carried))
 
 -- a date and a place stand on one line
+abbrev pub place_line : Option (List ℕ) → model.EventPlace → Tree Label
+place_line date p = branch field.Date date (Some p.place) (lines_below field.Carried p.carried)
+
 abbrev pub when_trees : Option (List ℕ) → Option model.EventPlace → Branches
 when_trees date None = text_trees field.Date date
-when_trees date (Some p) = branch field.Date date (Some p.place) (lines_below field.Carried p.carried) ∷ []
+when_trees date (Some p) = place_line date p ∷ []
 
 abbrev pub participant_tree : model.Participant → Tree Label
 participant_tree p = branch field.Participant (Some p.role) (Some p.person) (lines_below field.Carried p.carried)
@@ -129,9 +136,11 @@ entry_tree e = branch field.Entry (Some (entry_kind_word e.kind)) (Some e.source
     ++ (text_trees field.Text (Some e.text) ++ map mention_tree e.mentions))))
 
 -- the one line below that of another record is the record's own, with its carried lines
+abbrev pub own_line : model.Other → Tree Label
+own_line o = node (label_for o.tag o.value) (forest_of (map (relabel label_of) o.carried))
+
 abbrev pub other_tree : model.Other → Tree Label
-other_tree o = branch field.Other None None
-    (node (label_for o.tag o.value) (forest_of (map (relabel label_of) o.carried)) ∷ [])
+other_tree o = branch field.Other None None (own_line o ∷ [])
 
 abbrev pub record_tree : Record → Tree Label
 record_tree (kind.Place p) = place_tree p

@@ -7,13 +7,13 @@ ghost use Rattle.record_fields.specs.Items.{first_item, item_of};
 ghost use Rattle.record_fields.specs.declared.entry_words.EntryKind.TheVariants as kinds;
 ghost use Rattle.record_fields.specs.declared.entry_words.Role.TheVariants as roles;
 ghost use Rattle.records.specs.Stored.{mention_tree, entry_tree, link_person, link_reason, bare_place};
-ghost use Rattle.records.specs.Reading.{mention_from, entry_from, link_from, read_by, place_number, event_place_from, first, under};
+ghost use Rattle.records.specs.Reading.{mention_from, entry_from, link_from, read_by, place_number, event_place_from, first, under, text_from};
 ghost use Rattle.records.specs.declared.field.Field.TheVariants as field;
 
 use crate::event_parts::{date_at, date_words, place_at, push_when};
 use crate::field::Field;
 use crate::part::{Part, parts_at, push_parts};
-use crate::reading::{children_of, number_or_zero, text_at, text_or_none};
+use crate::reading::{children_of, number_or_zero, text_at, text_or_none, words_at};
 use crate::writing::push_text;
 use record_fields::{EntryKind, Item, Role};
 use record_kinds::{Entry, EventPlace, Link, Mention};
@@ -76,11 +76,11 @@ impl Part for Entry {
         Ok(Entry {
             source: number_or_zero(branch.target),
             kind: kind_in(&branch.text),
-            page: text_or_none(alloc, &text_at(alloc, parts, Field::Page)?)?,
-            item: item_in(alloc, &text_at(alloc, parts, Field::Item)?)?,
-            date: date_at(alloc, parts)?,
+            item: item_at(alloc, parts)?,
             place: number_at_date(alloc, parts)?,
-            text: text_or_none(alloc, &text_at(alloc, parts, Field::Text)?)?,
+            page: words_at(alloc, parts, Field::Page)?,
+            date: date_at(alloc, parts)?,
+            text: words_at(alloc, parts, Field::Text)?,
             mentions: parts_at(alloc, parts, Field::Mention)?,
         })
     }
@@ -144,6 +144,14 @@ fn role_in(text: &Option<Text>) -> Role
         None => Role::Child,
         Some(text) => Role::from_word(text.as_str()).unwrap_or(Role::Child),
     }
+}
+
+/// The item on its line; of other words the first.
+fn item_at(alloc: Global, branches: &[Branch]) -> Result<Item, AllocError>
+    ensures { IfOk result (λ i. i
+        ≡ unwrap_or (read_by item_of (text_from field.Item branches.now)) first_item) }
+{
+    item_in(alloc, &text_at(alloc, branches, Field::Item)?)
 }
 
 /// The item of a text; of other words the first.

@@ -2,7 +2,7 @@
 
 ghost use Rattle.std.specs.Prelude.{◌≡◌, ◌++◌, IfOk, OnOk, option_map};
 ghost use Rattle.record_fields.specs.Dated.{date_text, date_from};
-ghost use Rattle.records.specs.Stored.{participant_tree, event_tree, when_trees};
+ghost use Rattle.records.specs.Stored.{participant_tree, event_tree, place_line, when_trees};
 ghost use Rattle.records.specs.Reading.{participant_from, event_from, event_place_from, text_from, first, under, tag_or_event, text_or_empty, text_at as text_of_first, rest};
 ghost use Rattle.records.specs.declared.field.Field.TheVariants as field;
 
@@ -89,10 +89,21 @@ pub(crate) fn push_when(
     let Some(place) = place else {
         return push_text(alloc, below, Field::Date, date);
     };
-    let mut lines = Vec::new(alloc);
-    push_lines(alloc, &mut lines, Field::Carried, &place.carried)?;
-    below.push(Field::Date.branch(alloc, date, Some(place.place), lines)?)?;
+    below.push(line_of_place(alloc, date, place)?)?;
     Ok(())
+}
+
+/// The line of the place of an event, with the date where there is one.
+fn line_of_place(
+    alloc: Global,
+    date: Option<Text>,
+    place: &EventPlace,
+) -> Result<Branch, AllocError>
+    ensures { IfOk result (λ b. b ≡ place_line date place.now) }
+{
+    let mut below = Vec::new(alloc);
+    push_lines(alloc, &mut below, Field::Carried, &place.carried)?;
+    Field::Date.branch(alloc, date, Some(place.place), below)
 }
 
 /// The spelling of a date, where there is one.

@@ -1,6 +1,6 @@
 //! Records kept as lines, and read again.
 
-ghost use Rattle.std.specs.Prelude.{◌≡◌, ◌≢◌, ◌⊎◌, IfOk, IfErr, MatchOption};
+ghost use Rattle.std.specs.Prelude.{◌≡◌, ◌≢◌, ◌⊎◌, ◌↔◌, IfOk, IfErr, IsTrue, MatchOption};
 ghost use Rattle.records.specs.Stored.{stored};
 ghost use Rattle.record_kinds.specs.declared.record.Record.{Record};
 ghost use Rattle.record_text.specs.declared.refusal.RefusalKind.TheVariants as kinds;
@@ -51,13 +51,38 @@ fn found_in(alloc: Global, lines: &[StoredLine]) -> Result<Option<Record>, Alloc
     let Some(tree) = branch_of_lines(alloc, lines)? else {
         return Ok(None);
     };
-    let Some(found) = record_in(alloc, &tree)? else {
-        return Ok(None);
-    };
-    let kept = lines_of(alloc, &found)?;
-    if are_same(lines, &kept) {
-        Ok(Some(found))
-    } else {
-        Ok(None)
+    match record_in(alloc, &tree)? {
+        Some(found) => kept_alone(alloc, found, lines),
+        None => Ok(None),
     }
+}
+
+/// The record, where these lines are those that it is kept as.
+fn kept_alone(
+    alloc: Global,
+    found: Record,
+    lines: &[StoredLine],
+) -> Result<Option<Record>, AllocError>
+    ensures { IfOk result (λ kept. MatchOption kept
+        (lines.now ≢ stored found) (λ r. lines.now ≡ stored r)) }
+{
+    match is_kept_as(alloc, &found, lines) {
+        Ok(true) => Ok(Some(found)),
+        Ok(false) => {
+            drop(found);
+            Ok(None)
+        }
+        Err(e) => {
+            drop(found);
+            Err(e)
+        }
+    }
+}
+
+/// Whether these lines are those that the record is kept as.
+fn is_kept_as(alloc: Global, record: &Record, lines: &[StoredLine]) -> Result<bool, AllocError>
+    ensures { IfOk result (λ same. IsTrue same ↔ (lines.now ≡ stored «record».now)) }
+{
+    let kept = lines_of(alloc, record)?;
+    Ok(are_same(lines, &kept))
 }

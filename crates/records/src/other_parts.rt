@@ -3,7 +3,7 @@
 ghost use Rattle.std.specs.Prelude.{◌≡◌, IfOk};
 ghost use Rattle.stored_lines.specs.Tree.{node, forest_of};
 ghost use Rattle.stored_lines.specs.Line.{label_for};
-ghost use Rattle.records.specs.Stored.{other_tree};
+ghost use Rattle.records.specs.Stored.{other_tree, own_line};
 ghost use Rattle.records.specs.Reading.{other_from};
 
 use crate::field::Field;
@@ -20,9 +20,8 @@ impl Part for Other {
     ghost read_of = { other_from };
 
     fn write(&self, alloc: Global) -> Result<Branch, AllocError> {
-        let carried = branches_of(alloc, &self.carried)?;
         let mut below = Vec::new(alloc);
-        below.push(line_of_value(alloc, &self.tag, &self.value, carried)?)?;
+        below.push(line_of_other(alloc, self)?)?;
         Field::Other.branch(alloc, None, None, below)
     }
 
@@ -42,6 +41,14 @@ impl Part for Other {
             carried: carried_of(alloc, children_of(line))?,
         })
     }
+}
+
+/// The record's own line, with its carried lines.
+fn line_of_other(alloc: Global, other: &Other) -> Result<Branch, AllocError>
+    ensures { IfOk result (λ b. b ≡ own_line other.now) }
+{
+    let carried = branches_of(alloc, &other.carried)?;
+    line_of_value(alloc, &other.tag, &other.value, carried)
 }
 
 /// The line of a tag and a value, with those below it.

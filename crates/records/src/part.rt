@@ -1,6 +1,6 @@
 //! Parts of records: what stands on a line of its own, with the lines below it.
 
-ghost use Rattle.std.specs.Prelude.{◌≡◌, ◌++◌, map, IfOk, OnOk};
+ghost use Rattle.std.specs.Prelude.{[], ◌∷◌, ◌≡◌, ◌++◌, map, IfOk, OnOk};
 ghost use Rattle.stored_lines.specs.Tree.{Tree};
 ghost use Rattle.stored_lines.specs.Line.{Label};
 ghost use Rattle.records.specs.Reading.{under};
@@ -34,8 +34,16 @@ pub(crate) fn push_parts<P: Part>(
     ensures { OnOk result (below.new.items ≡ below.old.items ++ map P.kept_as parts.now) }
 {
     'parts: for part in parts {
-        below.push(part.write(alloc)?)?;
+        push_part(alloc, below, part)?;
     }
+    Ok(())
+}
+
+/// Adds the branch of a part behind the others.
+fn push_part<P: Part>(alloc: Global, below: &mut Vec<Branch>, part: &P) -> Result<(), AllocError>
+    ensures { OnOk result (below.new.items ≡ below.old.items ++ (P.kept_as part.now ∷ [])) }
+{
+    below.push(part.write(alloc)?)?;
     Ok(())
 }
 

@@ -1,11 +1,12 @@
 //! Persons and families as branches.
 
-ghost use Rattle.std.specs.Prelude.{◌≡◌, IfOk, Some, option_map};
+ghost use Rattle.std.specs.Prelude.{◌≡◌, IfOk, Some, map, option_map};
 ghost use Rattle.records.specs.Stored.{name_tree, person_tree, partner_tree, child_tree, family_tree};
 ghost use Rattle.std.specs.Option.{unwrap_or};
 ghost use Rattle.record_fields.specs.Words.{sex_word, partnership_word, sex_of, partnership_of};
 ghost use Rattle.record_fields.specs.declared.words.Partnership.TheVariants as partnerships;
-ghost use Rattle.records.specs.Reading.{name_from, person_from, partner_from, child_from, family_from, read_by};
+ghost use Rattle.records.specs.Reading.{name_from, person_from, partner_from, child_from, family_from, read_by, under};
+ghost use Rattle.records.specs.declared.field.Field.TheVariants as field;
 
 use crate::field::Field;
 use crate::part::{Part, parts_at, push_parts};
@@ -124,10 +125,17 @@ impl Part for Family {
         let parts = children_of(branch);
         Ok(Family {
             partners: parts_at(alloc, parts, Field::Partner)?,
-            children: parts_at(alloc, parts, Field::Child)?,
+            children: children_at(alloc, parts)?,
             carried: lines_at(alloc, parts, Field::Carried)?,
         })
     }
+}
+
+/// The children of a family.
+fn children_at(alloc: Global, branches: &[Branch]) -> Result<Vec<Child>, AllocError>
+    ensures { IfOk result (λ c. c.items ≡ map child_from (under field.Child branches.now)) }
+{
+    parts_at(alloc, branches, Field::Child)
 }
 
 /// The letter of a sex as a text, where there is one.

@@ -84,6 +84,13 @@ pub(crate) fn text_or_none(alloc: Global, text: &Option<Text>) -> Result<Text, A
     }
 }
 
+/// The text on the line of a field, empty where there is none.
+pub(crate) fn words_at(alloc: Global, branches: &[Branch], field: Field) -> Result<Text, AllocError>
+    ensures { IfOk result (λ t. t ≡ text_or_empty (text_from field branches.now)) }
+{
+    text_or_none(alloc, &text_at(alloc, branches, field)?)
+}
+
 /// A number, 0 where there is none.
 pub(crate) fn number_or_zero(number: Option<u32>) -> u32
     ensures { result ≡ number_or_0 number }

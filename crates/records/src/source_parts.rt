@@ -1,9 +1,10 @@
 //! Places, repositories, sources and citations as branches.
 
-ghost use Rattle.std.specs.Prelude.{◌≡◌, IfOk, option_map};
-ghost use Rattle.records.specs.Stored.{place_tree, repo_tree, holding_tree, source_tree, citation_tree};
+ghost use Rattle.std.specs.Prelude.{[], ◌≡◌, IfOk, Some, option_map};
+ghost use Rattle.records.specs.Stored.{branch, place_tree, repo_tree, holding_tree, source_fields, source_tree, citation_tree};
 ghost use Rattle.record_fields.specs.Words.{quality_word, quality_of};
 ghost use Rattle.records.specs.Reading.{place_from, repo_from, holding_from, source_from, citation_from, read_by};
+ghost use Rattle.records.specs.declared.field.Field.TheVariants as field;
 
 use crate::field::Field;
 use crate::part::{Part, parts_at, push_parts};
@@ -86,21 +87,7 @@ impl Part for Source {
     ghost read_of = { source_from };
 
     fn write(&self, alloc: Global) -> Result<Branch, AllocError> {
-        let mut below = Vec::new(alloc);
-        push_text(
-            alloc,
-            &mut below,
-            Field::Author,
-            copied(alloc, &self.author)?,
-        )?;
-        push_text(
-            alloc,
-            &mut below,
-            Field::Publisher,
-            copied(alloc, &self.publisher)?,
-        )?;
-        push_parts(alloc, &mut below, &self.holdings)?;
-        push_lines(alloc, &mut below, Field::Carried, &self.carried)?;
+        let below = fields_of_source(alloc, self)?;
         let text = copied(alloc, &self.title)?;
         Field::Source.branch(alloc, text, None, below)
     }
@@ -124,8 +111,7 @@ impl Part for Citation {
 
     fn write(&self, alloc: Global) -> Result<Branch, AllocError> {
         let mut below = Vec::new(alloc);
-        let page = copied(alloc, &self.page)?;
-        below.push(Field::Source.branch(alloc, page, Some(self.source), Vec::new(alloc))?)?;
+        below.push(cited_source(alloc, self)?)?;
         push_text(
             alloc,
             &mut below,
@@ -146,6 +132,36 @@ impl Part for Citation {
             carried: lines_at(alloc, parts, Field::Carried)?,
         })
     }
+}
+
+/// The lines below that of a source.
+fn fields_of_source(alloc: Global, source: &Source) -> Result<Vec<Branch>, AllocError>
+    ensures { IfOk result (λ below. below.items ≡ source_fields source.now) }
+{
+    let mut below = Vec::new(alloc);
+    push_text(
+        alloc,
+        &mut below,
+        Field::Author,
+        copied(alloc, &source.author)?,
+    )?;
+    push_text(
+        alloc,
+        &mut below,
+        Field::Publisher,
+        copied(alloc, &source.publisher)?,
+    )?;
+    push_parts(alloc, &mut below, &source.holdings)?;
+    push_lines(alloc, &mut below, Field::Carried, &source.carried)?;
+    Ok(below)
+}
+
+/// The line of the source that is cited, with the page.
+fn cited_source(alloc: Global, citation: &Citation) -> Result<Branch, AllocError>
+    ensures { IfOk result (λ b. b ≡ branch field.Source citation.now.page (Some citation.now.source) []) }
+{
+    let page = copied(alloc, &citation.page)?;
+    Field::Source.branch(alloc, page, Some(citation.source), Vec::new(alloc))
 }
 
 /// The word of a quality as a text, where there is one.

@@ -1,7 +1,6 @@
 //! One record of each kind as the lines that it is kept as, written by hand from docs/FORMATS.md.
 
-/// A stored line: its depth, its word, its text and the number of a record. `-` is no text, 0 no number.
-pub(crate) type Row = (u32, &'static str, &'static str, u32);
+use crate::builders::Row;
 
 /// A repository without a name.
 pub(crate) const REPO: [Row; 1] = [(0, "repo", "-", 0)];

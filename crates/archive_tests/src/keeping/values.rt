@@ -1,6 +1,7 @@
 //! The records of the tables of rows, built from values. Each part is built in a function of its own, since each `?`
 //! gives back all that the function holds.
 
+use crate::builders::{carried as line, one, tag, text};
 use records::{
     Carried, Child, Citation, Date, Entry, EntryKind, Event, EventPlace, Family, Holding, Item,
     Link, Mention, Name, Other, Participant, Partner, Partnership, Person, Place, Quality, Record,
@@ -9,45 +10,16 @@ use records::{
 use std::alloc::Global;
 use std::test::Fail;
 
-/// A tag that is one.
-pub(crate) fn tag(alloc: Global, word: &str) -> Result<Tag, Fail> {
-    let tag = Tag::try_new(String::from_str(alloc, word)?);
-    Ok(tag.ok_or("a tag")?)
-}
-
-/// A text that is one.
-pub(crate) fn text(alloc: Global, words: &str) -> Result<Text, Fail> {
-    let text = Text::try_new(String::from_str(alloc, words)?);
-    Ok(text.ok_or("a text")?)
-}
-
-/// A list of one.
-fn one<T: Drop>(alloc: Global, item: T) -> Result<Vec<T>, Fail> {
-    let mut items = Vec::new(alloc);
-    items.push(item)?;
-    Ok(items)
-}
-
 /// A pointer to 7, whose tag is that of stored lines.
 fn pointer(alloc: Global) -> Result<Carried, Fail> {
-    Ok(Carried {
-        tag: tag(alloc, "carried")?,
-        value: Value::Ref(7),
-        children: Vec::new(alloc),
-    })
+    line(alloc, "carried", Value::Ref(7), Vec::new(alloc))
 }
 
 /// `_UID x`, with a pointer to 7 below it.
 fn carried(alloc: Global) -> Result<Vec<Carried>, Fail> {
     let children = one(alloc, pointer(alloc)?)?;
-    one(
-        alloc,
-        Carried {
-            tag: tag(alloc, "_UID")?,
-            value: Value::Text(text(alloc, "x")?),
-            children,
-        },
-    )
+    let words = Value::Text(text(alloc, "x")?);
+    one(alloc, line(alloc, "_UID", words, children)?)
 }
 
 pub(crate) fn repo(alloc: Global) -> Record {
