@@ -27,8 +27,8 @@ pub fn a_receipt_is_kept_for_good()
         → Does c r o after → get c.receipts token ≡ Some kept → get after.receipts token ≡ Some kept }
 {}
 
-/// No number is used twice: an accepted command makes nothing and leaves the next number, or makes a record at it,
-/// and it rises.
+/// No command is answered with a number that was used: an accepted one is answered that it made nothing, and leaves
+/// the next number, or is answered with the next number, which rises by one.
 pub fn no_number_is_used_twice()
     ensures { (c after : Content) (command : Command) (a : Answer) → step c command ≡ Ok (after, a) → Draws c a after }
 {}
