@@ -1,35 +1,39 @@
--- What requests leave beside records: receipts, slips and the next number.
-use Rattle.std.proofs.Common.{◌≡◌, ℕ, List, [], ◌∷◌, ◌++◌, true, false, refl, sym, ap, ◌∙◌, inl, inr, cond, nat_le, subst}
-use Rattle.std.specs.Prelude.{Option, Some, None, Result, Ok, Err, if◌then◌else◌, bytes_eq, not, ◌||◌, option_map}
-use Rattle.std.specs.FinMap.{get, insert, get-insert, nat_cmp-IsAntisymmetric, slice_cmp-IsAntisymmetric}
-use Rattle.std.specs.Ordering.{nat_cmp, eq_by_cmp}
-use Rattle.std.specs.Cmp.{eq_by_cmp_equiv, Equal-is}
-use Rattle.std.specs.Cmp.Lexicographic.{slice_cmp, nat_list_cmp_total}
+-- What an accepted step leaves beside its record: receipts, slips and the next number; and that it is sound.
+use Rattle.std.proofs.Common.{◌≡◌, ℕ, ◌+◌, ◌<◌, List, [], Bool, true, false, refl, sym, ap, ◌∙◌, inl, inr, nat_le, subst, arith}
+use Rattle.std.specs.Prelude.{Option, Some, None, Result, Ok, Err, if◌then◌else◌, not, ◌||◌, option_map}
+use Rattle.std.specs.FinMap.{get, insert}
 use Rattle.record_text.specs.declared.refusal.RefusalKind.{RefusalKind}
-use Rattle.record_text.specs.declared.refusal.RefusalKind.TheVariants.{Full, TokenReused, SamePerson, AlreadyInFamily}
-use Rattle.record_fields.specs.Bytes.{bytes_same}
+use Rattle.record_text.specs.declared.refusal.RefusalKind.TheVariants.{Full, SamePerson, AlreadyInFamily, BadText, NotOfKind}
 use Rattle.record_kinds.specs.Model as model
 use Rattle.record_kinds.specs.declared.record.Record.{Record}
 use Rattle.record_kinds.specs.declared.record.Record.TheVariants as kind
 use Rattle.archive_state.specs.Content.{Content}
-use Rattle.receipts.specs.declared.answer.Answer.{Answer}
-use Rattle.receipts.specs.declared.answer.Receipt.{Receipt}
-use Rattle.commands.specs.Bytes.{digest_of}
+use Rattle.archive_state.specs.Sound.{IsSound}
 use Rattle.commands.specs.declared.command.Command.{Command}
 use Rattle.commands.specs.declared.command.Command.TheVariants as command
-use Rattle.archive_core.specs.Checks.{and_then, room, text_in, date_in, person_at, family_at, event_at, owner_at, tag_in, said_place_at, passed, each, need}
+use Rattle.archive_core.specs.Checks.{and_then, room, text_in, date_in, person_at, family_at, event_at, owner_at, place_at, tag_in, is_tag_of, is_said, said_place_at, passed, each, need}
 use Rattle.archive_core.specs.Steps.{Step, step, made, changed, plain_person, plain_partners, plain_place, with_name, with_child, with_fields, with_participant, is_same, is_partner, is_child}
-use Rattle.archive_core.specs.Machine.{Draws, Does, Runs, Done, outcome, served, kept_under, answered_again}
-use Rattle.archive_core.specs.declared.request.Request.{Request}
+use Rattle.archive_core.specs.Machine.{Draws, NoneAgain}
+use Rattle.archive_core.specs.declared.looks.Owner.{Owner}
+use Rattle.archive_core.proofs.Putting.{put_elsewhere}
+use Rattle.archive_core.proofs.Keeping.{IsFit, put_keeps}
+use Rattle.archive_core.proofs.Found.{person_found, family_found, event_found, owner_found, person_stands, place_stands, passes}
+use Rattle.archive_core.proofs.SaidPaths.{said_has_part}
+use Rattle.archive_core.proofs.Fitting.{PersonAt, PlaceAt, new_person_fits, further_name_fits, new_sex_fits, new_family_fits, further_child_fits, new_event_fits, amended_fits, further_participant_fits}
 
--- an accepted step leaves receipts and slips as they are, and makes nothing or a record at the next number
+-- an accepted step leaves receipts and slips as they are, makes nothing or a record at the next number, uses no number
+-- again, and leaves a sound archive sound
 abbrev pub Follows : Content → Step → Type 0
-Follows c (Ok done) = (done.0.receipts ≡ c.receipts) × (done.0.slips ≡ c.slips) × Draws c done.1 done.0
+Follows c (Ok done) = (done.0.receipts ≡ c.receipts) × (done.0.slips ≡ c.slips) × Draws c done.1 done.0 × NoneAgain c done.0 × (IsSound c → IsSound done.0)
 Follows c (Err e) = Unit {0}
 
-then_follows : {A : Type 0} (c : Content) (r : Result A RefusalKind) (f : A → Step) → ((a : A) → Follows c (f a)) → Follows c (and_then r f)
-then_follows c (Ok a) f h = h a
+then_follows : {A : Type 0} (c : Content) (r : Result A RefusalKind) (f : A → Step) → ((a : A) → r ≡ Ok a → Follows c (f a)) → Follows c (and_then r f)
+then_follows c (Ok a) f h = h a refl
 then_follows c (Err e) f h = tt
+
+need_follows : (c : Content) (b : Bool) (k : RefusalKind) (f : Unit {0} → Step) → (b ≡ true → Follows c (f tt)) → Follows c (and_then (need b k) f)
+need_follows c true k f h = h refl
+need_follows c false k f h = tt
 
 room_follows : (c : Content) (f : ℕ → Step) → Follows c (f c.next) → Follows c (and_then (room c) f)
 room_follows c f h = elim (nat_le c.next 4_294_967_295) as (λ b. Follows c (and_then (if b then Ok c.next else Err Full) f)) [
@@ -37,131 +41,124 @@ room_follows c f h = elim (nat_le c.next 4_294_967_295) as (λ b. Follows c (and
   | false ↦ tt
 ]
 
-changed_follows : (c : Content) (n : ℕ) (r : Record) → Follows c (changed c n r)
-changed_follows c n r = (refl, refl, inl (refl, refl))
+-- a record changes that stands below the next number
+changed_again : (c : Content) (n : ℕ) (old r : Record) → get c.records n ≡ Some old → NoneAgain c (record c { records = insert c.records n r })
+changed_again c n old r at = (
+  omega arith,
+  λ k less. (
+    (λ none. put_elsewhere c.records n r k (λ same. let both : Some old ≡ None = sym at ∙ (ap (get c.records) (sym same) ∙ none) in absurd cc) ∙ none),
+    (λ none. none),
+  ),
+)
 
-made_follows : (c : Content) (r : Record) → Follows c (made c c.next r)
-made_follows c r = (refl, refl, inr (refl, refl, refl))
+changed_follows : (c : Content) (n : ℕ) (old r : Record) → get c.records n ≡ Some old → (IsSound c → IsFit c n r) → Follows c (changed c n r)
+changed_follows c n old r at fit = (
+  refl,
+  refl,
+  inl (refl, refl),
+  changed_again c n old r at,
+  (λ sound. put_keeps c n c.next r sound (fit sound) (omega arith) (sound.rules.numbered n old at)),
+)
 
+-- a record is made at the next number
+made_again : (c : Content) (r : Record) → NoneAgain c (record c { records = insert c.records c.next r; next = c.next + 1 })
+made_again c r = (
+  omega arith,
+  λ k less. (
+    (λ none. put_elsewhere c.records c.next r k (λ same. let here : c.next < c.next = subst (λ x. x < c.next) same less in absurd (omega arith)) ∙ none),
+    (λ none. none),
+  ),
+)
+
+made_follows : (c : Content) (r : Record) → (IsSound c → IsFit c c.next r) → Follows c (made c c.next r)
+made_follows c r fit = (
+  refl,
+  refl,
+  inr (refl, refl, refl),
+  made_again c r,
+  (λ sound. let begun : 0 < c.next = sound.begun in put_keeps c c.next (c.next + 1) r sound (fit sound) (omega arith) (begun, omega arith)),
+)
+
+-- ---- what a look has found
+each_passed : {A : Type 0} (r : Result A RefusalKind) (u : Unit {0}) → passed (and_then r (λ a. Ok (Some a))) ≡ Ok u → passed r ≡ Ok u
+each_passed (Ok a) u e = e
+each_passed (Err k) u e = e
+
+first_passed : {A B : Type 0} (r : Result A RefusalKind) (f : A → Result B RefusalKind) (b : B) → and_then r f ≡ Ok b → (a : A) × (r ≡ Ok a)
+first_passed (Ok a) f b e = (a, refl)
+first_passed (Err k) f b e = absurd cc
+
+not_true : (b : Bool) → not b ≡ true → b ≡ false
+not_true true e = absurd cc
+not_true false e = refl
+
+tag_found : (o : Owner) (t tag : List ℕ) → tag_in o t ≡ Ok tag → is_tag_of o tag ≡ true
+tag_found o t tag e = elim (is_tag_of o t) as (λ b. is_tag_of o t ≡ b → (if b then Ok t else Err NotOfKind) ≡ Ok tag → is_tag_of o tag ≡ true) [
+  | true ↦ λ q f. let same : t ≡ tag = cc in subst (λ x. is_tag_of o x ≡ true) same q
+  | false ↦ λ q f. absurd cc
+] refl e
+
+one_person : (c : Content) (n : ℕ) (u : Unit {0}) → passed (person_at c n) ≡ Ok u → PersonAt c (Some n)
+one_person c n u e = let p = passes (person_at c n) u e in person_stands (get c.records n) p.0 p.1
+
+maybe_person : (c : Content) (n : Option ℕ) (u : Unit {0}) → passed (each (person_at c) n) ≡ Ok u → PersonAt c n
+maybe_person c None u e = tt
+maybe_person c (Some n) u e = one_person c n u (each_passed (person_at c n) u e)
+
+maybe_place : (c : Content) (n : Option ℕ) (u : Unit {0}) → passed (each (said_place_at c) n) ≡ Ok u → PlaceAt c n
+maybe_place c None u e = tt
+maybe_place c (Some n) u e =
+    let said = passes (said_place_at c n) u (each_passed (said_place_at c n) u e) in
+    let place = first_passed (place_at c n) (λ p. need (is_said n c.records n p) BadText) said.0 said.1 in
+    (place_stands (get c.records n) place.0 place.1, said_has_part c n said.1)
+
+-- ---- each command
 pub step_follows : (c : Content) (k : Command) → Follows c (step c k)
 step_follows c (command.Person name sex) =
-    then_follows c (text_in name) _ (λ t. room_follows c (λ n. made c n (kind.Person (plain_person t sex))) (made_follows c (kind.Person (plain_person t sex))))
+    then_follows c (text_in name) _ (λ t e. room_follows c (λ n. made c n (kind.Person (plain_person t sex)))
+    (made_follows c (kind.Person (plain_person t sex)) (new_person_fits c t sex)))
 step_follows c (command.Name person name) =
-    then_follows c (text_in name) _ (λ t. then_follows c (person_at c person) _ (λ p. changed_follows c person (kind.Person (with_name t p))))
+    then_follows c (text_in name) _ (λ t e. then_follows c (person_at c person) _ (λ p found.
+    let at : get c.records person ≡ Some (kind.Person p) = person_found (get c.records person) p found in
+    changed_follows c person (kind.Person p) (kind.Person (with_name t p)) at (λ sound. further_name_fits c person p t sound at)))
 step_follows c (command.Sex person sex) =
-    then_follows c (person_at c person) _ (λ p. changed_follows c person (kind.Person (record p { sex = Some sex })))
+    then_follows c (person_at c person) _ (λ p found.
+    let at : get c.records person ≡ Some (kind.Person p) = person_found (get c.records person) p found in
+    changed_follows c person (kind.Person p) (kind.Person (record p { sex = Some sex })) at (λ sound. new_sex_fits c person p (Some sex) sound at))
 step_follows c (command.Family husband wife) =
     let family : model.Family = record { partners = plain_partners husband wife; children = []; carried = [] } in
-    then_follows c (passed (each (person_at c) husband)) _ (λ _. then_follows c (passed (each (person_at c) wife)) _ (λ _.
-    then_follows c (need (not (is_same husband wife)) SamePerson) _ (λ _. room_follows c (λ n. made c n (kind.Family family)) (made_follows c (kind.Family family)))))
+    then_follows c (passed (each (person_at c) husband)) _ (λ h first. then_follows c (passed (each (person_at c) wife)) _ (λ w second.
+    need_follows c (not (is_same husband wife)) SamePerson _ (λ other. room_follows c (λ n. made c n (kind.Family family))
+    (made_follows c (kind.Family family) (λ sound. new_family_fits c husband wife sound (maybe_person c husband h first) (maybe_person c wife w second) (not_true (is_same husband wife) other))))))
 step_follows c (command.Child family person) =
-    then_follows c (family_at c family) _ (λ f. then_follows c (passed (person_at c person)) _ (λ _.
-    then_follows c (need (not (is_partner person f || is_child person f)) AlreadyInFamily) _ (λ _. changed_follows c family (kind.Family (with_child person f)))))
+    then_follows c (family_at c family) _ (λ f found. then_follows c (passed (person_at c person)) _ (λ u there.
+    need_follows c (not (is_partner person f || is_child person f)) AlreadyInFamily _ (λ other.
+    let at : get c.records family ≡ Some (kind.Family f) = family_found (get c.records family) f found in
+    changed_follows c family (kind.Family f) (kind.Family (with_child person f)) at
+    (λ sound. further_child_fits c family f person sound at (one_person c person u there) (not_true (is_partner person f || is_child person f) other)))))
 step_follows c (command.Event owner tag value date place) =
-    then_follows c (text_in tag) _ (λ t. then_follows c (text_in value) _ (λ v. then_follows c (each date_in date) _ (λ d.
-    then_follows c (owner_at c owner) _ (λ o. then_follows c (passed (each (said_place_at c) place)) _ (λ _. then_follows c (tag_in o t) _ (λ found.
+    then_follows c (text_in tag) _ (λ t i. then_follows c (text_in value) _ (λ v j. then_follows c (each date_in date) _ (λ d k.
+    then_follows c (owner_at c owner) _ (λ o found. then_follows c (passed (each (said_place_at c) place)) _ (λ u there. then_follows c (tag_in o t) _ (λ is one.
     let event : model.Event = record {
       owner = owner;
-      tag = found;
+      tag = is;
       value = v;
       date = d;
       place = option_map plain_place place;
       participants = [];
       carried = [];
-    } in room_follows c (λ n. made c n (kind.Event event)) (made_follows c (kind.Event event))))))))
+    } in
+    let holder = owner_found (get c.records owner) o found in
+    room_follows c (λ n. made c n (kind.Event event)) (made_follows c (kind.Event event)
+    (λ sound. new_event_fits c owner o holder.0 is v d place sound holder.1 holder.2 holder.3 (tag_found o t is one) (maybe_place c place u there)))))))))
 step_follows c (command.Amend event value date place) =
-    then_follows c (text_in value) _ (λ v. then_follows c (each date_in date) _ (λ d. then_follows c (event_at c event) _ (λ e.
-    then_follows c (passed (each (said_place_at c) place)) _ (λ _. changed_follows c event (kind.Event (with_fields v d place e))))))
+    then_follows c (text_in value) _ (λ v i. then_follows c (each date_in date) _ (λ d j. then_follows c (event_at c event) _ (λ e found.
+    then_follows c (passed (each (said_place_at c) place)) _ (λ u there.
+    let at : get c.records event ≡ Some (kind.Event e) = event_found (get c.records event) e found in
+    changed_follows c event (kind.Event e) (kind.Event (with_fields v d place e)) at
+    (λ sound. amended_fits c event e v d place sound at (maybe_place c place u there))))))
 step_follows c (command.Participant event person role) =
-    then_follows c (text_in role) _ (λ r. then_follows c (event_at c event) _ (λ e. then_follows c (passed (person_at c person)) _ (λ _.
-    changed_follows c event (kind.Event (with_participant person r e)))))
-
-ok_is : {A : Type 0} (x y : A) (r : Result A RefusalKind) → r ≡ Ok x → r ≡ Ok y → x ≡ y
-ok_is x y r e f = let both : Ok x ≡ Ok y = sym e ∙ f in cc
-
-err_is_not : {A : Type 0} (k : RefusalKind) (y : A) (r : Result A RefusalKind) → r ≡ Err k → r ≡ Ok y → ⊥
-err_is_not k y r e f = let both : Err k ≡ Ok y = sym e ∙ f in absurd cc
-
-pub step_draws : (c t : Content) (k : Command) (a : Answer) → step c k ≡ Ok (t, a) → Draws c a t
-step_draws c t k a e = let f : Follows c (Ok (t, a)) = subst (Follows c) e (step_follows c k) in f.2
-
--- ---- one request
-at_itself : (token : List ℕ) → eq_by_cmp (slice_cmp nat_cmp) token token ≡ true
-at_itself token = (eq_by_cmp_equiv nat_list_cmp_total).refl token
-
--- what is kept is found again
-found_again : (c : Content) (token : List ℕ) (x : Receipt) → get (insert c.receipts token x) token ≡ Some x
-found_again c token x = get-insert nat_list_cmp_total c.receipts token x token ∙ ap (λ b. cond b (Some x) (get c.receipts token)) (at_itself token)
-
-same_again : (c : Content) (d : List ℕ) (a : Answer) → answered_again c d (record { digest = d; answer = a }) ≡ Ok (c, a)
-same_again c d a = ap (λ b. if b then Ok (c, a) else Err TokenReused) (bytes_same d d refl)
-
-one_token : (a b : List ℕ) → eq_by_cmp (slice_cmp nat_cmp) a b ≡ true → a ≡ b
-one_token a b e = slice_cmp-IsAntisymmetric nat_cmp-IsAntisymmetric a b ((Equal-is (slice_cmp nat_cmp a b)).0 e)
-
-differs : (c : Content) (token other : List ℕ) (x : Receipt) → get c.receipts token ≡ None → get c.receipts other ≡ Some x → other ≡ token → ⊥
-differs c token other x none some e = let both : Some x ≡ None = sym some ∙ ap (λ t. get c.receipts t) e ∙ none in absurd cc
-
--- an accepted step, with its answer kept
-abbrev left_by : List ℕ → List ℕ → Content × Answer → Content
-left_by token digest done = record done.0 { receipts = insert done.0.receipts token (record { digest = digest; answer = done.1 }) }
-
--- the answer of an accepted step is found under its token
-kept_again : (s : Step) (token digest : List ℕ) (after : Content) (a : Answer) → kept_under token digest s ≡ Ok (after, a) → get after.receipts token ≡ Some (record { digest = digest; answer = a })
-kept_again (Ok done) token digest after a e =
-    let same : (left_by token digest done, done.1) ≡ (after, a) = ok_is _ _ _ refl e in
-    ap (λ (p : Content × Answer). get p.0.receipts token) (sym same) ∙ found_again done.0 token (record { digest = digest; answer = done.1 })
-    ∙ ap (λ (p : Content × Answer). Some (record { digest = digest; answer = p.1 })) same
-kept_again (Err k) token digest after a e = absurd (err_is_not k (after, a) _ refl e)
-
--- where an answer was kept nothing changes
-stays : (c after : Content) (digest : List ℕ) (x : Receipt) (a : Answer) → answered_again c digest x ≡ Ok (after, a) → c ≡ after
-stays c after digest x a e =
-    let here : Content × Answer = (c, x.answer) in
-    let left : Content × Answer = (after, a) in
-    let kept : Step = Ok here in
-    let refused : Step = Err TokenReused in
-    elim (bytes_eq x.digest digest) as (λ b. (if b then kept else refused) ≡ Ok left → c ≡ after) [
-      | true ↦ λ h. ap (λ (p : Content × Answer). p.0) (ok_is here left kept refl h)
-      | false ↦ λ h. absurd (err_is_not TokenReused left refused refl h)
-    ] e
-
-again : (c after : Content) (r : Request) (a : Answer) (o : Option Receipt) → get c.receipts r.token ≡ o → served c r o ≡ Ok (after, a) → outcome after r ≡ Ok (after, a)
-again c after r a None is e =
-    ap (served after r) (kept_again (step c r.command) r.token (digest_of r.command) after a e) ∙ same_again after (digest_of r.command) a
-again c after r a (Some x) is e =
-    subst (λ (z : Content). outcome z r ≡ Ok (after, a)) (stays c after (digest_of r.command) x a e) (ap (served c r) is ∙ e)
-
--- an accepted request is answered as before, and leaves what it left
-pub repeated : (c after : Content) (r : Request) (a : Answer) → Does c r (Ok a) after → Does after r (Ok a) after
-repeated c after r a e = again c after r a (get c.receipts r.token) refl e
-
--- ---- receipts
-still_there : (c : Content) (token other : List ℕ) (x v : Receipt) → get c.receipts token ≡ None → get c.receipts other ≡ Some x → get (insert c.receipts token v) other ≡ Some x
-still_there c token other x v none some =
-    get-insert nat_list_cmp_total c.receipts token v other ∙
-    elim (eq_by_cmp (slice_cmp nat_cmp) other token) as (λ b. eq_by_cmp (slice_cmp nat_cmp) other token ≡ b → cond b (Some v) (get c.receipts other) ≡ Some x) [
-      | true ↦ λ e. absurd (differs c token other x none some (one_token other token e))
-      | false ↦ λ e. some
-    ] refl
-
-keeps_on : (c after : Content) (r : Request) (a : Answer) (other : List ℕ) (x : Receipt) (s : Step) → Follows c s → kept_under r.token (digest_of r.command) s ≡ Ok (after, a) → get c.receipts r.token ≡ None → get c.receipts other ≡ Some x → get after.receipts other ≡ Some x
-keeps_on c after r a other x (Ok done) f e none some =
-    let same : (left_by r.token (digest_of r.command) done, done.1) ≡ (after, a) = ok_is _ _ _ refl e in
-    let v : Receipt = record { digest = digest_of r.command; answer = done.1 } in
-    ap (λ (p : Content × Answer). get p.0.receipts other) (sym same) ∙ ap (λ m. get (insert m r.token v) other) f.0 ∙ still_there c r.token other x v none some
-keeps_on c after r a other x (Err k) f e none some = absurd (err_is_not k (after, a) _ refl e)
-
-kept_on : (c after : Content) (r : Request) (a : Answer) (o : Option Receipt) (other : List ℕ) (x : Receipt) → get c.receipts r.token ≡ o → served c r o ≡ Ok (after, a) → get c.receipts other ≡ Some x → get after.receipts other ≡ Some x
-kept_on c after r a None other x is e some = keeps_on c after r a other x (step c r.command) (step_follows c r.command) e is some
-kept_on c after r a (Some y) other x is e some = ap (λ (z : Content). get z.receipts other) (sym (stays c after (digest_of r.command) y a e)) ∙ some
-
--- what is kept under a token is kept for good
-pub kept_for_good : (c after : Content) (r : Request) (o : Result Answer RefusalKind) (other : List ℕ) (x : Receipt) → Does c r o after → get c.receipts other ≡ Some x → get after.receipts other ≡ Some x
-kept_for_good c after r (Ok a) other x e some = kept_on c after r a (get c.receipts r.token) other x refl e some
-kept_for_good c after r (Err k) other x e some = ap (λ (z : Content). get z.receipts other) e.0 ∙ some
-
--- ---- runs
-pub goes_on : (first rest : List Done) (c after : Content) → Runs c (first ++ rest) after → (between : Content) × Runs c first between × Runs between rest after
-goes_on [] rest c after h = (c, refl, h)
-goes_on (done ∷ first) rest c after (next, does, more) = let g = goes_on first rest next after more in (g.0, (next, does, g.1), g.2)
+    then_follows c (text_in role) _ (λ r i. then_follows c (event_at c event) _ (λ e found. then_follows c (passed (person_at c person)) _ (λ u there.
+    let at : get c.records event ≡ Some (kind.Event e) = event_found (get c.records event) e found in
+    changed_follows c event (kind.Event e) (kind.Event (with_participant person r e)) at
+    (λ sound. further_participant_fits c event e person r sound at (one_person c person u there)))))

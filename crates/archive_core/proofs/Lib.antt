@@ -1,2 +1,9 @@
+mod Fitting
 mod Following
+mod Found
+mod Keeping
+mod Putting
 mod Said
+mod SaidPaths
+mod Serving
+mod Undo

@@ -1,6 +1,7 @@
 -- What changes make of what an archive holds.
-use Rattle.std.specs.Prelude.{ℕ, List, [], ◌∷◌, ◌≡◌, Option, Some, None, Result, Ok, Err, true, false}
+use Rattle.std.specs.Prelude.{ℕ, List, [], ◌∷◌, ◌≡◌, Option, Some, None, option_map, Result, Ok, Err, true, false}
 use Rattle.std.specs.FinMap.{get, insert, remove}
+use Rattle.record_text.specs.declared.refusal.Refusal.{Refusal}
 use Rattle.record_text.specs.declared.refusal.RefusalKind.{RefusalKind}
 use Rattle.archive_state.specs.Changes.{Changes}
 use Rattle.archive_state.specs.Content.{Content, Records, Receipts, Slips}
@@ -26,24 +27,36 @@ abbrev pub with_kept : Receipts → Option Kept → Receipts
 with_kept m None = m
 with_kept m (Some kept) = insert m kept.token kept.receipt
 
--- the slip that stands there is undone for good
-abbrev pub undone : Slips → ℕ → Option Slip → Slips
-undone m n None = m
-undone m n (Some slip) = insert m n (record slip { is_undone = true })
+-- the slip, undone for good
+abbrev pub as_undone : Slip → Slip
+as_undone slip = record slip { is_undone = true }
+
+-- a slip stands at the number, where there is one to put
+abbrev pub put_if : Slips → ℕ → Option Slip → Slips
+put_if m n None = m
+put_if m n (Some slip) = insert m n slip
 
 abbrev pub with_slip : Slips → Option SlipChange → Slips
 with_slip m None = m
 with_slip m (Some (change.Made n slip)) = insert m n slip
-with_slip m (Some (change.Undone n)) = undone m n (get m n)
+with_slip m (Some (change.Undone n)) = put_if m n (option_map as_undone (get m n))
 
--- what is there when the changes are made
-abbrev pub applied : Content → Changes → Content
-applied c changes = record {
-  records = without (with_puts c.records changes.puts) changes.removals;
+-- what is there when all but the puts are made
+abbrev pub finished : Content → Changes → Content
+finished c changes = record {
+  records = without c.records changes.removals;
   next = changes.next;
   receipts = with_kept c.receipts changes.kept;
   slips = with_slip c.slips changes.slip;
 }
+
+-- what is there when the numbers have got their records
+abbrev pub with_all : Content → List Numbered → Content
+with_all c puts = record c { records = with_puts c.records puts }
+
+-- what is there when the changes are made
+abbrev pub applied : Content → Changes → Content
+applied c changes = finished (with_all c changes.puts) changes
 
 -- code that decides a command: changes that, made, leave what is right, with the right answer, and keep no receipt yet; or
 -- the right refusal; or a stop
@@ -55,3 +68,8 @@ Plans c (Err e) right = is_stop e ≡ false → right ≡ Err e
 abbrev pub Chooses : Content → Result Changes RefusalKind → Result (Content × Answer) RefusalKind → Type 0
 Chooses c (Ok changes) right = right ≡ Ok (applied c changes, changes.answer)
 Chooses c (Err e) right = is_stop e ≡ false → right ≡ Err e
+
+-- the same, with the place of what is refused
+abbrev pub Decides : Content → Result Changes Refusal → Result (Content × Answer) Refusal → Type 0
+Decides c (Ok changes) right = right ≡ Ok (applied c changes, changes.answer)
+Decides c (Err e) right = is_stop e.kind ≡ false → right ≡ Err e

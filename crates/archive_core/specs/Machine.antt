@@ -1,7 +1,8 @@
 -- What a request does: an accepted one acts once, and its answer is kept under its token for good. Rules of our own.
-use Rattle.std.specs.Prelude.{ℕ, ◌+◌, ◌⊎◌, Bool, true, false, List, [], ◌∷◌, ◌≡◌, Option, Some, None, Result, Ok, Err, if◌then◌else◌}
+use Rattle.std.specs.Prelude.{ℕ, ◌+◌, ◌<◌, ◌≤◌, ◌⊎◌, Bool, true, false, List, [], ◌∷◌, ◌≡◌, Option, Some, None, Result, Ok, Err, if◌then◌else◌}
 use Rattle.std.specs.Str.{bytes_eq}
 use Rattle.std.specs.FinMap.{get, insert}
+use Rattle.record_text.specs.declared.refusal.Refusal.{Refusal}
 use Rattle.record_text.specs.declared.refusal.RefusalKind.{RefusalKind}
 use Rattle.record_text.specs.declared.refusal.RefusalKind.TheVariants.{OutOfMemory, TokenReused}
 use Rattle.archive_state.specs.Content.{Content}
@@ -21,13 +22,24 @@ kept_under token digest (Err e) = Err e
 abbrev pub answered_again : Content → List ℕ → Receipt → Step
 answered_again c digest receipt = if bytes_eq receipt.digest digest then Ok (c, receipt.answer) else Err TokenReused
 
--- what a request leaves and is answered, by what is kept under its token
+-- the same, by what is kept under its token
 abbrev pub served : Content → Request → Option Receipt → Step
 served c r None = kept_under r.token (digest_of r.command) (step c r.command)
 served c r (Some receipt) = answered_again c (digest_of r.command) receipt
 
-abbrev pub outcome : Content → Request → Step
-outcome c r = served c r (get c.receipts r.token)
+-- a refusal with its place, which is none: a request has no rows
+abbrev pub unplaced : {A : Type 0} → Result A RefusalKind → Result A Refusal
+unplaced (Ok a) = Ok a
+unplaced (Err e) = Err (record { kind = e; at = None })
+
+-- the kind of a refusal, without its place
+abbrev pub kinds : {A : Type 0} → Result A Refusal → Result A RefusalKind
+kinds (Ok a) = Ok a
+kinds (Err e) = Err e.kind
+
+-- what a request leaves and is answered, or its refusal
+abbrev pub outcome : Content → Request → Result (Content × Answer) Refusal
+outcome c r = unplaced (served c r (get c.receipts r.token))
 
 -- want of memory
 abbrev pub is_want : RefusalKind → Bool
@@ -35,13 +47,13 @@ is_want OutOfMemory = true
 is_want _ = false
 
 -- a request with this answer or refusal leaves that; a refusal changes nothing, and want of memory may come in place of any
-abbrev pub Does : Content → Request → Result Answer RefusalKind → Content → Type 0
+abbrev pub Does : Content → Request → Result Answer Refusal → Content → Type 0
 Does c r (Ok answer) after = outcome c r ≡ Ok (after, answer)
-Does c r (Err e) after = (after ≡ c) × (is_want e ≡ false → outcome c r ≡ Err e)
+Does c r (Err e) after = (after ≡ c) × (is_want e.kind ≡ false → outcome c r ≡ Err e)
 
 -- a request, with its answer or refusal
 abbrev pub Done : Type 0
-Done = Request × Result Answer RefusalKind
+Done = Request × Result Answer Refusal
 
 -- requests one after the other
 abbrev pub Runs : Content → List Done → Content → Type 0
@@ -51,3 +63,8 @@ Runs c (done ∷ more) after = (between : Content) × Does c done.0 done.1 betwe
 -- nothing is made, and the next number stays; or one record gets the next number, which rises above it
 abbrev pub Draws : Content → Answer → Content → Type 0
 Draws c a after = ((after.next ≡ c.next) × (a.count ≡ 0)) ⊎ ((after.next ≡ c.next + 1) × (a.first ≡ c.next) × (a.count ≡ 1))
+
+-- no number is used twice: the next one does not fall, and where neither a record nor a slip stood below it none stands
+abbrev pub NoneAgain : Content → Content → Type 0
+NoneAgain c after = (c.next ≤ after.next) × ((n : ℕ) → n < c.next
+    → (get c.records n ≡ None → get after.records n ≡ None) × (get c.slips n ≡ None → get after.slips n ≡ None))

@@ -2,12 +2,15 @@
 
 ghost use Rattle.std.specs.Prelude.{◌≡◌, ◌++◌, List, ℕ, Ok, Err, Result, Some};
 ghost use Rattle.std.specs.FinMap.{get};
-ghost use Rattle.record_text.specs.declared.refusal.RefusalKind.{RefusalKind};
+ghost use Rattle.record_text.specs.declared.refusal.Refusal.{Refusal};
 ghost use Rattle.archive_state.specs.Content.{Content};
 ghost use Rattle.receipts.specs.declared.answer.Answer.{Answer};
 ghost use Rattle.receipts.specs.declared.answer.Receipt.{Receipt};
 ghost use Rattle.commands.specs.declared.command.Command.{Command};
-ghost use Rattle.archive_core.specs.Machine.{Does, Done, Draws, Runs};
+ghost use Rattle.archive_state.specs.Changes.{Changes};
+ghost use Rattle.archive_state.specs.Sound.{IsSound};
+ghost use Rattle.archive_core.specs.Applied.{Decides, applied};
+ghost use Rattle.archive_core.specs.Machine.{Does, Done, Draws, NoneAgain, Runs, outcome};
 ghost use Rattle.archive_core.specs.Steps.{step};
 ghost use Rattle.archive_core.specs.declared.request.Request.{Request};
 
@@ -18,19 +21,42 @@ pub fn a_repeated_request_changes_nothing()
 
 /// A request that is refused changes nothing.
 pub fn a_refused_request_changes_nothing()
-    ensures { (c after : Content) (r : Request) (e : RefusalKind) → Does c r (Err e) after → after ≡ c }
+    ensures { (c after : Content) (r : Request) (e : Refusal) → Does c r (Err e) after → after ≡ c }
 {}
 
 /// What is kept under a token is kept for good.
 pub fn a_receipt_is_kept_for_good()
-    ensures { (c after : Content) (r : Request) (o : Result Answer RefusalKind) (token : List ℕ) (kept : Receipt)
+    ensures { (c after : Content) (r : Request) (o : Result Answer Refusal) (token : List ℕ) (kept : Receipt)
         → Does c r o after → get c.receipts token ≡ Some kept → get after.receipts token ≡ Some kept }
 {}
 
-/// No command is answered with a number that was used: an accepted one is answered that it made nothing, and leaves
-/// the next number, or is answered with the next number, which rises by one.
-pub fn no_number_is_used_twice()
+/// An accepted command is answered that it made nothing, and leaves the next number; or it is answered with the next
+/// number, which then rises by one.
+pub fn an_answer_has_the_next_number()
     ensures { (c after : Content) (command : Command) (a : Answer) → step c command ≡ Ok (after, a) → Draws c a after }
+{}
+
+/// No number is used twice: over a run the next number does not fall, and a number below it at which no record stood
+/// gets none; so with slips.
+pub fn no_number_is_used_twice()
+    ensures { (dones : List Done) (c after : Content) → Runs c dones after → NoneAgain c after }
+{}
+
+/// A request leaves a sound archive sound, accepted or refused.
+pub fn a_request_keeps_an_archive_sound()
+    ensures { (c after : Content) (r : Request) (o : Result Answer Refusal)
+        → IsSound c → Does c r o after → IsSound after }
+{}
+
+/// So do the changes that are decided, when they are made.
+pub fn decided_changes_keep_an_archive_sound()
+    ensures { (c : Content) (r : Request) (changes : Changes)
+        → IsSound c → Decides c (Ok changes) (outcome c r) → IsSound (applied c changes) }
+{}
+
+/// And a run of requests.
+pub fn a_run_keeps_an_archive_sound()
+    ensures { (dones : List Done) (c after : Content) → IsSound c → Runs c dones after → IsSound after }
 {}
 
 /// What a run answers for a beginning of its requests does not depend on the rest.

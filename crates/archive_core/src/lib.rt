@@ -8,6 +8,7 @@
 //! its refusal, and changes nothing itself.
 #![tactic(auto)]
 
+mod applying;
 mod events;
 mod families;
 pub mod laws;
@@ -18,6 +19,7 @@ mod persons;
 mod places;
 mod request;
 
+pub use applying::apply;
 pub use commands::{Command, Field, GivenDate};
-pub use machine::decide;
+pub use machine::{decide, step};
 pub use request::Request;

@@ -1,6 +1,6 @@
 //! Looks at what a command names, over a view.
 
-ghost use Rattle.std.specs.Prelude.{◌≡◌, IfErr, Err, false};
+ghost use Rattle.std.specs.Prelude.{◌≡◌, IfErr, Err, Some, false};
 ghost use Rattle.archive_view.specs.Looks.{Keeps, Decided, CountsFailures, is_failure};
 ghost use Rattle.archive_core.specs.Checks as checks;
 
@@ -126,11 +126,22 @@ pub(crate) fn owner_at<V: View>(
 fn owner_in(found: Option<Record>) -> Result<Owner, RefusalKind>
     ensures { result ≡ checks.owner_in found }
 {
-    match &found {
-        None => Err(RefusalKind::NoSuch),
-        Some(Record::Person(_)) => Ok(Owner::Person),
-        Some(Record::Family(_)) => Ok(Owner::Family),
-        Some(_) => Err(RefusalKind::WrongKind),
+    let Some(record) = found else {
+        return Err(RefusalKind::NoSuch);
+    };
+    let owner = owner_of(&record);
+    drop(record);
+    owner
+}
+
+/// What the record is, where an event may be of it.
+fn owner_of(value: &Record) -> Result<Owner, RefusalKind>
+    ensures { result ≡ checks.owner_in (Some value.now) }
+{
+    match value {
+        Record::Person(_) => Ok(Owner::Person),
+        Record::Family(_) => Ok(Owner::Family),
+        _ => Err(RefusalKind::WrongKind),
     }
 }
 

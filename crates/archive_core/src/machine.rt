@@ -1,29 +1,54 @@
 //! The machine: a request is done once, and is answered again by its token.
 
-ghost use Rattle.std.specs.Prelude.{◌≡◌, Some};
-ghost use Rattle.archive_view.specs.Looks.{Keeps, CountsFailures};
-ghost use Rattle.archive_core.specs.Applied.{Chooses, Plans};
-ghost use Rattle.archive_core.specs.Machine.{answered_again, kept_under, outcome};
+ghost use Rattle.std.specs.Prelude.{◌≡◌, Some, IfErr, false};
+ghost use Rattle.std.specs.FinMap as map;
+ghost use Rattle.archive_view.specs.Looks.{Keeps, CountsFailures, is_failure};
+ghost use Rattle.archive_core.specs.Applied.{Chooses, Decides, Plans};
+ghost use Rattle.archive_core.specs.Machine.{Does, answered_again, kept_under, kinds, outcome, served};
 ghost use Rattle.archive_core.specs.Steps.{step};
 
+use crate::applying::apply;
 use crate::events::{amended, further_participant, new_event};
 use crate::families::{further_child, new_family};
 use crate::persons::{further_name, new_person, new_sex};
 use crate::request::Request;
-use archive_state::{Changes, Kept, Receipt, Token};
+use archive_state::{Answer, Changes, Kept, Receipt, State, Token};
 use archive_view::View;
 use commands::{Command, command_digest};
-use records::RefusalKind;
+use records::{Refusal, RefusalKind};
 use std::alloc::Global;
 
+/// Makes what a request changes in a state, and answers it. A refusal changes nothing.
+pub fn step(alloc: Global, state: &mut State, request: &Request) -> Result<Answer, Refusal>
+    ensures { Does state.old «request».now result state.new }
+{
+    let changes = decide_over(alloc, state, request)?;
+    Ok(apply(alloc, state, changes)?)
+}
+
+/// What a request changes in a state.
+fn decide_over(alloc: Global, state: &State, request: &Request) -> Result<Changes, Refusal>
+    ensures decides { Decides state.now result (outcome state.now «request».now) }
+    ensures memory { IfErr result (λ e. is_failure e.kind ≡ false) }
+{
+    let mut view: &State = state;
+    decide(alloc, &mut view, request)
+}
+
 /// What a request changes, and its answer.
-pub fn decide<V: View>(
-    alloc: Global,
-    view: &mut V,
-    request: &Request,
-) -> Result<Changes, RefusalKind>
+pub fn decide<V: View>(alloc: Global, view: &mut V, request: &Request) -> Result<Changes, Refusal>
     ensures decides { Keeps (V.is_honest view.old) (V.is_honest view.new) (V.content view.old) (V.content view.new)
-        (Chooses (V.content view.old) result (outcome (V.content view.old) request.now)) }
+        (Decides (V.content view.old) result (outcome (V.content view.old) request.now)) }
+    ensures counts { CountsFailures (V.failed view.old) (V.failed view.new) (kinds result) }
+{
+    Ok(serve(alloc, view, request)?)
+}
+
+/// The same without the place of a refusal, which is none.
+fn serve<V: View>(alloc: Global, view: &mut V, request: &Request) -> Result<Changes, RefusalKind>
+    ensures decides { Keeps (V.is_honest view.old) (V.is_honest view.new) (V.content view.old) (V.content view.new)
+        (Chooses (V.content view.old) result
+        (served (V.content view.old) request.now (map.get (V.content view.old).receipts request.now.token))) }
     ensures counts { CountsFailures (V.failed view.old) (V.failed view.new) result }
 {
     let digest = command_digest(alloc, &request.command)?;

@@ -1,5 +1,5 @@
 -- What a new archive holds is sound.
-use Rattle.std.proofs.Common.{◌≡◌, ℕ, sym, subst}
+use Rattle.std.proofs.Common.{◌≡◌, ℕ, sym, subst, arith}
 use Rattle.std.specs.Prelude.{Some, None}
 use Rattle.std.specs.Ordering.{nat_cmp}
 use Rattle.std.specs.FinMap.{get, empty, get-empty}
@@ -29,6 +29,7 @@ no_records_are_sound next = record {
 
 pub nothing_is_sound : IsSound nothing
 nothing_is_sound = record {
+  begun = omega arith;
   named = λ n r e. absurd (none_there n r e);
   rules = no_records_are_sound 1;
   slips = λ n s e. absurd (none_there n s e);

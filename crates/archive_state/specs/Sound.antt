@@ -164,6 +164,8 @@ pub record IsSoundSlip (next : ℕ) (number : ℕ) (s : Slip) : Type 0 where
 
 -- what holds of all that an archive holds
 pub record IsSound (c : Content) : Type 0 where
+  -- the next number is from 1
+  pub begun : 0 < c.next
   -- every number in a record names a record of the kind that is demanded there; one on a carried line names a record
   -- that is written at level 0
   pub named : EachIn c.records (λ n r. EachOf (Stands c.records) (links r))

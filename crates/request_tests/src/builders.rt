@@ -2,7 +2,7 @@
 
 use archive_core::{Command, Field, GivenDate};
 use archive_state::Token;
-use records::Sex;
+use records::{Sex, Text};
 use std::alloc::Global;
 use std::test::Fail;
 
@@ -79,4 +79,10 @@ pub(crate) fn participant(
         person,
         role,
     })
+}
+
+/// A text that is one.
+pub(crate) fn text(alloc: Global, words: &str) -> Result<Text, Fail> {
+    let text = Text::try_new(String::from_str(alloc, words)?);
+    Ok(text.ok_or("a text")?)
 }

@@ -1,15 +1,26 @@
 //! Places that an event may have: one whose path has a part that is not empty.
 
-use crate::asking::{is_answered, is_refused, text};
-use crate::builders::{amend, event, person};
+use crate::asking::{Archives, is_answered, is_refused};
+use crate::builders::{amend, event, person, text};
 use archive_state::State;
 use records::{Place, Record, RefusalKind};
 use std::alloc::Global;
 use std::process::Abort;
 use std::test::Fail;
 
-/// A place at a number.
+/// A place at a number of both archives.
 fn put(
+    alloc: Global,
+    archives: &mut Archives,
+    number: u32,
+    name: &str,
+    parent: Option<u32>,
+) -> Result<(), Fail> {
+    put_in(alloc, &mut archives.stepped, number, name, parent)?;
+    put_in(alloc, &mut archives.decided, number, name, parent)
+}
+
+fn put_in(
     alloc: Global,
     state: &mut State,
     number: u32,
@@ -27,48 +38,51 @@ fn put(
 }
 
 /// Places 1 to 6 by hand, and person 7.
-fn places(rt: &impl Abort, alloc: Global, state: &mut State) -> Result<(), Fail> {
-    put(alloc, state, 1, "Kent", None)?;
-    put(alloc, state, 2, "", None)?;
-    put(alloc, state, 3, ", ", Some(2))?;
-    put(alloc, state, 4, " , ", Some(1))?;
-    put(alloc, state, 5, "", Some(6))?;
-    put(alloc, state, 6, "Ashby", None)?;
-    state.set_next(7);
-    assert!(rt; is_answered(alloc, state, "p", person(alloc, "", None)?, 7, 1)?);
+fn places(rt: &impl Abort, alloc: Global, archives: &mut Archives) -> Result<(), Fail> {
+    put(alloc, archives, 1, "Kent", None)?;
+    put(alloc, archives, 2, "", None)?;
+    put(alloc, archives, 3, ", ", Some(2))?;
+    put(alloc, archives, 4, " , ", Some(1))?;
+    put(alloc, archives, 5, "", Some(6))?;
+    put(alloc, archives, 6, "Ashby", None)?;
+    archives.set_next(7);
+    assert!(rt; is_answered(alloc, archives, "p", person(alloc, "", None)?, 7, 1)?);
     Ok(())
 }
 
 #[test]
 fn a_path_of_empty_parts_is_refused(rt: HostRuntime) -> Result<(), Fail> {
     let alloc = rt.alloc();
-    let mut state = State::new(alloc);
-    places(&rt, alloc, &mut state)?;
-    ask_with_places(&rt, alloc, &mut state)
+    let mut archives = Archives::new(alloc);
+    places(&rt, alloc, &mut archives)?;
+    ask_with_places(&rt, alloc, &mut archives)
 }
 
 /// The parent of place 5 has a greater number, so that it does not count.
-fn ask_with_places(rt: &impl Abort, alloc: Global, state: &mut State) -> Result<(), Fail> {
+fn ask_with_places(rt: &impl Abort, alloc: Global, archives: &mut Archives) -> Result<(), Fail> {
     for place in [2, 3, 5] {
         let birth = event(alloc, 7, "BIRT", "", Some(place))?;
-        assert!(rt; is_refused(alloc, state, "x", birth, RefusalKind::BadText)?);
+        assert!(rt; is_refused(alloc, archives, "x", birth, RefusalKind::BadText)?);
         let wedding = event(alloc, 7, "MARR", "", Some(place))?;
-        assert!(rt; is_refused(alloc, state, "x", wedding, RefusalKind::BadText)?);
+        assert!(rt; is_refused(alloc, archives, "x", wedding, RefusalKind::BadText)?);
     }
     for (word, place, number) in [("x1", 1, 8), ("x2", 4, 9), ("x3", 6, 10)] {
         let birth = event(alloc, 7, "BIRT", "", Some(place))?;
-        assert!(rt; is_answered(alloc, state, word, birth, number, 1)?);
+        assert!(rt; is_answered(alloc, archives, word, birth, number, 1)?);
     }
-    move_the_event(rt, alloc, state)
+    move_the_event(rt, alloc, archives)
 }
 
-fn move_the_event(rt: &impl Abort, alloc: Global, state: &mut State) -> Result<(), Fail> {
+fn move_the_event(rt: &impl Abort, alloc: Global, archives: &mut Archives) -> Result<(), Fail> {
     let nowhere = amend(alloc, 8, "", "", Some(3))?;
-    assert!(rt; is_refused(alloc, state, "y", nowhere, RefusalKind::BadText)?);
+    assert!(rt; is_refused(alloc, archives, "y", nowhere, RefusalKind::BadText)?);
     let ashby = amend(alloc, 8, "", "", Some(6))?;
-    assert!(rt; is_answered(alloc, state, "y", ashby, 0, 0)?);
-    assert!(rt;
-        matches!(state.record(8), Some(Record::Event(e)) if e.place.as_ref().is_some_and(|p| p.place == 6))
-    );
+    assert!(rt; is_answered(alloc, archives, "y", ashby, 0, 0)?);
+    assert!(rt; is_event_8_in_6(&archives.stepped));
+    assert!(rt; is_event_8_in_6(&archives.decided));
     Ok(())
+}
+
+fn is_event_8_in_6(state: &State) -> bool {
+    matches!(state.record(8), Some(Record::Event(e)) if e.place.as_ref().is_some_and(|p| p.place == 6))
 }

@@ -1,6 +1,6 @@
 //! Worked rows: requests one after the other in a new archive.
 
-use crate::asking::{is_answered, is_refused};
+use crate::asking::{Archives, is_answered, is_refused};
 use crate::builders::{event, participant, person, token};
 use archive_core::Command;
 use archive_state::{Answer, State};
@@ -19,40 +19,49 @@ fn family(husband: Option<u32>) -> Command {
 #[test]
 fn a_family_with_a_wedding(rt: HostRuntime) -> Result<(), Fail> {
     let alloc = rt.alloc();
-    let mut state = State::new(alloc);
-    found_a_family(&rt, alloc, &mut state)?;
-    add_a_wedding(&rt, alloc, &mut state)?;
-    ask_again(&rt, alloc, &mut state)?;
-    look_at_the_family(&rt, alloc, &state)
+    let mut archives = Archives::new(alloc);
+    found_a_family(&rt, alloc, &mut archives)?;
+    add_a_wedding(&rt, alloc, &mut archives)?;
+    ask_again(&rt, alloc, &mut archives)?;
+    look_at_the_family(&rt, alloc, &archives.stepped)?;
+    look_at_the_family(&rt, alloc, &archives.decided)
 }
 
-fn found_a_family(rt: &impl Abort, alloc: Global, state: &mut State) -> Result<(), Fail> {
+fn found_a_family(rt: &impl Abort, alloc: Global, archives: &mut Archives) -> Result<(), Fail> {
     let john = person(alloc, "John /Smith/", Some(Sex::Male))?;
-    assert!(rt; is_answered(alloc, state, "a1", john, 1, 1)?);
-    assert!(rt; is_answered(alloc, state, "a2", family(Some(1)), 2, 1)?);
+    assert!(rt; is_answered(alloc, archives, "a1", john, 1, 1)?);
+    assert!(rt; is_answered(alloc, archives, "a2", family(Some(1)), 2, 1)?);
     let child = Command::Child {
         family: 2,
         person: 1,
     };
-    assert!(rt; is_refused(alloc, state, "a3", child, RefusalKind::AlreadyInFamily)?);
+    assert!(rt; is_refused(alloc, archives, "a3", child, RefusalKind::AlreadyInFamily)?);
     let birth = event(alloc, 2, "BIRT", "", None)?;
-    assert!(rt; is_refused(alloc, state, "a4", birth, RefusalKind::NotOfKind)?);
+    assert!(rt; is_refused(alloc, archives, "a4", birth, RefusalKind::NotOfKind)?);
     Ok(())
 }
 
-fn add_a_wedding(rt: &impl Abort, alloc: Global, state: &mut State) -> Result<(), Fail> {
+fn add_a_wedding(rt: &impl Abort, alloc: Global, archives: &mut Archives) -> Result<(), Fail> {
     let wedding = event(alloc, 2, "MARR", "1 MAY 1800", None)?;
-    assert!(rt; is_answered(alloc, state, "a5", wedding, 3, 1)?);
+    assert!(rt; is_answered(alloc, archives, "a5", wedding, 3, 1)?);
     let witness = participant(alloc, 3, 1, "witness")?;
-    assert!(rt; is_answered(alloc, state, "a6", witness, 0, 0)?);
+    assert!(rt; is_answered(alloc, archives, "a6", witness, 0, 0)?);
     let wedding = event(alloc, 2, "MARR", "", Some(1))?;
-    assert!(rt; is_refused(alloc, state, "a7", wedding, RefusalKind::WrongKind)?);
+    assert!(rt; is_refused(alloc, archives, "a7", wedding, RefusalKind::WrongKind)?);
     Ok(())
 }
 
-fn ask_again(rt: &impl Abort, alloc: Global, state: &mut State) -> Result<(), Fail> {
-    assert!(rt; is_answered(alloc, state, "a2", family(Some(1)), 2, 1)?);
-    assert!(rt; is_refused(alloc, state, "a2", family(None), RefusalKind::TokenReused)?);
+fn ask_again(rt: &impl Abort, alloc: Global, archives: &mut Archives) -> Result<(), Fail> {
+    assert!(rt; is_answered(alloc, archives, "a2", family(Some(1)), 2, 1)?);
+    assert!(rt;
+        is_refused(
+            alloc,
+            archives,
+            "a2",
+            family(None),
+            RefusalKind::TokenReused
+        )?
+    );
     Ok(())
 }
 
@@ -95,18 +104,23 @@ fn is_wedding(event: &Event) -> bool {
 #[test]
 fn a_person_is_made_once(rt: HostRuntime) -> Result<(), Fail> {
     let alloc = rt.alloc();
-    let mut state = State::new(alloc);
-    make_once(&rt, alloc, &mut state)
+    let mut archives = Archives::new(alloc);
+    make_once(&rt, alloc, &mut archives)
 }
 
-fn make_once(rt: &impl Abort, alloc: Global, state: &mut State) -> Result<(), Fail> {
+fn make_once(rt: &impl Abort, alloc: Global, archives: &mut Archives) -> Result<(), Fail> {
     let john = person(alloc, "John /Smith/", Some(Sex::Male))?;
-    assert!(rt; is_answered(alloc, state, "a1", john, 1, 1)?);
+    assert!(rt; is_answered(alloc, archives, "a1", john, 1, 1)?);
     let john = person(alloc, "John /Smith/", Some(Sex::Male))?;
-    assert!(rt; is_answered(alloc, state, "a1", john, 1, 1)?);
-    assert!(rt; state.next() == 2);
-    assert!(rt; state.record(2).is_none());
+    assert!(rt; is_answered(alloc, archives, "a1", john, 1, 1)?);
+    assert!(rt; holds_one(&archives.stepped));
+    assert!(rt; holds_one(&archives.decided));
     let joan = person(alloc, "John /Smith/", Some(Sex::Female))?;
-    assert!(rt; is_refused(alloc, state, "a1", joan, RefusalKind::TokenReused)?);
+    assert!(rt; is_refused(alloc, archives, "a1", joan, RefusalKind::TokenReused)?);
     Ok(())
+}
+
+/// Whether nothing stands at number 2, and it is the next one.
+fn holds_one(state: &State) -> bool {
+    state.next() == 2 && state.record(2).is_none()
 }

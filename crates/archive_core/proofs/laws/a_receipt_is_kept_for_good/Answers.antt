@@ -1,4 +1,4 @@
-use Rattle.archive_core.proofs.Following.{kept_for_good}
+use Rattle.archive_core.proofs.Serving.{kept_for_good}
 use Rattle.archive_core.proofs.laws.a_receipt_is_kept_for_good.Goals as goal
 
 pub returns : goal.returns

@@ -1,4 +1,4 @@
-use Rattle.archive_core.proofs.Following.{repeated}
+use Rattle.archive_core.proofs.Serving.{repeated}
 use Rattle.archive_core.proofs.laws.a_repeated_request_changes_nothing.Goals as goal
 
 pub returns : goal.returns
