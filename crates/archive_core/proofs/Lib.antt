@@ -1,2 +1,3 @@
 mod Following
 mod Said
+mod SaidPaths

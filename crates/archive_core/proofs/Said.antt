@@ -13,7 +13,7 @@ use Rattle.archive_core.specs.Checks.{says_something, is_place_with, is_within_w
 not_below : (q n : ℕ) → n ≤ q → nat_lt q n ≡ false
 not_below q n h = grind (arith, nat_tests)
 
-is_below : (q n : ℕ) → q < n → nat_lt q n ≡ true
+pub is_below : (q n : ℕ) → q < n → nat_lt q n ≡ true
 is_below q n h = grind (arith, nat_tests)
 
 below_is : (q n : ℕ) → nat_lt q n ≡ true → q < n
