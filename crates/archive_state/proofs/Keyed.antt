@@ -1,6 +1,6 @@
 -- Entries of a key, looked for among records.
 use Rattle.std.proofs.Common.{◌≡◌, ◌↔◌, ℕ, List, Bool, sym, ap, subst, ◌∙◌, eqb-true, eq-eqb}
-use Rattle.std.specs.Prelude.{Some, None, IsTrue, nat_eq}
+use Rattle.std.specs.Prelude.{Option, Some, None, IsTrue, nat_eq}
 use Rattle.std.specs.FinMap.{get}
 use Rattle.record_kinds.specs.Model as model
 use Rattle.record_kinds.specs.declared.record.Record.{Record}
@@ -8,8 +8,10 @@ use Rattle.record_kinds.specs.declared.record.Record.TheVariants as variant
 use Rattle.record_fields.specs.declared.entry_words.EntryKind.{EntryKind}
 use Rattle.record_fields.specs.declared.item.Item.{Item}
 use Rattle.record_fields.proofs.Items.{same_item}
-use Rattle.archive_state.specs.Content.{Records}
+use Rattle.archive_state.specs.Content.{Content, Records}
 use Rattle.archive_state.specs.Entries.{HasKey, IsEntryAt}
+use Rattle.archive_state.specs.Paths.{IsLowest}
+use Rattle.archive_state.specs.Sound.{IsSound}
 
 -- the record is an entry of that key
 abbrev pub IsEntryOf : ℕ → EntryKind → List ℕ → Item → Record → Type 0
@@ -42,4 +44,18 @@ pub item_iff : (b : Bool) (p q : List ℕ) (i j : Item) → p ≡ q → b ≡ na
 item_iff b p q i j page e = (
   λ t. (page, same_item i j (eqb-true i.number j.number (sym e ∙ t))),
   λ h. e ∙ eq-eqb i.number j.number (ap (λ (x : Item). x.number) h.1),
+)
+
+-- ---- one entry of a key
+-- in a sound archive two entries of one key stand at one number
+pub entry_alone : (c : Content) (source : ℕ) (k : EntryKind) (page : List ℕ) (item : Item) (n j : ℕ) → IsSound c → IsEntryAt c.records source k page item n → IsEntryAt c.records source k page item j → n ≡ j
+entry_alone c source k page item n j sound (e, at, (is, same, on, of)) (f, found, (is', same', on', of')) =
+    sound.rules.keys n j e at (f, found, (is' ∙ sym is, same' ∙ sym same, on' ∙ sym on, of' ∙ sym of))
+
+-- and what a look for a key answers is where an entry of the key stands
+pub entry_found : (c : Content) (source : ℕ) (k : EntryKind) (page : List ℕ) (item : Item) (found : Option ℕ) (n : ℕ) → IsSound c → IsLowest (IsEntryAt c.records source k page item) found → (found ≡ Some n) ↔ IsEntryAt c.records source k page item n
+entry_found c source k page item None n sound none = (λ e. absurd cc, λ here. absurd (none n here))
+entry_found c source k page item (Some q) n sound (there, lowest) = (
+  λ e. let same : q ≡ n = cc in subst (IsEntryAt c.records source k page item) same there,
+  λ here. ap Some (entry_alone c source k page item q n sound there here),
 )

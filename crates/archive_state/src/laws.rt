@@ -1,10 +1,28 @@
 //! What holds between the calls.
 
-ghost use Rattle.std.specs.Prelude.{◌≡◌, ℕ, List};
-ghost use Rattle.archive_state.specs.Content.{Records};
-ghost use Rattle.archive_state.specs.Paths.{HasPath};
+ghost use Rattle.std.specs.Prelude.{◌≡◌, ◌↔◌, ℕ, List, Option, Some};
+ghost use Rattle.record_fields.specs.declared.entry_words.EntryKind.{EntryKind};
+ghost use Rattle.record_fields.specs.declared.item.Item.{Item};
+ghost use Rattle.archive_state.specs.Content.{Content, Records};
+ghost use Rattle.archive_state.specs.Entries.{IsEntryAt};
+ghost use Rattle.archive_state.specs.Paths.{HasPath, IsLowest};
+ghost use Rattle.archive_state.specs.Sound.{IsSound};
 
 /// A place has one path at the most.
 pub fn a_place_has_one_path()
     ensures { (m : Records) (n : ℕ) (a b : List ℕ) → HasPath m n a → HasPath m n b → a ≡ b }
+{}
+
+/// In a sound archive at most one entry has a given source, kind, page and item.
+pub fn a_key_has_one_entry()
+    ensures { (c : Content) (source : ℕ) (kind : EntryKind) (page : List ℕ) (item : Item) (n k : ℕ) → IsSound c
+        → IsEntryAt c.records source kind page item n → IsEntryAt c.records source kind page item k → n ≡ k }
+{}
+
+/// In a sound archive the lowest number of an entry of a key is the only one: it is n exactly where an entry of that
+/// source, kind, page and item stands at n.
+pub fn the_entry_of_a_key_is_found()
+    ensures { (c : Content) (source : ℕ) (kind : EntryKind) (page : List ℕ) (item : Item) (found : Option ℕ) (n : ℕ)
+        → IsSound c → IsLowest (λ k. IsEntryAt c.records source kind page item k) found
+        → (found ≡ Some n) ↔ IsEntryAt c.records source kind page item n }
 {}
