@@ -3,13 +3,16 @@
 ghost use Rattle.std.specs.Prelude.{◌≡◌, ◌++◌, List, ℕ, Ok, Err, Result, Some};
 ghost use Rattle.std.specs.FinMap.{get};
 ghost use Rattle.record_text.specs.declared.refusal.Refusal.{Refusal};
+ghost use Rattle.record_text.specs.declared.refusal.RefusalKind.TheVariants.{BadText};
 ghost use Rattle.archive_state.specs.Content.{Content};
+ghost use Rattle.archive_state.specs.Paths.{HasPath, has_part};
 ghost use Rattle.receipts.specs.declared.answer.Answer.{Answer};
 ghost use Rattle.receipts.specs.declared.answer.Receipt.{Receipt};
 ghost use Rattle.commands.specs.declared.command.Command.{Command};
 ghost use Rattle.archive_state.specs.Changes.{Changes};
 ghost use Rattle.archive_state.specs.Sound.{IsSound};
 ghost use Rattle.archive_core.specs.Applied.{Decides, applied};
+ghost use Rattle.archive_core.specs.Checks.{need, said_place_at};
 ghost use Rattle.archive_core.specs.Machine.{Does, Done, Draws, NoneAgain, Runs, outcome};
 ghost use Rattle.archive_core.specs.Steps.{step};
 ghost use Rattle.archive_core.specs.declared.request.Request.{Request};
@@ -57,6 +60,12 @@ pub fn decided_changes_keep_an_archive_sound()
 /// And a run of requests.
 pub fn a_run_keeps_an_archive_sound()
     ensures { (dones : List Done) (c after : Content) → IsSound c → Runs c dones after → IsSound after }
+{}
+
+/// A place that an event may have is one whose path has a part that is not empty.
+pub fn a_said_place_has_a_part()
+    ensures { (c : Content) (number : ℕ) (path : List ℕ) → HasPath c.records number path
+        → said_place_at c number ≡ need (has_part path) BadText }
 {}
 
 /// What a run answers for a beginning of its requests does not depend on the rest.
