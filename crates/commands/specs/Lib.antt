@@ -1,3 +1,6 @@
 pub mod Bytes
+pub mod Dated
 pub mod Fields
 pub mod Given
+pub mod Rows
+pub mod Verbs

@@ -12,9 +12,12 @@ mod command;
 mod digest;
 mod field;
 mod given;
+mod reading;
 mod rows;
+mod verb;
 
 pub use command::Command;
 pub use digest::{command_bytes, command_digest};
 pub use field::Field;
 pub use given::GivenDate;
+pub use verb::Verb;

@@ -1,0 +1,3 @@
+pub mod Dated
+pub mod Numbers
+pub mod Outcomes
