@@ -1,3 +1,4 @@
+pub mod Again
 pub mod Dated
 pub mod Numbers
 pub mod Outcomes

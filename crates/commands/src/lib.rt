@@ -12,6 +12,7 @@ mod command;
 mod digest;
 mod field;
 mod given;
+pub mod laws;
 mod reading;
 mod rows;
 mod verb;
