@@ -5,6 +5,7 @@ ghost use Rattle.gedcom_date.specs.Form.{Form};
 ghost use Rattle.gedcom_date.specs.Grammar.{Says};
 ghost use Rattle.gedcom_date.specs.Spelling.{spelling};
 ghost use Rattle.gedcom_date.specs.View.{view};
+ghost use Rattle.commands.specs.Given.{Gives};
 
 use gedcom_date::{DateValue, read_date, write_date};
 use record_fields::Date;
@@ -38,8 +39,9 @@ impl GivenDate {
     /// The date that words say. `None`: its spelling is empty, as is that of no words.
     #[tactic(auto, using(record_fields::specs::Dated::one_said))]
     pub fn of_words(alloc: Global, words: &str) -> Result<Option<GivenDate>, AllocError>
-        ensures { IfOk result (λ found. (form : Form) → Says words.now form
+        ensures said { IfOk result (λ found. (form : Form) → Says words.now form
             → MatchOption found (spelling form ≡ []) (λ given. given.spelling ≡ spelling form)) }
+        ensures gives { IfOk result (Gives words.now) }
     {
         match read_date(alloc, words) {
             Ok(value) => GivenDate::of_value(alloc, &value),
@@ -55,7 +57,7 @@ impl GivenDate {
         let Ok(spelling) = write_date(alloc, value) else {
             return Err(AllocError);
         };
-        if spelling.is_empty() {
+        if spelling.as_str().is_empty() {
             return Ok(None);
         }
         let date = Date::of_value(alloc, value)?;

@@ -4,7 +4,8 @@
 //! It stands on `record_text` and `record_fields` for texts and dates, on `gedcom_date` for the spelling of dates,
 //! and on `csv` and `sha2` of the kit. What a command does to an archive is for `archive_core` to say.
 //!
-//! Callers may rely on: the bytes of a command are its verb and its fields as one row of CSV, and its digest is
+//! Callers may rely on: a row is read as one command, or refused for one reason, and the row of a command is read as
+//! that command; the bytes of a command are its verb and its fields as one row of CSV, and its digest is
 //! their SHA-256; a date is kept in canonical spelling, so that two spellings of one date are one command.
 #![tactic(auto)]
 
@@ -12,9 +13,13 @@ mod command;
 mod digest;
 mod field;
 mod given;
+pub mod laws;
+mod reading;
 mod rows;
+mod verb;
 
 pub use command::Command;
 pub use digest::{command_bytes, command_digest};
 pub use field::Field;
 pub use given::GivenDate;
+pub use verb::Verb;

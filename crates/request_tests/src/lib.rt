@@ -16,4 +16,6 @@ mod order;
 #[cfg(test)]
 mod places;
 #[cfg(test)]
+mod reading;
+#[cfg(test)]
 mod rows;

@@ -1,0 +1,4 @@
+pub mod Again
+pub mod Dated
+pub mod Numbers
+pub mod Outcomes

@@ -1,0 +1,5 @@
+use Rattle.commands.proofs.Again.{one_command}
+use Rattle.commands.proofs.laws.two_commands_have_other_bytes.Goals as goal
+
+pub returns : goal.returns
+returns c = one_command

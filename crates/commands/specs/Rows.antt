@@ -1,0 +1,83 @@
+-- How a row of a request is read as a command: its verb and its fields, without the token. A rule of our own.
+use Rattle.std.specs.Prelude.{◌≡◌, ℕ, List, [], ◌∷◌, length, Bool, true, false, ◌&&◌, nat_le, Option, Some, None, Result, Ok, Err, if◌then◌else◌}
+use Rattle.std.specs.Char.{is_ascii_digit}
+use Rattle.std.specs.List.{list_all}
+use Rattle.std.specs.Str.Parse.{digits_value}
+use Rattle.record_text.specs.declared.refusal.RefusalKind.{RefusalKind}
+use Rattle.record_text.specs.declared.refusal.RefusalKind.TheVariants.{OutOfMemory, BadRow, UnknownVerb, FieldCount}
+use Rattle.record_fields.specs.Words.{sex_of}
+use Rattle.record_fields.specs.declared.words.Sex.{Sex}
+use Rattle.commands.specs.Given.{GivenDate, Gives}
+use Rattle.commands.specs.Verbs.{verb_of}
+use Rattle.commands.specs.declared.command.Command.{Command}
+use Rattle.commands.specs.declared.command.Command.TheVariants as command
+use Rattle.commands.specs.declared.verb.Verb.{Verb}
+use Rattle.commands.specs.declared.verb.Verb.TheVariants as verb
+
+-- one reading after another: the first refusal counts
+abbrev pub and_then : {A B : Type 0} → Result A RefusalKind → (A → Result B RefusalKind) → Result B RefusalKind
+and_then (Ok a) f = f a
+and_then (Err e) f = Err e
+
+-- what is there, or a refusal
+abbrev pub ok_or : {A : Type 0} → RefusalKind → Option A → Result A RefusalKind
+ok_or k None = Err k
+ok_or k (Some a) = Ok a
+
+-- ---- fields
+-- 1 to 10 digits, of value 1 to 4,294,967,295; the first may be zeros
+abbrev pub is_number : List ℕ → Bool
+is_number field =
+    list_all is_ascii_digit field && nat_le 1 (length field) && nat_le (length field) 10
+    && nat_le 1 (digits_value 10 field) && nat_le (digits_value 10 field) 4294967295
+
+unfoldable pub number_in : List ℕ → Result ℕ RefusalKind
+number_in field = if is_number field then Ok (digits_value 10 field) else Err BadRow
+
+-- the letter M, F or U
+unfoldable pub sex_in : List ℕ → Result Sex RefusalKind
+sex_in field = ok_or BadRow (sex_of field)
+
+-- an empty field is none
+abbrev pub or_none : {A : Type 0} → (List ℕ → Result A RefusalKind) → List ℕ → Result (Option A) RefusalKind
+or_none read [] = Ok None
+or_none read (b ∷ more) = and_then (read (b ∷ more)) (λ a. Ok (Some a))
+
+-- ---- rows
+-- the fields of each verb in their order; names, tags, values and roles are any words, and so are dates
+abbrev pub read_fields : (List ℕ → Option GivenDate) → Verb → List (List ℕ) → Result Command RefusalKind
+read_fields given verb.Person (name ∷ sex ∷ []) = and_then (or_none sex_in sex) (λ s. Ok (command.Person name s))
+read_fields given verb.Name (person ∷ name ∷ []) = and_then (number_in person) (λ p. Ok (command.Name p name))
+read_fields given verb.Sex (person ∷ sex ∷ []) =
+    and_then (number_in person) (λ p. and_then (sex_in sex) (λ s. Ok (command.Sex p s)))
+read_fields given verb.Family (husband ∷ wife ∷ []) =
+    and_then (or_none number_in husband) (λ h. and_then (or_none number_in wife) (λ w. Ok (command.Family h w)))
+read_fields given verb.Child (family ∷ person ∷ []) =
+    and_then (number_in family) (λ f. and_then (number_in person) (λ p. Ok (command.Child f p)))
+read_fields given verb.Event (owner ∷ tag ∷ value ∷ date ∷ place ∷ []) =
+    and_then (number_in owner) (λ o. and_then (or_none number_in place) (λ p. Ok (command.Event o tag value (given date) p)))
+read_fields given verb.Amend (event ∷ value ∷ date ∷ place ∷ []) =
+    and_then (number_in event) (λ e. and_then (or_none number_in place) (λ p. Ok (command.Amend e value (given date) p)))
+read_fields given verb.Participant (event ∷ person ∷ role ∷ []) =
+    and_then (number_in event) (λ e. and_then (number_in person) (λ p. Ok (command.Participant e p role)))
+read_fields given _ _ = Err FieldCount
+
+-- the verb first
+abbrev pub read_row : (List ℕ → Option GivenDate) → List (List ℕ) → Result Command RefusalKind
+read_row given [] = Err UnknownVerb
+read_row given (word ∷ fields) = and_then (ok_or UnknownVerb (verb_of word)) (λ v. read_fields given v fields)
+
+-- the row is read as this command, or refused so, where each date is what its words give
+abbrev pub Reads : List (List ℕ) → Result Command RefusalKind → Type 0
+Reads row outcome =
+    (given : List ℕ → Option GivenDate) × ((words : List ℕ) → Gives words (given words)) × (outcome ≡ read_row given row)
+
+-- ---- want of memory
+abbrev pub is_want : RefusalKind → Bool
+is_want OutOfMemory = true
+is_want _ = false
+
+-- an outcome of which P holds; want of memory may come in place of any
+abbrev pub Decided : {A : Type 0} → Result A RefusalKind → (Result A RefusalKind → Type 0) → Type 0
+Decided (Ok a) P = P (Ok a)
+Decided (Err e) P = is_want e ≡ false → P (Err e)

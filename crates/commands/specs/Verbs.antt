@@ -1,0 +1,23 @@
+-- The verbs of commands, and the word of each: a rule of our own.
+use Rattle.std.specs.Prelude.{ℕ, List, [], ◌∷◌, codes, Option}
+use Rattle.record_fields.specs.Words.{found}
+use Rattle.commands.specs.declared.verb.Verb.{Verb}
+use Rattle.commands.specs.declared.verb.Verb.TheVariants as verb
+
+abbrev pub verb_word : Verb → List ℕ
+verb_word verb.Person = codes "person"
+verb_word verb.Name = codes "name"
+verb_word verb.Sex = codes "sex"
+verb_word verb.Family = codes "family"
+verb_word verb.Child = codes "child"
+verb_word verb.Event = codes "event"
+verb_word verb.Amend = codes "amend"
+verb_word verb.Participant = codes "participant"
+
+abbrev pub verbs : List Verb
+verbs =
+    verb.Person ∷ verb.Name ∷ verb.Sex ∷ verb.Family ∷ verb.Child ∷ verb.Event ∷ verb.Amend ∷ verb.Participant ∷ []
+
+-- the verb of a word
+unfoldable pub verb_of : List ℕ → Option Verb
+verb_of word = found verb_word verbs word

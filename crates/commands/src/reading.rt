@@ -1,0 +1,214 @@
+//! Rows of a request read as commands.
+
+ghost use Rattle.std.specs.Prelude.{◌≡◌, ◌∷◌, [], IfOk, map};
+ghost use Rattle.std.specs.Char.{is_ascii_digit};
+ghost use Rattle.std.specs.List.{list_all};
+ghost use Rattle.commands.specs.Dated.{given_of};
+ghost use Rattle.commands.specs.Rows.{Decided, Reads, number_in, or_none, read_fields, sex_in};
+ghost use Rattle.commands.specs.declared.verb.Verb.TheVariants as verb;
+
+use crate::command::Command;
+use crate::field::Field;
+use crate::given::GivenDate;
+use crate::verb::Verb;
+use record_fields::Sex;
+use record_text::RefusalKind;
+use std::alloc::{AllocError, Global};
+
+impl Command {
+    /// The command of a row: its verb, and the fields behind it. Refused are, in this order, an unknown verb
+    /// (`UnknownVerb`), too few or too many fields (`FieldCount`), and a field that is not of its type (`BadRow`).
+    pub fn of_row(alloc: Global, verb: &str, fields: &[&str]) -> Result<Command, RefusalKind>
+        ensures { Decided result (Reads (verb.now ∷ map (λ f. f.now) fields.now)) }
+    {
+        match Verb::from_word(verb) {
+            Some(verb) => of_fields(alloc, verb, fields),
+            None => Err(RefusalKind::UnknownVerb),
+        }
+    }
+}
+
+/// The command of a verb and its fields.
+fn of_fields(alloc: Global, verb: Verb, fields: &[&str]) -> Result<Command, RefusalKind>
+    ensures { Decided result (λ r. r ≡ read_fields given_of verb (map (λ f. f.now) fields.now)) }
+{
+    match (verb, fields) {
+        (Verb::Person, [name, sex]) => person(alloc, name, sex),
+        (Verb::Name, [person, name]) => further_name(alloc, person, name),
+        (Verb::Sex, [person, sex]) => sex_of(person, sex),
+        (Verb::Family, [husband, wife]) => family(husband, wife),
+        (Verb::Child, [family, person]) => child(family, person),
+        (Verb::Event, [owner, tag, value, date, place]) => {
+            event(alloc, owner, tag, value, date, place)
+        }
+        (Verb::Amend, [event, value, date, place]) => amend(alloc, event, value, date, place),
+        (Verb::Participant, [event, person, role]) => participant(alloc, event, person, role),
+        _ => Err(RefusalKind::FieldCount),
+    }
+}
+
+fn person(alloc: Global, name: &str, sex: &str) -> Result<Command, RefusalKind>
+    ensures { Decided result (λ r. r ≡ read_fields given_of verb.Person (name.now ∷ sex.now ∷ [])) }
+{
+    let sex = sex_or_none(sex)?;
+    let name = words_in(alloc, name)?;
+    Ok(Command::Person { name, sex })
+}
+
+fn further_name(alloc: Global, person: &str, name: &str) -> Result<Command, RefusalKind>
+    ensures { Decided result (λ r. r ≡ read_fields given_of verb.Name (person.now ∷ name.now ∷ [])) }
+{
+    let person = number_in(person)?;
+    let name = words_in(alloc, name)?;
+    Ok(Command::Name { person, name })
+}
+
+fn sex_of(person: &str, sex: &str) -> Result<Command, RefusalKind>
+    ensures { result ≡ read_fields given_of verb.Sex (person.now ∷ sex.now ∷ []) }
+{
+    let person = number_in(person)?;
+    let sex = sex_in(sex)?;
+    Ok(Command::Sex { person, sex })
+}
+
+fn family(husband: &str, wife: &str) -> Result<Command, RefusalKind>
+    ensures { result ≡ read_fields given_of verb.Family (husband.now ∷ wife.now ∷ []) }
+{
+    let husband = number_or_none(husband)?;
+    let wife = number_or_none(wife)?;
+    Ok(Command::Family { husband, wife })
+}
+
+fn child(family: &str, person: &str) -> Result<Command, RefusalKind>
+    ensures { result ≡ read_fields given_of verb.Child (family.now ∷ person.now ∷ []) }
+{
+    let family = number_in(family)?;
+    let person = number_in(person)?;
+    Ok(Command::Child { family, person })
+}
+
+fn event(
+    alloc: Global,
+    owner: &str,
+    tag: &str,
+    value: &str,
+    date: &str,
+    place: &str,
+) -> Result<Command, RefusalKind>
+    ensures { Decided result (λ r. r
+        ≡ read_fields given_of verb.Event (owner.now ∷ tag.now ∷ value.now ∷ date.now ∷ place.now ∷ [])) }
+{
+    let owner = number_in(owner)?;
+    let place = number_or_none(place)?;
+    let tag = words_in(alloc, tag)?;
+    let value = words_in(alloc, value)?;
+    let date = date_or_none(alloc, date)?;
+    Ok(Command::Event {
+        owner,
+        tag,
+        value,
+        date,
+        place,
+    })
+}
+
+fn amend(
+    alloc: Global,
+    event: &str,
+    value: &str,
+    date: &str,
+    place: &str,
+) -> Result<Command, RefusalKind>
+    ensures { Decided result (λ r. r
+        ≡ read_fields given_of verb.Amend (event.now ∷ value.now ∷ date.now ∷ place.now ∷ [])) }
+{
+    let event = number_in(event)?;
+    let place = number_or_none(place)?;
+    let value = words_in(alloc, value)?;
+    let date = date_or_none(alloc, date)?;
+    Ok(Command::Amend {
+        event,
+        value,
+        date,
+        place,
+    })
+}
+
+fn participant(alloc: Global, event: &str, person: &str, role: &str) -> Result<Command, RefusalKind>
+    ensures { Decided result (λ r. r
+        ≡ read_fields given_of verb.Participant (event.now ∷ person.now ∷ role.now ∷ [])) }
+{
+    let event = number_in(event)?;
+    let person = number_in(person)?;
+    let role = words_in(alloc, role)?;
+    Ok(Command::Participant {
+        event,
+        person,
+        role,
+    })
+}
+
+/// The number of a field: 1 to 10 digits, of value 1 to 4,294,967,295.
+fn number_in(field: &str) -> Result<u32, RefusalKind>
+    ensures { result ≡ number_in field.now }
+{
+    if field.len() > 10 || !is_digits(field) {
+        return Err(RefusalKind::BadRow);
+    }
+    match field.parse::<u32>() {
+        Ok(number) if number != 0 => Ok(number),
+        _ => Err(RefusalKind::BadRow),
+    }
+}
+
+/// Whether there are only digits.
+fn is_digits(field: &str) -> bool
+    ensures { result ≡ list_all is_ascii_digit field.now }
+{
+    field.as_bytes().iter().all(|b| b.is_ascii_digit())
+}
+
+/// The number of a field, or none where it is empty.
+fn number_or_none(field: &str) -> Result<Option<u32>, RefusalKind>
+    ensures { result ≡ or_none number_in field.now }
+{
+    if field.is_empty() {
+        return Ok(None);
+    }
+    Ok(Some(number_in(field)?))
+}
+
+/// The sex of a letter.
+fn sex_in(field: &str) -> Result<Sex, RefusalKind>
+    ensures { result ≡ sex_in field.now }
+{
+    match Sex::from_word(field) {
+        Some(sex) => Ok(sex),
+        None => Err(RefusalKind::BadRow),
+    }
+}
+
+/// The sex of a letter, or none where the field is empty.
+fn sex_or_none(field: &str) -> Result<Option<Sex>, RefusalKind>
+    ensures { result ≡ or_none sex_in field.now }
+{
+    if field.is_empty() {
+        return Ok(None);
+    }
+    Ok(Some(sex_in(field)?))
+}
+
+/// The words of a field in memory of their own.
+fn words_in(alloc: Global, field: &str) -> Result<Field, AllocError>
+    ensures { IfOk result (λ words. words ≡ field.now) }
+{
+    let words = String::from_str(alloc, field)?;
+    Ok(Field::new(words))
+}
+
+/// The date that the words of a field give, or none where it is empty.
+fn date_or_none(alloc: Global, field: &str) -> Result<Option<GivenDate>, AllocError>
+    ensures { IfOk result (λ found. found ≡ given_of field.now) }
+{
+    GivenDate::of_words(alloc, field)
+}

@@ -1,0 +1,61 @@
+//! The verbs of commands.
+
+ghost use Rattle.std.specs.Prelude.{◌≡◌};
+ghost use Rattle.commands.specs.Verbs.{verb_of, verb_word};
+
+/// What a command does.
+#[derive(Clone, Copy, Debug, PartialEq, Eq)]
+pub enum Verb {
+    /// A new person.
+    Person,
+    /// A further name of a person.
+    Name,
+    /// The sex of a person.
+    Sex,
+    /// A new family.
+    Family,
+    /// A further child of a family.
+    Child,
+    /// A new event.
+    Event,
+    /// Another value, date or place of an event.
+    Amend,
+    /// A further participant of an event.
+    Participant,
+}
+
+impl Verb {
+    /// The word of the verb, as it stands in a row.
+    pub fn as_str(self) -> &'static str
+        ensures { result.now ≡ verb_word self }
+    {
+        match self {
+            Verb::Person => "person",
+            Verb::Name => "name",
+            Verb::Sex => "sex",
+            Verb::Family => "family",
+            Verb::Child => "child",
+            Verb::Event => "event",
+            Verb::Amend => "amend",
+            Verb::Participant => "participant",
+        }
+    }
+
+    /// The verb of a word. `None`: it is that of none.
+    #[tactic(auto, unfolding(crate::specs::Verbs::verb_of))]
+    pub fn from_word(word: &str) -> Option<Verb>
+        ensures { result ≡ verb_of word.now }
+    {
+        match word {
+            "person" => Some(Verb::Person),
+            "name" => Some(Verb::Name),
+            "sex" => Some(Verb::Sex),
+            "family" => Some(Verb::Family),
+            "child" => Some(Verb::Child),
+            "event" => Some(Verb::Event),
+            "amend" => Some(Verb::Amend),
+            "participant" => Some(Verb::Participant),
+            _ => None,
+        }
+    }
+}
