@@ -31,6 +31,17 @@ impl Archives {
     }
 }
 
+/// A command under a token.
+pub(crate) fn request(alloc: Global, word: &str, command: Command) -> Result<Request, Fail> {
+    match token(alloc, word) {
+        Ok(token) => Ok(Request { token, command }),
+        Err(fail) => {
+            drop(command);
+            Err(fail)
+        }
+    }
+}
+
 /// Asks both for a command under a token; they have to answer alike.
 fn ask(
     alloc: Global,
@@ -38,10 +49,15 @@ fn ask(
     word: &str,
     command: Command,
 ) -> Result<Outcome, Fail> {
-    let token = token(alloc, word)?;
-    let request = Request { token, command };
-    let stepped = step(alloc, &mut archives.stepped, &request);
-    let decided = decide_and_make(alloc, &mut archives.decided, &request)?;
+    let request = request(alloc, word, command)?;
+    let outcome = ask_both(alloc, archives, &request);
+    drop(request);
+    outcome
+}
+
+fn ask_both(alloc: Global, archives: &mut Archives, request: &Request) -> Result<Outcome, Fail> {
+    let stepped = step(alloc, &mut archives.stepped, request);
+    let decided = decide_and_make(alloc, &mut archives.decided, request)?;
     if stepped.ok() == decided.ok() && stepped.err() == decided.err() {
         Ok(decided)
     } else {
@@ -84,4 +100,35 @@ pub(crate) fn is_refused(
 ) -> Result<bool, Fail> {
     let outcome = ask(alloc, archives, word, command)?;
     Ok(outcome.err() == Some(Refusal::from(kind)))
+}
+
+/// Fails unless a command is answered with these numbers.
+pub(crate) fn expect_answer(
+    alloc: Global,
+    archives: &mut Archives,
+    word: &str,
+    command: Result<Command, Fail>,
+    first: u32,
+    count: u32,
+) -> Result<(), Fail> {
+    if is_answered(alloc, archives, word, command?, first, count)? {
+        Ok(())
+    } else {
+        Err(Fail::new(format_args!("{word} is answered {first}, {count}")))
+    }
+}
+
+/// Fails unless a command is refused so.
+pub(crate) fn expect_refusal(
+    alloc: Global,
+    archives: &mut Archives,
+    word: &str,
+    command: Result<Command, Fail>,
+    kind: RefusalKind,
+) -> Result<(), Fail> {
+    if is_refused(alloc, archives, word, command?, kind)? {
+        Ok(())
+    } else {
+        Err(Fail::new(format_args!("{word} is refused {kind:?}")))
+    }
 }

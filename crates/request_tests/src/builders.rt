@@ -31,6 +31,18 @@ pub(crate) fn name(alloc: Global, person: u32, name: &str) -> Result<Command, Fa
     Ok(Command::Name { person, name })
 }
 
+pub(crate) fn sex(person: u32, sex: Sex) -> Command {
+    Command::Sex { person, sex }
+}
+
+pub(crate) fn family(husband: Option<u32>, wife: Option<u32>) -> Command {
+    Command::Family { husband, wife }
+}
+
+pub(crate) fn child(family: u32, person: u32) -> Command {
+    Command::Child { family, person }
+}
+
 pub(crate) fn event(
     alloc: Global,
     owner: u32,

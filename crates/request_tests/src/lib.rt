@@ -12,6 +12,8 @@ mod builders;
 #[cfg(test)]
 mod bytes;
 #[cfg(test)]
+mod failing;
+#[cfg(test)]
 mod order;
 #[cfg(test)]
 mod places;

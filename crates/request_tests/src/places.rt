@@ -1,6 +1,6 @@
 //! Places that an event may have: one whose path has a part that is not empty.
 
-use crate::asking::{Archives, is_answered, is_refused};
+use crate::asking::{Archives, expect_answer, expect_refusal};
 use crate::builders::{amend, event, person, text};
 use archive_state::State;
 use records::{Place, Record, RefusalKind};
@@ -9,7 +9,7 @@ use std::process::Abort;
 use std::test::Fail;
 
 /// A place at a number of both archives.
-fn put(
+pub(crate) fn put(
     alloc: Global,
     archives: &mut Archives,
     number: u32,
@@ -38,46 +38,54 @@ fn put_in(
 }
 
 /// Places 1 to 6 by hand, and person 7.
-fn places(rt: &impl Abort, alloc: Global, archives: &mut Archives) -> Result<(), Fail> {
-    put(alloc, archives, 1, "Kent", None)?;
-    put(alloc, archives, 2, "", None)?;
-    put(alloc, archives, 3, ", ", Some(2))?;
-    put(alloc, archives, 4, " , ", Some(1))?;
-    put(alloc, archives, 5, "", Some(6))?;
-    put(alloc, archives, 6, "Ashby", None)?;
+fn places(alloc: Global, archives: &mut Archives) -> Result<(), Fail> {
+    for (number, name, parent) in [
+        (1, "Kent", None),
+        (2, "", None),
+        (3, ", ", Some(2)),
+        (4, " , ", Some(1)),
+        (5, "", Some(6)),
+        (6, "Ashby", None),
+    ] {
+        put(alloc, archives, number, name, parent)?;
+    }
     archives.set_next(7);
-    assert!(rt; is_answered(alloc, archives, "p", person(alloc, "", None)?, 7, 1)?);
-    Ok(())
+    expect_answer(alloc, archives, "p", person(alloc, "", None), 7, 1)
 }
 
 #[test]
 fn a_path_of_empty_parts_is_refused(rt: HostRuntime) -> Result<(), Fail> {
     let alloc = rt.alloc();
     let mut archives = Archives::new(alloc);
-    places(&rt, alloc, &mut archives)?;
     ask_with_places(&rt, alloc, &mut archives)
 }
 
-/// The parent of place 5 has a greater number, so that it does not count.
 fn ask_with_places(rt: &impl Abort, alloc: Global, archives: &mut Archives) -> Result<(), Fail> {
-    for place in [2, 3, 5] {
-        let birth = event(alloc, 7, "BIRT", "", Some(place))?;
-        assert!(rt; is_refused(alloc, archives, "x", birth, RefusalKind::BadText)?);
-        let wedding = event(alloc, 7, "MARR", "", Some(place))?;
-        assert!(rt; is_refused(alloc, archives, "x", wedding, RefusalKind::BadText)?);
-    }
-    for (word, place, number) in [("x1", 1, 8), ("x2", 4, 9), ("x3", 6, 10)] {
-        let birth = event(alloc, 7, "BIRT", "", Some(place))?;
-        assert!(rt; is_answered(alloc, archives, word, birth, number, 1)?);
-    }
+    places(alloc, archives)?;
+    ask_for_births(alloc, archives)?;
     move_the_event(rt, alloc, archives)
 }
 
+/// The parent of place 5 has a greater number, so that it does not count.
+fn ask_for_births(alloc: Global, archives: &mut Archives) -> Result<(), Fail> {
+    for place in [2, 3, 5] {
+        for tag in ["BIRT", "MARR"] {
+            let event = event(alloc, 7, tag, "", Some(place));
+            expect_refusal(alloc, archives, "x", event, RefusalKind::BadText)?;
+        }
+    }
+    for (word, place, number) in [("x1", 1, 8), ("x2", 4, 9), ("x3", 6, 10)] {
+        let birth = event(alloc, 7, "BIRT", "", Some(place));
+        expect_answer(alloc, archives, word, birth, number, 1)?;
+    }
+    Ok(())
+}
+
 fn move_the_event(rt: &impl Abort, alloc: Global, archives: &mut Archives) -> Result<(), Fail> {
-    let nowhere = amend(alloc, 8, "", "", Some(3))?;
-    assert!(rt; is_refused(alloc, archives, "y", nowhere, RefusalKind::BadText)?);
-    let ashby = amend(alloc, 8, "", "", Some(6))?;
-    assert!(rt; is_answered(alloc, archives, "y", ashby, 0, 0)?);
+    let nowhere = amend(alloc, 8, "", "", Some(3));
+    expect_refusal(alloc, archives, "y", nowhere, RefusalKind::BadText)?;
+    let ashby = amend(alloc, 8, "", "", Some(6));
+    expect_answer(alloc, archives, "y", ashby, 0, 0)?;
     assert!(rt; is_event_8_in_6(&archives.stepped));
     assert!(rt; is_event_8_in_6(&archives.decided));
     Ok(())
