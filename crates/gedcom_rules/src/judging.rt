@@ -8,7 +8,7 @@ ghost use Rattle.gedcom_line.specs.Reading.{parts, is_continuation as continuati
 ghost use Rattle.gedcom_rules.specs.Continuing.{adds};
 ghost use Rattle.gedcom_rules.specs.Rules.{of_line as kind_of_line, is_head as head_test, is_trailer as trailer_test, first_broken as broken_first, parent as parent_of, names_set as set_test, names_version as version_test, may_go_on as goes_on, is_continued, is_version_value, role_of as role_of_tag};
 ghost use Rattle.gedcom_rules.specs.Judging.{judge as judged, next as next_of, advance};
-ghost use Rattle.gedcom_rules.specs.Faults.{IsLineless};
+ghost use Rattle.gedcom_rules.specs.Faults.{IsLineless, max_line};
 ghost use Rattle.gedcom_rules.specs.Views.{progress, standing_view, line_of, Gives, IsStacked, fault_view};
 
 use crate::fault::{TreeFault, TreeKind};
@@ -90,13 +90,20 @@ fn has_no_room(above: Option<Standing>, line: &LineRef<'_>) -> bool
     }
 }
 
+/// Whether the piece is longer than a line may be.
+fn is_too_long(piece: &[u8]) -> bool
+    ensures { result ≡ nat_lt max_line (length piece.now) }
+{
+    piece.len() > MAX_LINE
+}
+
 /// Judges a piece behind the lines so far: nothing where it is blank, else its line.
 #[tactic(auto, unfolding(crate::specs::Judging::judge))]
 fn judge<'a>(seen: &Seen, piece: &'a [u8]) -> Result<Option<LineRef<'a>>, TreeKind>
     requires { IsPiece piece.now }
     ensures { Gives (option_map parts) result (judged (progress seen.now) piece.now) }
 {
-    if piece.len() > MAX_LINE {
+    if is_too_long(piece) {
         return Err(TreeKind::TooLong);
     }
     let line = match read_line(piece) {
