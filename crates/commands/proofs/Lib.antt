@@ -1,4 +1,5 @@
 pub mod Again
 pub mod Dated
+pub mod Heard
 pub mod Numbers
 pub mod Outcomes

@@ -17,6 +17,11 @@ pub fn a_row_is_read_in_one_way()
         → Reads row first → Reads row second → first ≡ second }
 {}
 
+/// What a row is read as has its numbers in range, and dates as given ones are.
+pub fn what_a_row_is_read_as_is_sound()
+    ensures { (row : List (List ℕ)) (command : Command) → Reads row (Ok command) → IsSound command }
+{}
+
 /// The row of a command is read as that command, where its numbers are in range and its dates are as given ones are.
 pub fn a_row_of_a_command_is_read_as_it()
     ensures { (command : Command) → IsSound command → Reads (row_of command) (Ok command) }

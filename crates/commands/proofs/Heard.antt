@@ -1,0 +1,93 @@
+-- A command that a row is read as has numbers in range, and dates as their type keeps them.
+use Rattle.std.specs.Prelude.{◌≡◌, ◌≤◌, ◌&&◌, nat_le, ℕ, List, [], ◌∷◌, length, Bool, true, false, cond, Option, Some, None, Result, Ok, Err, refl}
+use Rattle.std.specs.Char.{is_ascii_digit}
+use Rattle.std.specs.List.{list_all}
+use Rattle.std.specs.Str.Parse.{digits_value}
+use Rattle.std.proofs.Common.{sym, subst, arith}
+use Rattle.std.proofs.lemmas.Bool.Decides.{nat_tests}
+use Rattle.record_text.specs.declared.refusal.RefusalKind.{RefusalKind}
+use Rattle.record_text.specs.declared.refusal.RefusalKind.TheVariants.{BadRow, UnknownVerb}
+use Rattle.commands.specs.Given.{GivenDate, Gives}
+use Rattle.commands.specs.Rows.{Reads, and_then, is_number, number_in, ok_or, or_none, read_fields, read_row, sex_in}
+use Rattle.commands.specs.Sound.{IsDate, IsNumber, IsSound, WhereSome}
+use Rattle.commands.specs.Verbs.{verb_of}
+use Rattle.commands.specs.declared.command.Command.{Command}
+use Rattle.commands.specs.declared.command.Command.TheVariants as command
+use Rattle.commands.specs.declared.verb.Verb.{Verb}
+use Rattle.commands.specs.declared.verb.Verb.TheVariants as verb
+
+-- ---- fields
+ok-is : {A : Type 0} (a b : A) → ◌≡◌ {A = Result A RefusalKind} (Ok a) (Ok b) → a ≡ b
+ok-is a b e = cc
+
+in-range : (d : Bool) (l v : ℕ) → (d && nat_le 1 l && nat_le l 10 && nat_le 1 v && nat_le v 4294967295) ≡ true → IsNumber v
+in-range d l v e = let least : 1 ≤ v = grind (arith, nat_tests) in let most : v ≤ 4294967295 = grind (arith, nat_tests) in (least, most)
+
+number-if : (v n : ℕ) (b : Bool) → (b ≡ true → IsNumber v) → ◌≡◌ {A = Result ℕ RefusalKind} (cond b (Ok v) (Err BadRow)) (Ok n) → IsNumber n
+number-if v n true h e = subst IsNumber (ok-is v n e) (h refl)
+number-if v n false h e = absurd cc
+
+number-in : (field : List ℕ) (n : ℕ) → number_in field ≡ Ok n → IsNumber n
+unfolding number_in
+number-in field n e = number-if (digits_value 10 field) n (is_number field) (λ t. in-range (list_all is_ascii_digit field) (length field) (digits_value 10 field) t) e
+
+number-some : (r : Result ℕ RefusalKind) (n : Option ℕ) → ((m : ℕ) → r ≡ Ok m → IsNumber m) → and_then r (λ a. Ok (Some a)) ≡ Ok n → WhereSome IsNumber n
+number-some (Ok m) n h e = subst (WhereSome IsNumber) (ok-is (Some m) n e) (h m refl)
+number-some (Err x) n h e = absurd cc
+
+number-or-none : (field : List ℕ) (n : Option ℕ) → or_none number_in field ≡ Ok n → WhereSome IsNumber n
+number-or-none [] n e = subst (WhereSome IsNumber) (ok-is None n e) tt
+number-or-none (b ∷ more) n e = number-some (number_in (b ∷ more)) n (number-in (b ∷ more)) e
+
+date-sound : (words : List ℕ) (found : Option GivenDate) → Gives words found → WhereSome IsDate found
+date-sound words None h = tt
+date-sound words (Some g) h = h.1
+
+-- ---- rows
+then-sound : {A : Type 0} (r : Result A RefusalKind) (P : A → Type 0) (f : A → Result Command RefusalKind) (c : Command)
+    → ((a : A) → r ≡ Ok a → P a) → ((a : A) → P a → f a ≡ Ok c → IsSound c) → and_then r f ≡ Ok c → IsSound c
+then-sound (Ok a) P f c h k e = k a (h a refl) e
+then-sound (Err x) P f c h k e = absurd cc
+
+is-that : (d c : Command) → ◌≡◌ {A = Result Command RefusalKind} (Ok d) (Ok c) → IsSound d → IsSound c
+is-that d c e h = subst IsSound (ok-is d c e) h
+
+fields-sound : (given : List ℕ → Option GivenDate) (v : Verb) (fields : List (List ℕ)) (c : Command)
+    → ((words : List ℕ) → WhereSome IsDate (given words)) → read_fields given v fields ≡ Ok c → IsSound c
+fields-sound given verb.Person (name ∷ sex ∷ []) c dates e =
+    then-sound (or_none sex_in sex) (λ s. Unit {0}) (λ s. Ok (command.Person name s)) c (λ s h. tt) (λ s h. λ same. is-that (command.Person name s) c same tt) e
+fields-sound given verb.Name (person ∷ name ∷ []) c dates e =
+    then-sound (number_in person) IsNumber (λ p. Ok (command.Name p name)) c (number-in person) (λ p h same. is-that (command.Name p name) c same h) e
+fields-sound given verb.Sex (person ∷ sex ∷ []) c dates e =
+    then-sound (number_in person) IsNumber (λ p. and_then (sex_in sex) (λ s. Ok (command.Sex p s))) c (number-in person)
+    (λ p h. then-sound (sex_in sex) (λ s. Unit {0}) (λ s. Ok (command.Sex p s)) c (λ s i. tt) (λ s i same. is-that (command.Sex p s) c same h)) e
+fields-sound given verb.Family (husband ∷ wife ∷ []) c dates e =
+    then-sound (or_none number_in husband) (WhereSome IsNumber) (λ h. and_then (or_none number_in wife) (λ w. Ok (command.Family h w))) c (number-or-none husband)
+    (λ h x. then-sound (or_none number_in wife) (WhereSome IsNumber) (λ w. Ok (command.Family h w)) c (number-or-none wife)
+    (λ w y same. is-that (command.Family h w) c same (x, y))) e
+fields-sound given verb.Child (family ∷ person ∷ []) c dates e =
+    then-sound (number_in family) IsNumber (λ f. and_then (number_in person) (λ p. Ok (command.Child f p))) c (number-in family)
+    (λ f x. then-sound (number_in person) IsNumber (λ p. Ok (command.Child f p)) c (number-in person)
+    (λ p y same. is-that (command.Child f p) c same (x, y))) e
+fields-sound given verb.Event (owner ∷ tag ∷ value ∷ date ∷ place ∷ []) c dates e =
+    then-sound (number_in owner) IsNumber (λ o. and_then (or_none number_in place) (λ p. Ok (command.Event o tag value (given date) p))) c (number-in owner)
+    (λ o x. then-sound (or_none number_in place) (WhereSome IsNumber) (λ p. Ok (command.Event o tag value (given date) p)) c (number-or-none place)
+    (λ p y same. is-that (command.Event o tag value (given date) p) c same (x, dates date, y))) e
+fields-sound given verb.Amend (event ∷ value ∷ date ∷ place ∷ []) c dates e =
+    then-sound (number_in event) IsNumber (λ v. and_then (or_none number_in place) (λ p. Ok (command.Amend v value (given date) p))) c (number-in event)
+    (λ v x. then-sound (or_none number_in place) (WhereSome IsNumber) (λ p. Ok (command.Amend v value (given date) p)) c (number-or-none place)
+    (λ p y same. is-that (command.Amend v value (given date) p) c same (x, dates date, y))) e
+fields-sound given verb.Participant (event ∷ person ∷ role ∷ []) c dates e =
+    then-sound (number_in event) IsNumber (λ v. and_then (number_in person) (λ p. Ok (command.Participant v p role))) c (number-in event)
+    (λ v x. then-sound (number_in person) IsNumber (λ p. Ok (command.Participant v p role)) c (number-in person)
+    (λ p y same. is-that (command.Participant v p role) c same (x, y))) e
+fields-sound given _ _ c dates e = absurd cc
+
+row-sound : (given : List ℕ → Option GivenDate) (row : List (List ℕ)) (c : Command)
+    → ((words : List ℕ) → WhereSome IsDate (given words)) → read_row given row ≡ Ok c → IsSound c
+row-sound given [] c dates e = absurd cc
+row-sound given (word ∷ fields) c dates e =
+    then-sound (ok_or UnknownVerb (verb_of word)) (λ v. Unit {0}) (λ v. read_fields given v fields) c (λ v h. tt) (λ v h same. fields-sound given v fields c dates same) e
+
+pub read_sound : (row : List (List ℕ)) (c : Command) → Reads row (Ok c) → IsSound c
+read_sound row c x = row-sound x.0 row c (λ words. date-sound words (x.0 words) (x.1 words)) (sym x.2)
