@@ -140,16 +140,17 @@ impl View for Failing<'_> {
     }
 }
 
-/// Whether a command is refused as its look of each turn fails, and with so many good looks is decided as over the
+/// Fails unless a command is refused as its look of each turn, and with so many good looks is decided as over the
 /// state alone.
 fn expect_failures(
     alloc: Global,
     state: &State,
     failure: Failure,
+    word: &str,
     command: Result<Command, Fail>,
     looks: u32,
 ) -> Result<(), Fail> {
-    let request = request(alloc, "x", command?)?;
+    let request = request(alloc, word, command?)?;
     let found = failures(alloc, state, failure, &request, looks);
     drop(request);
     found
@@ -209,12 +210,11 @@ fn are_alike(found: &Option<Changes>, wanted: &Option<Changes>) -> bool {
     }
 }
 
-/// Whether both change the same numbers, with the same answer to keep.
+/// Whether both change the same numbers, with the same answer, and both keep it or neither.
 fn is_alike(a: &Changes, b: &Changes) -> bool {
     a.answer == b.answer
         && a.next == b.next
-        && a.kept.is_some()
-        && b.kept.is_some()
+        && a.kept.is_some() == b.kept.is_some()
         && has_same_numbers(&a.puts, &b.puts)
 }
 
@@ -229,7 +229,7 @@ fn whole_archive(alloc: Global, archives: &mut Archives) -> Result<(), Fail> {
     put(alloc, archives, 9, "", Some(8))
 }
 
-/// Each command looks for the receipt, at what it names, and at the next number.
+/// Each command looks for its receipt, at what it names, and at the next number; one that comes again names nothing.
 #[test]
 fn a_command_is_refused_as_its_look(rt: HostRuntime) -> Result<(), Fail> {
     let alloc = rt.alloc();
@@ -246,16 +246,18 @@ fn ask_each_command(alloc: Global, archives: &mut Archives) -> Result<(), Fail> 
 
 fn ask_of_persons(alloc: Global, state: &State) -> Result<(), Fail> {
     let storage = Failure::Storage;
-    expect_failures(alloc, state, storage, person(alloc, "Eva", None), 2)?;
-    expect_failures(alloc, state, storage, name(alloc, 1, "Tom"), 3)?;
-    expect_failures(alloc, state, storage, Ok(sex(1, Sex::Male)), 3)
+    expect_failures(alloc, state, storage, "x", person(alloc, "Eva", None), 2)?;
+    expect_failures(alloc, state, storage, "x", name(alloc, 1, "Tom"), 3)?;
+    expect_failures(alloc, state, storage, "x", Ok(sex(1, Sex::Male)), 3)?;
+    let again = person(alloc, "Tom /Lee/", None);
+    expect_failures(alloc, state, storage, "p1", again, 2)
 }
 
 fn ask_of_families(alloc: Global, state: &State) -> Result<(), Fail> {
     let partners = family(Some(1), Some(2));
-    expect_failures(alloc, state, Failure::Storage, Ok(partners), 4)?;
+    expect_failures(alloc, state, Failure::Storage, "x", Ok(partners), 4)?;
     for failure in [Failure::Storage, Failure::BadStored] {
-        expect_failures(alloc, state, failure, Ok(child(3, 2)), 4)?;
+        expect_failures(alloc, state, failure, "x", Ok(child(3, 2)), 4)?;
     }
     Ok(())
 }
@@ -264,9 +266,9 @@ fn ask_of_families(alloc: Global, state: &State) -> Result<(), Fail> {
 fn ask_of_events(alloc: Global, state: &State) -> Result<(), Fail> {
     let storage = Failure::Storage;
     let birth = event(alloc, 1, "BIRT", "1700", Some(9));
-    expect_failures(alloc, state, storage, birth, 5)?;
+    expect_failures(alloc, state, storage, "x", birth, 5)?;
     let court = amend(alloc, 4, "court", "", Some(9));
-    expect_failures(alloc, state, storage, court, 5)?;
+    expect_failures(alloc, state, storage, "x", court, 5)?;
     let witness = participant(alloc, 4, 2, "witness");
-    expect_failures(alloc, state, storage, witness, 4)
+    expect_failures(alloc, state, storage, "x", witness, 4)
 }

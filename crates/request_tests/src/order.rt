@@ -199,23 +199,39 @@ fn what_is_empty_stays(rt: HostRuntime) -> Result<(), Fail> {
 
 fn amend_the_event(rt: &impl Abort, alloc: Global, archives: &mut Archives) -> Result<(), Fail> {
     archive(alloc, archives)?;
-    for (word, value, date, new_value, new_date) in [
-        ("x1", "", "", "", "1700"),
-        ("x2", "court", "", "court", "1700"),
-        ("x3", "", "abt 1701", "court", "ABT 1701"),
-    ] {
-        expect_answer(
-            alloc,
-            archives,
-            word,
-            amend(alloc, 4, value, date, None),
-            0,
-            0,
-        )?;
-        assert!(rt; is_event_at_4(archives, new_value, new_date));
-    }
+    amend_to(rt, alloc, archives, "x1", ("", ""), ("", "1700"))?;
+    amend_to(rt, alloc, archives, "x2", ("court", ""), ("court", "1700"))?;
+    amend_to(
+        rt,
+        alloc,
+        archives,
+        "x3",
+        ("", "abt 1701"),
+        ("court", "ABT 1701"),
+    )?;
     assert!(rt; archives.stepped.next() == 5);
     assert!(rt; archives.decided.next() == 5);
+    Ok(())
+}
+
+/// Amends event 4, which then has that value and that date.
+fn amend_to(
+    rt: &impl Abort,
+    alloc: Global,
+    archives: &mut Archives,
+    word: &str,
+    (value, date): (&str, &str),
+    (new_value, new_date): (&str, &str),
+) -> Result<(), Fail> {
+    expect_answer(
+        alloc,
+        archives,
+        word,
+        amend(alloc, 4, value, date, None),
+        0,
+        0,
+    )?;
+    assert!(rt; is_event_at_4(archives, new_value, new_date));
     Ok(())
 }
 
