@@ -54,11 +54,10 @@ pub(crate) fn lines(alloc: Global, rows: &[Row]) -> Result<Vec<StoredLine>, Fail
 /// The line of a row.
 pub(crate) fn line(alloc: Global, row: Row) -> Result<StoredLine, Fail> {
     let (depth, word, words, number) = row;
-    let text = text_of(alloc, words)?;
     Ok(StoredLine {
         depth,
         tag: tag(alloc, word)?,
-        text,
+        text: text_of(alloc, words)?,
         target: number_of(number),
     })
 }
@@ -80,5 +79,8 @@ pub(crate) fn number_of(number: u32) -> Option<u32> {
 /// The record that is kept as the rows.
 pub(crate) fn read(alloc: Global, rows: &[Row]) -> Result<Record, Fail> {
     let lines = lines(alloc, rows)?;
-    Ok(record_of(alloc, &lines).ok().ok_or("a record")?)
+    match record_of(alloc, &lines) {
+        Ok(record) => Ok(record),
+        Err(_) => Err(Fail::from("a record")),
+    }
 }

@@ -86,9 +86,13 @@ fn items_are_1_to_999999(rt: HostRuntime) {
     assert!(rt; is_out_of_range(0));
     assert!(rt; is_out_of_range(1_000_000));
     assert!(rt; is_item(rt.alloc(), "12", 12));
-    for words in ["", "0", "012", "+12", "1000000", "99999999999", "x"] {
-        assert!(rt; is_no_item(rt.alloc(), words), "at {words}");
-    }
+    assert!(rt; is_no_item(rt.alloc(), ""));
+    assert!(rt; is_no_item(rt.alloc(), "0"));
+    assert!(rt; is_no_item(rt.alloc(), "012"));
+    assert!(rt; is_no_item(rt.alloc(), "+12"));
+    assert!(rt; is_no_item(rt.alloc(), "1000000"));
+    assert!(rt; is_no_item(rt.alloc(), "99999999999"));
+    assert!(rt; is_no_item(rt.alloc(), "x"));
 }
 
 /// Whether the quality has that word and no other quality has it.
@@ -117,50 +121,34 @@ fn is_role(role: Role, word: &str) -> bool {
 }
 
 #[test]
-fn each_quality_has_its_word(rt: HostRuntime) {
+fn each_value_has_its_word(rt: HostRuntime) {
     assert!(rt; is_quality(Quality::Unreliable, "0"));
     assert!(rt; is_quality(Quality::Questionable, "1"));
     assert!(rt; is_quality(Quality::Secondary, "2"));
     assert!(rt; is_quality(Quality::Primary, "3"));
-}
-
-#[test]
-fn each_sex_has_its_word(rt: HostRuntime) {
     assert!(rt; is_sex(Sex::Male, "M"));
     assert!(rt; is_sex(Sex::Female, "F"));
     assert!(rt; is_sex(Sex::Unknown, "U"));
-    assert!(rt; Sex::from_word("m").is_none());
-}
-
-#[test]
-fn each_partnership_has_its_word(rt: HostRuntime) {
     assert!(rt; is_partnership(Partnership::Husband, "husband"));
     assert!(rt; is_partnership(Partnership::Wife, "wife"));
-}
-
-#[test]
-fn each_kind_of_entries_has_its_word(rt: HostRuntime) {
     assert!(rt; is_kind(EntryKind::Baptism, "BAPTISM"));
     assert!(rt; is_kind(EntryKind::Marriage, "MARRIAGE"));
     assert!(rt; is_kind(EntryKind::Burial, "BURIAL"));
+    assert!(rt; Sex::from_word("m").is_none());
     assert!(rt; EntryKind::from_word("baptism").is_none());
 }
 
 #[test]
 fn each_role_has_its_word(rt: HostRuntime) {
-    for (role, word) in [
-        (Role::Child, "child"),
-        (Role::Father, "father"),
-        (Role::Mother, "mother"),
-        (Role::Godparent, "godparent"),
-        (Role::Groom, "groom"),
-        (Role::Bride, "bride"),
-        (Role::FatherOfGroom, "father-of-groom"),
-        (Role::FatherOfBride, "father-of-bride"),
-        (Role::Witness, "witness"),
-        (Role::Buried, "buried"),
-        (Role::Spouse, "spouse"),
-    ] {
-        assert!(rt; is_role(role, word), "at {word}");
-    }
+    assert!(rt; is_role(Role::Child, "child"));
+    assert!(rt; is_role(Role::Father, "father"));
+    assert!(rt; is_role(Role::Mother, "mother"));
+    assert!(rt; is_role(Role::Godparent, "godparent"));
+    assert!(rt; is_role(Role::Groom, "groom"));
+    assert!(rt; is_role(Role::Bride, "bride"));
+    assert!(rt; is_role(Role::FatherOfGroom, "father-of-groom"));
+    assert!(rt; is_role(Role::FatherOfBride, "father-of-bride"));
+    assert!(rt; is_role(Role::Witness, "witness"));
+    assert!(rt; is_role(Role::Buried, "buried"));
+    assert!(rt; is_role(Role::Spouse, "spouse"));
 }

@@ -1,7 +1,5 @@
 use crate::builders::{carried, one, tag, text};
-use record_text::Text;
 use std::alloc::Global;
-use std::process::Abort;
 use std::test::Fail;
 use stored_lines::{
     Branch, Carried, StoredLine, Value, are_same, branch_of_lines, branches_of, carried_of, copied,
@@ -20,24 +18,19 @@ fn note(alloc: Global) -> Result<Vec<Carried>, Fail> {
 fn printed(alloc: Global, lines: &[StoredLine]) -> Result<String, Fail> {
     let mut printed = String::new(alloc);
     for line in lines {
-        print(&mut printed, line)?;
+        let depth = line.depth;
+        let word = line.tag.as_str();
+        let text = match &line.text {
+            Some(text) => text.as_str(),
+            None => "-",
+        };
+        let row = match line.target {
+            Some(number) => format!(in alloc; "{depth}|{word}|{text}|{number}\n")?,
+            None => format!(in alloc; "{depth}|{word}|{text}|-\n")?,
+        };
+        printed.push_str(&row)?;
     }
     Ok(printed)
-}
-
-/// One line, with its line end.
-fn print(printed: &mut String, line: &StoredLine) -> Result<(), Fail> {
-    let depth = line.depth;
-    let word = line.tag.as_str();
-    let text = match &line.text {
-        Some(text) => text.as_str(),
-        None => "-",
-    };
-    match line.target {
-        Some(number) => write!(printed, "{depth}|{word}|{text}|{number}\n")?,
-        None => write!(printed, "{depth}|{word}|{text}|-\n")?,
-    }
-    Ok(())
 }
 
 /// A place with the number of its parent and carried lines.
@@ -82,22 +75,13 @@ fn a_branch_is_found_again(rt: HostRuntime) -> Result<(), Fail> {
 #[test]
 fn lines_of_no_branch_are_found_to_be_none(rt: HostRuntime) -> Result<(), Fail> {
     let alloc = rt.alloc();
-    assert!(rt; is_no_branch(alloc, &[])?);
-    look_below(&rt, alloc, &lines(alloc)?)
-}
-
-/// Whether no branch is found of these lines.
-fn is_no_branch(alloc: Global, lines: &[StoredLine]) -> Result<bool, Fail> {
-    Ok(listed_again(alloc, lines)?.as_str() == "none")
-}
-
-/// The lines of the place below its first are no branch, and others than all three.
-fn look_below(rt: &impl Abort, alloc: Global, lines: &[StoredLine]) -> Result<(), Fail> {
-    if let [_first, below @ ..] = lines {
-        assert!(rt; is_no_branch(alloc, below)?);
-        assert!(rt; !are_same(lines, below));
+    assert_eq!(rt; listed_again(alloc, &[])?.as_str(), "none");
+    let lines = lines(alloc)?;
+    if let [_first, below @ ..] = lines.as_slice() {
+        assert_eq!(rt; listed_again(alloc, below)?.as_str(), "none");
+        assert!(rt; !are_same(&lines, below));
     }
-    assert!(rt; are_same(lines, lines));
+    assert!(rt; are_same(&lines, &lines));
     assert_eq!(rt; lines.len(), 3);
     Ok(())
 }
@@ -124,18 +108,8 @@ fn number_of(value: &Value) -> u32 {
 #[test]
 fn carried_lines_are_read_again_and_copied(rt: HostRuntime) -> Result<(), Fail> {
     let alloc = rt.alloc();
-    look_at_carried(&rt, alloc, &read_again(alloc)?)
-}
-
-/// The carried lines that are read of the branches of the note.
-fn read_again(alloc: Global) -> Result<Vec<Carried>, Fail> {
-    let branches = branches_of(alloc, &note(alloc)?)?;
-    Ok(carried_of(alloc, &branches)?)
-}
-
-/// A pointer to 7 stands below the first line and below its copy.
-fn look_at_carried(rt: &impl Abort, alloc: Global, read: &[Carried]) -> Result<(), Fail> {
-    assert_eq!(rt; number_below(read), 7);
+    let read = carried_of(alloc, &branches_of(alloc, &note(alloc)?)?)?;
+    assert_eq!(rt; number_below(&read), 7);
     if let Some(line) = read.first() {
         let copy = one(alloc, line.copy(alloc)?)?;
         assert_eq!(rt; number_below(&copy), 7);
@@ -146,15 +120,10 @@ fn look_at_carried(rt: &impl Abort, alloc: Global, read: &[Carried]) -> Result<(
 #[test]
 fn a_text_is_copied(rt: HostRuntime) -> Result<(), Fail> {
     let alloc = rt.alloc();
-    look_at_copy(&rt, alloc, &Some(text(alloc, "x")?))?;
-    assert!(rt; copied(alloc, &None)?.is_none());
-    Ok(())
-}
-
-/// The copy of the text, where there is one, is `x`.
-fn look_at_copy(rt: &impl Abort, alloc: Global, word: &Option<Text>) -> Result<(), Fail> {
-    if let Some(copy) = copied(alloc, word)? {
+    let word = Some(text(alloc, "x")?);
+    if let Some(copy) = copied(alloc, &word)? {
         assert_eq!(rt; copy.as_str(), "x");
     }
+    assert!(rt; copied(alloc, &None)?.is_none());
     Ok(())
 }

@@ -214,22 +214,20 @@ fn fill_with_places(
     Ok(())
 }
 
-/// A state of places alone.
-fn state_of_places(alloc: Global, places: &[(u32, &str, Option<u32>)]) -> Result<State, Fail> {
-    let mut state = State::new(alloc);
-    fill_with_places(alloc, &mut state, places)?;
-    Ok(state)
-}
-
 /// Four places, two of them with one path.
 fn places_of_ashby(alloc: Global) -> Result<State, Fail> {
-    let places = [
-        (4, "Ashby, Kent", None),
-        (2, "Ashby", Some(1)),
-        (1, "Kent", None),
-        (3, "Ashby", None),
-    ];
-    state_of_places(alloc, &places)
+    let mut state = State::new(alloc);
+    fill_with_places(
+        alloc,
+        &mut state,
+        &[
+            (4, "Ashby, Kent", None),
+            (2, "Ashby", Some(1)),
+            (1, "Kent", None),
+            (3, "Ashby", None),
+        ],
+    )?;
+    Ok(state)
 }
 
 /// Puts the entries under their numbers.
@@ -358,24 +356,12 @@ fn look_at_records<V: View>(rt: &impl Abort, alloc: Global, view: &mut V) {
 /// Looks at what stands beside the records of the family.
 fn look_at_family<V: View>(rt: &impl Abort, alloc: Global, view: &mut V) -> Result<(), Fail> {
     look_at_records(rt, alloc, view);
-    look_at_receipts(rt, alloc, view)?;
-    look_at_slips(rt, alloc, view)?;
-    assert!(rt; view.next(alloc).ok() == Some(12));
-    assert!(rt; view.failures() == 0);
-    Ok(())
-}
-
-/// Looks at the receipt of the family.
-fn look_at_receipts<V: View>(rt: &impl Abort, alloc: Global, view: &mut V) -> Result<(), Fail> {
     assert!(rt; kept_under(alloc, view, "m1")? == Some(receipt()));
     assert!(rt; kept_under(alloc, view, "m2")?.is_none());
-    Ok(())
-}
-
-/// Looks at the slip of the family.
-fn look_at_slips<V: View>(rt: &impl Abort, alloc: Global, view: &mut V) -> Result<(), Fail> {
     assert!(rt; kept_by(alloc, view, 11)? == Some(9));
     assert!(rt; kept_by(alloc, view, 10)?.is_none());
+    assert!(rt; view.next(alloc).ok() == Some(12));
+    assert!(rt; view.failures() == 0);
     Ok(())
 }
 
@@ -414,11 +400,6 @@ fn look_at_entries<V: View>(rt: &impl Abort, alloc: Global, view: &mut V) -> Res
     for (number, key, want) in &entries() {
         assert!(rt; entry_of(alloc, view, key)? == Some(*want), "at {number}");
     }
-    look_at_other_keys(rt, alloc, view)
-}
-
-/// Looks for entries of keys that no entry has.
-fn look_at_other_keys<V: View>(rt: &impl Abort, alloc: Global, view: &mut V) -> Result<(), Fail> {
     for other in [
         keyed(1, EntryKind::Marriage, "f. 3", 1),
         keyed(2, EntryKind::Burial, "f. 3", 1),
@@ -433,16 +414,13 @@ fn look_at_other_keys<V: View>(rt: &impl Abort, alloc: Global, view: &mut V) -> 
 #[test]
 fn a_new_state_is_empty(rt: HostRuntime) -> Result<(), Fail> {
     let alloc = rt.alloc();
-    look_at_nothing(&rt, &State::new(alloc), &token(alloc, "m1")?);
-    Ok(())
-}
-
-/// Looks at a state in which there is nothing.
-fn look_at_nothing(rt: &impl Abort, state: &State, token: &Token) {
+    let token = token(alloc, "m1")?;
+    let state = State::new(alloc);
     assert!(rt; state.next() == 1);
     assert!(rt; state.record(1).is_none());
-    assert!(rt; state.receipt(token).is_none());
+    assert!(rt; state.receipt(&token).is_none());
     assert!(rt; state.slip(1).is_none());
+    Ok(())
 }
 
 #[test]
@@ -521,33 +499,23 @@ fn slips_and_receipts_are_put_and_taken_out(rt: HostRuntime) -> Result<(), Fail>
 
 /// Puts the slip and the receipt of the family again, and takes the slip out.
 fn put_again(rt: &impl Abort, alloc: Global, state: &mut State) -> Result<(), Fail> {
-    assert!(rt; is_there(state.put_slip(11, slip(alloc)?)?));
-    assert!(rt; is_there(state.remove_slip(11)));
+    let before = state.put_slip(11, slip(alloc)?)?;
+    assert!(rt; before.is_some());
+    assert!(rt; state.remove_slip(11).is_some());
     assert!(rt; state.slip(11).is_none());
     let kept = state.put_receipt(token(alloc, "m1")?, receipt())?;
     assert!(rt; kept == Some(receipt()));
     Ok(())
 }
 
-/// Whether a slip that is given away was there.
-fn is_there(found: Option<Slip>) -> bool {
-    let is_there = found.is_some();
-    drop(found);
-    is_there
-}
-
 #[test]
 fn a_place_without_smaller_parent_has_no_path(rt: HostRuntime) -> Result<(), Fail> {
     let alloc = rt.alloc();
+    let mut state = State::new(alloc);
     let places = [(1, "Ashby", Some(1)), (2, "Ashby", Some(3))];
-    let state = state_of_places(alloc, &places)?;
-    look_at_no_paths(&rt, alloc, &state)
-}
-
-/// Looks at places that have no path, since each stands in itself or in one of a greater number.
-fn look_at_no_paths(rt: &impl Abort, alloc: Global, state: &State) -> Result<(), Fail> {
-    assert!(rt; lowest_of(alloc, state, "Ashby")?.is_none());
-    assert!(rt; lowest_of(alloc, state, "Ashby, Ashby")?.is_none());
+    fill_with_places(alloc, &mut state, &places)?;
+    assert!(rt; lowest_of(alloc, &state, "Ashby")?.is_none());
+    assert!(rt; lowest_of(alloc, &state, "Ashby, Ashby")?.is_none());
     Ok(())
 }
 
