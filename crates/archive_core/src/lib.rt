@@ -5,7 +5,7 @@
 //! what stands in it, and on `commands` for the commands and their digests.
 //!
 //! Callers may rely on: `decide` over any view answers the changes that, made, are the step of the definitions, or
-//! its refusal, and changes nothing itself.
+//! its refusal, and changes nothing itself. `apply` makes changes on a state, all of them or none, and `step` does both.
 #![tactic(auto)]
 
 mod applying;

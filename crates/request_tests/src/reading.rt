@@ -25,9 +25,23 @@ fn is_refused(alloc: Global, verb: &str, fields: &[&str], number: u8) -> bool {
 #[test]
 fn rows_of_persons_and_families(rt: HostRuntime) -> Result<(), Fail> {
     let alloc = rt.alloc();
-    assert!(rt; is_read(alloc, "person", &["John /Smith/", "M"], "person,John /Smith/,M\n")?);
+    assert!(rt;
+        is_read(
+            alloc,
+            "person",
+            &["John /Smith/", "M"],
+            "person,John /Smith/,M\n"
+        )?
+    );
     assert!(rt; is_read(alloc, "person", &["", ""], "person,,\n")?);
-    assert!(rt; is_read(alloc, "name", &["7", "Smith, Jon"], "name,7,\"Smith, Jon\"\n")?);
+    assert!(rt;
+        is_read(
+            alloc,
+            "name",
+            &["7", "Smith, Jon"],
+            "name,7,\"Smith, Jon\"\n"
+        )?
+    );
     assert!(rt; is_read(alloc, "sex", &["10", "U"], "sex,10,U\n")?);
     assert!(rt; is_read(alloc, "family", &["1", ""], "family,1,\n")?);
     assert!(rt; is_read(alloc, "family", &["", "2"], "family,,2\n")?);
@@ -41,10 +55,31 @@ fn rows_of_events(rt: HostRuntime) -> Result<(), Fail> {
     let wedding = ["2", "MARR", "", "1 MAY 1800", ""];
     assert!(rt; is_read(alloc, "event", &wedding, "event,2,MARR,,1 MAY 1800,\n")?);
     let birth = ["1", "BIRT", "at home", " 01  may 1800", "12"];
-    assert!(rt; is_read(alloc, "event", &birth, "event,1,BIRT,at home,1 MAY 1800,12\n")?);
-    assert!(rt; is_read(alloc, "amend", &["3", "", "about a day", ""], "amend,3,,about a day,\n")?);
+    assert!(rt;
+        is_read(
+            alloc,
+            "event",
+            &birth,
+            "event,1,BIRT,at home,1 MAY 1800,12\n"
+        )?
+    );
+    assert!(rt;
+        is_read(
+            alloc,
+            "amend",
+            &["3", "", "about a day", ""],
+            "amend,3,,about a day,\n"
+        )?
+    );
     assert!(rt; is_read(alloc, "amend", &["3", "no", "", "4"], "amend,3,no,,4\n")?);
-    assert!(rt; is_read(alloc, "participant", &["3", "1", "witness"], "participant,3,1,witness\n")?);
+    assert!(rt;
+        is_read(
+            alloc,
+            "participant",
+            &["3", "1", "witness"],
+            "participant,3,1,witness\n"
+        )?
+    );
     Ok(())
 }
 
@@ -52,9 +87,29 @@ fn rows_of_events(rt: HostRuntime) -> Result<(), Fail> {
 fn an_empty_date_is_none(rt: HostRuntime) -> Result<(), Fail> {
     let alloc = rt.alloc();
     let found = Command::of_row(alloc, "amend", &["3", "", "", ""]);
-    assert!(rt; matches!(&found, Ok(Command::Amend { event: 3, date: None, place: None, .. })));
+    assert!(rt;
+        matches!(
+            &found,
+            Ok(Command::Amend {
+                event: 3,
+                date: None,
+                place: None,
+                ..
+            })
+        )
+    );
     let found = Command::of_row(alloc, "amend", &["3", "", " ", ""]);
-    assert!(rt; matches!(&found, Ok(Command::Amend { event: 3, date: Some(_), place: None, .. })));
+    assert!(rt;
+        matches!(
+            &found,
+            Ok(Command::Amend {
+                event: 3,
+                date: Some(_),
+                place: None,
+                ..
+            })
+        )
+    );
     Ok(())
 }
 
