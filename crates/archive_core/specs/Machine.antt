@@ -22,7 +22,7 @@ kept_under token digest (Err e) = Err e
 abbrev pub answered_again : Content → List ℕ → Receipt → Step
 answered_again c digest receipt = if bytes_eq receipt.digest digest then Ok (c, receipt.answer) else Err TokenReused
 
--- the same, by what is kept under its token
+-- what a request leaves and is answered, by what is kept under its token
 abbrev pub served : Content → Request → Option Receipt → Step
 served c r None = kept_under r.token (digest_of r.command) (step c r.command)
 served c r (Some receipt) = answered_again c (digest_of r.command) receipt
@@ -64,7 +64,8 @@ Runs c (done ∷ more) after = (between : Content) × Does c done.0 done.1 betwe
 abbrev pub Draws : Content → Answer → Content → Type 0
 Draws c a after = ((after.next ≡ c.next) × (a.count ≡ 0)) ⊎ ((after.next ≡ c.next + 1) × (a.first ≡ c.next) × (a.count ≡ 1))
 
--- no number is used twice: the next one does not fall, and where neither a record nor a slip stood below it none stands
+-- no number is used twice: the next one does not fall, and below it no record stands where none stood, and no slip where
+-- none stood
 abbrev pub NoneAgain : Content → Content → Type 0
 NoneAgain c after = (c.next ≤ after.next) × ((n : ℕ) → n < c.next
     → (get c.records n ≡ None → get after.records n ≡ None) × (get c.slips n ≡ None → get after.slips n ≡ None))
