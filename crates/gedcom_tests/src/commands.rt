@@ -1,7 +1,7 @@
 //! Command lines as they are given.
 
+use command_line::{Asked, Refused, read_words};
 use std::alloc::{AllocError, Global};
-use words::{Asked, Refused, read_words};
 
 /// The exit status and the text of an answer; no status where it asks for work.
 fn told(alloc: Global, answer: Result<Asked, Refused>) -> Result<(Option<u8>, String), AllocError> {
