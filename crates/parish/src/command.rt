@@ -182,6 +182,3 @@ fn refuse_words<F: Write + Device>(faults: &mut F, text: &str) -> u8
     let _ = write_bytes(faults, before, text.as_bytes());
     WORDS_REFUSED
 }
-
-#[cfg(test)]
-mod tests;
