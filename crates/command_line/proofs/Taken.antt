@@ -11,7 +11,7 @@ use Rattle.clap.specs.Takes.{built_takes, default_passes, entered_passes, is_giv
 use Rattle.clap.specs.declared.parser.matches.ArgMatches.{ArgMatches}
 use Rattle.clap.specs.declared.parser.matches.ArgMatches.TheViews.{out-ArgMatches, out-SubCommand}
 use Rattle.clap.specs.declared.parser.matches.SubCommand.{SubCommand}
-use Rattle.words.specs.Commands.{command_named, program}
+use Rattle.command_line.specs.Commands.{command_named, program}
 
 both : (a b : Bool) → (a && b) ≡ true → (a ≡ true) × (b ≡ true)
 both true true h = (refl, refl)

@@ -2,10 +2,10 @@
 use Rattle.std.specs.Prelude.{◌≡◌, List, [], Option, Some, None, IfSome, IsSome, MatchResult, Result, true, codes, option_map}
 use Rattle.clap.specs.Words.{App, Text, subcommand_of, takes, with_subcommand}
 use Rattle.clap.specs.Simple.{new_shape}
-use Rattle.words.specs.declared.reading.Asked.{Asked}
-use Rattle.words.specs.declared.reading.Asked.TheVariants.{Norm, Check}
-use Rattle.words.specs.declared.reading.Refused.{Refused}
-use Rattle.words.specs.declared.reading.Refused.TheVariants.{OutOfMemory}
+use Rattle.command_line.specs.declared.reading.Asked.{Asked}
+use Rattle.command_line.specs.declared.reading.Asked.TheVariants.{Norm, Check}
+use Rattle.command_line.specs.declared.reading.Refused.{Refused}
+use Rattle.command_line.specs.declared.reading.Refused.TheVariants.{OutOfMemory}
 
 -- the program without its commands: it has a version, demands a command, and has none called help
 abbrev pub bare : App

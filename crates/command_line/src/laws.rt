@@ -2,7 +2,7 @@
 
 ghost use Rattle.std.specs.Prelude.{[], ◌∷◌, codes};
 ghost use Rattle.clap.specs.Words.{Text};
-ghost use Rattle.words.specs.Commands.{IsTaken};
+ghost use Rattle.command_line.specs.Commands.{IsTaken};
 
 /// Each command is taken where it stands alone behind the program's name, whatever that is.
 pub fn each_command_is_taken()

@@ -3,7 +3,7 @@
 ghost use Rattle.std.specs.Prelude.{◌≡◌, IfOk, codes, false};
 ghost use Rattle.clap.specs.Words.{app_of, new_app};
 ghost use Rattle.clap.specs.declared.builder.command.Command.TheViews.{out-Command};
-ghost use Rattle.words.specs.Commands.{bare, program};
+ghost use Rattle.command_line.specs.Commands.{bare, program};
 
 use clap::Command;
 use std::alloc::{AllocError, Global};

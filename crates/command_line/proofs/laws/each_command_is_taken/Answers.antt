@@ -1,8 +1,8 @@
 use Rattle.std.proofs.Common.{◌≡◌, [], ◌∷◌, codes, true, refl}
 use Rattle.clap.specs.Words.{Text, takes}
 use Rattle.clap.proofs.OnLiterals.{clap_on_literals}
-use Rattle.words.specs.Commands.{program}
-use Rattle.words.proofs.laws.each_command_is_taken.Goals as goal
+use Rattle.command_line.specs.Commands.{program}
+use Rattle.command_line.proofs.laws.each_command_is_taken.Goals as goal
 
 norm_taken : (name : Text) → takes program (name ∷ codes "norm" ∷ []) ≡ true
 unfolding clap_on_literals

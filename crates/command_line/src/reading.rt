@@ -2,7 +2,7 @@
 
 ghost use Rattle.std.specs.Prelude.{◌≡◌, Err, IfOk, IfSome, None, Some, codes, map, string_bytes};
 ghost use Rattle.clap.specs.Words.{kind_of, subcommand_name_of};
-ghost use Rattle.words.specs.Commands.{AsksForWork, Asks, IsTaken, name_of};
+ghost use Rattle.command_line.specs.Commands.{AsksForWork, Asks, IsTaken, name_of};
 
 use crate::commands::parish_command;
 use clap::error::ErrorKind;
@@ -31,7 +31,7 @@ pub enum Refused {
 
 impl From<AllocError> for Refused {
     ghost use Rattle.std.specs.Prelude.{◌≡◌};
-    ghost use Rattle.words.specs.declared.reading.Refused.TheVariants.{OutOfMemory};
+    ghost use Rattle.command_line.specs.declared.reading.Refused.TheVariants.{OutOfMemory};
 
     ghost from_gives = { λ _ r. r ≡ OutOfMemory };
 

@@ -1,8 +1,8 @@
 use Rattle.std.proofs.Common.{◌≡◌, ◌∙◌, inl, inr, ap, refl, option_map, map, string_bytes}
 use Rattle.clap.specs.Words.{App, is_simple, subcommand_name_of, subcommand_of, takes}
-use Rattle.words.specs.Commands.{command_named}
-use Rattle.words.proofs.Taken.{taken_names, name_of_rows}
-use Rattle.words.proofs.reading.read_words.Goals as goal
+use Rattle.command_line.specs.Commands.{command_named}
+use Rattle.command_line.proofs.Taken.{taken_names, name_of_rows}
+use Rattle.command_line.proofs.reading.read_words.Goals as goal
 
 pub returns-in-Ok-clause-taken : goal.returns-in-Ok-clause-taken
 returns-in-Ok-clause-taken c = λ taken.
