@@ -121,7 +121,7 @@ ITEMS = (
 )
 
 # A number and whether it is that of an entry on its page.
-NUMBERS = ((1, True), (999_999, True), (0, False), (1_000_000, False), (4_294_967_295, False))
+NUMBERS = ((1, True), (12, True), (999_999, True), (0, False), (1_000_000, False), (4_294_967_295, False))
 
 # A kind, a word, and the name of its value; None: it is that of none.
 NAMED = (
