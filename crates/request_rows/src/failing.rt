@@ -10,7 +10,7 @@ use records::{EntryKind, Item, Record, RefusalKind, Text};
 use std::alloc::Global;
 
 /// Why a look fails.
-#[derive(Clone, Copy, Debug, PartialEq, Eq)]
+#[derive(Clone, Copy)]
 pub(crate) enum Failure {
     Storage,
     BadStored,

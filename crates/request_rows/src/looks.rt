@@ -123,5 +123,13 @@ fn is_alike(a: &Changes, b: &Changes) -> bool {
 }
 
 fn has_same_numbers(a: &[Numbered], b: &[Numbered]) -> bool {
-    a.len() == b.len() && a.iter().zip(b.iter()).all(|(x, y)| x.number == y.number)
+    if a.len() != b.len() {
+        return false;
+    }
+    for i in 0..a.len() {
+        if a[i].number != b[i].number {
+            return false;
+        }
+    }
+    true
 }

@@ -13,7 +13,7 @@ pub(crate) fn fields_of<'a>(
     let mut fields = Vec::new(alloc);
     for field in row {
         match str::from_utf8(field) {
-            Ok(field) => fields.push(field)?,
+            Ok(text) => fields.push(text)?,
             Err(_) => return Ok(None),
         }
     }

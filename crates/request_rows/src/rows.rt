@@ -62,8 +62,8 @@ pub(crate) fn said<'a>(
 }
 
 /// A word alone.
-pub(crate) fn word(alloc: Global, word: &str) -> Result<Vec<u8>, AllocError> {
-    row(alloc, &[word.as_bytes()])
+pub(crate) fn word(alloc: Global, text: &str) -> Result<Vec<u8>, AllocError> {
+    row(alloc, &[text.as_bytes()])
 }
 
 /// A row of these fields.
