@@ -41,6 +41,9 @@ impl From<AllocError> for Refused {
 }
 
 /// What the words ask for. The first word is the program's own name, and is not looked at.
+///
+/// `Words` comes where they are no command or one with words that it does not take, and `OutOfMemory` where
+/// memory is refused.
 pub fn read_words(alloc: Global, words: &[String]) -> Result<Asked, Refused>
     ensures asked { IfOk result (Asks (map string_bytes words.now)) }
     ensures taken { IsTaken (map string_bytes words.now) → AsksForWork result }
