@@ -60,12 +60,25 @@ fn answer_asked(
     out: &mut Answer,
 ) -> Result<(), RefusalKind> {
     match word(words, 0) {
-        "state" => ask_state(alloc, &session.state, &question_of(alloc, words)?, out),
-        "view" => ask(alloc, &mut &session.state, &question_of(alloc, words)?, out),
-        "shown" => ask(alloc, &mut &session.shown, &question_of(alloc, words)?, out),
+        "state" | "view" | "shown" => answer_question(alloc, session, words, out),
         "change" => change(alloc, session, words, out),
         "read" => say_read(alloc, &session.lines, word(words, 1), out),
         _ => answer_plain(alloc, session, words, out),
+    }
+}
+
+/// Answers a question to the state, to a view of it, or to a view of what is shown.
+fn answer_question(
+    alloc: Global,
+    session: &Session,
+    words: &[String],
+    out: &mut Answer,
+) -> Result<(), RefusalKind> {
+    let question = question_of(alloc, words)?;
+    match word(words, 0) {
+        "state" => ask_state(alloc, &session.state, &question, out),
+        "view" => ask(alloc, &mut &session.state, &question, out),
+        _ => ask(alloc, &mut &session.shown, &question, out),
     }
 }
 

@@ -3,7 +3,7 @@
 use crate::answer::Answer;
 use crate::reading::{say_found, say_gone};
 use crate::rows::{number, text, word};
-use archive_state::{Receipt, Slip, State, Token};
+use archive_state::{Change, Receipt, Slip, State, Token};
 use archive_view::View;
 use records::{EntryKind, Item, Record, RefusalKind, Text};
 use std::alloc::{AllocError, Global};
@@ -49,11 +49,18 @@ pub(crate) fn question_of(alloc: Global, words: &[String]) -> Result<Question, R
 
 /// The key of a row. 90: a word is not of its kind.
 fn key_of(alloc: Global, words: &[String]) -> Result<Key, RefusalKind> {
+    let Some(kind) = EntryKind::from_word(word(words, 3)) else {
+        return Err(RefusalKind::BadRow);
+    };
+    let Some(item) = Item::new(number(words, 5)) else {
+        return Err(RefusalKind::BadRow);
+    };
+    let page = text(alloc, word(words, 4))?;
     Ok(Key {
         source: number(words, 2),
-        kind: EntryKind::from_word(word(words, 3)).ok_or(RefusalKind::BadRow)?,
-        item: Item::new(number(words, 5)).ok_or(RefusalKind::BadRow)?,
-        page: text(alloc, word(words, 4))?,
+        kind,
+        page,
+        item,
     })
 }
 
@@ -194,10 +201,14 @@ fn say_slip(alloc: Global, found: Option<&Slip>, out: &mut Answer) -> Result<(),
     out.say_number("gone ", Some(slip.gone));
     out.say_line(if slip.is_undone { "undone" } else { "done" });
     for change in &slip.changes {
-        out.say_number("change ", Some(change.number));
-        say_found(alloc, Some(&change.old), out)?;
-        out.say_line("to");
-        say_found(alloc, change.new.as_ref(), out)?;
+        say_change(alloc, change, out)?;
     }
     Ok(())
+}
+
+fn say_change(alloc: Global, change: &Change, out: &mut Answer) -> Result<(), AllocError> {
+    out.say_number("change ", Some(change.number));
+    say_found(alloc, Some(&change.old), out)?;
+    out.say_line("to");
+    say_found(alloc, change.new.as_ref(), out)
 }

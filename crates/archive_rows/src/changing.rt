@@ -38,8 +38,18 @@ pub(crate) fn change(
 /// Puts the record that is kept as the lines.
 fn put(alloc: Global, session: &mut Session, at: u32, out: &mut Answer) -> Result<(), RefusalKind> {
     let record = record_of(alloc, &session.lines)?;
-    let before = session.state.put_record(at, record)?;
-    Ok(say_gone(alloc, before, out)?)
+    Ok(put_record(alloc, &mut session.state, at, record, out)?)
+}
+
+fn put_record(
+    alloc: Global,
+    state: &mut State,
+    at: u32,
+    record: Record,
+    out: &mut Answer,
+) -> Result<(), AllocError> {
+    let before = state.put_record(at, record)?;
+    say_gone(alloc, before, out)
 }
 
 fn put_slip(
