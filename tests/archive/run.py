@@ -13,6 +13,7 @@ sys.dont_write_bytecode = True
 
 import branches  # noqa: E402
 import links  # noqa: E402
+import memory  # noqa: E402
 import printed  # noqa: E402
 import records  # noqa: E402
 import refused  # noqa: E402
@@ -49,10 +50,15 @@ def runs():
         yield list(states.cases(scene))
 
 
+def given_to(cases):
+    """The rows of the cases, as the program reads them."""
+    return "".join(ask.row + "\n" for case in cases for ask in case.asks).encode("utf-8")
+
+
 def answers(cases):
     """The answer to each row, without the line that ends it."""
-    data = "".join(ask.row + "\n" for case in cases for ask in case.asks).encode("utf-8")
-    out = subprocess.run([str(PROGRAM)], input=data, stdout=subprocess.PIPE, check=True, timeout=50).stdout
+    rows = given_to(cases)
+    out = subprocess.run([str(PROGRAM)], input=rows, stdout=subprocess.PIPE, check=True, timeout=50).stdout
     found, lines = [], []
     for line in out.decode("utf-8").split("\n")[:-1]:
         if line == ".":
@@ -77,11 +83,23 @@ def differences(cases):
             yield f"{case.name}: {ask.row[:100]!r} gives {found[-300:]!r}, and {ask.wanted[-300:]!r} was wanted"
 
 
+def memory_faults():
+    """Of a scene and of some twenty records: what goes wrong where memory is refused. None: nothing."""
+    slips = next(scene for scene in states.SCENES if scene.name.startswith("a slip"))
+    kinds = [case for case in record_cases() if case.name.split(":")[0] in ("copy", "fields", "names")]
+    for name, cases in (("slips", list(states.cases(slips))), ("records", kinds[:: len(kinds) // 20])):
+        wrong = memory.fault(PROGRAM, given_to(cases))
+        yield f"memory refused, {name}: {wrong}" if wrong else None
+
+
 def main():
     count, failures = 0, list(printed.faults())
     for cases in runs():
         count += len(cases)
         failures += differences(cases)
+    refused_runs = list(memory_faults())
+    count += len(refused_runs)
+    failures += [wrong for wrong in refused_runs if wrong]
     for failure in failures:
         print(f"failed: {failure}")
     print(f"{count - len(failures)} passed, {len(failures)} failed")
