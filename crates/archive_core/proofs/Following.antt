@@ -11,7 +11,7 @@ use Rattle.archive_state.specs.Content.{Content}
 use Rattle.archive_state.specs.Sound.{IsSound}
 use Rattle.commands.specs.declared.command.Command.{Command}
 use Rattle.commands.specs.declared.command.Command.TheVariants as command
-use Rattle.archive_core.specs.Checks.{and_then, room, text_in, date_in, person_at, family_at, event_at, owner_at, place_at, tag_in, is_tag_of, is_said, said_place_at, passed, each, need}
+use Rattle.archive_core.specs.Checks.{and_then, room, text_in, date_in, person_at, family_at, event_at, owner_at, place_at, tag_in, event_tag, is_tag_of, is_said, said_place_at, passed, each, need}
 use Rattle.archive_core.specs.Steps.{Step, step, made, changed, plain_person, plain_partners, plain_place, with_name, with_child, with_fields, with_participant, is_same, is_partner, is_child}
 use Rattle.archive_core.specs.Machine.{Draws, NoneAgain}
 use Rattle.archive_core.specs.declared.looks.Owner.{Owner}
@@ -84,9 +84,9 @@ each_passed : {A : Type 0} (r : Result A RefusalKind) (u : Unit {0}) → passed 
 each_passed (Ok a) u e = e
 each_passed (Err k) u e = e
 
-first_passed : {A B : Type 0} (r : Result A RefusalKind) (f : A → Result B RefusalKind) (b : B) → and_then r f ≡ Ok b → (a : A) × (r ≡ Ok a)
-first_passed (Ok a) f b e = (a, refl)
-first_passed (Err k) f b e = absurd cc
+both_passed : {A B : Type 0} (r : Result A RefusalKind) (f : A → Result B RefusalKind) (b : B) → and_then r f ≡ Ok b → (a : A) × (r ≡ Ok a) × (f a ≡ Ok b)
+both_passed (Ok a) f b e = (a, refl, e)
+both_passed (Err k) f b e = absurd cc
 
 not_true : (b : Bool) → not b ≡ true → b ≡ false
 not_true true e = absurd cc
@@ -109,8 +109,16 @@ maybe_place : (c : Content) (n : Option ℕ) (u : Unit {0}) → passed (each (sa
 maybe_place c None u e = tt
 maybe_place c (Some n) u e =
     let said = passes (said_place_at c n) u (each_passed (said_place_at c n) u e) in
-    let place = first_passed (place_at c n) (λ p. need (is_said n c.records n p) BadText) said.0 said.1 in
+    let place = both_passed (place_at c n) (λ p. need (is_said n c.records n p) BadText) said.0 said.1 in
     (place_stands (get c.records n) place.0 place.1, said_has_part c n said.1)
+
+-- the owner, and what is known of its place and its tag
+event_tag_found : (c : Content) (owner : ℕ) (place : Option ℕ) (t tag : List ℕ) → event_tag c owner place t ≡ Ok tag
+    → (o : Owner) × (owner_at c owner ≡ Ok o) × PlaceAt c place × (is_tag_of o tag ≡ true)
+event_tag_found c owner place t tag e =
+    let o = both_passed (owner_at c owner) (λ o. and_then (passed (each (said_place_at c) place)) (λ _. tag_in o t)) tag e in
+    let p = both_passed (passed (each (said_place_at c) place)) (λ _. tag_in o.0 t) tag o.2 in
+    (o.0, o.1, maybe_place c place p.0 p.1, tag_found o.0 t tag p.2)
 
 -- ---- each command
 pub step_follows : (c : Content) (k : Command) → Follows c (step c k)
@@ -138,7 +146,7 @@ step_follows c (command.Child family person) =
     (λ sound. further_child_fits c family f person sound at (one_person c person u there) (not_true (is_partner person f || is_child person f) other)))))
 step_follows c (command.Event owner tag value date place) =
     then_follows c (text_in tag) _ (λ t i. then_follows c (text_in value) _ (λ v j. then_follows c (each date_in date) _ (λ d k.
-    then_follows c (owner_at c owner) _ (λ o found. then_follows c (passed (each (said_place_at c) place)) _ (λ u there. then_follows c (tag_in o t) _ (λ is one.
+    then_follows c (event_tag c owner place t) _ (λ is found.
     let event : model.Event = record {
       owner = owner;
       tag = is;
@@ -148,9 +156,10 @@ step_follows c (command.Event owner tag value date place) =
       participants = [];
       carried = [];
     } in
-    let holder = owner_found (get c.records owner) o found in
+    let one = event_tag_found c owner place t is found in
+    let holder = owner_found (get c.records owner) one.0 one.1 in
     room_follows c (λ n. made c n (kind.Event event)) (made_follows c (kind.Event event)
-    (λ sound. new_event_fits c owner o holder.0 is v d place sound holder.1 holder.2 holder.3 (tag_found o t is one) (maybe_place c place u there)))))))))
+    (λ sound. new_event_fits c owner one.0 holder.0 is v d place sound holder.1 holder.2 holder.3 one.3 one.2))))))
 step_follows c (command.Amend event value date place) =
     then_follows c (text_in value) _ (λ v i. then_follows c (each date_in date) _ (λ d j. then_follows c (event_at c event) _ (λ e found.
     then_follows c (passed (each (said_place_at c) place)) _ (λ u there.

@@ -131,6 +131,13 @@ is_said (suc steps) m n p = says_something p.name || is_within_with m n (λ q r.
 abbrev pub said_place_at : Content → ℕ → Result (Unit {0}) RefusalKind
 said_place_at c n = and_then (place_at c n) (λ p. need (is_said n c.records n p) BadText)
 
+-- the tag of an event, whose owner may have it, and whose place an event may have
+abbrev pub event_tag : Content → ℕ → Option ℕ → List ℕ → Result (List ℕ) RefusalKind
+event_tag c owner place tag =
+    and_then (owner_at c owner) (λ o.
+    and_then (passed (each (said_place_at c) place)) (λ _.
+    tag_in o tag))
+
 -- ---- room
 -- the next number, where one is left
 abbrev pub room : Content → Result ℕ RefusalKind

@@ -17,7 +17,7 @@ use Rattle.archive_state.specs.Content.{Content}
 use Rattle.commands.specs.Given.{GivenDate}
 use Rattle.commands.specs.declared.command.Command.{Command}
 use Rattle.commands.specs.declared.command.Command.TheVariants as command
-use Rattle.archive_core.specs.Checks.{and_then, need, passed, each, text_in, date_in, person_at, family_at, event_at, owner_at, said_place_at, tag_in, room}
+use Rattle.archive_core.specs.Checks.{and_then, need, passed, each, text_in, date_in, person_at, family_at, event_at, event_tag, said_place_at, room}
 
 -- what an accepted command leaves, and its answer
 abbrev pub Step : Type 0
@@ -136,9 +136,7 @@ new_event c owner tag value date place =
     and_then (text_in tag) (λ t.
     and_then (text_in value) (λ v.
     and_then (each date_in date) (λ d.
-    and_then (owner_at c owner) (λ o.
-    and_then (passed (each (said_place_at c) place)) (λ _.
-    and_then (tag_in o t) (λ tag.
+    and_then (event_tag c owner place t) (λ tag.
     and_then (room c) (λ n.
     made c n (kind.Event (record {
       owner = owner;
@@ -148,7 +146,7 @@ new_event c owner tag value date place =
       place = option_map plain_place place;
       participants = [];
       carried = [];
-    })))))))))
+    })))))))
 
 abbrev pub amended : Content → ℕ → List ℕ → Option GivenDate → Option ℕ → Step
 amended c n value date place =

@@ -12,7 +12,7 @@ ghost use Rattle.archive_core.specs.Steps as steps;
 
 use crate::families::check_person;
 use crate::looks::{Owner, date_in, event_at, owner_at, text_in};
-use crate::making::{changed, made, room};
+use crate::making::{changed, kept_if, made};
 use crate::places::check_place;
 use archive_state::Changes;
 use archive_view::View;
@@ -51,12 +51,9 @@ pub(crate) fn new_event<V: View>(
     let tag = text_in(alloc, tag)?;
     let value = text_in(alloc, value)?;
     let date = date_in(alloc, date)?;
-    let kind = owner_at(alloc, view, owner)?;
-    check_place(alloc, view, place)?;
-    let tag = tag_in(alloc, kind, tag.as_str())?;
-    let number = room(alloc, view)?;
+    let tag = tag_of(alloc, view, owner, place, tag.as_str())?;
     let event = plain_event(alloc, owner, tag, value, date, place);
-    Ok(made(alloc, number, Record::Event(event))?)
+    made(alloc, view, Record::Event(event))
 }
 
 /// Another value, date or place of an event.
@@ -75,10 +72,9 @@ pub(crate) fn amended<V: View>(
     let value = text_in(alloc, value)?;
     let date = date_in(alloc, date)?;
     let event = event_at(alloc, view, number)?;
-    check_place(alloc, view, place)?;
+    let event = kept_if(event, check_place(alloc, view, place))?;
     let event = with_fields(alloc, event, value, date, place);
-    let next = view.next(alloc)?;
-    Ok(changed(alloc, number, Record::Event(event), next)?)
+    changed(alloc, view, number, Record::Event(event))
 }
 
 /// A further participant of an event.
@@ -96,10 +92,26 @@ pub(crate) fn further_participant<V: View>(
 {
     let role = text_in(alloc, role)?;
     let event = event_at(alloc, view, number)?;
-    check_person(alloc, view, person)?;
+    let event = kept_if(event, check_person(alloc, view, person))?;
     let event = with_participant(alloc, event, person, role)?;
-    let next = view.next(alloc)?;
-    Ok(changed(alloc, number, Record::Event(event), next)?)
+    changed(alloc, view, number, Record::Event(event))
+}
+
+/// The text as the tag of an event, whose owner may have it, and whose place an event may have.
+fn tag_of<V: View>(
+    alloc: Global,
+    view: &mut V,
+    owner: u32,
+    place: Option<u32>,
+    tag: &str,
+) -> Result<Tag, RefusalKind>
+    ensures decides { Keeps (V.is_honest view.old) (V.is_honest view.new) (V.content view.old) (V.content view.new)
+        (Decided result (checks.event_tag (V.content view.old) owner place tag.now)) }
+    ensures counts { CountsFailures (V.failed view.old) (V.failed view.new) result }
+{
+    let owner = owner_at(alloc, view, owner)?;
+    check_place(alloc, view, place)?;
+    tag_in(alloc, owner, tag)
 }
 
 /// The word as the tag of an event of such an owner.

@@ -9,7 +9,7 @@ ghost use Rattle.archive_core.specs.Checks as checks;
 ghost use Rattle.archive_core.specs.Steps as steps;
 
 use crate::looks::{family_at, person_at};
-use crate::making::{changed, made, room};
+use crate::making::{changed, kept_if, made};
 use archive_state::Changes;
 use archive_view::View;
 use records::{Child, Family, Partner, Partnership, Record, RefusalKind};
@@ -31,9 +31,8 @@ pub(crate) fn new_family<V: View>(
     if is_same(husband, wife) {
         return Err(RefusalKind::SamePerson);
     }
-    let number = room(alloc, view)?;
     let family = plain_family(alloc, husband, wife)?;
-    Ok(made(alloc, number, Record::Family(family))?)
+    made(alloc, view, Record::Family(family))
 }
 
 /// A further child of a family.
@@ -48,13 +47,12 @@ pub(crate) fn further_child<V: View>(
     ensures counts { CountsFailures (V.failed view.old) (V.failed view.new) result }
 {
     let family = family_at(alloc, view, number)?;
-    check_person(alloc, view, person)?;
+    let family = kept_if(family, check_person(alloc, view, person))?;
     if is_partner(&family, person) || is_child(&family, person) {
         return Err(RefusalKind::AlreadyInFamily);
     }
     let family = with_child(alloc, family, person)?;
-    let next = view.next(alloc)?;
-    Ok(changed(alloc, number, Record::Family(family), next)?)
+    changed(alloc, view, number, Record::Family(family))
 }
 
 /// That a person stands at the number.

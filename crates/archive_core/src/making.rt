@@ -2,15 +2,20 @@
 
 ghost use Rattle.std.specs.Prelude.{◌≡◌, ◌+◌, ◌∷◌, [], IfOk, None};
 ghost use Rattle.archive_view.specs.Looks.{Keeps, Decided, CountsFailures};
+ghost use Rattle.archive_core.specs.Applied.{Plans};
 ghost use Rattle.archive_core.specs.Checks as checks;
+ghost use Rattle.archive_core.specs.Steps as steps;
 
 use archive_state::{Answer, Changes, Numbered};
 use archive_view::View;
 use records::{Record, RefusalKind};
 use std::alloc::{AllocError, Global};
 
+/// The answer of a command that makes no record.
+const NOTHING_MADE: Answer = Answer { first: 0, count: 0 };
+
 /// The next number, where one is left.
-pub(crate) fn room<V: View>(alloc: Global, view: &mut V) -> Result<u32, RefusalKind>
+fn room<V: View>(alloc: Global, view: &mut V) -> Result<u32, RefusalKind>
     ensures decides { Keeps (V.is_honest view.old) (V.is_honest view.new) (V.content view.old) (V.content view.new)
         (Decided result (checks.room (V.content view.old))) }
     ensures counts { CountsFailures (V.failed view.old) (V.failed view.new) result }
@@ -22,8 +27,27 @@ pub(crate) fn room<V: View>(alloc: Global, view: &mut V) -> Result<u32, RefusalK
     Ok(next as u32)
 }
 
-/// A new record at the next number.
-pub(crate) fn made(alloc: Global, number: u32, value: Record) -> Result<Changes, AllocError>
+/// A new record at the next number, where one is left.
+pub(crate) fn made<V: View>(
+    alloc: Global,
+    view: &mut V,
+    value: Record,
+) -> Result<Changes, RefusalKind>
+    ensures decides { Keeps (V.is_honest view.old) (V.is_honest view.new) (V.content view.old) (V.content view.new)
+        (Plans (V.content view.old) result
+        (checks.and_then (checks.room (V.content view.old)) (λ n. steps.made (V.content view.old) n value))) }
+    ensures counts { CountsFailures (V.failed view.old) (V.failed view.new) result }
+{
+    match room(alloc, view) {
+        Ok(number) => Ok(put_new(alloc, number, value)?),
+        Err(e) => {
+            drop(value);
+            Err(e)
+        }
+    }
+}
+
+fn put_new(alloc: Global, number: u32, value: Record) -> Result<Changes, AllocError>
     ensures { IfOk result (λ c. c ≡ record {
       puts = record { number = number; «record» = value } ∷ [];
       removals = [];
@@ -33,55 +57,76 @@ pub(crate) fn made(alloc: Global, number: u32, value: Record) -> Result<Changes,
       slip = None;
     }) }
 {
-    Ok(Changes {
-        puts: one(
-            alloc,
-            Numbered {
-                number,
-                record: value,
-            },
-        )?,
-        removals: Vec::new(alloc),
-        next: u64::from(number) + 1,
-        answer: Answer {
-            first: number,
-            count: 1,
-        },
-        kept: None,
-        slip: None,
-    })
+    let answer = Answer {
+        first: number,
+        count: 1,
+    };
+    put(alloc, number, value, u64::from(number) + 1, answer)
 }
 
 /// Another record at a number.
-pub(crate) fn changed(
+pub(crate) fn changed<V: View>(
+    alloc: Global,
+    view: &mut V,
+    number: u32,
+    value: Record,
+) -> Result<Changes, RefusalKind>
+    ensures decides { Keeps (V.is_honest view.old) (V.is_honest view.new) (V.content view.old) (V.content view.new)
+        (Plans (V.content view.old) result (steps.changed (V.content view.old) number value)) }
+    ensures counts { CountsFailures (V.failed view.old) (V.failed view.new) result }
+{
+    match view.next(alloc) {
+        Ok(next) => Ok(put(alloc, number, value, next, NOTHING_MADE)?),
+        Err(e) => {
+            drop(value);
+            Err(e)
+        }
+    }
+}
+
+/// One record to put, and nothing else.
+fn put(
     alloc: Global,
     number: u32,
     value: Record,
     next: u64,
+    answer: Answer,
 ) -> Result<Changes, AllocError>
     ensures { IfOk result (λ c. c ≡ record {
       puts = record { number = number; «record» = value } ∷ [];
       removals = [];
       next = next;
-      answer = record { first = 0; count = 0 };
+      answer = answer;
       kept = None;
       slip = None;
     }) }
 {
+    let put = Numbered {
+        number,
+        record: value,
+    };
     Ok(Changes {
-        puts: one(
-            alloc,
-            Numbered {
-                number,
-                record: value,
-            },
-        )?,
+        puts: one(alloc, put)?,
         removals: Vec::new(alloc),
         next,
-        answer: Answer { first: 0, count: 0 },
+        answer,
         kept: None,
         slip: None,
     })
+}
+
+/// The item where a check has passed. At a refusal it is given back here, once for all callers.
+pub(crate) fn kept_if<T: Drop>(item: T, check: Result<(), RefusalKind>) -> Result<T, RefusalKind>
+    ensures same { IfOk result (λ kept. kept ≡ item) }
+    ensures check { checks.passed result ≡ check }
+{
+    match check {
+        Ok(()) => Ok(item),
+        Err(e) => {
+            drop(item);
+            Err(e)
+        }
+    }
 }
 
 /// A list of one.

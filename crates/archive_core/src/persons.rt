@@ -6,7 +6,7 @@ ghost use Rattle.archive_core.specs.Applied.{Plans};
 ghost use Rattle.archive_core.specs.Steps as steps;
 
 use crate::looks::{person_at, text_in};
-use crate::making::{changed, made, one, room};
+use crate::making::{changed, made, one};
 use archive_state::Changes;
 use archive_view::View;
 use commands::Field;
@@ -25,9 +25,8 @@ pub(crate) fn new_person<V: View>(
     ensures counts { CountsFailures (V.failed view.old) (V.failed view.new) result }
 {
     let name = text_in(alloc, name)?;
-    let number = room(alloc, view)?;
     let person = plain_person(alloc, name, sex)?;
-    Ok(made(alloc, number, Record::Person(person))?)
+    made(alloc, view, Record::Person(person))
 }
 
 /// A further name of a person.
@@ -44,8 +43,7 @@ pub(crate) fn further_name<V: View>(
     let name = text_in(alloc, name)?;
     let person = person_at(alloc, view, number)?;
     let person = with_name(alloc, person, name)?;
-    let next = view.next(alloc)?;
-    Ok(changed(alloc, number, Record::Person(person), next)?)
+    changed(alloc, view, number, Record::Person(person))
 }
 
 /// The sex of a person.
@@ -61,8 +59,7 @@ pub(crate) fn new_sex<V: View>(
 {
     let mut person = person_at(alloc, view, number)?;
     person.sex = Some(sex);
-    let next = view.next(alloc)?;
-    Ok(changed(alloc, number, Record::Person(person), next)?)
+    changed(alloc, view, number, Record::Person(person))
 }
 
 /// A name as a command gives it.
