@@ -11,15 +11,15 @@ use Rattle.archive_state.specs.Content.{Content}
 use Rattle.archive_state.specs.Sound.{IsSound}
 use Rattle.commands.specs.declared.command.Command.{Command}
 use Rattle.commands.specs.declared.command.Command.TheVariants as command
-use Rattle.archive_core.specs.Checks.{and_then, room, text_in, date_in, person_at, family_at, event_at, owner_at, place_at, tag_in, event_tag, is_tag_of, is_said, said_place_at, passed, each, need}
-use Rattle.archive_core.specs.Steps.{Step, step, made, changed, plain_person, plain_partners, plain_place, with_name, with_child, with_fields, with_participant, is_same, is_partner, is_child}
+use Rattle.archive_core.specs.Checks.{and_then, text_in, date_in, person_at, family_at, event_at, owner_at, place_at, tag_in, event_tag, is_tag_of, is_said, said_place_at, passed, each, need}
+use Rattle.archive_core.specs.Steps.{Step, step, creates, replaces, plain_person, plain_partners, plain_place, with_name, with_child, with_fields, with_participant, is_same, is_partner, is_child}
 use Rattle.archive_core.specs.Machine.{Draws, NoneAgain}
 use Rattle.archive_core.specs.declared.looks.Owner.{Owner}
 use Rattle.archive_core.proofs.Putting.{put_elsewhere}
 use Rattle.archive_core.proofs.Keeping.{IsFit, put_keeps}
 use Rattle.archive_core.proofs.Found.{person_found, family_found, event_found, owner_found, person_stands, place_stands, passes}
 use Rattle.archive_core.proofs.SaidPaths.{said_has_part}
-use Rattle.archive_core.proofs.Fitting.{PersonAt, PlaceAt, new_person_fits, further_name_fits, new_sex_fits, new_family_fits, further_child_fits, new_event_fits, amended_fits, further_participant_fits}
+use Rattle.archive_core.proofs.Fitting.{PersonAt, PlaceAt, new_person_fits, add_name_fits, set_sex_fits, new_family_fits, add_child_fits, new_event_fits, amend_event_fits, add_participant_fits}
 
 -- an accepted step leaves receipts and slips as they are, makes nothing or a record at the next number, uses no number
 -- again, and leaves a sound archive sound
@@ -35,15 +35,9 @@ need_follows : (c : Content) (b : Bool) (k : RefusalKind) (f : Unit {0} → Step
 need_follows c true k f h = h refl
 need_follows c false k f h = tt
 
-room_follows : (c : Content) (f : ℕ → Step) → Follows c (f c.next) → Follows c (and_then (room c) f)
-room_follows c f h = elim (nat_le c.next 4_294_967_295) as (λ b. Follows c (and_then (if b then Ok c.next else Err Full) f)) [
-  | true ↦ h
-  | false ↦ tt
-]
-
 -- a record changes that stands below the next number
-changed_again : (c : Content) (n : ℕ) (old r : Record) → get c.records n ≡ Some old → NoneAgain c (record c { records = insert c.records n r })
-changed_again c n old r at = (
+replaces_again : (c : Content) (n : ℕ) (old r : Record) → get c.records n ≡ Some old → NoneAgain c (record c { records = insert c.records n r })
+replaces_again c n old r at = (
   omega arith,
   λ k less. (
     (λ none. put_elsewhere c.records n r k (λ same. let both : Some old ≡ None = sym at ∙ (ap (get c.records) (sym same) ∙ none) in absurd cc) ∙ none),
@@ -51,18 +45,21 @@ changed_again c n old r at = (
   ),
 )
 
-changed_follows : (c : Content) (n : ℕ) (old r : Record) → get c.records n ≡ Some old → (IsSound c → IsFit c n r) → Follows c (changed c n r)
-changed_follows c n old r at fit = (
+replaces_follows : (c : Content) (n : ℕ) (old r : Record) → get c.records n ≡ Some old → (IsSound c → IsFit c n r) → Follows c (replaces c n r)
+replaces_follows c n old r at fit = (
   refl,
   refl,
   inl (refl, refl),
-  changed_again c n old r at,
+  replaces_again c n old r at,
   (λ sound. put_keeps c n c.next r sound (fit sound) (omega arith) (sound.rules.numbered n old at)),
 )
 
 -- a record is made at the next number
-made_again : (c : Content) (r : Record) → NoneAgain c (record c { records = insert c.records c.next r; next = c.next + 1 })
-made_again c r = (
+abbrev created : Content → ℕ → Record → Step
+created c n r = Ok (record c { records = insert c.records n r; next = n + 1 }, record { first = n; count = 1 })
+
+creates_again : (c : Content) (r : Record) → NoneAgain c (record c { records = insert c.records c.next r; next = c.next + 1 })
+creates_again c r = (
   omega arith,
   λ k less. (
     (λ none. put_elsewhere c.records c.next r k (λ same. let here : c.next < c.next = subst (λ x. x < c.next) same less in absurd (omega arith)) ∙ none),
@@ -70,14 +67,17 @@ made_again c r = (
   ),
 )
 
-made_follows : (c : Content) (r : Record) → (IsSound c → IsFit c c.next r) → Follows c (made c c.next r)
-made_follows c r fit = (
-  refl,
-  refl,
-  inr (refl, refl, refl),
-  made_again c r,
-  (λ sound. let begun : 0 < c.next = sound.begun in put_keeps c c.next (c.next + 1) r sound (fit sound) (omega arith) (begun, omega arith)),
-)
+creates_follows : (c : Content) (r : Record) → (IsSound c → IsFit c c.next r) → Follows c (creates c r)
+creates_follows c r fit = elim (nat_le c.next 4_294_967_295) as (λ b. Follows c (and_then (if b then Ok c.next else Err Full) (λ n. created c n r))) [
+  | true ↦ (
+    refl,
+    refl,
+    inr (refl, refl, refl),
+    creates_again c r,
+    (λ sound. let begun : 0 < c.next = sound.begun in put_keeps c c.next (c.next + 1) r sound (fit sound) (omega arith) (begun, omega arith)),
+  )
+  | false ↦ tt
+]
 
 -- ---- what a look has found
 each_passed : {A : Type 0} (r : Result A RefusalKind) (u : Unit {0}) → passed (and_then r (λ a. Ok (Some a))) ≡ Ok u → passed r ≡ Ok u
@@ -123,27 +123,26 @@ event_tag_found c owner place t tag e =
 -- ---- each command
 pub step_follows : (c : Content) (k : Command) → Follows c (step c k)
 step_follows c (command.Person name sex) =
-    then_follows c (text_in name) _ (λ t e. room_follows c (λ n. made c n (kind.Person (plain_person t sex)))
-    (made_follows c (kind.Person (plain_person t sex)) (new_person_fits c t sex)))
+    then_follows c (text_in name) _ (λ t e. creates_follows c (kind.Person (plain_person t sex)) (new_person_fits c t sex))
 step_follows c (command.Name person name) =
     then_follows c (text_in name) _ (λ t e. then_follows c (person_at c person) _ (λ p found.
     let at : get c.records person ≡ Some (kind.Person p) = person_found (get c.records person) p found in
-    changed_follows c person (kind.Person p) (kind.Person (with_name t p)) at (λ sound. further_name_fits c person p t sound at)))
+    replaces_follows c person (kind.Person p) (kind.Person (with_name t p)) at (λ sound. add_name_fits c person p t sound at)))
 step_follows c (command.Sex person sex) =
     then_follows c (person_at c person) _ (λ p found.
     let at : get c.records person ≡ Some (kind.Person p) = person_found (get c.records person) p found in
-    changed_follows c person (kind.Person p) (kind.Person (record p { sex = Some sex })) at (λ sound. new_sex_fits c person p (Some sex) sound at))
+    replaces_follows c person (kind.Person p) (kind.Person (record p { sex = Some sex })) at (λ sound. set_sex_fits c person p (Some sex) sound at))
 step_follows c (command.Family husband wife) =
     let family : model.Family = record { partners = plain_partners husband wife; children = []; carried = [] } in
     then_follows c (passed (each (person_at c) husband)) _ (λ h first. then_follows c (passed (each (person_at c) wife)) _ (λ w second.
-    need_follows c (not (is_same husband wife)) SamePerson _ (λ other. room_follows c (λ n. made c n (kind.Family family))
-    (made_follows c (kind.Family family) (λ sound. new_family_fits c husband wife sound (maybe_person c husband h first) (maybe_person c wife w second) (not_true (is_same husband wife) other))))))
+    need_follows c (not (is_same husband wife)) SamePerson _ (λ other. creates_follows c (kind.Family family)
+    (λ sound. new_family_fits c husband wife sound (maybe_person c husband h first) (maybe_person c wife w second) (not_true (is_same husband wife) other)))))
 step_follows c (command.Child family person) =
     then_follows c (family_at c family) _ (λ f found. then_follows c (passed (person_at c person)) _ (λ u there.
     need_follows c (not (is_partner person f || is_child person f)) AlreadyInFamily _ (λ other.
     let at : get c.records family ≡ Some (kind.Family f) = family_found (get c.records family) f found in
-    changed_follows c family (kind.Family f) (kind.Family (with_child person f)) at
-    (λ sound. further_child_fits c family f person sound at (one_person c person u there) (not_true (is_partner person f || is_child person f) other)))))
+    replaces_follows c family (kind.Family f) (kind.Family (with_child person f)) at
+    (λ sound. add_child_fits c family f person sound at (one_person c person u there) (not_true (is_partner person f || is_child person f) other)))))
 step_follows c (command.Event owner tag value date place) =
     then_follows c (text_in tag) _ (λ t i. then_follows c (text_in value) _ (λ v j. then_follows c (each date_in date) _ (λ d k.
     then_follows c (event_tag c owner place t) _ (λ is found.
@@ -158,16 +157,16 @@ step_follows c (command.Event owner tag value date place) =
     } in
     let one = event_tag_found c owner place t is found in
     let holder = owner_found (get c.records owner) one.0 one.1 in
-    room_follows c (λ n. made c n (kind.Event event)) (made_follows c (kind.Event event)
-    (λ sound. new_event_fits c owner one.0 holder.0 is v d place sound holder.1 holder.2 holder.3 one.3 one.2))))))
+    creates_follows c (kind.Event event)
+    (λ sound. new_event_fits c owner one.0 holder.0 is v d place sound holder.1 holder.2 holder.3 one.3 one.2)))))
 step_follows c (command.Amend event value date place) =
     then_follows c (text_in value) _ (λ v i. then_follows c (each date_in date) _ (λ d j. then_follows c (event_at c event) _ (λ e found.
     then_follows c (passed (each (said_place_at c) place)) _ (λ u there.
     let at : get c.records event ≡ Some (kind.Event e) = event_found (get c.records event) e found in
-    changed_follows c event (kind.Event e) (kind.Event (with_fields v d place e)) at
-    (λ sound. amended_fits c event e v d place sound at (maybe_place c place u there))))))
+    replaces_follows c event (kind.Event e) (kind.Event (with_fields v d place e)) at
+    (λ sound. amend_event_fits c event e v d place sound at (maybe_place c place u there))))))
 step_follows c (command.Participant event person role) =
     then_follows c (text_in role) _ (λ r i. then_follows c (event_at c event) _ (λ e found. then_follows c (passed (person_at c person)) _ (λ u there.
     let at : get c.records event ≡ Some (kind.Event e) = event_found (get c.records event) e found in
-    changed_follows c event (kind.Event e) (kind.Event (with_participant person r e)) at
-    (λ sound. further_participant_fits c event e person r sound at (one_person c person u there)))))
+    replaces_follows c event (kind.Event e) (kind.Event (with_participant person r e)) at
+    (λ sound. add_participant_fits c event e person r sound at (one_person c person u there)))))

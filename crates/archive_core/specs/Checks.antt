@@ -138,7 +138,7 @@ event_tag c owner place tag =
     and_then (passed (each (said_place_at c) place)) (λ _.
     tag_in o tag))
 
--- ---- room
+-- ---- the next number
 -- the next number, where one is left
-abbrev pub room : Content → Result ℕ RefusalKind
-room c = if nat_le c.next 4_294_967_295 then Ok c.next else Err Full
+abbrev pub next_free : Content → Result ℕ RefusalKind
+next_free c = if nat_le c.next 4_294_967_295 then Ok c.next else Err Full

@@ -4,7 +4,7 @@ ghost use Rattle.std.specs.Prelude.{◌≡◌, [], IfOk, IfErr, false, option_ma
 ghost use Rattle.std.specs.List.{list_any};
 ghost use Rattle.std.specs.Str.{bytes_eq};
 ghost use Rattle.archive_state.specs.Entries.{person_tags, family_tags};
-ghost use Rattle.archive_view.specs.Looks.{Keeps, Decided, CountsFailures, is_failure};
+ghost use Rattle.archive_view.specs.Looks.{Agrees, OnView, CountsFailures, is_failure, is_stop};
 ghost use Rattle.record_kinds.specs.Model as model;
 ghost use Rattle.archive_core.specs.Applied.{Plans};
 ghost use Rattle.archive_core.specs.Checks as checks;
@@ -12,7 +12,7 @@ ghost use Rattle.archive_core.specs.Steps as steps;
 
 use crate::families::check_person;
 use crate::looks::{Owner, date_in, event_at, owner_at, text_in};
-use crate::making::{changed, kept_if, made};
+use crate::making::{creates, kept_if, replaces};
 use crate::places::check_place;
 use archive_state::Changes;
 use archive_view::View;
@@ -43,9 +43,8 @@ pub(crate) fn new_event<V: View>(
     date: &Option<GivenDate>,
     place: Option<u32>,
 ) -> Result<Changes, RefusalKind>
-    ensures decides { Keeps (V.is_honest view.old) (V.is_honest view.new) (V.content view.old) (V.content view.new)
-        (Plans (V.content view.old) result
-        (steps.new_event (V.content view.old) owner tag.now value.now date.now place)) }
+    ensures decides { OnView V.is_honest V.content view.old view.new
+        (λ c. Plans c result (steps.new_event c owner tag.now value.now date.now place)) }
     ensures counts { CountsFailures (V.failed view.old) (V.failed view.new) result }
 {
     let tag = text_in(alloc, tag)?;
@@ -53,11 +52,11 @@ pub(crate) fn new_event<V: View>(
     let date = date_in(alloc, date)?;
     let tag = tag_of(alloc, view, owner, place, tag.as_str())?;
     let event = plain_event(alloc, owner, tag, value, date, place);
-    made(alloc, view, Record::Event(event))
+    creates(alloc, view, Record::Event(event))
 }
 
 /// Another value, date or place of an event.
-pub(crate) fn amended<V: View>(
+pub(crate) fn amend_event<V: View>(
     alloc: Global,
     view: &mut V,
     number: u32,
@@ -65,8 +64,8 @@ pub(crate) fn amended<V: View>(
     date: &Option<GivenDate>,
     place: Option<u32>,
 ) -> Result<Changes, RefusalKind>
-    ensures decides { Keeps (V.is_honest view.old) (V.is_honest view.new) (V.content view.old) (V.content view.new)
-        (Plans (V.content view.old) result (steps.amended (V.content view.old) number value.now date.now place)) }
+    ensures decides { OnView V.is_honest V.content view.old view.new
+        (λ c. Plans c result (steps.amend_event c number value.now date.now place)) }
     ensures counts { CountsFailures (V.failed view.old) (V.failed view.new) result }
 {
     let value = text_in(alloc, value)?;
@@ -74,27 +73,26 @@ pub(crate) fn amended<V: View>(
     let event = event_at(alloc, view, number)?;
     let event = kept_if(event, check_place(alloc, view, place))?;
     let event = with_fields(alloc, event, value, date, place);
-    changed(alloc, view, number, Record::Event(event))
+    replaces(alloc, view, number, Record::Event(event))
 }
 
 /// A further participant of an event.
-pub(crate) fn further_participant<V: View>(
+pub(crate) fn add_participant<V: View>(
     alloc: Global,
     view: &mut V,
     number: u32,
     person: u32,
     role: &Field,
 ) -> Result<Changes, RefusalKind>
-    ensures decides { Keeps (V.is_honest view.old) (V.is_honest view.new) (V.content view.old) (V.content view.new)
-        (Plans (V.content view.old) result
-        (steps.further_participant (V.content view.old) number person role.now)) }
+    ensures decides { OnView V.is_honest V.content view.old view.new
+        (λ c. Plans c result (steps.add_participant c number person role.now)) }
     ensures counts { CountsFailures (V.failed view.old) (V.failed view.new) result }
 {
     let role = text_in(alloc, role)?;
     let event = event_at(alloc, view, number)?;
     let event = kept_if(event, check_person(alloc, view, person))?;
     let event = with_participant(alloc, event, person, role)?;
-    changed(alloc, view, number, Record::Event(event))
+    replaces(alloc, view, number, Record::Event(event))
 }
 
 /// The text as the tag of an event, whose owner may have it, and whose place an event may have.
@@ -105,8 +103,8 @@ fn tag_of<V: View>(
     place: Option<u32>,
     tag: &str,
 ) -> Result<Tag, RefusalKind>
-    ensures decides { Keeps (V.is_honest view.old) (V.is_honest view.new) (V.content view.old) (V.content view.new)
-        (Decided result (checks.event_tag (V.content view.old) owner place tag.now)) }
+    ensures decides { OnView V.is_honest V.content view.old view.new
+        (λ c. Agrees is_stop result (checks.event_tag c owner place tag.now)) }
     ensures counts { CountsFailures (V.failed view.old) (V.failed view.new) result }
 {
     let owner = owner_at(alloc, view, owner)?;
@@ -116,7 +114,7 @@ fn tag_of<V: View>(
 
 /// The word as the tag of an event of such an owner.
 fn tag_in(alloc: Global, owner: Owner, word: &str) -> Result<Tag, RefusalKind>
-    ensures decides { Decided result (checks.tag_in owner word.now) }
+    ensures decides { Agrees is_stop result (checks.tag_in owner word.now) }
     ensures memory { IfErr result (λ e. is_failure e ≡ false) }
 {
     let is_one = match owner {

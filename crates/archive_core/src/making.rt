@@ -1,7 +1,7 @@
 //! The changes of one record, and what goes into records.
 
 ghost use Rattle.std.specs.Prelude.{◌≡◌, ◌+◌, ◌∷◌, [], IfOk, None};
-ghost use Rattle.archive_view.specs.Looks.{Keeps, Decided, CountsFailures};
+ghost use Rattle.archive_view.specs.Looks.{Agrees, OnView, CountsFailures, is_stop};
 ghost use Rattle.archive_core.specs.Applied.{Plans};
 ghost use Rattle.archive_core.specs.Checks as checks;
 ghost use Rattle.archive_core.specs.Steps as steps;
@@ -15,9 +15,9 @@ use std::alloc::{AllocError, Global};
 const NOTHING_MADE: Answer = Answer { first: 0, count: 0 };
 
 /// The next number, where one is left.
-fn room<V: View>(alloc: Global, view: &mut V) -> Result<u32, RefusalKind>
-    ensures decides { Keeps (V.is_honest view.old) (V.is_honest view.new) (V.content view.old) (V.content view.new)
-        (Decided result (checks.room (V.content view.old))) }
+fn next_free<V: View>(alloc: Global, view: &mut V) -> Result<u32, RefusalKind>
+    ensures decides { OnView V.is_honest V.content view.old view.new
+        (λ c. Agrees is_stop result (checks.next_free c)) }
     ensures counts { CountsFailures (V.failed view.old) (V.failed view.new) result }
 {
     let next = view.next(alloc)?;
@@ -28,17 +28,16 @@ fn room<V: View>(alloc: Global, view: &mut V) -> Result<u32, RefusalKind>
 }
 
 /// A new record at the next number, where one is left.
-pub(crate) fn made<V: View>(
+pub(crate) fn creates<V: View>(
     alloc: Global,
     view: &mut V,
     value: Record,
 ) -> Result<Changes, RefusalKind>
-    ensures decides { Keeps (V.is_honest view.old) (V.is_honest view.new) (V.content view.old) (V.content view.new)
-        (Plans (V.content view.old) result
-        (checks.and_then (checks.room (V.content view.old)) (λ n. steps.made (V.content view.old) n value))) }
+    ensures decides { OnView V.is_honest V.content view.old view.new
+        (λ c. Plans c result (steps.creates c value)) }
     ensures counts { CountsFailures (V.failed view.old) (V.failed view.new) result }
 {
-    match room(alloc, view) {
+    match next_free(alloc, view) {
         Ok(number) => Ok(put_new(alloc, number, value)?),
         Err(e) => {
             drop(value);
@@ -65,14 +64,14 @@ fn put_new(alloc: Global, number: u32, value: Record) -> Result<Changes, AllocEr
 }
 
 /// Another record at a number.
-pub(crate) fn changed<V: View>(
+pub(crate) fn replaces<V: View>(
     alloc: Global,
     view: &mut V,
     number: u32,
     value: Record,
 ) -> Result<Changes, RefusalKind>
-    ensures decides { Keeps (V.is_honest view.old) (V.is_honest view.new) (V.content view.old) (V.content view.new)
-        (Plans (V.content view.old) result (steps.changed (V.content view.old) number value)) }
+    ensures decides { OnView V.is_honest V.content view.old view.new
+        (λ c. Plans c result (steps.replaces c number value)) }
     ensures counts { CountsFailures (V.failed view.old) (V.failed view.new) result }
 {
     match view.next(alloc) {
