@@ -9,9 +9,10 @@ use Rattle.record_kinds.specs.declared.record.Record.{Record}
 use Rattle.record_kinds.specs.declared.record.Record.TheVariants as kind
 use Rattle.archive_state.specs.Content.{Content}
 use Rattle.archive_state.specs.Sound.{IsSound}
+use Rattle.commands.specs.Rows.{and_then}
 use Rattle.commands.specs.declared.command.Command.{Command}
 use Rattle.commands.specs.declared.command.Command.TheVariants as command
-use Rattle.archive_core.specs.Checks.{and_then, text_in, date_in, person_at, family_at, event_at, owner_at, place_at, tag_in, event_tag, is_tag_of, is_said, said_place_at, passed, each, need}
+use Rattle.archive_core.specs.Checks.{text_in, date_in, person_at, family_at, event_at, owner_at, place_at, tag_in, event_tag, is_tag_of, is_said, said_place_at, passed, each, need}
 use Rattle.archive_core.specs.Steps.{Step, step, creates, replaces, plain_person, plain_partners, plain_place, with_name, with_child, with_fields, with_participant, is_same, is_partner, is_child}
 use Rattle.archive_core.specs.Machine.{Draws, NoneAgain}
 use Rattle.archive_core.specs.declared.looks.Owner.{Owner}

@@ -15,9 +15,10 @@ use Rattle.record_kinds.specs.declared.record.Record.TheVariants as kind
 use Rattle.receipts.specs.declared.answer.Answer.{Answer}
 use Rattle.archive_state.specs.Content.{Content}
 use Rattle.commands.specs.Given.{GivenDate}
+use Rattle.commands.specs.Rows.{and_then}
 use Rattle.commands.specs.declared.command.Command.{Command}
 use Rattle.commands.specs.declared.command.Command.TheVariants as command
-use Rattle.archive_core.specs.Checks.{and_then, need, passed, each, text_in, date_in, person_at, family_at, event_at, event_tag, said_place_at, next_free}
+use Rattle.archive_core.specs.Checks.{need, passed, each, text_in, date_in, person_at, family_at, event_at, event_tag, said_place_at, next_free}
 
 -- what an accepted command leaves, and its answer
 abbrev pub Step : Type 0

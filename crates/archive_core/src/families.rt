@@ -2,7 +2,7 @@
 
 ghost use Rattle.std.specs.Prelude.{◌≡◌, ◌++◌, ◌==◌, ◌||◌, [], IfOk};
 ghost use Rattle.std.specs.List.{list_any};
-ghost use Rattle.archive_view.specs.Looks.{Agrees, OnView, CountsFailures, is_stop};
+ghost use Rattle.archive_view.specs.Looks.{Agrees, CountsFailures, OnView, is_stop};
 ghost use Rattle.record_kinds.specs.Model as model;
 ghost use Rattle.archive_core.specs.Applied.{Plans};
 ghost use Rattle.archive_core.specs.Checks as checks;

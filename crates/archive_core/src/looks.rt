@@ -1,7 +1,7 @@
 //! Looks at what a command names, over a view.
 
 ghost use Rattle.std.specs.Prelude.{◌≡◌, IfErr, Err, Some, false};
-ghost use Rattle.archive_view.specs.Looks.{Agrees, OnView, CountsFailures, is_failure, is_stop};
+ghost use Rattle.archive_view.specs.Looks.{Agrees, CountsFailures, OnView, is_failure, is_stop};
 ghost use Rattle.archive_core.specs.Checks as checks;
 
 use archive_view::View;

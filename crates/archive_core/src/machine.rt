@@ -2,9 +2,16 @@
 
 ghost use Rattle.std.specs.Prelude.{◌≡◌, Some, IfErr, false};
 ghost use Rattle.std.specs.FinMap as map;
-ghost use Rattle.archive_view.specs.Looks.{Agrees, OnView, CountsFailures, is_failure, is_stop};
+ghost use Rattle.archive_view.specs.Looks.{Agrees, CountsFailures, OnView, is_failure, is_stop};
 ghost use Rattle.archive_core.specs.Applied.{Decides, Plans, leaves};
-ghost use Rattle.archive_core.specs.Machine.{Does, answered_again, kept_under, kinds, outcome, served};
+ghost use Rattle.archive_core.specs.Machine.{
+  Does,
+  answered_again,
+  kept_under,
+  kinds,
+  outcome,
+  served,
+};
 ghost use Rattle.archive_core.specs.Steps.{step};
 
 use crate::applying::apply;

@@ -1,7 +1,7 @@
 //! The changes of one record, and what goes into records.
 
 ghost use Rattle.std.specs.Prelude.{◌≡◌, ◌+◌, ◌∷◌, [], IfOk, None};
-ghost use Rattle.archive_view.specs.Looks.{Agrees, OnView, CountsFailures, is_stop};
+ghost use Rattle.archive_view.specs.Looks.{Agrees, CountsFailures, OnView, is_stop};
 ghost use Rattle.archive_core.specs.Applied.{Plans};
 ghost use Rattle.archive_core.specs.Checks as checks;
 ghost use Rattle.archive_core.specs.Steps as steps;

@@ -1,7 +1,7 @@
 //! The commands on persons.
 
 ghost use Rattle.std.specs.Prelude.{◌≡◌, IfOk};
-ghost use Rattle.archive_view.specs.Looks.{OnView, CountsFailures};
+ghost use Rattle.archive_view.specs.Looks.{CountsFailures, OnView};
 ghost use Rattle.archive_core.specs.Applied.{Plans};
 ghost use Rattle.archive_core.specs.Steps as steps;
 

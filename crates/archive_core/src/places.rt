@@ -2,7 +2,7 @@
 
 ghost use Rattle.std.specs.Prelude.{◌≡◌, not, ◌||◌, ◌==◌, true};
 ghost use Rattle.std.specs.List.{list_any};
-ghost use Rattle.archive_view.specs.Looks.{Agrees, OnView, Looked, CountsFailures, is_stop};
+ghost use Rattle.archive_view.specs.Looks.{Agrees, CountsFailures, Looked, OnView, is_stop};
 ghost use Rattle.archive_core.specs.Checks as checks;
 
 use crate::looks::wrong_kind;
