@@ -14,7 +14,7 @@ use record_fields::Sex;
 use sha2::{Digest, Sha256};
 use std::alloc::{AllocError, Global};
 
-/// The SHA-256 of the command's bytes: FIPS 180-4.
+/// The SHA-256 of the command's bytes: FIPS 180-4. Refused only for want of memory.
 pub fn command_digest(alloc: Global, command: &Command) -> Result<[u8; 32], AllocError>
     ensures { IfOk result (λ digest. digest ≡ digest_of command.now) }
 {
@@ -23,7 +23,7 @@ pub fn command_digest(alloc: Global, command: &Command) -> Result<[u8; 32], Allo
 }
 
 /// The bytes of a command: its verb and its fields as one row of CSV, numbers without leading zeros and dates in
-/// canonical spelling.
+/// canonical spelling. Refused only for want of memory.
 pub fn command_bytes(alloc: Global, command: &Command) -> Result<Vec<u8>, AllocError>
     ensures { IfOk result (λ bytes. bytes.items ≡ bytes_of command.now) }
 {
