@@ -231,10 +231,10 @@ fn with_participant(
     ensures { IfOk result (λ e. e ≡ steps.with_participant person role event) }
 {
     let mut event = event;
-    event.participants.push(Participant {
+    let added = event.participants.push(Participant {
         person,
         role,
         carried: Vec::new(alloc),
-    })?;
-    Ok(event)
+    });
+    Ok(kept_if(event, added)?)
 }

@@ -1,6 +1,6 @@
 //! The changes of one record, and what goes into records.
 
-ghost use Rattle.std.specs.Prelude.{◌≡◌, ◌+◌, ◌∷◌, [], IfOk, None};
+ghost use Rattle.std.specs.Prelude.{◌≡◌, ◌+◌, ◌∷◌, [], IfErr, IfOk, None, Err, Ok};
 ghost use Rattle.archive_view.specs.Looks.{Agrees, CountsFailures, OnView, is_stop};
 ghost use Rattle.archive_core.specs.Applied.{Plans};
 ghost use Rattle.archive_core.specs.Checks as checks;
@@ -115,9 +115,10 @@ fn put(
 }
 
 /// The item where a check has passed. At a refusal it is given back here, once for all callers.
-pub(crate) fn kept_if<T: Drop>(item: T, check: Result<(), RefusalKind>) -> Result<T, RefusalKind>
+pub(crate) fn kept_if<T: Drop, E>(item: T, check: Result<(), E>) -> Result<T, E>
     ensures same { IfOk result (λ kept. kept ≡ item) }
-    ensures check { checks.passed result ≡ check }
+    ensures passed { IfOk result (λ kept. check ≡ Ok tt) }
+    ensures refused { IfErr result (λ e. check ≡ Err e) }
 {
     match check {
         Ok(()) => Ok(item),
