@@ -17,6 +17,7 @@ SAMPLE = between(
     "1 SOUR A", "2 VERS 1", "1 CHAR UTF-8", "0 @I1@ INDI", "1 NAME Ann /Lee/", "1 FAMC @F1@",
     "1 NOTE " + "x" * 300, "2 CONC y@z", "2 CONT @#D@ " + "y " * 120, "2 SOUR", "2 CONT", "0 @F1@ FAM",
 )
+MANY_WORDS = ("--version", *["x"] * 20)
 # canonical text beyond what one write takes
 LONG_SAMPLE = between(*["1 " + "T" * 31, "1 NOTE " + "x" * 250, "2 CONT y"] * 700)
 
@@ -42,9 +43,8 @@ def apart():
         number += 1 + number // 4
 
 
-def refused_in_turn(tools, word, given, numbers):
+def refused_in_turn(tools, words, given, numbers):
     """Runs a command with the growth of each number refused, until a run has no such growth."""
-    words = (word,)
     plain = run(tools.parish, words, given)
     demand(plain.status == 0, f"without a refusal: status {plain.status}, {plain.err!r}")
     with tempfile.TemporaryDirectory() as folder:
@@ -69,15 +69,20 @@ def told_and_nothing_wrong(got, plain, number):
 
 
 def cases(tools: Tools):
+    # each word is a growth before any is looked at
+    yield Case(
+        "memory: each growth of a command line of many words refused in turn",
+        lambda: refused_in_turn(tools, MANY_WORDS, b"", range(1, MOST)),
+    )
     yield Case(
         "memory: each growth of norm refused in turn",
-        lambda: refused_in_turn(tools, "norm", SAMPLE, range(1, MOST)),
+        lambda: refused_in_turn(tools, ("norm",), SAMPLE, range(1, MOST)),
     )
     yield Case(
         "memory: each growth of check refused in turn",
-        lambda: refused_in_turn(tools, "check", SAMPLE, range(1, MOST)),
+        lambda: refused_in_turn(tools, ("check",), SAMPLE, range(1, MOST)),
     )
     yield Case(
         "memory: growths of norm of a long file refused",
-        lambda: refused_in_turn(tools, "norm", LONG_SAMPLE, apart()),
+        lambda: refused_in_turn(tools, ("norm",), LONG_SAMPLE, apart()),
     )

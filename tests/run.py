@@ -24,13 +24,14 @@ import documents  # noqa: E402
 import files  # noqa: E402
 import memory  # noqa: E402
 import properties  # noqa: E402
+import refusals  # noqa: E402
 import scripts  # noqa: E402
 import sizes  # noqa: E402
 import streams  # noqa: E402
 from harness import ROOT, Case, Failed, Tools  # noqa: E402
 
 # The longest ones first, since they run side by side.
-PARTS = (sizes, memory, properties, streams, scripts, documents, files)
+PARTS = (sizes, memory, properties, streams, scripts, documents, refusals, files)
 PIECES = "tree_pieces"
 
 

@@ -244,14 +244,26 @@ def all_tests(copy):
     demand(copy.calls("run") == 0, "./parish made again what ./test had left")
 
 
-def all_tests_with_dates(copy):
-    copy.write("crates.txt", "low:\ndate_lines: low\nparish: low\n")
+def all_tests_with(copy, crate, folder):
+    copy.write("crates.txt", f"low:\n{crate}: low\nparish: low\n")
     got = copy.run("test")
-    demand(got.status == 1, f"without tests/dates: wanted 1, got {got.status}")
-    copy.write("tests/dates/run.py", "print('4 passed, 0 failed')\n")
+    demand(got.status == 1, f"without tests/{folder}: wanted 1, got {got.status}")
+    copy.write(f"tests/{folder}/run.py", "print('4 passed, 0 failed')\n")
     got = copy.run("test")
     demand(got.status == 0, f"status: wanted 0, got {got.status}, {shown(got.out)}")
     demand(last_line(got) == [b"9 passed, 0 failed"], f"the last line: {last_line(got)}")
+
+
+def all_tests_with_dates(copy):
+    all_tests_with(copy, "date_lines", "dates")
+
+
+def all_tests_with_archive(copy):
+    all_tests_with(copy, "archive_rows", "archive")
+
+
+def all_tests_with_requests(copy):
+    all_tests_with(copy, "request_rows", "requests")
 
 
 def tests_that_fail(copy):
@@ -290,6 +302,8 @@ SCRIPTS = (
     ("./parish passes closed streams on", closed_streams),
     ("./test adds its parts and leaves the program made", all_tests),
     ("./test runs the tests of dates where that crate is listed", all_tests_with_dates),
+    ("./test runs the tests of the archive where that crate is listed", all_tests_with_archive),
+    ("./test runs the tests of requests where that crate is listed", all_tests_with_requests),
     ("./test fails where its second part fails", tests_that_fail),
     ("./test runs no second part where the first fails", proofs_that_fail),
 )

@@ -3,6 +3,7 @@
 from __future__ import annotations
 
 import os
+import socket
 import subprocess
 import tempfile
 
@@ -13,6 +14,8 @@ COMMANDS = ("norm", "check")
 SMALL = between("1 A")
 ANSWERS = (("norm", SMALL), ("check", b"ok: 0 records\n"))
 LARGE = between(*["1 A"] * 200_000)  # its canonical text is far above what a pipe holds
+USAGE = b"\nUsage: parish <COMMAND>\n"
+NOT_UTF8 = b"error: a word of the command line"
 OFFERED = 4 * 67_108_864  # bytes of an endless input, beyond any that is read
 
 
@@ -24,8 +27,9 @@ def endlessly(front, piece):
 
 
 def with_streams(tools, redirections, given=SMALL, word="norm"):
-    """A command as a shell starts it with redirections, such as `<&-`."""
-    return run(("sh", "-c", f'exec "$@" {redirections}', "sh", *tools.parish, word), (), given)
+    """A command as a shell starts it with redirections, such as `<&-`; without a word where it is None."""
+    words = () if word is None else (word,)
+    return run(("sh", "-c", f'exec "$@" {redirections}', "sh", *tools.parish), words, given)
 
 
 def full_device(tools):
@@ -95,10 +99,34 @@ def closed_output_of_a_refused_file(tools):
         expect(with_streams(tools, ">&-", HEAD, word), refused(22, 2))
 
 
+def full_device_for_a_text(tools):
+    expect(with_streams(tools, ">/dev/full", word="--help"), refused(95))
+
+
+def closed_input_and_output(tools):
+    """The input fails first."""
+    expect(with_streams(tools, "<&- >&-"), refused(94))
+
+
 def errors_that_cannot_be_told(tools):
     for redirection in ("2>&-", "2>/dev/full"):
         expect(with_streams(tools, redirection, HEAD), Outcome(b"", b"", 1))
-        expect(with_streams(tools, f"--frobnicate {redirection}"), Outcome(b"", b"", 2))
+        expect(with_streams(tools, f"<&- {redirection}"), Outcome(b"", b"", 1))
+        expect(with_streams(tools, f">/dev/full {redirection}"), Outcome(b"", b"", 1))
+        expect(with_streams(tools, redirection, word=None), Outcome(b"", b"", 2))
+        expect(with_streams(tools, redirection, word="--frobnicate"), Outcome(b"", b"", 2))
+
+
+def refusals_in_one_write(tools):
+    """Each write to such a socket is a packet of its own."""
+    for given, wanted in ((HEAD, refused(22, 2)), (b"", refused(21, 1))):
+        ours, theirs = socket.socketpair(socket.AF_UNIX, socket.SOCK_SEQPACKET)
+        with ours:
+            with theirs:
+                got = run(tools.parish, ("norm",), given, stderr=theirs)
+            packets = list(iter(lambda: ours.recv(4_096), b""))
+        expect(Outcome(got.out, b"".join(packets), got.status), wanted)
+        demand(len(packets) == 1, f"it came in {len(packets)} writes")
 
 
 def no_input(tools):
@@ -134,37 +162,54 @@ def endless_blank_lines(tools):
     demand(not got.took_all, "it read on behind the limit of a file")
 
 
-def told(tools, *words):
-    """Words that are answered on standard output."""
-    got = run(tools.parish, words)
-    demand(got.status == 0, f"status: wanted 0, got {got.status}")
-    demand(got.err == b"", f"standard error: wanted nothing, got {shown(got.err)}")
-    demand(got.out.endswith(b"\n"), f"standard output: wanted lines, got {shown(got.out)}")
-    return got.out
+def called(tools, name, words, given=b""):
+    """A run under that name, which is the first word that a program gets."""
+    program, *more = tools.parish
+    return run((name, *more), words, given, executable=program)
 
 
-def help_of_all(tools):
-    text = told(tools, "--help")
-    for word in COMMANDS:
-        demand(word.encode() in text, f"the help does not name {word}")
+def asks_for(work, name, *words):
+    """Words that ask for the work of a command, whatever the program is called."""
+    return lambda tools: expect(called(tools, name, words, SMALL), written(dict(ANSWERS)[work]))
 
 
-def help_of_each(tools):
-    for word in COMMANDS:
-        demand(word.encode() in told(tools, word, "--help"), f"the help of {word} does not name it")
+def told(part, *words, name="parish"):
+    """Words that are answered by a text on standard output with that part."""
+
+    def test(tools):
+        got = called(tools, name, words)
+        demand(got.status == 0, f"status: wanted 0, got {got.status}")
+        demand(got.err == b"", f"standard error: wanted nothing, got {shown(got.err)}")
+        demand(part in got.out, f"standard output: wanted {part}, got {shown(got.out)}")
+        demand(got.out.endswith(b"\n"), f"standard output: wanted lines, got {shown(got.out)}")
+
+    return test
 
 
 def version(tools):
-    said = told(tools, "--version")
-    demand(said.startswith(b"parish "), f"the version does not name parish: {shown(said)}")
+    expect(run(tools.parish, ("--version",)), written(b"parish 0.1.0\n"))
 
 
-def refuses_words(*words):
+def refuses_words(part, *words):
+    """Words that are refused, by a text on standard error with that part."""
+
     def test(tools):
         got = run(tools.parish, words, SMALL)
         demand(got.status == 2, f"status: wanted 2, got {got.status}")
         demand(got.out == b"", f"standard output: wanted nothing, got {shown(got.out)}")
-        demand(got.err != b"", "standard error: wanted a line, got nothing")
+        demand(part in got.err, f"standard error: wanted {part}, got {shown(got.err)}")
+        demand(got.err.endswith(b"\n"), f"standard error: wanted lines, got {shown(got.err)}")
+
+    return test
+
+
+def not_utf8(*words):
+    """A word that is not UTF-8 is told without being shown."""
+
+    def test(tools):
+        refuses_words(NOT_UTF8, *words)(tools)
+        got = run(tools.parish, words)
+        demand(got.err.startswith(NOT_UTF8), f"standard error begins otherwise: {shown(got.err)}")
 
     return test
 
@@ -198,21 +243,39 @@ STREAMS = (
     ("an endless file ends at the limit of a file", endless_file),
     ("an endless line ends at the limit of a line", endless_line),
     ("endless blank lines end at the limit of a file", endless_blank_lines),
-    ("--help", help_of_all),
-    ("norm --help and check --help", help_of_each),
+    ("a full device for a text that was asked for is 95", full_device_for_a_text),
+    ("a closed input and output is 94", closed_input_and_output),
+    ("a refusal is told in one write", refusals_in_one_write),
+    ("norm", asks_for("norm", "parish", "norm")),
+    ("norm of a program without a name", asks_for("norm", "", "norm")),
+    ("check", asks_for("check", "parish", "check")),
+    ("check of a program that is called norm", asks_for("check", "norm", "check")),
     ("--version", version),
-    ("no words", refuses_words()),
-    ("an unknown command", refuses_words("frobnicate")),
-    ("an empty word", refuses_words("")),
-    ("an unknown option", refuses_words("--frobnicate")),
-    ("an unknown option of norm", refuses_words("norm", "--frobnicate")),
-    ("a word too many", refuses_words("norm", "file.ged")),
-    ("an unknown option of check", refuses_words("check", "--frobnicate")),
-    ("a word too many for check", refuses_words("check", "file.ged")),
-    ("two commands", refuses_words("norm", "check")),
-    ("a command in capitals", refuses_words("CHECK")),
-    ("a word that is not UTF-8", refuses_words(b"\xff")),
-    ("a word of norm that is not UTF-8", refuses_words("norm", b"a\xff")),
+    ("--help tells norm", told(b"\n  norm   Write the", "--help")),
+    ("--help tells check", told(b"\n  check  Check the", "--help")),
+    ("-h of a program of another name", told(USAGE, "-h", name="other")),
+    ("norm --help", told(b"parish norm <", "norm", "--help")),
+    ("check --help", told(b"parish check <", "check", "--help")),
+    ("check -h", told(b"parish check <", "check", "-h")),
+    ("no words", refuses_words(USAGE)),
+    ("an unknown command", refuses_words(b"'frobnicate'", "frobnicate")),
+    ("an empty word", refuses_words(b"''", "")),
+    ("the command help", refuses_words(b"'help'", "help")),
+    ("a command with a capital", refuses_words(b"'Norm'", "Norm")),
+    ("a command in capitals", refuses_words(b"'CHECK'", "CHECK")),
+    ("an unknown option", refuses_words(b"'--frobnicate'", "--frobnicate")),
+    ("a command as an option", refuses_words(b"'--norm'", "--norm")),
+    ("an unknown option of norm", refuses_words(b"'--frobnicate'", "norm", "--frobnicate")),
+    ("an option --file of norm", refuses_words(b"'--file'", "norm", "--file")),
+    ("a word too many", refuses_words(b"'file.ged'", "norm", "file.ged")),
+    ("a letter too many", refuses_words(b"'x'", "norm", "x")),
+    ("an unknown option of check", refuses_words(b"'--frobnicate'", "check", "--frobnicate")),
+    ("an option --file of check", refuses_words(b"'--file'", "check", "--file")),
+    ("a word too many for check", refuses_words(b"'file.ged'", "check", "file.ged")),
+    ("two commands", refuses_words(b"'check'", "norm", "check")),
+    ("two commands, the other first", refuses_words(b"'norm'", "check", "norm")),
+    ("a word that is not UTF-8", not_utf8(b"\xff")),
+    ("a word of norm that is not UTF-8", not_utf8("norm", b"a\xff")),
     ("another folder", another_folder),
     ("a hundred thousand records are counted", many_records),
 )

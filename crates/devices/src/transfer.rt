@@ -39,8 +39,8 @@ fn meaning(error: io::Error, before: u64, after: u64) -> TransferError
 /// pieces of at most 65,536, and no further.
 ///
 /// `before` is the count of failures at the start of the call that asks, and `Failed` says that it
-/// has risen since. An interrupted read is an error like any other. At an error what was read is
-/// lost.
+/// has risen since. `OutOfMemory`: memory was refused, here or to the reader, or the reader did not
+/// count its error. An interrupted read is an error like any other. At an error what was read is lost.
 pub fn read_up_to<R: Read + Device>(
     alloc: Global,
     reader: &mut R,

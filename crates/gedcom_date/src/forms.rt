@@ -25,6 +25,8 @@ use std::alloc::{AllocError, Global};
 /// The value of a text: the form that it fits, or the text itself where it fits none. Spaces at its
 /// ends and several spaces between words count as none and one; keywords, names of months, escapes
 /// and `B.C.` are read in either case.
+///
+/// No text is refused, since a file may say a date in any words: an error comes only where memory is.
 pub fn read_date(alloc: Global, text: &str) -> Result<DateValue, DateFault>
     ensures { IfOk result (λ value. Says text.now (view value)) }
 {

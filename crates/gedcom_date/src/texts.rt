@@ -25,7 +25,7 @@ pub struct Interpreted {
 
 impl Interpreted {
     /// A date and a phrase; none where their spelling has more than 1,048,576 bytes. Takes memory
-    /// to spell the date.
+    /// to spell the date, and an error comes only where it is refused.
     pub fn new(
         alloc: Global,
         date: CalendarDate,

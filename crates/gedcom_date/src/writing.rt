@@ -16,7 +16,7 @@ use calendar_days::{Calendar, CalendarDate, Extent, Year};
 use std::alloc::{AllocError, Global};
 
 /// The canonical spelling of a value: upper case, single spaces, no leading zeros, no escape for
-/// the Gregorian calendar. A `Verbatim` is written as its text.
+/// the Gregorian calendar. A `Verbatim` is written as its text. An error comes only where memory is refused.
 pub fn write_date(alloc: Global, value: &DateValue) -> Result<String, DateFault>
     ensures canonical { IfOk result (λ text. string_bytes text ≡ spelling (view value.now)) }
     ensures again { IfOk result (λ text. Says (string_bytes text) (view value.now)) }

@@ -58,7 +58,8 @@ pub(crate) fn mark_of(is_inside: bool, after: &str) -> (&'static str, bool)
 /// The text as a value on a line: each `@` is doubled, but those of escapes (`@#..@ `), which stay as they
 /// are.
 ///
-/// The GEDCOM Standard Release 5.5.1, chapter 1 (the character `@`, escapes).
+/// The GEDCOM Standard Release 5.5.1, chapter 1 (the character `@`, escapes). An error comes only where
+/// memory for the result is refused.
 pub fn escape(alloc: Global, text: &str) -> Result<String, AllocError>
     ensures { IfOk result (λ s. string_bytes s ≡ escaped text.now) }
 {
@@ -86,6 +87,8 @@ fn past_pair(after: &str) -> &str
 }
 
 /// The text of a value on a line: two `@` are read as one, from left to right; a single one as itself.
+///
+/// No value is refused, since files of other programs have single ones: an error comes only where memory is.
 pub fn unescape(alloc: Global, value: &str) -> Result<String, AllocError>
     ensures { IfOk result (λ s. string_bytes s ≡ unescaped value.now) }
 {

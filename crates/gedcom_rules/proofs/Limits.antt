@@ -61,9 +61,9 @@ unfolding extra
 extra_front b = get_front max_file b
 
 -- a file that is too large
-pub within_large : (b : List ℕ) → within b ≡ take max_file b
+pub within_large : (n : ℕ) (b : List ℕ) → n ≡ max_file → take n b ≡ within b
 unfolding within
-within_large b = refl
+within_large n b e = ap (λ (m : ℕ). take m b) e
 
 pub extra_large : (b : List ℕ) → max_file < length b → Some (get_or b max_file 0) ≡ extra b
 unfolding extra

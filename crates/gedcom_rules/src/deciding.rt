@@ -80,7 +80,8 @@ fn limited(bytes: &[u8]) -> (&[u8], Option<u8>)
     }
 }
 
-/// Judges the bytes: the fault that they decide, however they go on.
+/// Judges the bytes, from the first line on: the fault that they decide, however they go on. Of a line that
+/// has not ended only the length is judged. `OutOfMemory`: memory to remember a line was refused.
 pub fn judge_bytes(alloc: Global, bytes: &[u8]) -> Result<(), TreeFault>
     ensures { MatchResult result (λ _. IsOpen bytes.now)
         (λ f. IsLineless TreeKind.OutOfMemory (fault_view f) ⊎ Decides bytes.now (fault_view f)) }
@@ -95,7 +96,8 @@ pub fn judge_bytes(alloc: Global, bytes: &[u8]) -> Result<(), TreeFault>
     }
 }
 
-/// The end of the input behind the lines so far: the trailer stands, or it is missing.
+/// The end of the input behind the lines so far. `NoHead`: there is no line. `NoTrailer`: there are some, and
+/// the last is not the trailer.
 pub fn judge_end(seen: &Seen) -> Result<(), TreeFault>
     requires { (progress seen.now).count + 1 < 2 ^ 32 }
     ensures { MatchResult result (λ _. (progress seen.now).done ≡ true)

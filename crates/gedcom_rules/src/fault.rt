@@ -7,7 +7,8 @@ ghost use Rattle.gedcom_rules.specs.declared.fault.TreeKind.TheVariants as kinds
 use std::alloc::AllocError;
 use std::fmt;
 
-/// What is wrong. Number and name of each refusal stand here alone; docs/REFUSALS.md explains them.
+/// What is wrong. docs/REFUSALS.md explains each number and name. `record_text` has them too, and
+/// tests/refusals.py compares all three.
 #[derive(Clone, Copy, Debug, PartialEq, Eq)]
 pub enum TreeKind {
     /// A growth of memory was refused.

@@ -119,6 +119,10 @@ fn judge<'a>(seen: &Seen, piece: &'a [u8]) -> Result<Option<LineRef<'a>>, TreeKi
 
 /// Judges a piece behind the lines so far, and adds its line to them: the line with its number, counted from 1,
 /// or none where the piece is blank.
+///
+/// A fault of the piece is the first of its rules that it breaks, and has its line. `OutOfMemory`, without a
+/// line, comes only where memory to remember the line is refused. A caller stops at an error, since no clause
+/// says what `seen` is then.
 pub fn judge_piece<'a>(
     alloc: Global,
     seen: &mut Seen,

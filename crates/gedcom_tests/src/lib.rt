@@ -1,5 +1,5 @@
-//! Tests of the crates of lines and forests, of the days of calendars and of the words of the command line, with
-//! ample memory: rules, forests, devices, days, words.
+//! Tests of what no program can be given: devices that fail at a call, a month 13, a command line without a
+//! word; with ample memory. All else is tested over the executables, from tables.
 //!
 //! They stand in a crate of their own above all of these, since a crate that has tests is proved twice.
 #![tactic(auto)]
@@ -9,8 +9,4 @@ mod commands;
 #[cfg(test)]
 mod days;
 #[cfg(test)]
-mod rules;
-#[cfg(test)]
 mod transfers;
-#[cfg(test)]
-mod trees;

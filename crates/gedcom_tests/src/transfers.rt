@@ -1,6 +1,7 @@
 //! Devices over memory that move some bytes a call, and one call of which fails.
 
 use devices::{Counted, Device, TransferError, read_up_to, write_bytes};
+use std::alloc::Global;
 use std::io;
 use std::io::{ErrorKind, Read, Write};
 
@@ -59,53 +60,77 @@ impl<W: Write> Write for Faulty<W> {
 /// No call of a device fails.
 const NEVER: u64 = u64::MAX;
 
-#[test]
-fn each_read_fails_in_turn(rt: HostRuntime) {
-    for fails_at in 1..=7u64 {
-        let mut reader = Counted::new(Faulty::new(b"abcde".as_slice(), 1, fails_at));
-        match read_up_to(rt.alloc(), &mut reader, 0, 100) {
-            Ok(all) => {
-                assert_eq!(rt; fails_at, 7);
-                assert_eq!(rt; all.as_slice(), b"abcde".as_slice());
-                assert_eq!(rt; reader.failures(), 0);
-            }
-            Err(e) => {
-                assert_eq!(rt; e, TransferError::Failed, "at {fails_at}");
-                assert!(rt; fails_at < 7);
-                assert_eq!(rt; reader.failures(), 1);
-            }
-        }
-    }
+/// Five bytes, some of them a call, and a call that fails.
+fn five_bytes(piece: usize, fails_at: u64) -> Counted<Faulty<&'static [u8]>> {
+    Counted::new(Faulty::new(b"abcde".as_slice(), piece, fails_at))
+}
+
+/// Whether the five bytes up to the limit are read as these, and no failure is counted.
+fn is_read(alloc: Global, (piece, fails_at): (usize, u64), limit: usize, want: &str) -> bool {
+    let mut reader = five_bytes(piece, fails_at);
+    let same = match read_up_to(alloc, &mut reader, 0, limit) {
+        Ok(all) => all.as_slice() == want.as_bytes(),
+        Err(_) => false,
+    };
+    same && reader.failures() == 0
+}
+
+/// Whether reading the five bytes one by one is answered with the failure of that call, counted once.
+fn read_fails(alloc: Global, fails_at: u64) -> bool {
+    let mut reader = five_bytes(1, fails_at);
+    let failed = match read_up_to(alloc, &mut reader, 0, 100) {
+        Ok(_all) => false,
+        Err(error) => error == TransferError::Failed,
+    };
+    failed && reader.failures() == 1
 }
 
 #[test]
-fn each_write_fails_in_turn_and_leaves_a_beginning(rt: HostRuntime) {
+fn each_read_fails_in_turn(rt: HostRuntime) {
     for fails_at in 1..=6u64 {
-        let mut out: Vec<u8> = Vec::new(rt.alloc());
-        let result = {
-            let mut writer = Counted::new(Faulty::new(&mut out, 1, fails_at));
-            write_bytes(&mut writer, 0, b"abcde")
-        };
-        assert_eq!(rt; result.is_ok(), fails_at == 6, "at {fails_at}");
-        if let Err(e) = result {
-            assert_eq!(rt; e, TransferError::Failed);
-        }
-        let written = fails_at as usize - 1;
-        assert_eq!(rt; out.as_slice(), &b"abcde"[..written]);
+        assert!(rt; read_fails(rt.alloc(), fails_at), "at {fails_at}");
     }
+    assert!(rt; is_read(rt.alloc(), (1, 7), 100, "abcde"));
 }
 
 #[test]
 fn a_reader_is_read_to_its_end_or_to_the_limit(rt: HostRuntime) {
     for piece in [1, 2, 7] {
         for (limit, want) in [(0, ""), (1, "a"), (4, "abcd"), (5, "abcde"), (6, "abcde")] {
-            let mut reader = Counted::new(Faulty::new(b"abcde".as_slice(), piece, NEVER));
-            match read_up_to(rt.alloc(), &mut reader, 0, limit) {
-                Ok(all) => assert_eq!(rt; all.as_slice(), want.as_bytes(), "{piece} of {limit}"),
-                Err(_) => assert!(rt; false, "{piece} of {limit}"),
-            }
+            let read = is_read(rt.alloc(), (piece, NEVER), limit, want);
+            assert!(rt; read, "{piece} of {limit}");
         }
     }
+}
+
+/// The answer to writing five bytes one by one, where a call fails, and what was written.
+fn written(alloc: Global, fails_at: u64) -> (Option<TransferError>, Vec<u8>) {
+    let mut out: Vec<u8> = Vec::new(alloc);
+    let result = write_bytes(
+        &mut Counted::new(Faulty::new(&mut out, 1, fails_at)),
+        0,
+        b"abcde",
+    );
+    (result.err(), out)
+}
+
+#[test]
+fn each_write_fails_in_turn_and_leaves_a_beginning(rt: HostRuntime) {
+    let beginnings = ["", "a", "ab", "abc", "abcd"];
+    for (before, want) in beginnings.iter().enumerate() {
+        let (error, out) = written(rt.alloc(), before as u64 + 1);
+        let as_wanted = error == Some(TransferError::Failed) && out.as_slice() == want.as_bytes();
+        assert!(rt; as_wanted, "behind {want}");
+    }
+    let (error, out) = written(rt.alloc(), 6);
+    assert!(rt; error.is_none() && out.as_slice() == b"abcde".as_slice());
+}
+
+/// How many bytes are read up to the limit, and in how many reads.
+fn reads(alloc: Global, bytes: &[u8], limit: usize) -> (usize, u64) {
+    let mut reader = Faulty::new(bytes, usize::MAX, NEVER);
+    let result = read_up_to(alloc, &mut Counted::new(&mut reader), 0, limit);
+    (result.map_or(0, |all| all.len()), reader.calls)
 }
 
 #[test]
@@ -113,26 +138,29 @@ fn reads_ask_for_65536_bytes_and_stop_at_the_limit(rt: HostRuntime) -> Result<()
     let mut bytes: Vec<u8> = Vec::new(rt.alloc());
     bytes.resize(131_073, 7)?;
     for (limit, calls) in [(65_536, 1), (65_537, 2), (131_073, 3), (131_074, 4)] {
-        let mut reader = Faulty::new(bytes.as_slice(), usize::MAX, NEVER);
-        let result = read_up_to(rt.alloc(), &mut Counted::new(&mut reader), 0, limit);
-        let length = result.map_or(0, |all| all.len());
-        assert_eq!(rt; length, limit.min(131_073));
-        assert_eq!(rt; reader.calls, calls, "at {limit}");
+        let found = reads(rt.alloc(), &bytes, limit);
+        assert_eq!(rt; found, (limit.min(131_073), calls), "at {limit}");
     }
     Ok(())
 }
 
-#[test]
-fn want_of_memory_is_not_blamed_on_the_device(rt: HostRuntime) {
-    let mut reader = Faulty::new(b"abcde".as_slice(), 1, 3);
-    reader.kind = ErrorKind::OutOfMemory;
-    let result = read_up_to(rt.alloc(), &mut Counted::new(reader), 0, 100);
-    assert_eq!(rt; result.err(), Some(TransferError::OutOfMemory));
+/// A device whose third call wants memory.
+fn wanting<T>(inner: T) -> Counted<Faulty<T>> {
+    let mut faulty = Faulty::new(inner, 1, 3);
+    faulty.kind = ErrorKind::OutOfMemory;
+    Counted::new(faulty)
+}
 
-    let mut writer = Faulty::new(Vec::new(rt.alloc()), 1, 3);
-    writer.kind = ErrorKind::OutOfMemory;
-    let result = write_bytes(&mut Counted::new(writer), 0, b"abcde");
-    assert_eq!(rt; result.err(), Some(TransferError::OutOfMemory));
+#[test]
+fn want_of_memory_is_not_blamed_on_a_reader(rt: HostRuntime) {
+    let result = read_up_to(rt.alloc(), &mut wanting(b"abcde".as_slice()), 0, 100);
+    assert!(rt; result.err() == Some(TransferError::OutOfMemory));
+}
+
+#[test]
+fn want_of_memory_is_not_blamed_on_a_writer(rt: HostRuntime) {
+    let result = write_bytes(&mut wanting(Vec::new(rt.alloc())), 0, b"abcde");
+    assert!(rt; result.err() == Some(TransferError::OutOfMemory));
 }
 
 /// A writer that cannot flush.

@@ -48,7 +48,7 @@ fn forest_of(alloc: Global, bytes: &[u8]) -> Result<Forest, TreeFault>
     }
 }
 
-/// Reads a whole file: its forest.
+/// Reads a whole file: its forest, or the fault of its bytes. `OutOfMemory` comes where memory is refused.
 ///
 /// `ReadFailed` comes only where the reader's count of failures has risen in this call. One byte more than
 /// a file may have is read at the most, so an endless input ends (tested, not in the contract).
@@ -66,7 +66,7 @@ pub fn read_forest<R: Read + Device>(alloc: Global, reader: &mut R) -> Result<Fo
 }
 
 /// Reads a whole file, and writes its forest in canonical form. Nothing is written before the forest is
-/// whole.
+/// whole: at a fault of `read_forest` nothing was, at one of `write_forest` a beginning.
 pub fn normalise<R: Read + Device, W: Write + Device>(
     alloc: Global,
     reader: &mut R,

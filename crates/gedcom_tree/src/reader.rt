@@ -73,7 +73,10 @@ impl TreeReader {
     }
 
     /// Takes the next piece of the file, of any length. A fault is answered as soon as the bytes fed
-    /// decide it, and again at each later call.
+    /// decide it, and again at each later call. `OutOfMemory` comes where memory is refused, and again then too.
+    ///
+    /// All bytes fed are judged again from the start: so pieces cannot matter, at the price of time where there
+    /// are many. `read_forest` feeds a file at once, so that it is judged once.
     pub fn feed(&mut self, piece: &[u8]) -> Result<(), TreeFault>
         ensures fed { (b : List ℕ) → Holds self.old b → Takes self.new (b ++ piece.now) (fault_of result) }
         ensures again { MatchOption self.old.answer (Unit {0})
@@ -91,7 +94,8 @@ impl TreeReader {
         }
     }
 
-    /// Ends the file: its forest, or its fault.
+    /// Ends the file: its forest, or its fault, which is that of `feed`, or of a last line that has not ended,
+    /// or that no trailer stands. `OutOfMemory` comes where memory is refused.
     pub fn finish(self) -> Result<Forest, TreeFault>
         ensures finished { (b : List ℕ) → Holds self b → Finishes b (outcome result) }
         ensures again { MatchOption self.answer (Unit {0}) (λ f. fault_of result ≡ Some f) }

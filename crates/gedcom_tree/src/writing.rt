@@ -211,8 +211,8 @@ fn write_nodes<W: Write + Device>(
 
 /// Writes the one text of the forest: its lines in canonical form, and the trailer.
 ///
-/// The only faults are `OutOfMemory` and `WriteFailed`; the latter comes only where the writer's count of
-/// failures has risen in this call.
+/// The only faults are `OutOfMemory`, where memory for what is to be written is refused, and `WriteFailed`, which
+/// comes only where the writer's count of failures has risen in this call.
 pub fn write_forest<W: Write + Device>(
     alloc: Global,
     forest: &Forest,

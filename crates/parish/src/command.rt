@@ -7,13 +7,13 @@ ghost use Rattle.devices.specs.Devices.{AppendsBeginning};
 ghost use Rattle.gedcom_tree.specs.Streams.{Normalised};
 ghost use Rattle.parish.specs.Ends.{Told, Unfinished, Untold};
 
+use command_line::{Asked, Refused, read_words};
 use gedcom_tree::{
     Device, TransferError, TreeFault, TreeKind, normalise, read_forest, write_bytes,
 };
 use std::alloc::Global;
 use std::io;
 use std::io::{Cursor, ErrorKind, Read, Write};
-use words::{Asked, Refused, read_words};
 
 /// The work is done.
 const DONE: u8 = 0;
@@ -182,6 +182,3 @@ fn refuse_words<F: Write + Device>(faults: &mut F, text: &str) -> u8
     let _ = write_bytes(faults, before, text.as_bytes());
     WORDS_REFUSED
 }
-
-#[cfg(test)]
-mod tests;

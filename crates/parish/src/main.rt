@@ -1,6 +1,6 @@
 //! The program `parish`: the words of its command line, on the standard streams.
 //!
-//! It stands on `words` and `gedcom_tree`. What it does is in `command`, over any streams.
+//! It stands on `command_line` and `gedcom_tree`. What it does is in `command`, over any streams.
 #![tactic(auto)]
 
 mod command;

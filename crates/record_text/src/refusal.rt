@@ -1,4 +1,4 @@
-//! Refusals, and the one table of their numbers and names.
+//! Refusals, and the table of their numbers and names.
 
 ghost use Rattle.std.specs.Prelude.{◌≡◌};
 ghost use Rattle.record_text.specs.Refusals.{number_of, name_of, unit_name};
@@ -6,7 +6,8 @@ ghost use Rattle.record_text.specs.Refusals.{number_of, name_of, unit_name};
 use std::alloc::AllocError;
 use std::fmt;
 
-/// Why something is refused. Number and name of each refusal stand here; docs/REFUSALS.md explains them.
+/// Why something is refused. docs/REFUSALS.md explains each number and name. `gedcom_rules` has those of files
+/// too, and tests/refusals.py compares all three.
 #[derive(Clone, Copy, Debug, PartialEq, Eq)]
 pub enum RefusalKind {
     /// A growth of memory was refused.

@@ -1,0 +1,214 @@
+//! Rows that ask what a state holds: of the state itself, and through a view.
+
+use crate::answer::Answer;
+use crate::reading::{say_found, say_gone};
+use crate::rows::{number, text, word};
+use archive_state::{Change, Receipt, Slip, State, Token};
+use archive_view::View;
+use records::{EntryKind, Item, Record, RefusalKind, Text};
+use std::alloc::{AllocError, Global};
+
+/// What is asked.
+#[derive(Drop)]
+pub(crate) enum Question {
+    Record(u32),
+    Referrers(u32),
+    /// The place of a path.
+    Place(Text),
+    Entry(Key),
+    Receipt(Token),
+    Slip(u32),
+    Next,
+    /// How many calls failed; only a view is asked.
+    Failures,
+}
+
+/// What a register entry is found by.
+#[derive(Drop)]
+pub(crate) struct Key {
+    source: u32,
+    kind: EntryKind,
+    page: Text,
+    item: Item,
+}
+
+/// The question of a row.
+pub(crate) fn question_of(alloc: Global, words: &[String]) -> Result<Question, RefusalKind> {
+    let at = number(words, 2);
+    match word(words, 1) {
+        "record" => Ok(Question::Record(at)),
+        "referrers" => Ok(Question::Referrers(at)),
+        "place" => Ok(Question::Place(text(alloc, word(words, 2))?)),
+        "entry" => Ok(Question::Entry(key_of(alloc, words)?)),
+        "receipt" => Ok(Question::Receipt(token_of(alloc, word(words, 2))?)),
+        "slip" => Ok(Question::Slip(at)),
+        "next" => Ok(Question::Next),
+        _ => Ok(Question::Failures),
+    }
+}
+
+/// The key of a row. 90: a word is not of its kind.
+fn key_of(alloc: Global, words: &[String]) -> Result<Key, RefusalKind> {
+    let Some(kind) = EntryKind::from_word(word(words, 3)) else {
+        return Err(RefusalKind::BadRow);
+    };
+    let Some(item) = Item::new(number(words, 5)) else {
+        return Err(RefusalKind::BadRow);
+    };
+    let page = text(alloc, word(words, 4))?;
+    Ok(Key {
+        source: number(words, 2),
+        kind,
+        page,
+        item,
+    })
+}
+
+/// The token that a word is. 93: it is none.
+pub(crate) fn token_of(alloc: Global, word: &str) -> Result<Token, RefusalKind> {
+    Token::try_new(String::from_str(alloc, word)?).ok_or(RefusalKind::BadToken)
+}
+
+/// Says what the state itself answers.
+pub(crate) fn ask_state(
+    alloc: Global,
+    state: &State,
+    question: &Question,
+    out: &mut Answer,
+) -> Result<(), RefusalKind> {
+    match question {
+        Question::Record(at) => Ok(say_found(alloc, state.record(*at), out)?),
+        Question::Referrers(at) => {
+            out.say_numbers("referrers", &state.referrers(alloc, *at)?);
+            Ok(())
+        }
+        Question::Slip(at) => Ok(say_slip(alloc, state.slip(*at), out)?),
+        _ => {
+            ask_index(state, question, out);
+            Ok(())
+        }
+    }
+}
+
+/// Says what the state answers without memory.
+fn ask_index(state: &State, question: &Question, out: &mut Answer) {
+    match question {
+        Question::Place(path) => out.say_number("", state.place_at(path)),
+        Question::Entry(key) => {
+            out.say_number(
+                "",
+                state.entry_at(key.source, key.kind, &key.page, key.item),
+            )
+        }
+        Question::Receipt(token) => say_receipt(state.receipt(token), out),
+        _ => out.say_count(state.next()),
+    }
+}
+
+/// Says what a view answers.
+pub(crate) fn ask<V: View>(
+    alloc: Global,
+    view: &mut V,
+    question: &Question,
+    out: &mut Answer,
+) -> Result<(), RefusalKind> {
+    match question {
+        Question::Record(at) => say_record_of(alloc, view.record_at(alloc, *at), out),
+        Question::Slip(at) => say_slip_of(alloc, view.slip(alloc, *at), out),
+        Question::Referrers(at) => say_referrers(view.referrers(alloc, *at), out),
+        Question::Place(path) => say_number_of(view.place_at(alloc, path), out),
+        Question::Entry(key) => {
+            let found = view.entry_at(alloc, key.source, key.kind, &key.page, key.item);
+            say_number_of(found, out)
+        }
+        Question::Receipt(token) => {
+            say_receipt(view.receipt(alloc, token)?.as_ref(), out);
+            Ok(())
+        }
+        Question::Next => {
+            out.say_count(view.next(alloc)?);
+            Ok(())
+        }
+        Question::Failures => {
+            out.say_count(view.failures());
+            Ok(())
+        }
+    }
+}
+
+/// Says the lines of a record that a view gave.
+fn say_record_of(
+    alloc: Global,
+    found: Result<Option<Record>, RefusalKind>,
+    out: &mut Answer,
+) -> Result<(), RefusalKind> {
+    Ok(say_gone(alloc, found?, out)?)
+}
+
+fn say_slip_of(
+    alloc: Global,
+    found: Result<Option<Slip>, RefusalKind>,
+    out: &mut Answer,
+) -> Result<(), RefusalKind> {
+    Ok(say_gone_slip(alloc, found?, out)?)
+}
+
+fn say_referrers(
+    found: Result<Vec<u32>, RefusalKind>,
+    out: &mut Answer,
+) -> Result<(), RefusalKind> {
+    out.say_numbers("referrers", &found?);
+    Ok(())
+}
+
+fn say_number_of(
+    found: Result<Option<u32>, RefusalKind>,
+    out: &mut Answer,
+) -> Result<(), RefusalKind> {
+    out.say_number("", found?);
+    Ok(())
+}
+
+/// Says a receipt: its digest, the first number and how many.
+pub(crate) fn say_receipt(found: Option<&Receipt>, out: &mut Answer) {
+    match found {
+        Some(receipt) => {
+            out.say_bytes(&receipt.digest);
+            out.say_numbers("", &[receipt.answer.first, receipt.answer.count]);
+        }
+        None => out.say_line("none"),
+    }
+}
+
+/// Says a slip that is given away.
+pub(crate) fn say_gone_slip(
+    alloc: Global,
+    gone: Option<Slip>,
+    out: &mut Answer,
+) -> Result<(), AllocError> {
+    let said = say_slip(alloc, gone.as_ref(), out);
+    drop(gone);
+    said
+}
+
+/// Says a slip, with the lines of each record before and after.
+fn say_slip(alloc: Global, found: Option<&Slip>, out: &mut Answer) -> Result<(), AllocError> {
+    let Some(slip) = found else {
+        out.say_line("none");
+        return Ok(());
+    };
+    out.say_number("keep ", Some(slip.keep));
+    out.say_number("gone ", Some(slip.gone));
+    out.say_line(if slip.is_undone { "undone" } else { "done" });
+    for change in &slip.changes {
+        say_change(alloc, change, out)?;
+    }
+    Ok(())
+}
+
+fn say_change(alloc: Global, change: &Change, out: &mut Answer) -> Result<(), AllocError> {
+    out.say_number("change ", Some(change.number));
+    say_found(alloc, Some(&change.old), out)?;
+    out.say_line("to");
+    say_found(alloc, change.new.as_ref(), out)
+}

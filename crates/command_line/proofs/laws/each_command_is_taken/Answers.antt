@@ -1,0 +1,19 @@
+use Rattle.std.proofs.Common.{◌≡◌, [], ◌∷◌, codes, true, refl}
+use Rattle.clap.specs.Words.{Text, takes}
+use Rattle.clap.proofs.OnLiterals.{clap_on_literals}
+use Rattle.command_line.specs.Commands.{program}
+use Rattle.command_line.proofs.laws.each_command_is_taken.Goals as goal
+
+norm_taken : (name : Text) → takes program (name ∷ codes "norm" ∷ []) ≡ true
+unfolding clap_on_literals
+norm_taken name = refl
+
+check_taken : (name : Text) → takes program (name ∷ codes "check" ∷ []) ≡ true
+unfolding clap_on_literals
+check_taken name = refl
+
+pub returns-clause-norm : goal.returns-clause-norm
+returns-clause-norm c = norm_taken
+
+pub returns-clause-check : goal.returns-clause-check
+returns-clause-check c = check_taken

@@ -1,0 +1,135 @@
+//! The rows that a row is answered with: a request, or what the tests ask beside it.
+
+use crate::archives::Archives;
+use crate::reading::{command_of, fields_of};
+use crate::rows::{refused, said};
+use archive_core::{Command, Request};
+use archive_state::Token;
+use commands::{command_bytes, command_digest};
+use csv::ByteRecord;
+use records::RefusalKind;
+use std::alloc::{AllocError, Global};
+
+/// The answer of a row. One that is not UTF-8 has no token.
+pub(crate) fn answer(
+    alloc: Global,
+    archives: &mut Archives,
+    row: &ByteRecord,
+) -> Result<Vec<u8>, AllocError> {
+    match fields_of(alloc, row)? {
+        Some(fields) => answer_fields(alloc, archives, fields.as_slice()),
+        None => refused(alloc, "", RefusalKind::BadRow),
+    }
+}
+
+fn answer_fields(
+    alloc: Global,
+    archives: &mut Archives,
+    fields: &[&str],
+) -> Result<Vec<u8>, AllocError> {
+    let [first, rest @ ..] = fields else {
+        return refused(alloc, "", RefusalKind::BadToken);
+    };
+    match Token::try_new(String::from_str(alloc, first)?) {
+        Some(token) => answer_request(alloc, archives, token, rest),
+        None => answer_question(alloc, archives, first, rest),
+    }
+}
+
+/// The answer of what stands behind a token.
+fn answer_request(
+    alloc: Global,
+    archives: &mut Archives,
+    token: Token,
+    fields: &[&str],
+) -> Result<Vec<u8>, AllocError> {
+    match command_of(alloc, fields) {
+        Ok(command) => answer_command(alloc, archives, token, command),
+        Err(kind) => refused(alloc, token.as_str(), kind),
+    }
+}
+
+fn answer_command(
+    alloc: Global,
+    archives: &mut Archives,
+    token: Token,
+    command: Command,
+) -> Result<Vec<u8>, AllocError> {
+    let request = Request { token, command };
+    let answer = archives.ask(alloc, &request);
+    drop(request);
+    answer
+}
+
+/// The answer of a row of the tests' own. Their first fields have a space, which no token has.
+fn answer_question(
+    alloc: Global,
+    archives: &mut Archives,
+    asked: &str,
+    fields: &[&str],
+) -> Result<Vec<u8>, AllocError> {
+    match asked {
+        "! set next" => set_next(alloc, archives, fields),
+        "! place" => put_place(alloc, archives, fields),
+        "! bytes" => bytes_row(alloc, fields),
+        "! digest" => digest_row(alloc, fields),
+        _ => archives.see(alloc, asked, fields),
+    }
+}
+
+/// Sets the next number, and shows it.
+fn set_next(
+    alloc: Global,
+    archives: &mut Archives,
+    fields: &[&str],
+) -> Result<Vec<u8>, AllocError> {
+    let [number] = fields else {
+        return refused(alloc, "", RefusalKind::FieldCount);
+    };
+    let Ok(number) = number.parse::<u64>() else {
+        return refused(alloc, "", RefusalKind::BadRow);
+    };
+    archives.set_next(number);
+    archives.see(alloc, "! next", &[])
+}
+
+/// Puts a place with a name and a parent at a number, and shows it.
+fn put_place(
+    alloc: Global,
+    archives: &mut Archives,
+    fields: &[&str],
+) -> Result<Vec<u8>, AllocError> {
+    let [number, name, parent] = fields else {
+        return refused(alloc, "", RefusalKind::FieldCount);
+    };
+    let Ok(at) = number.parse::<u32>() else {
+        return refused(alloc, "", RefusalKind::BadRow);
+    };
+    archives.put_place(alloc, at, name, parent.parse::<u32>().ok())?;
+    archives.see(alloc, "! show", &[number])
+}
+
+/// The bytes of a command as a field.
+fn bytes_row(alloc: Global, fields: &[&str]) -> Result<Vec<u8>, AllocError> {
+    match command_of(alloc, fields) {
+        Ok(command) => {
+            let bytes = command_bytes(alloc, &command);
+            drop(command);
+            said(alloc, "bytes", bytes?.as_slice())
+        }
+        Err(kind) => refused(alloc, "", kind),
+    }
+}
+
+/// The digest of a command in hexadecimal.
+fn digest_row(alloc: Global, fields: &[&str]) -> Result<Vec<u8>, AllocError> {
+    match command_of(alloc, fields) {
+        Ok(command) => {
+            let digest = command_digest(alloc, &command);
+            drop(command);
+            let text = hex::encode(alloc, digest?.as_slice())?;
+            said(alloc, "digest", text.as_bytes())
+        }
+        Err(kind) => refused(alloc, "", kind),
+    }
+}

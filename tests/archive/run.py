@@ -1,0 +1,92 @@
+"""Runs archive_rows on the tables beside this file: python3 tests/archive/run.py.
+
+One line a failed case, and last `N passed, M failed`; status 0 only if none failed and one passed.
+"""
+
+from __future__ import annotations
+
+import pathlib
+import subprocess
+import sys
+
+sys.dont_write_bytecode = True
+
+import branches  # noqa: E402
+import links  # noqa: E402
+import printed  # noqa: E402
+import records  # noqa: E402
+import refused  # noqa: E402
+import states  # noqa: E402
+import words  # noqa: E402
+from rows import Ask, Case, given, kept, row  # noqa: E402
+
+HERE = pathlib.Path(__file__).resolve().parent
+PROGRAM = HERE.parents[1] / "crates/archive_rows/out/archive_rows"
+
+
+def read(kind, name, lines, asked, wanted):
+    return Case(f"{kind}: {name}", (*given(lines), Ask(row("read", asked), wanted)))
+
+
+def record_cases():
+    """Each record with its copy, and its fields; lines of no record; what records name."""
+    for name, lines, fields in records.RECORDS:
+        yield read("record", name, lines, "record", kept(lines))
+        yield read("copy", name, lines, "copy", kept(lines))
+        yield read("fields", name, lines, "fields", fields)
+    for name, lines in refused.TAKEN:
+        yield read("record", name, lines, "record", kept(lines))
+    for name, lines in refused.REFUSED:
+        yield read("no record", name, lines, "record", records.BAD_STORED)
+    for name, lines, numbers in links.NAMES:
+        yield read("names", name, lines, "names", " ".join(["names", *map(str, numbers)]) + "\n")
+
+
+def runs():
+    """The cases of each run of the program."""
+    yield [*words.cases(), *printed.cases(), *branches.cases(), *record_cases()]
+    for scene in states.SCENES:
+        yield list(states.cases(scene))
+
+
+def answers(cases):
+    """The answer to each row, without the line that ends it."""
+    data = "".join(ask.row + "\n" for case in cases for ask in case.asks).encode("utf-8")
+    out = subprocess.run([str(PROGRAM)], input=data, stdout=subprocess.PIPE, check=True, timeout=50).stdout
+    found, lines = [], []
+    for line in out.decode("utf-8").split("\n")[:-1]:
+        if line == ".":
+            found.append("".join(lines))
+            lines = []
+        else:
+            lines.append(line + "\n")
+    return found
+
+
+def differences(cases):
+    """What is told of each case whose answers are not those that are wanted."""
+    got = answers(cases)
+    if len(got) != sum(len(case.asks) for case in cases):
+        yield f"{cases[0].name} and on: {len(got)} answers"
+        return
+    following = iter(got)
+    for case in cases:
+        wrong = [(ask, found) for ask, found in zip(case.asks, following) if found != ask.wanted]
+        if wrong:
+            ask, found = wrong[0]
+            yield f"{case.name}: {ask.row[:100]!r} gives {found[-300:]!r}, and {ask.wanted[-300:]!r} was wanted"
+
+
+def main():
+    count, failures = 0, list(printed.faults())
+    for cases in runs():
+        count += len(cases)
+        failures += differences(cases)
+    for failure in failures:
+        print(f"failed: {failure}")
+    print(f"{count - len(failures)} passed, {len(failures)} failed")
+    return 1 if failures or not count else 0
+
+
+if __name__ == "__main__":
+    sys.exit(main())

@@ -1,0 +1,81 @@
+"""The numbers and names of refusals, wherever they are told: two crates and docs/REFUSALS.md.
+
+The crate of files and the crate of the archive each have a definition that gives a kind its number, and one
+that gives it its name; the calls `number` and `name` are proved to answer these. So the definitions are
+read here, and the table of the document.
+"""
+
+from __future__ import annotations
+
+import os
+import re
+
+from harness import ROOT, Case, Tools, demand
+
+FILES = "crates/gedcom_rules/specs/Refusals.antt"
+ARCHIVE = "crates/record_text/specs/Refusals.antt"
+DOCUMENT = "docs/REFUSALS.md"
+
+NUMBER = re.compile(r"^number_of kind\.(\w+) = ([0-9]+)$", re.MULTILINE)
+NAME = re.compile(r'^name_of kind\.(\w+) = codes "(\w+)"$', re.MULTILINE)
+ROW = re.compile(r"^\| ([0-9]+) \| (\w+) \|", re.MULTILINE)
+
+# What requests, the archive and its file are refused with: no program prints these yet.
+NOT_PRINTED = range(40, 94)
+
+
+def text_of(path):
+    with open(os.path.join(ROOT, path), encoding="utf-8") as file:
+        return file.read()
+
+
+def once(found, where):
+    """A list of pairs as a mapping; nothing stands in it twice, neither left nor right."""
+    found = list(found)
+    for which, side in (("left", 0), ("right", 1)):
+        told = [pair[side] for pair in found]
+        twice = sorted({one for one in told if told.count(one) > 1})
+        demand(not twice, f"{where}: twice, {which}: {twice}")
+    demand(bool(found), f"{where}: nothing was found")
+    return dict(found)
+
+
+def kinds_of(path):
+    """The number and the name of each kind of a crate."""
+    text = text_of(path)
+    numbers = once(((kind, int(number)) for kind, number in NUMBER.findall(text)), f"{path}, numbers")
+    names = once(NAME.findall(text), f"{path}, names")
+    demand(numbers.keys() == names.keys(), f"{path}: {numbers.keys() ^ names.keys()} has one alone")
+    return {kind: (number, names[kind]) for kind, number in numbers.items()}
+
+
+def rows():
+    """The number of each name in the document."""
+    found = ROW.findall(text_of(DOCUMENT))
+    return once(((name, int(number)) for number, name in found), DOCUMENT)
+
+
+def crates_agree():
+    files, archive = kinds_of(FILES), kinds_of(ARCHIVE)
+    for kind in files.keys() & archive.keys():
+        demand(files[kind] == archive[kind], f"{kind}: {files[kind]} and {archive[kind]}")
+    # kinds of one crate alone have numbers and names that the other does not use
+    once({*files.values(), *archive.values()}, f"{FILES} and {ARCHIVE}")
+
+
+def code_agrees_with_the_document():
+    listed = rows()
+    told = {name: number for path in (FILES, ARCHIVE) for number, name in kinds_of(path).values()}
+    for name, number in listed.items():
+        demand(told.get(name) == number, f"{DOCUMENT} has {number} {name}, the code {told.get(name)}")
+    missing = sorted(
+        (number, name)
+        for name, number in told.items()
+        if name not in listed and number not in NOT_PRINTED
+    )
+    demand(not missing, f"{DOCUMENT} has no row for {missing}")
+
+
+def cases(_tools: Tools):
+    yield Case("refusals: two crates have the same numbers and names", crates_agree)
+    yield Case("refusals: the code agrees with the document", code_agrees_with_the_document)

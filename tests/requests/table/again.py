@@ -1,0 +1,171 @@
+"""Requests that come again: the kept answer for the same command, 52 for another one, and nothing kept of a refused one."""
+
+from __future__ import annotations
+
+from table.making import (
+    FAMILY,
+    LAST,
+    changes,
+    keeps,
+    keeps_nothing,
+    makes,
+    next_is,
+    next_set,
+    place,
+    refuses,
+    scenario,
+    shows,
+)
+
+# A request of each verb in the archive of FAMILY with place 8 and next number 9, and what it makes.
+EACH = (
+    (9, "person", "Eva /Ray/", "F"),
+    (0, "name", "1", "Thomas"),
+    (0, "sex", "1", "M"),
+    (10, "family", "1", "2"),
+    (0, "child", "3", "2"),
+    (11, "event", "1", "BIRT", "at home", "1 MAY 1700", "8"),
+    (0, "amend", "4", "court", "ABT 1701", "8"),
+    (0, "participant", "4", "2", "witness"),
+)
+
+
+def answered(number, token, *command):
+    return makes(number, token, *command) if number else changes(token, *command)
+
+
+def firsts():
+    return [answered(number, f"t{i}", *command) for i, (number, *command) in enumerate(EACH)]
+
+
+def kept():
+    return [
+        keeps(f"t{i}", number, 1 if number else 0, *command)
+        for i, (number, *command) in enumerate(EACH)
+    ]
+
+
+def others():
+    """Each token with each other command."""
+    return [
+        refuses(52, f"t{i}", *command)
+        for i in range(len(EACH))
+        for j, (_, *command) in enumerate(EACH)
+        if i != j
+    ]
+
+
+WHOLE = [*FAMILY, place(8, "Kent"), next_set(9)]
+EVENT_4 = shows(
+    4,
+    (0, "event", "-", 3),
+    (1, "DIV", "court", "-"),
+    (1, "date", "ABT 1701", 8),
+    (1, "participant", "witness", 2),
+)
+
+SCENARIOS = (
+    scenario(
+        "each command once, again, and another under its token",
+        WHOLE,
+        firsts(),
+        next_is(12),
+        firsts(),
+        next_is(12),
+        EVENT_4,
+        kept(),
+        others(),
+        next_is(12),
+        firsts(),
+        kept(),
+        EVENT_4,
+    ),
+    scenario(
+        "a kept answer comes before all checks",
+        WHOLE,
+        firsts(),
+        next_set(LAST + 1),
+        firsts(),
+        next_is(LAST + 1),
+        refuses(52, "t0", "person", "\r", ""),
+        refuses(52, "t0", "name", 99, "a"),
+        refuses(52, "t4", "child", 3, 1),
+        refuses(52, "t3", "family", 2, 2),
+        refuses(59, "u", "child", 3, 2),
+    ),
+    scenario(
+        "the same command in another spelling",
+        WHOLE,
+        firsts(),
+        changes("t1", "name", "0000000001", "Thomas"),
+        changes("t2", "sex", "01", "M"),
+        makes(10, "t3", "family", "001", "02"),
+        changes("t4", "child", "03", "2"),
+        makes(11, "t5", "event", "1", "BIRT", "at home", "01  may 1700", "08"),
+        makes(11, "t5", "event", "1", "BIRT", "at home", "@#dgregorian@ 1 May 1700", "8"),
+        changes("t6", "amend", "4", "court", " abt 1701 ", "8"),
+        changes("t7", "participant", "04", "0002", "witness"),
+        refuses(52, "t1", "name", "1", "thomas"),
+        refuses(52, "t1", "name", "1", "Thomas "),
+        refuses(52, "t5", "event", "1", "BIRT", "at home", "@#DJULIAN@ 1 MAY 1700", "8"),
+        refuses(52, "t5", "event", "1", "BIRT", "at home", "1 MAY 1700", ""),
+        refuses(52, "t6", "amend", "4", "court", "", "8"),
+        refuses(52, "t6", "amend", "4", "", "ABT 1701", "8"),
+        next_is(12),
+        EVENT_4,
+    ),
+    scenario(
+        "fields that are joined otherwise",
+        makes(1, "p", "person", "", ""),
+        changes("n", "name", 1, "a,b"),
+        refuses(52, "n", "name", 1, '"a,b"'),
+        changes("n", "name", 1, "a,b"),
+        makes(2, "q", "person", 'M,"', ""),
+        refuses(52, "q", "person", "M", "M"),
+        refuses(52, "q", "person", 'M,""', ""),
+        refuses(52, "p", "person", " ", ""),
+        refuses(52, "p", "person", "", "U"),
+        next_is(3),
+    ),
+    scenario(
+        "a refused request is not kept",
+        FAMILY,
+        refuses(50, "x", "name", 9, "a"),
+        keeps_nothing("x"),
+        refuses(58, "x", "person", "\r", ""),
+        refuses(54, "x", "family", 2, 2),
+        refuses(59, "x", "child", 3, 1),
+        refuses(62, "x", "event", 1, "MARR", "", "", ""),
+        keeps_nothing("x"),
+        next_is(5),
+        makes(5, "x", "person", "Eva", ""),
+        refuses(52, "x", "name", 9, "a"),
+        keeps("x", 5, 1, "person", "Eva", ""),
+    ),
+    scenario(
+        "a request that is refused may be accepted later",
+        makes(1, "p", "person", "", ""),
+        refuses(50, "f", "family", 1, 2),
+        makes(2, "q", "person", "", ""),
+        makes(3, "f", "family", 1, 2),
+        makes(3, "f", "family", 1, 2),
+        next_is(4),
+    ),
+    scenario(
+        "the same command under two tokens is done twice",
+        makes(1, "a", "person", "Eva", "F"),
+        makes(2, "b", "person", "Eva", "F"),
+        makes(2, "b", "person", "Eva", "F"),
+        changes("c", "name", 1, "Eve"),
+        changes("d", "name", 1, "Eve"),
+        shows(
+            1,
+            (0, "person", "-", "-"),
+            (1, "name", "Eva", "-"),
+            (1, "name", "Eve", "-"),
+            (1, "name", "Eve", "-"),
+            (1, "sex", "F", "-"),
+        ),
+        next_is(3),
+    ),
+)

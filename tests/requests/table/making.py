@@ -1,0 +1,149 @@
+"""How the rows of the tables are made: rows that are given, one after the other, and the rows that answer each.
+
+Each expected answer is written by hand from docs/FORMATS.md, never taken from a program.
+"""
+
+from __future__ import annotations
+
+import hashlib
+from dataclasses import dataclass
+
+NAMES = {
+    50: "NoSuch",
+    51: "WrongKind",
+    52: "TokenReused",
+    54: "SamePerson",
+    58: "BadText",
+    59: "AlreadyInFamily",
+    62: "NotOfKind",
+    63: "Full",
+    90: "BadRow",
+    91: "UnknownVerb",
+    92: "FieldCount",
+    93: "BadToken",
+}
+LAST = 4_294_967_295  # the greatest number
+LONGEST = 1_048_576  # bytes of a text
+
+Step = tuple[bytes, bytes]
+
+
+@dataclass(frozen=True)
+class Scenario:
+    """Rows given to a new archive, each with its answer."""
+
+    name: str
+    steps: tuple[Step, ...]
+
+
+def scenario(name: str, *parts: Step | list[Step]) -> Scenario:
+    """A scenario of steps and lists of steps."""
+    steps: list[Step] = []
+    for part in parts:
+        steps += part if isinstance(part, list) else [part]
+    return Scenario(name, tuple(steps))
+
+
+def field(value: str | int) -> str:
+    """A field as RFC 4180 has it, in quotes only where it has to be."""
+    text = str(value)
+    if any(c in text for c in ',"\r\n'):
+        return '"' + text.replace('"', '""') + '"'
+    return text
+
+
+def row(*fields: str | int) -> str:
+    return ",".join(field(one) for one in fields) + "\n"
+
+
+def raw(given: bytes | str, *wanted: str) -> Step:
+    """Bytes as they stand, and the rows that answer them."""
+    data = given.encode() if isinstance(given, str) else given
+    return data, "".join(line + "\n" for line in wanted).encode()
+
+
+def ask(given: str, *wanted: str) -> Step:
+    """A row as it stands, and the rows that answer it."""
+    return raw(given + "\n", *wanted)
+
+
+def makes(number: int, *fields: str | int) -> Step:
+    """A request that makes this record."""
+    return row(*fields).encode(), row(fields[0], "ok", number, 1).encode()
+
+
+def changes(*fields: str | int) -> Step:
+    """A request that is accepted and makes no record."""
+    return row(*fields).encode(), row(fields[0], "ok", 0, 0).encode()
+
+
+def refuses(number: int, *fields: str | int) -> Step:
+    """A request that is refused."""
+    return row(*fields).encode(), row(fields[0], "refused", number, NAMES[number]).encode()
+
+
+def next_is(number: int) -> Step:
+    return ask("! next", f"next,{number}")
+
+
+def next_set(number: int) -> Step:
+    return ask(f"! set next,{number}", f"next,{number}")
+
+
+def place(number: int, name: str, parent: int | str = "") -> Step:
+    """Puts a place at a number, which no request can do yet."""
+    given = row("! place", number, name, parent)
+    return given.encode(), row(0, "place", name, parent or "-").encode()
+
+
+def shows(number: int, *lines: tuple[str | int, ...]) -> Step:
+    """The stored lines of a record: depth, tag, text and number, with `-` for nothing."""
+    wanted = "".join(row(*line) for line in lines) or "none\n"
+    return row("! show", number).encode(), wanted.encode()
+
+
+def digest(*fields: str | int) -> str:
+    """SHA-256 of a command as one row."""
+    return hashlib.sha256(row(*fields).encode()).hexdigest()
+
+
+def keeps(token: str, first: int, count: int, *command: str | int) -> Step:
+    """What is kept under a token: the answer, and the digest of a command that is written as it is spelt."""
+    wanted = row("kept", first, count, digest(*command))
+    return row("! kept", token).encode(), wanted.encode()
+
+
+def keeps_nothing(token: str) -> Step:
+    return row("! kept", token).encode(), b"none\n"
+
+
+def spells(given: tuple[str | int, ...], *command: str | int) -> list[Step]:
+    """A command, given in some spelling, with its bytes and their digest."""
+    wanted = row(*command)
+    return [
+        (row("! bytes", *given).encode(), row("bytes", wanted).encode()),
+        (row("! digest", *given).encode(), row("digest", digest(*command)).encode()),
+    ]
+
+
+def itself(*command: str | int) -> list[Step]:
+    """A command whose row is spelt as its bytes are."""
+    return spells(command, *command)
+
+
+def looks(number: int, *request: str | int) -> list[Step]:
+    """A request of a token, a verb and fields makes so many looks, and each that fails, be it with 40 or with 80, is
+    answered as such."""
+    return [
+        (row(f"! looks {failure}", *request).encode(), row("looks", number).encode())
+        for failure in (40, 80)
+    ]
+
+
+# Persons 1 and 2, family 3 with person 1 as its wife, and event 4 of it.
+FAMILY = [
+    makes(1, "p1", "person", "Tom /Lee/", ""),
+    makes(2, "p2", "person", "Ann /Lee/", ""),
+    makes(3, "f1", "family", "", 1),
+    makes(4, "e1", "event", 3, "DIV", "", "1700", ""),
+]

@@ -1,0 +1,329 @@
+"""Rows read as commands: each with its bytes and their digest, and rows that are refused.
+
+The order for a row is: not UTF-8 (90), token (93), one field only (92), verb (91), count (92), types (90).
+"""
+
+from __future__ import annotations
+
+from table.making import (
+    FAMILY,
+    LAST,
+    ask,
+    itself,
+    keeps_nothing,
+    makes,
+    next_is,
+    raw,
+    refuses,
+    row,
+    scenario,
+    shows,
+    spells,
+)
+
+# A row of each verb that is well formed.
+GOOD = {
+    "person": ("John /Smith/", "M"),
+    "name": ("1", "John"),
+    "sex": ("1", "F"),
+    "family": ("1", "2"),
+    "child": ("3", "1"),
+    "event": ("1", "BIRT", "", "1700", "1"),
+    "amend": ("4", "court", "1700", "1"),
+    "participant": ("4", "1", "witness"),
+}
+# The places of the numbers in it, and of those that may be missing.
+NUMBERS = {
+    "name": (0,),
+    "sex": (0,),
+    "family": (0, 1),
+    "child": (0, 1),
+    "event": (0, 4),
+    "amend": (0, 3),
+    "participant": (0, 1),
+}
+MAY_BE_MISSING = {"family": (0, 1), "event": (4,), "amend": (3,)}
+
+NO_NUMBERS = (
+    "0",
+    "00",
+    "0000000000",
+    "4294967296",
+    "9999999999",
+    "00000000001",
+    "12345678901",
+    "+1",
+    "-1",
+    " 1",
+    "1 ",
+    "1a",
+    "a",
+    "1.0",
+    "1_0",
+    "0x1",
+    "\u0661",
+    "\uff11",
+    "1\0",
+    "1\n",
+    "M",
+)
+NO_SEXES = ("X", "m", "f", "u", "MF", "M ", " M", "male", "\u039c", "M\n")
+
+# Dates as they are given, and as they are spelt: docs/FORMATS.md, "Dates".
+DATES = (
+    ("1 may 1800", "1 MAY 1800"),
+    (" 01  may 1800", "1 MAY 1800"),
+    ("@#DGREGORIAN@ 1 MAY 1800", "1 MAY 1800"),
+    ("@#djulian@ 11 feb 1731/32", "@#DJULIAN@ 11 FEB 1731/32"),
+    ("11 FEB 1731/32", "11 FEB 1731/32"),
+    ("1731/33", "1731/33"),
+    ("29 FEB 1699/00", "29 FEB 1699/00"),
+    ("bet 1700 and 1701", "BET 1700 AND 1701"),
+    ("BET 1 MAR 1700 AND 1 JAN 1700", "BET 1 MAR 1700 AND 1 JAN 1700"),
+    ("from 1700  to  1701", "FROM 1700 TO 1701"),
+    ("abt @#djulian@ 1700", "ABT @#DJULIAN@ 1700"),
+    ("aft 31 dec 1999", "AFT 31 DEC 1999"),
+    ("44b.c.", "44 B.C."),
+    ("INT 1700 (about (or so))", "INT 1700 (about (or so))"),
+    ("int 1700(about, or so)", "INT 1700 (about, or so)"),
+    ("()", "()"),
+    ("(unknown)", "(unknown)"),
+    ("0044", "44"),
+    ("about a day", "about a day"),
+    ("ABT", "ABT"),
+    ("1 JAN 0", "1 JAN 0"),
+    ("9999/00", "9999/00"),
+    ('he said "1700", once', 'he said "1700", once'),
+    ("1700\n1701", "1700\n1701"),
+    (" ", " "),
+)
+
+
+def changed(fields, at, value):
+    return (*fields[:at], value, *fields[at + 1 :])
+
+
+def bad_numbers():
+    """Each number of each verb, spelt in each wrong way; empty where it may not be missing."""
+    for verb, places in NUMBERS.items():
+        for at in places:
+            wrong = NO_NUMBERS + (() if at in MAY_BE_MISSING.get(verb, ()) else ("",))
+            for value in wrong:
+                yield refuses(90, "x", verb, *changed(GOOD[verb], at, value))
+
+
+def good_numbers():
+    """Each number of each verb, spelt in other ways, and missing where it may be."""
+    for verb, places in NUMBERS.items():
+        for at in places:
+            for value in ("7", "007", "0000000001", "4294967295"):
+                given = changed(GOOD[verb], at, value)
+                yield from spells((verb, *given), verb, *changed(given, at, int(value)))
+            if at in MAY_BE_MISSING.get(verb, ()):
+                yield from itself(verb, *changed(GOOD[verb], at, ""))
+
+
+def dated(given, spelt):
+    """The two verbs that have a date, with it."""
+    return [
+        *spells(("event", 1, "BIRT", "", given, ""), "event", 1, "BIRT", "", spelt, ""),
+        *spells(("amend", 1, "", given, ""), "amend", 1, "", spelt, ""),
+    ]
+
+
+def counts():
+    """Each verb with fewer and with more fields than it has; its types are not looked at."""
+    for verb, fields in GOOD.items():
+        fewer = [fields[:n] for n in range(len(fields))]
+        for wrong in (*fewer, (*fields, ""), (*fields, "1", "2")):
+            yield refuses(92, "x", verb, *wrong)
+        yield refuses(92, "x", verb, *["?"] * (len(fields) + 1))
+
+
+BYTES = (
+    scenario(
+        "the bytes of commands",
+        itself("person", "John /Smith/", "M"),
+        ask(
+            "! digest,person,John /Smith/,M",
+            "digest,d0c6599be6fcf592528d98b12a13b517482f56bf05a18206e8a8075647d87fd6",
+        ),
+        ask("! bytes,person,John /Smith/,M", 'bytes,"person,John /Smith/,M\n"'),
+        itself("person", "", ""),
+        itself("person", "", "F"),
+        itself("name", "7", 'Smith, "Jon"'),
+        ask('! bytes,name,7,"Smith, ""Jon"""', 'bytes,"name,7,""Smith, """"Jon""""""\n"'),
+        itself("name", "7", "Smith, Jon"),
+        itself("name", "7", 'O"Hara'),
+        itself("name", "7", "a\rb"),
+        itself("name", "7", "a\0b"),
+        itself("name", "7", " "),
+        itself("name", "7", "\u00e9\u4e2d\U0001f600"),
+        itself("sex", "10", "U"),
+        itself("family", "1", ""),
+        itself("family", "", "2"),
+        itself("family", "", ""),
+        itself("child", "2", "1"),
+        itself("event", "2", "MARR", "", "1 MAY 1800", ""),
+        spells(
+            ("event", "2", "MARR", "", "1 may 1800", ""),
+            *("event", "2", "MARR", "", "1 MAY 1800", ""),
+        ),
+        itself("event", "4294967295", "BIRT", "", "", "1"),
+        spells(
+            ("event", "1", "BIRT", "at home", " 01  may 1800", "12"),
+            *("event", "1", "BIRT", "at home", "1 MAY 1800", "12"),
+        ),
+        itself("event", "1", "no tag", "two\nlines", "about, a day", "4"),
+        itself("amend", "3", "two\nlines", "about a day", "4"),
+        itself("amend", "3", "", "about a day", ""),
+        itself("amend", "3", "no", "", "4"),
+        itself("amend", "3", "", "", ""),
+        itself("amend", "3", "", " ", ""),
+        itself("participant", "3", "1", "witness"),
+        itself("participant", "3", "1", ""),
+        next_is(1),
+    ),
+    scenario("numbers in other spellings", list(good_numbers())),
+    scenario(
+        "dates in other spellings",
+        [step for given, spelt in DATES for step in dated(given, spelt)],
+    ),
+    scenario(
+        "rows that are refused have no bytes",
+        ask("! bytes,frob", ",refused,91,UnknownVerb"),
+        ask("! bytes,person", ",refused,92,FieldCount"),
+        ask("! bytes,sex,1,X", ",refused,90,BadRow"),
+        ask("! digest,frob", ",refused,91,UnknownVerb"),
+        ask("! digest", ",refused,92,FieldCount"),
+    ),
+)
+
+ROWS = (
+    scenario(
+        "verbs that nobody knows",
+        [
+            refuses(91, "x", *fields)
+            for fields in (
+                ("frob",),
+                ("frob", "1"),
+                ("", "1", "a"),
+                ("Person", "John", "M"),
+                ("PERSON", "John", "M"),
+                (" person", "John", "M"),
+                ("person ", "John", "M"),
+                ("persons", "John", "M"),
+                ("perso", "John", "M"),
+                ("person\n", "John", "M"),
+                ("x", "person", "John", "M"),
+                ("import",),
+                ("entries", "1"),
+            )
+        ],
+    ),
+    scenario("too few and too many fields", ask("x", "x,refused,92,FieldCount"), list(counts())),
+    scenario("numbers that are none", list(bad_numbers())),
+    scenario(
+        "sexes that are none",
+        [refuses(90, "x", "person", "John", sex) for sex in NO_SEXES],
+        [refuses(90, "x", "sex", "1", sex) for sex in (*NO_SEXES, "")],
+    ),
+    scenario(
+        "the order of what is wrong with a row",
+        ask(",frob", ",refused,93,BadToken"),
+        ask(",", ",refused,93,BadToken"),
+        ask(",sex,1", ",refused,93,BadToken"),
+        ask('""', ",refused,93,BadToken"),
+        ask("x", "x,refused,92,FieldCount"),
+        ask("x,", "x,refused,91,UnknownVerb"),
+        ask("x,frob,1,2,3,4,5,6,7", "x,refused,91,UnknownVerb"),
+        ask("x,sex,0,X,", "x,refused,92,FieldCount"),
+        ask("x,event,2,MARR,,", "x,refused,92,FieldCount"),
+        ask("x,event,2,MARR,,,nowhere", "x,refused,90,BadRow"),
+        ask("x,name,0,\0", "x,refused,90,BadRow"),
+        ask("x,participant,9,0,\0", "x,refused,90,BadRow"),
+        keeps_nothing("x"),
+        next_is(1),
+    ),
+    scenario(
+        "what is wrong with a row comes before what is kept under its token",
+        FAMILY,
+        ask("p1,frob", "p1,refused,91,UnknownVerb"),
+        ask("p1", "p1,refused,92,FieldCount"),
+        ask("p1,person,Tom /Lee/", "p1,refused,92,FieldCount"),
+        ask("p1,person,Tom /Lee/,X", "p1,refused,90,BadRow"),
+        ask("p1,person,Tom /Lee/,", "p1,ok,1,1"),
+        next_is(5),
+    ),
+)
+
+TOKENS = (
+    scenario(
+        "tokens that are none",
+        [
+            (row(token, "person", "X", "").encode(), b",refused,93,BadToken\n")
+            for token in (
+                "",
+                " ",
+                " a",
+                "a ",
+                "a b",
+                "! ",
+                "!\t",
+                "a\nb",
+                "a\r",
+                "a\0",
+                "\x1f",
+                "\x7f",
+                "\u00e9",
+                "\ufeffa",
+                "\uff01",
+                "x" * 65,
+                "x" * 1000,
+            )
+        ],
+        next_is(1),
+    ),
+    scenario(
+        "tokens that are unusual",
+        [
+            makes(number, token, "person", "", "")
+            for number, token in enumerate(
+                ("!", "~", "!next", "a,b", '"', 'a"b', ",", "-", "#a", "0", "x" * 64, "X" * 64, "=1+1"), 1
+            )
+        ],
+        [makes(number, token, "person", "", "") for number, token in ((1, "!"), (4, "a,b"), (11, "x" * 64))],
+    ),
+)
+
+BAD_UTF8 = (b"\xff", b"\xc3", b"\x80", b"\xed\xa0\x80", b"\xc0\x80", b"\xf4\x90\x80\x80")
+
+FORM = (
+    scenario(
+        "line ends, blank lines and quotes",
+        raw("a1,person,A,\r\n", "a1,ok,1,1"),
+        raw("\n\r\n\na2,person,B,\r", "a2,ok,2,1"),
+        raw('"a3","person","C, ""the second""","F"\n', "a3,ok,3,1"),
+        raw('a4,name,3,"two\nlines"\n', "a4,ok,0,0"),
+        raw('a5,name,"3","a,b"\n', "a5,ok,0,0"),
+        shows(
+            3,
+            (0, "person", "-", "-"),
+            (1, "name", 'C, "the second"', "-"),
+            (1, "name", "two\nlines", "-"),
+            (1, "name", "a,b", "-"),
+            (1, "sex", "F", "-"),
+        ),
+        raw("a7,person,D,", "a7,ok,4,1"),
+    ),
+    scenario("a byte order mark", raw("\ufeffa1,person,A,\n", "a1,ok,1,1"), next_is(2)),
+    scenario(
+        "bytes that are not UTF-8",
+        [raw(b"x,person," + bad + b",\n", ",refused,90,BadRow") for bad in BAD_UTF8],
+        [raw(bad + b",person,X,\n", ",refused,90,BadRow") for bad in BAD_UTF8],
+        [raw(b",frob," + bad + b"\n", ",refused,90,BadRow") for bad in BAD_UTF8],
+        makes(1, "x", "person", "X", ""),
+    ),
+)
+
+SCENARIOS = BYTES + ROWS + TOKENS + FORM
