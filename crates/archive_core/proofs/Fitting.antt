@@ -116,14 +116,14 @@ person_over c n p q sound at linked carry =
     (subst (EachOf (Stands c.records)) (sym linked) (sound.named n (kind.Person p) at))
     (subst (λ l. EachOf IsOfRecords (flat_map tags l)) (sym carry) (sound.rules.tags n (kind.Person p) at))
 
-pub further_name_fits : (c : Content) (n : ℕ) (p : model.Person) (name : List ℕ) → IsSound c → get c.records n ≡ Some (kind.Person p) → IsFit c n (kind.Person (with_name name p))
-further_name_fits c n p name sound at =
+pub add_name_fits : (c : Content) (n : ℕ) (p : model.Person) (name : List ℕ) → IsSound c → get c.records n ≡ Some (kind.Person p) → IsFit c n (kind.Person (with_name name p))
+add_name_fits c n p name sound at =
     person_over c n p (with_name name p) sound at
     (ap (λ l. l ++ carried_links p.carried) (none_more name_links p.names (plain_name name) refl))
     (ap (λ l. l ++ p.carried) (none_more (λ (x : model.Name). x.carried) p.names (plain_name name) refl))
 
-pub new_sex_fits : (c : Content) (n : ℕ) (p : model.Person) (sex : Option Sex) → IsSound c → get c.records n ≡ Some (kind.Person p) → IsFit c n (kind.Person (record p { sex = sex }))
-new_sex_fits c n p sex sound at = person_over c n p (record p { sex = sex }) sound at refl refl
+pub set_sex_fits : (c : Content) (n : ℕ) (p : model.Person) (sex : Option Sex) → IsSound c → get c.records n ≡ Some (kind.Person p) → IsFit c n (kind.Person (record p { sex = sex }))
+set_sex_fits c n p sex sound at = person_over c n p (record p { sex = sex }) sound at refl refl
 
 -- ---- families
 family_fits : (c : Content) (n : ℕ) (f : model.Family) → ((old : Record) → get c.records n ≡ Some old → (w : Wanted) → is_wanted w old ≡ is_wanted w (kind.Family f)) → ((old : Record) → get c.records n ≡ Some old → event_tags old ≡ family_tags) → EachOf (Stands c.records) (links (kind.Family f)) → IsOnce (members f) → EachOf IsOfRecords (carried_tags (kind.Family f)) → IsFit c n (kind.Family f)
@@ -207,8 +207,8 @@ no_member f n e =
     ∙ ap (λ b. is_partner n f || b) (any_of (λ m. m == n) (λ (c : model.Child). c.person) f.children)
     ∙ e
 
-pub further_child_fits : (c : Content) (n : ℕ) (f : model.Family) (person : ℕ) → IsSound c → get c.records n ≡ Some (kind.Family f) → Stands c.records (person, a_person) → (is_partner person f || is_child person f) ≡ false → IsFit c n (kind.Family (with_child person f))
-further_child_fits c n f person sound at stands other =
+pub add_child_fits : (c : Content) (n : ℕ) (f : model.Family) (person : ℕ) → IsSound c → get c.records n ≡ Some (kind.Family f) → Stands c.records (person, a_person) → (is_partner person f || is_child person f) ≡ false → IsFit c n (kind.Family (with_child person f))
+add_child_fits c n f person sound at stands other =
     let P : Link → Type 0 = Stands c.records in
     let old : EachOf P (links (kind.Family f)) = sound.named n (kind.Family f) at in
     let rest : EachOf P (flat_map child_links f.children ++ carried_links f.carried) = each_back P (flat_map partner_links f.partners) (flat_map child_links f.children ++ carried_links f.carried) old in
@@ -306,8 +306,8 @@ event_over c n e f sound at owner tag named carry place =
     (subst (λ (t : List ℕ). IfSome (get c.records f.owner) (λ r. is_event_tag t r ≡ true)) (sym tag)
     (subst (λ (k : ℕ). IfSome (get c.records k) (λ r. is_event_tag e.tag r ≡ true)) (sym owner) (sound.rules.events n (kind.Event e) at)))
 
-pub further_participant_fits : (c : Content) (n : ℕ) (e : model.Event) (person : ℕ) (role : List ℕ) → IsSound c → get c.records n ≡ Some (kind.Event e) → Stands c.records (person, a_person) → IsFit c n (kind.Event (with_participant person role e))
-further_participant_fits c n e person role sound at stands =
+pub add_participant_fits : (c : Content) (n : ℕ) (e : model.Event) (person : ℕ) (role : List ℕ) → IsSound c → get c.records n ≡ Some (kind.Event e) → Stands c.records (person, a_person) → IsFit c n (kind.Event (with_participant person role e))
+add_participant_fits c n e person role sound at stands =
     let P : Link → Type 0 = Stands c.records in
     let old : EachOf P (links (kind.Event e)) = sound.named n (kind.Event e) at in
     let more : model.Event = with_participant person role e in
@@ -339,8 +339,8 @@ amended_said c None p h old = old
 amended_said c (Some n) None h old = h.1
 amended_said c (Some n) (Some p) h old = h.1
 
-pub amended_fits : (c : Content) (n : ℕ) (e : model.Event) (value : List ℕ) (date : Option Date) (place : Option ℕ) → IsSound c → get c.records n ≡ Some (kind.Event e) → PlaceAt c place → IsFit c n (kind.Event (with_fields value date place e))
-amended_fits c n e value date place sound at said =
+pub amend_event_fits : (c : Content) (n : ℕ) (e : model.Event) (value : List ℕ) (date : Option Date) (place : Option ℕ) → IsSound c → get c.records n ≡ Some (kind.Event e) → PlaceAt c place → IsFit c n (kind.Event (with_fields value date place e))
+amend_event_fits c n e value date place sound at said =
     let P : Link → Type 0 = Stands c.records in
     let old : EachOf P (links (kind.Event e)) = sound.named n (kind.Event e) at in
     let after : model.Event = with_fields value date place e in

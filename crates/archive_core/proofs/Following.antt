@@ -9,17 +9,18 @@ use Rattle.record_kinds.specs.declared.record.Record.{Record}
 use Rattle.record_kinds.specs.declared.record.Record.TheVariants as kind
 use Rattle.archive_state.specs.Content.{Content}
 use Rattle.archive_state.specs.Sound.{IsSound}
+use Rattle.commands.specs.Rows.{and_then}
 use Rattle.commands.specs.declared.command.Command.{Command}
 use Rattle.commands.specs.declared.command.Command.TheVariants as command
-use Rattle.archive_core.specs.Checks.{and_then, room, text_in, date_in, person_at, family_at, event_at, owner_at, place_at, tag_in, is_tag_of, is_said, said_place_at, passed, each, need}
-use Rattle.archive_core.specs.Steps.{Step, step, made, changed, plain_person, plain_partners, plain_place, with_name, with_child, with_fields, with_participant, is_same, is_partner, is_child}
+use Rattle.archive_core.specs.Checks.{text_in, date_in, person_at, family_at, event_at, owner_at, place_at, tag_in, event_tag, is_tag_of, is_said, said_place_at, passed, each, need}
+use Rattle.archive_core.specs.Steps.{Step, step, creates, replaces, plain_person, plain_partners, plain_place, with_name, with_child, with_fields, with_participant, is_same, is_partner, is_child}
 use Rattle.archive_core.specs.Machine.{Draws, NoneAgain}
 use Rattle.archive_core.specs.declared.looks.Owner.{Owner}
 use Rattle.archive_core.proofs.Putting.{put_elsewhere}
 use Rattle.archive_core.proofs.Keeping.{IsFit, put_keeps}
 use Rattle.archive_core.proofs.Found.{person_found, family_found, event_found, owner_found, person_stands, place_stands, passes}
 use Rattle.archive_core.proofs.SaidPaths.{said_has_part}
-use Rattle.archive_core.proofs.Fitting.{PersonAt, PlaceAt, new_person_fits, further_name_fits, new_sex_fits, new_family_fits, further_child_fits, new_event_fits, amended_fits, further_participant_fits}
+use Rattle.archive_core.proofs.Fitting.{PersonAt, PlaceAt, new_person_fits, add_name_fits, set_sex_fits, new_family_fits, add_child_fits, new_event_fits, amend_event_fits, add_participant_fits}
 
 -- an accepted step leaves receipts and slips as they are, makes nothing or a record at the next number, uses no number
 -- again, and leaves a sound archive sound
@@ -35,15 +36,9 @@ need_follows : (c : Content) (b : Bool) (k : RefusalKind) (f : Unit {0} → Step
 need_follows c true k f h = h refl
 need_follows c false k f h = tt
 
-room_follows : (c : Content) (f : ℕ → Step) → Follows c (f c.next) → Follows c (and_then (room c) f)
-room_follows c f h = elim (nat_le c.next 4_294_967_295) as (λ b. Follows c (and_then (if b then Ok c.next else Err Full) f)) [
-  | true ↦ h
-  | false ↦ tt
-]
-
 -- a record changes that stands below the next number
-changed_again : (c : Content) (n : ℕ) (old r : Record) → get c.records n ≡ Some old → NoneAgain c (record c { records = insert c.records n r })
-changed_again c n old r at = (
+replaces_again : (c : Content) (n : ℕ) (old r : Record) → get c.records n ≡ Some old → NoneAgain c (record c { records = insert c.records n r })
+replaces_again c n old r at = (
   omega arith,
   λ k less. (
     (λ none. put_elsewhere c.records n r k (λ same. let both : Some old ≡ None = sym at ∙ (ap (get c.records) (sym same) ∙ none) in absurd cc) ∙ none),
@@ -51,18 +46,21 @@ changed_again c n old r at = (
   ),
 )
 
-changed_follows : (c : Content) (n : ℕ) (old r : Record) → get c.records n ≡ Some old → (IsSound c → IsFit c n r) → Follows c (changed c n r)
-changed_follows c n old r at fit = (
+replaces_follows : (c : Content) (n : ℕ) (old r : Record) → get c.records n ≡ Some old → (IsSound c → IsFit c n r) → Follows c (replaces c n r)
+replaces_follows c n old r at fit = (
   refl,
   refl,
   inl (refl, refl),
-  changed_again c n old r at,
+  replaces_again c n old r at,
   (λ sound. put_keeps c n c.next r sound (fit sound) (omega arith) (sound.rules.numbered n old at)),
 )
 
 -- a record is made at the next number
-made_again : (c : Content) (r : Record) → NoneAgain c (record c { records = insert c.records c.next r; next = c.next + 1 })
-made_again c r = (
+abbrev created : Content → ℕ → Record → Step
+created c n r = Ok (record c { records = insert c.records n r; next = n + 1 }, record { first = n; count = 1 })
+
+creates_again : (c : Content) (r : Record) → NoneAgain c (record c { records = insert c.records c.next r; next = c.next + 1 })
+creates_again c r = (
   omega arith,
   λ k less. (
     (λ none. put_elsewhere c.records c.next r k (λ same. let here : c.next < c.next = subst (λ x. x < c.next) same less in absurd (omega arith)) ∙ none),
@@ -70,23 +68,26 @@ made_again c r = (
   ),
 )
 
-made_follows : (c : Content) (r : Record) → (IsSound c → IsFit c c.next r) → Follows c (made c c.next r)
-made_follows c r fit = (
-  refl,
-  refl,
-  inr (refl, refl, refl),
-  made_again c r,
-  (λ sound. let begun : 0 < c.next = sound.begun in put_keeps c c.next (c.next + 1) r sound (fit sound) (omega arith) (begun, omega arith)),
-)
+creates_follows : (c : Content) (r : Record) → (IsSound c → IsFit c c.next r) → Follows c (creates c r)
+creates_follows c r fit = elim (nat_le c.next 4_294_967_295) as (λ b. Follows c (and_then (if b then Ok c.next else Err Full) (λ n. created c n r))) [
+  | true ↦ (
+    refl,
+    refl,
+    inr (refl, refl, refl),
+    creates_again c r,
+    (λ sound. let begun : 0 < c.next = sound.begun in put_keeps c c.next (c.next + 1) r sound (fit sound) (omega arith) (begun, omega arith)),
+  )
+  | false ↦ tt
+]
 
 -- ---- what a look has found
 each_passed : {A : Type 0} (r : Result A RefusalKind) (u : Unit {0}) → passed (and_then r (λ a. Ok (Some a))) ≡ Ok u → passed r ≡ Ok u
 each_passed (Ok a) u e = e
 each_passed (Err k) u e = e
 
-first_passed : {A B : Type 0} (r : Result A RefusalKind) (f : A → Result B RefusalKind) (b : B) → and_then r f ≡ Ok b → (a : A) × (r ≡ Ok a)
-first_passed (Ok a) f b e = (a, refl)
-first_passed (Err k) f b e = absurd cc
+both_passed : {A B : Type 0} (r : Result A RefusalKind) (f : A → Result B RefusalKind) (b : B) → and_then r f ≡ Ok b → (a : A) × (r ≡ Ok a) × (f a ≡ Ok b)
+both_passed (Ok a) f b e = (a, refl, e)
+both_passed (Err k) f b e = absurd cc
 
 not_true : (b : Bool) → not b ≡ true → b ≡ false
 not_true true e = absurd cc
@@ -109,36 +110,43 @@ maybe_place : (c : Content) (n : Option ℕ) (u : Unit {0}) → passed (each (sa
 maybe_place c None u e = tt
 maybe_place c (Some n) u e =
     let said = passes (said_place_at c n) u (each_passed (said_place_at c n) u e) in
-    let place = first_passed (place_at c n) (λ p. need (is_said n c.records n p) BadText) said.0 said.1 in
+    let place = both_passed (place_at c n) (λ p. need (is_said n c.records n p) BadText) said.0 said.1 in
     (place_stands (get c.records n) place.0 place.1, said_has_part c n said.1)
+
+-- the owner, and what is known of its place and its tag
+event_tag_found : (c : Content) (owner : ℕ) (place : Option ℕ) (t tag : List ℕ) → event_tag c owner place t ≡ Ok tag
+    → (o : Owner) × (owner_at c owner ≡ Ok o) × PlaceAt c place × (is_tag_of o tag ≡ true)
+event_tag_found c owner place t tag e =
+    let o = both_passed (owner_at c owner) (λ o. and_then (passed (each (said_place_at c) place)) (λ _. tag_in o t)) tag e in
+    let p = both_passed (passed (each (said_place_at c) place)) (λ _. tag_in o.0 t) tag o.2 in
+    (o.0, o.1, maybe_place c place p.0 p.1, tag_found o.0 t tag p.2)
 
 -- ---- each command
 pub step_follows : (c : Content) (k : Command) → Follows c (step c k)
 step_follows c (command.Person name sex) =
-    then_follows c (text_in name) _ (λ t e. room_follows c (λ n. made c n (kind.Person (plain_person t sex)))
-    (made_follows c (kind.Person (plain_person t sex)) (new_person_fits c t sex)))
+    then_follows c (text_in name) _ (λ t e. creates_follows c (kind.Person (plain_person t sex)) (new_person_fits c t sex))
 step_follows c (command.Name person name) =
     then_follows c (text_in name) _ (λ t e. then_follows c (person_at c person) _ (λ p found.
     let at : get c.records person ≡ Some (kind.Person p) = person_found (get c.records person) p found in
-    changed_follows c person (kind.Person p) (kind.Person (with_name t p)) at (λ sound. further_name_fits c person p t sound at)))
+    replaces_follows c person (kind.Person p) (kind.Person (with_name t p)) at (λ sound. add_name_fits c person p t sound at)))
 step_follows c (command.Sex person sex) =
     then_follows c (person_at c person) _ (λ p found.
     let at : get c.records person ≡ Some (kind.Person p) = person_found (get c.records person) p found in
-    changed_follows c person (kind.Person p) (kind.Person (record p { sex = Some sex })) at (λ sound. new_sex_fits c person p (Some sex) sound at))
+    replaces_follows c person (kind.Person p) (kind.Person (record p { sex = Some sex })) at (λ sound. set_sex_fits c person p (Some sex) sound at))
 step_follows c (command.Family husband wife) =
     let family : model.Family = record { partners = plain_partners husband wife; children = []; carried = [] } in
     then_follows c (passed (each (person_at c) husband)) _ (λ h first. then_follows c (passed (each (person_at c) wife)) _ (λ w second.
-    need_follows c (not (is_same husband wife)) SamePerson _ (λ other. room_follows c (λ n. made c n (kind.Family family))
-    (made_follows c (kind.Family family) (λ sound. new_family_fits c husband wife sound (maybe_person c husband h first) (maybe_person c wife w second) (not_true (is_same husband wife) other))))))
+    need_follows c (not (is_same husband wife)) SamePerson _ (λ other. creates_follows c (kind.Family family)
+    (λ sound. new_family_fits c husband wife sound (maybe_person c husband h first) (maybe_person c wife w second) (not_true (is_same husband wife) other)))))
 step_follows c (command.Child family person) =
     then_follows c (family_at c family) _ (λ f found. then_follows c (passed (person_at c person)) _ (λ u there.
     need_follows c (not (is_partner person f || is_child person f)) AlreadyInFamily _ (λ other.
     let at : get c.records family ≡ Some (kind.Family f) = family_found (get c.records family) f found in
-    changed_follows c family (kind.Family f) (kind.Family (with_child person f)) at
-    (λ sound. further_child_fits c family f person sound at (one_person c person u there) (not_true (is_partner person f || is_child person f) other)))))
+    replaces_follows c family (kind.Family f) (kind.Family (with_child person f)) at
+    (λ sound. add_child_fits c family f person sound at (one_person c person u there) (not_true (is_partner person f || is_child person f) other)))))
 step_follows c (command.Event owner tag value date place) =
     then_follows c (text_in tag) _ (λ t i. then_follows c (text_in value) _ (λ v j. then_follows c (each date_in date) _ (λ d k.
-    then_follows c (owner_at c owner) _ (λ o found. then_follows c (passed (each (said_place_at c) place)) _ (λ u there. then_follows c (tag_in o t) _ (λ is one.
+    then_follows c (event_tag c owner place t) _ (λ is found.
     let event : model.Event = record {
       owner = owner;
       tag = is;
@@ -148,17 +156,18 @@ step_follows c (command.Event owner tag value date place) =
       participants = [];
       carried = [];
     } in
-    let holder = owner_found (get c.records owner) o found in
-    room_follows c (λ n. made c n (kind.Event event)) (made_follows c (kind.Event event)
-    (λ sound. new_event_fits c owner o holder.0 is v d place sound holder.1 holder.2 holder.3 (tag_found o t is one) (maybe_place c place u there)))))))))
+    let one = event_tag_found c owner place t is found in
+    let holder = owner_found (get c.records owner) one.0 one.1 in
+    creates_follows c (kind.Event event)
+    (λ sound. new_event_fits c owner one.0 holder.0 is v d place sound holder.1 holder.2 holder.3 one.3 one.2)))))
 step_follows c (command.Amend event value date place) =
     then_follows c (text_in value) _ (λ v i. then_follows c (each date_in date) _ (λ d j. then_follows c (event_at c event) _ (λ e found.
     then_follows c (passed (each (said_place_at c) place)) _ (λ u there.
     let at : get c.records event ≡ Some (kind.Event e) = event_found (get c.records event) e found in
-    changed_follows c event (kind.Event e) (kind.Event (with_fields v d place e)) at
-    (λ sound. amended_fits c event e v d place sound at (maybe_place c place u there))))))
+    replaces_follows c event (kind.Event e) (kind.Event (with_fields v d place e)) at
+    (λ sound. amend_event_fits c event e v d place sound at (maybe_place c place u there))))))
 step_follows c (command.Participant event person role) =
     then_follows c (text_in role) _ (λ r i. then_follows c (event_at c event) _ (λ e found. then_follows c (passed (person_at c person)) _ (λ u there.
     let at : get c.records event ≡ Some (kind.Event e) = event_found (get c.records event) e found in
-    changed_follows c event (kind.Event e) (kind.Event (with_participant person r e)) at
-    (λ sound. further_participant_fits c event e person r sound at (one_person c person u there)))))
+    replaces_follows c event (kind.Event e) (kind.Event (with_participant person r e)) at
+    (λ sound. add_participant_fits c event e person r sound at (one_person c person u there)))))

@@ -9,7 +9,8 @@ use Rattle.record_text.specs.declared.refusal.RefusalKind.TheVariants.{BadText}
 use Rattle.record_kinds.specs.Model as model
 use Rattle.archive_state.specs.Content.{Content, Records}
 use Rattle.archive_state.specs.Paths.{IsPlaceAt, Climbs, joined, HasPath, from_word, backwards, trimmed, parts, has_part}
-use Rattle.archive_core.specs.Checks.{says_something, is_said, place_in, need, and_then, said_place_at}
+use Rattle.commands.specs.Rows.{and_then}
+use Rattle.archive_core.specs.Checks.{says_something, is_said, place_in, need, said_place_at}
 use Rattle.archive_core.proofs.Said.{is_below, said_here, said_alone, said_above}
 
 -- a byte that is no space

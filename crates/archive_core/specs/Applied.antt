@@ -1,11 +1,11 @@
 -- What changes make of what an archive holds.
-use Rattle.std.specs.Prelude.{ℕ, List, [], ◌∷◌, ◌≡◌, Option, Some, None, option_map, Result, Ok, Err, true, false}
+use Rattle.std.specs.Prelude.{ℕ, List, [], ◌∷◌, ◌≡◌, Option, Some, None, option_map, true, Result, Ok, Err, IfOk}
 use Rattle.std.specs.FinMap.{get, insert, remove}
 use Rattle.record_text.specs.declared.refusal.Refusal.{Refusal}
 use Rattle.record_text.specs.declared.refusal.RefusalKind.{RefusalKind}
 use Rattle.archive_state.specs.Changes.{Changes}
 use Rattle.archive_state.specs.Content.{Content, Records, Receipts, Slips}
-use Rattle.archive_view.specs.Looks.{is_stop}
+use Rattle.archive_view.specs.Looks.{Agrees, is_stop}
 use Rattle.archive_state.specs.Slips.{Slip}
 use Rattle.receipts.specs.declared.answer.Answer.{Answer}
 use Rattle.archive_state.specs.declared.changes.Numbered.{Numbered}
@@ -58,18 +58,15 @@ with_all c puts = record c { records = with_puts c.records puts }
 abbrev pub applied : Content → Changes → Content
 applied c changes = finished (with_all c changes.puts) changes
 
--- code that decides a command: changes that, made, leave what is right, with the right answer, and keep no receipt yet; or
--- the right refusal; or a stop
+-- what changes leave when they are made, and their answer; or the refusal
+abbrev pub leaves : {E : Type 0} → Content → Result Changes E → Result (Content × Answer) E
+leaves c (Ok changes) = Ok (applied c changes, changes.answer)
+leaves c (Err e) = Err e
+
+-- code that decides a command: what it leaves is right, or it is a stop; and no receipt is kept yet
 abbrev pub Plans : Content → Result Changes RefusalKind → Result (Content × Answer) RefusalKind → Type 0
-Plans c (Ok changes) right = (right ≡ Ok (applied c changes, changes.answer)) × (changes.kept ≡ None)
-Plans c (Err e) right = is_stop e ≡ false → right ≡ Err e
+Plans c result right = Agrees is_stop (leaves c result) right × IfOk result (λ changes. changes.kept ≡ None)
 
--- code that decides a request: changes that, made, leave what is right, with the right answer; or the right refusal; or a stop
-abbrev pub Chooses : Content → Result Changes RefusalKind → Result (Content × Answer) RefusalKind → Type 0
-Chooses c (Ok changes) right = right ≡ Ok (applied c changes, changes.answer)
-Chooses c (Err e) right = is_stop e ≡ false → right ≡ Err e
-
--- the same, with the place of what is refused
+-- code that decides a request: what it leaves is right, or it is a stop
 abbrev pub Decides : Content → Result Changes Refusal → Result (Content × Answer) Refusal → Type 0
-Decides c (Ok changes) right = right ≡ Ok (applied c changes, changes.answer)
-Decides c (Err e) right = is_stop e.kind ≡ false → right ≡ Err e
+Decides c result right = Agrees (λ e. is_stop e.kind) (leaves c result) right

@@ -1,4 +1,4 @@
--- What a command looks at before it does anything, one check after the other. Rules of our own.
+-- What a command looks at before it does anything, one check after the other (`and_then` of `commands`). Rules of our own.
 use Rattle.std.specs.Prelude.{ℕ, zero, suc, List, Bool, true, false, not, ◌&&◌, ◌||◌, ◌==◌, nat_le, nat_lt, Option, Some, None, Result, Ok, Err, if◌then◌else◌}
 use Rattle.std.specs.List.{list_any}
 use Rattle.std.specs.Str.{bytes_eq}
@@ -13,13 +13,9 @@ use Rattle.archive_state.specs.Content.{Content, Records}
 use Rattle.archive_state.specs.Entries.{person_tags, family_tags}
 use Rattle.commands.specs.Fields.{text_of}
 use Rattle.commands.specs.Given.{GivenDate}
+use Rattle.commands.specs.Rows.{and_then, ok_or}
 use Rattle.archive_core.specs.declared.looks.Owner.{Owner}
 use Rattle.archive_core.specs.declared.looks.Owner.TheVariants as owner
-
--- one check after another: the first refusal counts
-abbrev pub and_then : {A B : Type 0} → Result A RefusalKind → (A → Result B RefusalKind) → Result B RefusalKind
-and_then (Ok a) f = f a
-and_then (Err e) f = Err e
 
 -- a check without an answer
 abbrev pub need : Bool → RefusalKind → Result (Unit {0}) RefusalKind
@@ -30,11 +26,6 @@ need false k = Err k
 abbrev pub passed : {A : Type 0} → Result A RefusalKind → Result (Unit {0}) RefusalKind
 passed (Ok a) = Ok tt
 passed (Err e) = Err e
-
--- what is there, or a refusal
-abbrev pub ok_or : {A : Type 0} → RefusalKind → Option A → Result A RefusalKind
-ok_or k None = Err k
-ok_or k (Some a) = Ok a
 
 -- a check of what may be missing
 abbrev pub each : {A B : Type 0} → (A → Result B RefusalKind) → Option A → Result (Option B) RefusalKind
@@ -131,7 +122,14 @@ is_said (suc steps) m n p = says_something p.name || is_within_with m n (λ q r.
 abbrev pub said_place_at : Content → ℕ → Result (Unit {0}) RefusalKind
 said_place_at c n = and_then (place_at c n) (λ p. need (is_said n c.records n p) BadText)
 
--- ---- room
+-- the tag of an event, whose owner may have it, and whose place an event may have
+abbrev pub event_tag : Content → ℕ → Option ℕ → List ℕ → Result (List ℕ) RefusalKind
+event_tag c owner place tag =
+    and_then (owner_at c owner) (λ o.
+    and_then (passed (each (said_place_at c) place)) (λ _.
+    tag_in o tag))
+
+-- ---- the next number
 -- the next number, where one is left
-abbrev pub room : Content → Result ℕ RefusalKind
-room c = if nat_le c.next 4_294_967_295 then Ok c.next else Err Full
+abbrev pub next_free : Content → Result ℕ RefusalKind
+next_free c = if nat_le c.next 4_294_967_295 then Ok c.next else Err Full

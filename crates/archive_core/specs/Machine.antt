@@ -1,14 +1,15 @@
 -- What a request does: an accepted one acts once, and its answer is kept under its token for good. Rules of our own.
-use Rattle.std.specs.Prelude.{ℕ, ◌+◌, ◌<◌, ◌≤◌, ◌⊎◌, Bool, true, false, List, [], ◌∷◌, ◌≡◌, Option, Some, None, Result, Ok, Err, if◌then◌else◌}
+use Rattle.std.specs.Prelude.{ℕ, ◌+◌, ◌<◌, ◌≤◌, ◌⊎◌, false, List, [], ◌∷◌, ◌≡◌, Option, Some, None, Result, Ok, Err, if◌then◌else◌}
 use Rattle.std.specs.Str.{bytes_eq}
 use Rattle.std.specs.FinMap.{get, insert}
 use Rattle.record_text.specs.declared.refusal.Refusal.{Refusal}
 use Rattle.record_text.specs.declared.refusal.RefusalKind.{RefusalKind}
-use Rattle.record_text.specs.declared.refusal.RefusalKind.TheVariants.{OutOfMemory, TokenReused}
+use Rattle.record_text.specs.declared.refusal.RefusalKind.TheVariants.{TokenReused}
 use Rattle.archive_state.specs.Content.{Content}
 use Rattle.receipts.specs.declared.answer.Answer.{Answer}
 use Rattle.receipts.specs.declared.answer.Receipt.{Receipt}
 use Rattle.commands.specs.Bytes.{digest_of}
+use Rattle.commands.specs.Rows.{is_want}
 use Rattle.archive_core.specs.Steps.{Step, step}
 use Rattle.archive_core.specs.declared.request.Request.{Request}
 
@@ -40,11 +41,6 @@ kinds (Err e) = Err e.kind
 -- what a request leaves and is answered, or its refusal
 abbrev pub outcome : Content → Request → Result (Content × Answer) Refusal
 outcome c r = unplaced (served c r (get c.receipts r.token))
-
--- want of memory
-abbrev pub is_want : RefusalKind → Bool
-is_want OutOfMemory = true
-is_want _ = false
 
 -- a request with this answer or refusal leaves that; a refusal changes nothing, and want of memory may come in place of any
 abbrev pub Does : Content → Request → Result Answer Refusal → Content → Type 0

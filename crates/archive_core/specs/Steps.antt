@@ -15,21 +15,24 @@ use Rattle.record_kinds.specs.declared.record.Record.TheVariants as kind
 use Rattle.receipts.specs.declared.answer.Answer.{Answer}
 use Rattle.archive_state.specs.Content.{Content}
 use Rattle.commands.specs.Given.{GivenDate}
+use Rattle.commands.specs.Rows.{and_then}
 use Rattle.commands.specs.declared.command.Command.{Command}
 use Rattle.commands.specs.declared.command.Command.TheVariants as command
-use Rattle.archive_core.specs.Checks.{and_then, need, passed, each, text_in, date_in, person_at, family_at, event_at, owner_at, said_place_at, tag_in, room}
+use Rattle.archive_core.specs.Checks.{need, passed, each, text_in, date_in, person_at, family_at, event_at, event_tag, said_place_at, next_free}
 
 -- what an accepted command leaves, and its answer
 abbrev pub Step : Type 0
 Step = Result (Content × Answer) RefusalKind
 
--- a new record at a number, which is the next one
-abbrev pub made : Content → ℕ → Record → Step
-made c n r = Ok (record c { records = insert c.records n r; next = n + 1 }, record { first = n; count = 1 })
+-- a new record at the next number, where one is left
+abbrev pub creates : Content → Record → Step
+creates c r =
+    and_then (next_free c) (λ n.
+    Ok (record c { records = insert c.records n r; next = n + 1 }, record { first = n; count = 1 }))
 
--- a record is another than before
-abbrev pub changed : Content → ℕ → Record → Step
-changed c n r = Ok (record c { records = insert c.records n r }, record { first = 0; count = 0 })
+-- another record at a number
+abbrev pub replaces : Content → ℕ → Record → Step
+replaces c n r = Ok (record c { records = insert c.records n r }, record { first = 0; count = 0 })
 
 -- ---- persons
 abbrev pub plain_name : List ℕ → model.Name
@@ -102,45 +105,40 @@ with_fields value date place e = record e {
 abbrev pub new_person : Content → List ℕ → Option Sex → Step
 new_person c name sex =
     and_then (text_in name) (λ t.
-    and_then (room c) (λ n.
-    made c n (kind.Person (plain_person t sex))))
+    creates c (kind.Person (plain_person t sex)))
 
-abbrev pub further_name : Content → ℕ → List ℕ → Step
-further_name c n name =
+abbrev pub add_name : Content → ℕ → List ℕ → Step
+add_name c n name =
     and_then (text_in name) (λ t.
     and_then (person_at c n) (λ p.
-    changed c n (kind.Person (with_name t p))))
+    replaces c n (kind.Person (with_name t p))))
 
-abbrev pub new_sex : Content → ℕ → Sex → Step
-new_sex c n sex =
+abbrev pub set_sex : Content → ℕ → Sex → Step
+set_sex c n sex =
     and_then (person_at c n) (λ p.
-    changed c n (kind.Person (record p { sex = Some sex })))
+    replaces c n (kind.Person (record p { sex = Some sex })))
 
 abbrev pub new_family : Content → Option ℕ → Option ℕ → Step
 new_family c husband wife =
     and_then (passed (each (person_at c) husband)) (λ _.
     and_then (passed (each (person_at c) wife)) (λ _.
     and_then (need (not (is_same husband wife)) SamePerson) (λ _.
-    and_then (room c) (λ n.
-    made c n (kind.Family (record { partners = plain_partners husband wife; children = []; carried = [] }))))))
+    creates c (kind.Family (record { partners = plain_partners husband wife; children = []; carried = [] })))))
 
-abbrev pub further_child : Content → ℕ → ℕ → Step
-further_child c n person =
+abbrev pub add_child : Content → ℕ → ℕ → Step
+add_child c n person =
     and_then (family_at c n) (λ f.
     and_then (passed (person_at c person)) (λ _.
     and_then (need (not (is_partner person f || is_child person f)) AlreadyInFamily) (λ _.
-    changed c n (kind.Family (with_child person f)))))
+    replaces c n (kind.Family (with_child person f)))))
 
 abbrev pub new_event : Content → ℕ → List ℕ → List ℕ → Option GivenDate → Option ℕ → Step
 new_event c owner tag value date place =
     and_then (text_in tag) (λ t.
     and_then (text_in value) (λ v.
     and_then (each date_in date) (λ d.
-    and_then (owner_at c owner) (λ o.
-    and_then (passed (each (said_place_at c) place)) (λ _.
-    and_then (tag_in o t) (λ tag.
-    and_then (room c) (λ n.
-    made c n (kind.Event (record {
+    and_then (event_tag c owner place t) (λ tag.
+    creates c (kind.Event (record {
       owner = owner;
       tag = tag;
       value = v;
@@ -148,29 +146,29 @@ new_event c owner tag value date place =
       place = option_map plain_place place;
       participants = [];
       carried = [];
-    })))))))))
+    }))))))
 
-abbrev pub amended : Content → ℕ → List ℕ → Option GivenDate → Option ℕ → Step
-amended c n value date place =
+abbrev pub amend_event : Content → ℕ → List ℕ → Option GivenDate → Option ℕ → Step
+amend_event c n value date place =
     and_then (text_in value) (λ v.
     and_then (each date_in date) (λ d.
     and_then (event_at c n) (λ e.
     and_then (passed (each (said_place_at c) place)) (λ _.
-    changed c n (kind.Event (with_fields v d place e))))))
+    replaces c n (kind.Event (with_fields v d place e))))))
 
-abbrev pub further_participant : Content → ℕ → ℕ → List ℕ → Step
-further_participant c n person role =
+abbrev pub add_participant : Content → ℕ → ℕ → List ℕ → Step
+add_participant c n person role =
     and_then (text_in role) (λ r.
     and_then (event_at c n) (λ e.
     and_then (passed (person_at c person)) (λ _.
-    changed c n (kind.Event (with_participant person r e)))))
+    replaces c n (kind.Event (with_participant person r e)))))
 
 abbrev pub step : Content → Command → Step
 step c (command.Person name sex) = new_person c name sex
-step c (command.Name person name) = further_name c person name
-step c (command.Sex person sex) = new_sex c person sex
+step c (command.Name person name) = add_name c person name
+step c (command.Sex person sex) = set_sex c person sex
 step c (command.Family husband wife) = new_family c husband wife
-step c (command.Child family person) = further_child c family person
+step c (command.Child family person) = add_child c family person
 step c (command.Event owner tag value date place) = new_event c owner tag value date place
-step c (command.Amend event value date place) = amended c event value date place
-step c (command.Participant event person role) = further_participant c event person role
+step c (command.Amend event value date place) = amend_event c event value date place
+step c (command.Participant event person role) = add_participant c event person role

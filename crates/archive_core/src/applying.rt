@@ -14,7 +14,11 @@ use std::alloc::{AllocError, Global};
 use std::mem;
 use std::vec::IntoIter;
 
-/// Makes the changes of a request, and answers its answer. Where memory is refused nothing is changed.
+/// Makes the changes of a request, and answers its answer. Refused only for want of memory, and then nothing is changed.
+///
+/// What may be refused comes first, the records, the slip and the receipt, and what may not be comes last, the removals
+/// and the next number. At a refusal the last that was put is put back first: each finds the state that its own put
+/// left, and so what stood before is put back with no memory.
 pub fn apply(alloc: Global, state: &mut State, changes: Changes) -> Result<Answer, AllocError>
     ensures ok { IfOk result (λ answer. answer ≡ changes.answer) }
     ensures applied { OnOk result (state.new ≡ specs.applied state.old changes) }

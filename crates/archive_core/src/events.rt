@@ -4,7 +4,7 @@ ghost use Rattle.std.specs.Prelude.{◌≡◌, [], IfOk, IfErr, false, option_ma
 ghost use Rattle.std.specs.List.{list_any};
 ghost use Rattle.std.specs.Str.{bytes_eq};
 ghost use Rattle.archive_state.specs.Entries.{person_tags, family_tags};
-ghost use Rattle.archive_view.specs.Looks.{Keeps, Decided, CountsFailures, is_failure};
+ghost use Rattle.archive_view.specs.Looks.{Agrees, CountsFailures, OnView, is_failure, is_stop};
 ghost use Rattle.record_kinds.specs.Model as model;
 ghost use Rattle.archive_core.specs.Applied.{Plans};
 ghost use Rattle.archive_core.specs.Checks as checks;
@@ -12,7 +12,7 @@ ghost use Rattle.archive_core.specs.Steps as steps;
 
 use crate::families::check_person;
 use crate::looks::{Owner, date_in, event_at, owner_at, text_in};
-use crate::making::{changed, made, room};
+use crate::making::{creates, kept_if, replaces};
 use crate::places::check_place;
 use archive_state::Changes;
 use archive_view::View;
@@ -43,24 +43,20 @@ pub(crate) fn new_event<V: View>(
     date: &Option<GivenDate>,
     place: Option<u32>,
 ) -> Result<Changes, RefusalKind>
-    ensures decides { Keeps (V.is_honest view.old) (V.is_honest view.new) (V.content view.old) (V.content view.new)
-        (Plans (V.content view.old) result
-        (steps.new_event (V.content view.old) owner tag.now value.now date.now place)) }
+    ensures decides { OnView V.is_honest V.content view.old view.new
+        (λ c. Plans c result (steps.new_event c owner tag.now value.now date.now place)) }
     ensures counts { CountsFailures (V.failed view.old) (V.failed view.new) result }
 {
     let tag = text_in(alloc, tag)?;
     let value = text_in(alloc, value)?;
     let date = date_in(alloc, date)?;
-    let kind = owner_at(alloc, view, owner)?;
-    check_place(alloc, view, place)?;
-    let tag = tag_in(alloc, kind, tag.as_str())?;
-    let number = room(alloc, view)?;
+    let tag = tag_of(alloc, view, owner, place, tag.as_str())?;
     let event = plain_event(alloc, owner, tag, value, date, place);
-    Ok(made(alloc, number, Record::Event(event))?)
+    creates(alloc, view, Record::Event(event))
 }
 
 /// Another value, date or place of an event.
-pub(crate) fn amended<V: View>(
+pub(crate) fn amend_event<V: View>(
     alloc: Global,
     view: &mut V,
     number: u32,
@@ -68,43 +64,57 @@ pub(crate) fn amended<V: View>(
     date: &Option<GivenDate>,
     place: Option<u32>,
 ) -> Result<Changes, RefusalKind>
-    ensures decides { Keeps (V.is_honest view.old) (V.is_honest view.new) (V.content view.old) (V.content view.new)
-        (Plans (V.content view.old) result (steps.amended (V.content view.old) number value.now date.now place)) }
+    ensures decides { OnView V.is_honest V.content view.old view.new
+        (λ c. Plans c result (steps.amend_event c number value.now date.now place)) }
     ensures counts { CountsFailures (V.failed view.old) (V.failed view.new) result }
 {
     let value = text_in(alloc, value)?;
     let date = date_in(alloc, date)?;
     let event = event_at(alloc, view, number)?;
-    check_place(alloc, view, place)?;
+    let event = kept_if(event, check_place(alloc, view, place))?;
     let event = with_fields(alloc, event, value, date, place);
-    let next = view.next(alloc)?;
-    Ok(changed(alloc, number, Record::Event(event), next)?)
+    replaces(alloc, view, number, Record::Event(event))
 }
 
 /// A further participant of an event.
-pub(crate) fn further_participant<V: View>(
+pub(crate) fn add_participant<V: View>(
     alloc: Global,
     view: &mut V,
     number: u32,
     person: u32,
     role: &Field,
 ) -> Result<Changes, RefusalKind>
-    ensures decides { Keeps (V.is_honest view.old) (V.is_honest view.new) (V.content view.old) (V.content view.new)
-        (Plans (V.content view.old) result
-        (steps.further_participant (V.content view.old) number person role.now)) }
+    ensures decides { OnView V.is_honest V.content view.old view.new
+        (λ c. Plans c result (steps.add_participant c number person role.now)) }
     ensures counts { CountsFailures (V.failed view.old) (V.failed view.new) result }
 {
     let role = text_in(alloc, role)?;
     let event = event_at(alloc, view, number)?;
-    check_person(alloc, view, person)?;
+    let event = kept_if(event, check_person(alloc, view, person))?;
     let event = with_participant(alloc, event, person, role)?;
-    let next = view.next(alloc)?;
-    Ok(changed(alloc, number, Record::Event(event), next)?)
+    replaces(alloc, view, number, Record::Event(event))
+}
+
+/// The text as the tag of an event, whose owner may have it, and whose place an event may have.
+fn tag_of<V: View>(
+    alloc: Global,
+    view: &mut V,
+    owner: u32,
+    place: Option<u32>,
+    tag: &str,
+) -> Result<Tag, RefusalKind>
+    ensures decides { OnView V.is_honest V.content view.old view.new
+        (λ c. Agrees is_stop result (checks.event_tag c owner place tag.now)) }
+    ensures counts { CountsFailures (V.failed view.old) (V.failed view.new) result }
+{
+    let owner = owner_at(alloc, view, owner)?;
+    check_place(alloc, view, place)?;
+    tag_in(alloc, owner, tag)
 }
 
 /// The word as the tag of an event of such an owner.
 fn tag_in(alloc: Global, owner: Owner, word: &str) -> Result<Tag, RefusalKind>
-    ensures decides { Decided result (checks.tag_in owner word.now) }
+    ensures decides { Agrees is_stop result (checks.tag_in owner word.now) }
     ensures memory { IfErr result (λ e. is_failure e ≡ false) }
 {
     let is_one = match owner {
@@ -221,10 +231,10 @@ fn with_participant(
     ensures { IfOk result (λ e. e ≡ steps.with_participant person role event) }
 {
     let mut event = event;
-    event.participants.push(Participant {
+    let added = event.participants.push(Participant {
         person,
         role,
         carried: Vec::new(alloc),
-    })?;
-    Ok(event)
+    });
+    Ok(kept_if(event, added)?)
 }

@@ -2,14 +2,14 @@
 
 ghost use Rattle.std.specs.Prelude.{◌≡◌, ◌++◌, ◌==◌, ◌||◌, [], IfOk};
 ghost use Rattle.std.specs.List.{list_any};
-ghost use Rattle.archive_view.specs.Looks.{Keeps, Decided, CountsFailures};
+ghost use Rattle.archive_view.specs.Looks.{Agrees, CountsFailures, OnView, is_stop};
 ghost use Rattle.record_kinds.specs.Model as model;
 ghost use Rattle.archive_core.specs.Applied.{Plans};
 ghost use Rattle.archive_core.specs.Checks as checks;
 ghost use Rattle.archive_core.specs.Steps as steps;
 
 use crate::looks::{family_at, person_at};
-use crate::making::{changed, made, room};
+use crate::making::{creates, kept_if, replaces};
 use archive_state::Changes;
 use archive_view::View;
 use records::{Child, Family, Partner, Partnership, Record, RefusalKind};
@@ -22,8 +22,8 @@ pub(crate) fn new_family<V: View>(
     husband: Option<u32>,
     wife: Option<u32>,
 ) -> Result<Changes, RefusalKind>
-    ensures decides { Keeps (V.is_honest view.old) (V.is_honest view.new) (V.content view.old) (V.content view.new)
-        (Plans (V.content view.old) result (steps.new_family (V.content view.old) husband wife)) }
+    ensures decides { OnView V.is_honest V.content view.old view.new
+        (λ c. Plans c result (steps.new_family c husband wife)) }
     ensures counts { CountsFailures (V.failed view.old) (V.failed view.new) result }
 {
     check_partner(alloc, view, husband)?;
@@ -31,30 +31,28 @@ pub(crate) fn new_family<V: View>(
     if is_same(husband, wife) {
         return Err(RefusalKind::SamePerson);
     }
-    let number = room(alloc, view)?;
     let family = plain_family(alloc, husband, wife)?;
-    Ok(made(alloc, number, Record::Family(family))?)
+    creates(alloc, view, Record::Family(family))
 }
 
 /// A further child of a family.
-pub(crate) fn further_child<V: View>(
+pub(crate) fn add_child<V: View>(
     alloc: Global,
     view: &mut V,
     number: u32,
     person: u32,
 ) -> Result<Changes, RefusalKind>
-    ensures decides { Keeps (V.is_honest view.old) (V.is_honest view.new) (V.content view.old) (V.content view.new)
-        (Plans (V.content view.old) result (steps.further_child (V.content view.old) number person)) }
+    ensures decides { OnView V.is_honest V.content view.old view.new
+        (λ c. Plans c result (steps.add_child c number person)) }
     ensures counts { CountsFailures (V.failed view.old) (V.failed view.new) result }
 {
     let family = family_at(alloc, view, number)?;
-    check_person(alloc, view, person)?;
+    let family = kept_if(family, check_person(alloc, view, person))?;
     if is_partner(&family, person) || is_child(&family, person) {
         return Err(RefusalKind::AlreadyInFamily);
     }
     let family = with_child(alloc, family, person)?;
-    let next = view.next(alloc)?;
-    Ok(changed(alloc, number, Record::Family(family), next)?)
+    replaces(alloc, view, number, Record::Family(family))
 }
 
 /// That a person stands at the number.
@@ -63,8 +61,8 @@ pub(crate) fn check_person<V: View>(
     view: &mut V,
     number: u32,
 ) -> Result<(), RefusalKind>
-    ensures decides { Keeps (V.is_honest view.old) (V.is_honest view.new) (V.content view.old) (V.content view.new)
-        (Decided result (checks.passed (checks.person_at (V.content view.old) number))) }
+    ensures decides { OnView V.is_honest V.content view.old view.new
+        (λ c. Agrees is_stop result (checks.passed (checks.person_at c number))) }
     ensures counts { CountsFailures (V.failed view.old) (V.failed view.new) result }
 {
     drop(person_at(alloc, view, number)?);
@@ -77,8 +75,8 @@ fn check_partner<V: View>(
     view: &mut V,
     number: Option<u32>,
 ) -> Result<(), RefusalKind>
-    ensures decides { Keeps (V.is_honest view.old) (V.is_honest view.new) (V.content view.old) (V.content view.new)
-        (Decided result (checks.passed (checks.each (checks.person_at (V.content view.old)) number))) }
+    ensures decides { OnView V.is_honest V.content view.old view.new
+        (λ c. Agrees is_stop result (checks.passed (checks.each (checks.person_at c) number))) }
     ensures counts { CountsFailures (V.failed view.old) (V.failed view.new) result }
 {
     let Some(number) = number else {

@@ -1,7 +1,7 @@
 //! Looks at what a command names, over a view.
 
 ghost use Rattle.std.specs.Prelude.{◌≡◌, IfErr, Err, Some, false};
-ghost use Rattle.archive_view.specs.Looks.{Keeps, Decided, CountsFailures, is_failure};
+ghost use Rattle.archive_view.specs.Looks.{Agrees, CountsFailures, OnView, is_failure, is_stop};
 ghost use Rattle.archive_core.specs.Checks as checks;
 
 use archive_view::View;
@@ -18,7 +18,7 @@ pub enum Owner {
 
 /// The text that a field is.
 pub(crate) fn text_in(alloc: Global, field: &Field) -> Result<Text, RefusalKind>
-    ensures decides { Decided result (checks.text_in field.now) }
+    ensures decides { Agrees is_stop result (checks.text_in field.now) }
     ensures memory { IfErr result (λ e. is_failure e ≡ false) }
 {
     match field.text(alloc)? {
@@ -29,7 +29,7 @@ pub(crate) fn text_in(alloc: Global, field: &Field) -> Result<Text, RefusalKind>
 
 /// The date that is given, where one is.
 pub(crate) fn date_in(alloc: Global, given: &Option<GivenDate>) -> Result<Option<Date>, RefusalKind>
-    ensures decides { Decided result (checks.each checks.date_in given.now) }
+    ensures decides { Agrees is_stop result (checks.each checks.date_in given.now) }
     ensures memory { IfErr result (λ e. is_failure e ≡ false) }
 {
     let Some(given) = given else {
@@ -47,8 +47,8 @@ pub(crate) fn person_at<V: View>(
     view: &mut V,
     number: u32,
 ) -> Result<Person, RefusalKind>
-    ensures decides { Keeps (V.is_honest view.old) (V.is_honest view.new) (V.content view.old) (V.content view.new)
-        (Decided result (checks.person_at (V.content view.old) number)) }
+    ensures decides { OnView V.is_honest V.content view.old view.new
+        (λ c. Agrees is_stop result (checks.person_at c number)) }
     ensures counts { CountsFailures (V.failed view.old) (V.failed view.new) result }
 {
     person_in(view.record_at(alloc, number)?)
@@ -70,8 +70,8 @@ pub(crate) fn family_at<V: View>(
     view: &mut V,
     number: u32,
 ) -> Result<Family, RefusalKind>
-    ensures decides { Keeps (V.is_honest view.old) (V.is_honest view.new) (V.content view.old) (V.content view.new)
-        (Decided result (checks.family_at (V.content view.old) number)) }
+    ensures decides { OnView V.is_honest V.content view.old view.new
+        (λ c. Agrees is_stop result (checks.family_at c number)) }
     ensures counts { CountsFailures (V.failed view.old) (V.failed view.new) result }
 {
     family_in(view.record_at(alloc, number)?)
@@ -93,8 +93,8 @@ pub(crate) fn event_at<V: View>(
     view: &mut V,
     number: u32,
 ) -> Result<Event, RefusalKind>
-    ensures decides { Keeps (V.is_honest view.old) (V.is_honest view.new) (V.content view.old) (V.content view.new)
-        (Decided result (checks.event_at (V.content view.old) number)) }
+    ensures decides { OnView V.is_honest V.content view.old view.new
+        (λ c. Agrees is_stop result (checks.event_at c number)) }
     ensures counts { CountsFailures (V.failed view.old) (V.failed view.new) result }
 {
     event_in(view.record_at(alloc, number)?)
@@ -116,8 +116,8 @@ pub(crate) fn owner_at<V: View>(
     view: &mut V,
     number: u32,
 ) -> Result<Owner, RefusalKind>
-    ensures decides { Keeps (V.is_honest view.old) (V.is_honest view.new) (V.content view.old) (V.content view.new)
-        (Decided result (checks.owner_at (V.content view.old) number)) }
+    ensures decides { OnView V.is_honest V.content view.old view.new
+        (λ c. Agrees is_stop result (checks.owner_at c number)) }
     ensures counts { CountsFailures (V.failed view.old) (V.failed view.new) result }
 {
     owner_in(view.record_at(alloc, number)?)

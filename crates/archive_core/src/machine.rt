@@ -2,15 +2,22 @@
 
 ghost use Rattle.std.specs.Prelude.{◌≡◌, Some, IfErr, false};
 ghost use Rattle.std.specs.FinMap as map;
-ghost use Rattle.archive_view.specs.Looks.{Keeps, CountsFailures, is_failure};
-ghost use Rattle.archive_core.specs.Applied.{Chooses, Decides, Plans};
-ghost use Rattle.archive_core.specs.Machine.{Does, answered_again, kept_under, kinds, outcome, served};
+ghost use Rattle.archive_view.specs.Looks.{Agrees, CountsFailures, OnView, is_failure, is_stop};
+ghost use Rattle.archive_core.specs.Applied.{Decides, Plans, leaves};
+ghost use Rattle.archive_core.specs.Machine.{
+  Does,
+  answered_again,
+  kept_under,
+  kinds,
+  outcome,
+  served,
+};
 ghost use Rattle.archive_core.specs.Steps.{step};
 
 use crate::applying::apply;
-use crate::events::{amended, further_participant, new_event};
-use crate::families::{further_child, new_family};
-use crate::persons::{further_name, new_person, new_sex};
+use crate::events::{add_participant, amend_event, new_event};
+use crate::families::{add_child, new_family};
+use crate::persons::{add_name, new_person, set_sex};
 use crate::request::Request;
 use archive_state::{Answer, Changes, Kept, Receipt, State, Token};
 use archive_view::View;
@@ -18,7 +25,8 @@ use commands::{Command, command_digest};
 use records::{Refusal, RefusalKind};
 use std::alloc::Global;
 
-/// Makes what a request changes in a state, and answers it. A refusal changes nothing.
+/// Makes what a request changes in a state, and answers it. It is refused as by `decide`, of the stops only with
+/// `OutOfMemory`, and then the state is as it was.
 pub fn step(alloc: Global, state: &mut State, request: &Request) -> Result<Answer, Refusal>
     ensures { Does state.old «request».now result state.new }
 {
@@ -35,10 +43,17 @@ fn decide_over(alloc: Global, state: &State, request: &Request) -> Result<Change
     decide(alloc, &mut view, request)
 }
 
-/// What a request changes, and its answer.
+/// What a request changes, and its answer. A request whose token is kept is answered from what is kept, and refused
+/// where its command is another (`TokenReused`).
+///
+/// Else the first check that fails gives the refusal: first the texts (`BadText`), then each number in the order of its
+/// field (`NoSuch`, `WrongKind`, and `BadText` for a place whose path has empty parts alone), then what is the command's
+/// own (`SamePerson`, `AlreadyInFamily`, `NotOfKind`), and last whether a number is left (`Full`).
+///
+/// The stops may come in place of any answer: `OutOfMemory`, and where a look of the view fails `BadStored` and `Storage`.
 pub fn decide<V: View>(alloc: Global, view: &mut V, request: &Request) -> Result<Changes, Refusal>
-    ensures decides { Keeps (V.is_honest view.old) (V.is_honest view.new) (V.content view.old) (V.content view.new)
-        (Decides (V.content view.old) result (outcome (V.content view.old) request.now)) }
+    ensures decides { OnView V.is_honest V.content view.old view.new
+        (λ c. Decides c result (outcome c request.now)) }
     ensures counts { CountsFailures (V.failed view.old) (V.failed view.new) (kinds result) }
 {
     Ok(serve(alloc, view, request)?)
@@ -46,9 +61,9 @@ pub fn decide<V: View>(alloc: Global, view: &mut V, request: &Request) -> Result
 
 /// The same without the place of a refusal, which is none.
 fn serve<V: View>(alloc: Global, view: &mut V, request: &Request) -> Result<Changes, RefusalKind>
-    ensures decides { Keeps (V.is_honest view.old) (V.is_honest view.new) (V.content view.old) (V.content view.new)
-        (Chooses (V.content view.old) result
-        (served (V.content view.old) request.now (map.get (V.content view.old).receipts request.now.token))) }
+    ensures decides { OnView V.is_honest V.content view.old view.new
+        (λ c. Agrees is_stop (leaves c result)
+        (served c request.now (map.get c.receipts request.now.token))) }
     ensures counts { CountsFailures (V.failed view.old) (V.failed view.new) result }
 {
     let digest = command_digest(alloc, &request.command)?;
@@ -65,8 +80,8 @@ fn answer_again<V: View>(
     receipt: &Receipt,
     digest: &[u8; 32],
 ) -> Result<Changes, RefusalKind>
-    ensures decides { Keeps (V.is_honest view.old) (V.is_honest view.new) (V.content view.old) (V.content view.new)
-        (Chooses (V.content view.old) result (answered_again (V.content view.old) digest.now receipt.now)) }
+    ensures decides { OnView V.is_honest V.content view.old view.new
+        (λ c. Agrees is_stop (leaves c result) (answered_again c digest.now receipt.now)) }
     ensures counts { CountsFailures (V.failed view.old) (V.failed view.new) result }
 {
     if receipt.digest.as_slice() != digest.as_slice() {
@@ -89,9 +104,9 @@ fn decide_anew<V: View>(
     request: &Request,
     digest: [u8; 32],
 ) -> Result<Changes, RefusalKind>
-    ensures decides { Keeps (V.is_honest view.old) (V.is_honest view.new) (V.content view.old) (V.content view.new)
-        (Chooses (V.content view.old) result
-        (kept_under «request».now.token digest (step (V.content view.old) «request».now.command))) }
+    ensures decides { OnView V.is_honest V.content view.old view.new
+        (λ c. Agrees is_stop (leaves c result)
+        (kept_under «request».now.token digest (step c «request».now.command))) }
     ensures counts { CountsFailures (V.failed view.old) (V.failed view.new) result }
 {
     let token = request.token.copy(alloc)?;
@@ -120,16 +135,16 @@ fn decide_command<V: View>(
     view: &mut V,
     command: &Command,
 ) -> Result<Changes, RefusalKind>
-    ensures decides { Keeps (V.is_honest view.old) (V.is_honest view.new) (V.content view.old) (V.content view.new)
-        (Plans (V.content view.old) result (step (V.content view.old) command.now)) }
+    ensures decides { OnView V.is_honest V.content view.old view.new
+        (λ c. Plans c result (step c command.now)) }
     ensures counts { CountsFailures (V.failed view.old) (V.failed view.new) result }
 {
     match command {
         Command::Person { name, sex } => new_person(alloc, view, name, *sex),
-        Command::Name { person, name } => further_name(alloc, view, *person, name),
-        Command::Sex { person, sex } => new_sex(alloc, view, *person, *sex),
+        Command::Name { person, name } => add_name(alloc, view, *person, name),
+        Command::Sex { person, sex } => set_sex(alloc, view, *person, *sex),
         Command::Family { husband, wife } => new_family(alloc, view, *husband, *wife),
-        Command::Child { family, person } => further_child(alloc, view, *family, *person),
+        Command::Child { family, person } => add_child(alloc, view, *family, *person),
         Command::Event {
             owner,
             tag,
@@ -142,11 +157,11 @@ fn decide_command<V: View>(
             value,
             date,
             place,
-        } => amended(alloc, view, *event, value, date, *place),
+        } => amend_event(alloc, view, *event, value, date, *place),
         Command::Participant {
             event,
             person,
             role,
-        } => further_participant(alloc, view, *event, *person, role),
+        } => add_participant(alloc, view, *event, *person, role),
     }
 }

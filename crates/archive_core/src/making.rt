@@ -1,18 +1,23 @@
 //! The changes of one record, and what goes into records.
 
-ghost use Rattle.std.specs.Prelude.{◌≡◌, ◌+◌, ◌∷◌, [], IfOk, None};
-ghost use Rattle.archive_view.specs.Looks.{Keeps, Decided, CountsFailures};
+ghost use Rattle.std.specs.Prelude.{◌≡◌, ◌+◌, ◌∷◌, [], IfErr, IfOk, None, Err, Ok};
+ghost use Rattle.archive_view.specs.Looks.{Agrees, CountsFailures, OnView, is_stop};
+ghost use Rattle.archive_core.specs.Applied.{Plans};
 ghost use Rattle.archive_core.specs.Checks as checks;
+ghost use Rattle.archive_core.specs.Steps as steps;
 
 use archive_state::{Answer, Changes, Numbered};
 use archive_view::View;
 use records::{Record, RefusalKind};
 use std::alloc::{AllocError, Global};
 
+/// The answer of a command that makes no record.
+const NOTHING_MADE: Answer = Answer { first: 0, count: 0 };
+
 /// The next number, where one is left.
-pub(crate) fn room<V: View>(alloc: Global, view: &mut V) -> Result<u32, RefusalKind>
-    ensures decides { Keeps (V.is_honest view.old) (V.is_honest view.new) (V.content view.old) (V.content view.new)
-        (Decided result (checks.room (V.content view.old))) }
+fn next_free<V: View>(alloc: Global, view: &mut V) -> Result<u32, RefusalKind>
+    ensures decides { OnView V.is_honest V.content view.old view.new
+        (λ c. Agrees is_stop result (checks.next_free c)) }
     ensures counts { CountsFailures (V.failed view.old) (V.failed view.new) result }
 {
     let next = view.next(alloc)?;
@@ -22,8 +27,26 @@ pub(crate) fn room<V: View>(alloc: Global, view: &mut V) -> Result<u32, RefusalK
     Ok(next as u32)
 }
 
-/// A new record at the next number.
-pub(crate) fn made(alloc: Global, number: u32, value: Record) -> Result<Changes, AllocError>
+/// A new record at the next number, where one is left.
+pub(crate) fn creates<V: View>(
+    alloc: Global,
+    view: &mut V,
+    value: Record,
+) -> Result<Changes, RefusalKind>
+    ensures decides { OnView V.is_honest V.content view.old view.new
+        (λ c. Plans c result (steps.creates c value)) }
+    ensures counts { CountsFailures (V.failed view.old) (V.failed view.new) result }
+{
+    match next_free(alloc, view) {
+        Ok(number) => Ok(put_new(alloc, number, value)?),
+        Err(e) => {
+            drop(value);
+            Err(e)
+        }
+    }
+}
+
+fn put_new(alloc: Global, number: u32, value: Record) -> Result<Changes, AllocError>
     ensures { IfOk result (λ c. c ≡ record {
       puts = record { number = number; «record» = value } ∷ [];
       removals = [];
@@ -33,55 +56,77 @@ pub(crate) fn made(alloc: Global, number: u32, value: Record) -> Result<Changes,
       slip = None;
     }) }
 {
-    Ok(Changes {
-        puts: one(
-            alloc,
-            Numbered {
-                number,
-                record: value,
-            },
-        )?,
-        removals: Vec::new(alloc),
-        next: u64::from(number) + 1,
-        answer: Answer {
-            first: number,
-            count: 1,
-        },
-        kept: None,
-        slip: None,
-    })
+    let answer = Answer {
+        first: number,
+        count: 1,
+    };
+    put(alloc, number, value, u64::from(number) + 1, answer)
 }
 
 /// Another record at a number.
-pub(crate) fn changed(
+pub(crate) fn replaces<V: View>(
+    alloc: Global,
+    view: &mut V,
+    number: u32,
+    value: Record,
+) -> Result<Changes, RefusalKind>
+    ensures decides { OnView V.is_honest V.content view.old view.new
+        (λ c. Plans c result (steps.replaces c number value)) }
+    ensures counts { CountsFailures (V.failed view.old) (V.failed view.new) result }
+{
+    match view.next(alloc) {
+        Ok(next) => Ok(put(alloc, number, value, next, NOTHING_MADE)?),
+        Err(e) => {
+            drop(value);
+            Err(e)
+        }
+    }
+}
+
+/// One record to put, and nothing else.
+fn put(
     alloc: Global,
     number: u32,
     value: Record,
     next: u64,
+    answer: Answer,
 ) -> Result<Changes, AllocError>
     ensures { IfOk result (λ c. c ≡ record {
       puts = record { number = number; «record» = value } ∷ [];
       removals = [];
       next = next;
-      answer = record { first = 0; count = 0 };
+      answer = answer;
       kept = None;
       slip = None;
     }) }
 {
+    let put = Numbered {
+        number,
+        record: value,
+    };
     Ok(Changes {
-        puts: one(
-            alloc,
-            Numbered {
-                number,
-                record: value,
-            },
-        )?,
+        puts: one(alloc, put)?,
         removals: Vec::new(alloc),
         next,
-        answer: Answer { first: 0, count: 0 },
+        answer,
         kept: None,
         slip: None,
     })
+}
+
+/// The item where a check has passed. At a refusal it is given back here, once for all callers.
+pub(crate) fn kept_if<T: Drop, E>(item: T, check: Result<(), E>) -> Result<T, E>
+    ensures same { IfOk result (λ kept. kept ≡ item) }
+    ensures passed { IfOk result (λ kept. check ≡ Ok tt) }
+    ensures refused { IfErr result (λ e. check ≡ Err e) }
+{
+    match check {
+        Ok(()) => Ok(item),
+        Err(e) => {
+            drop(item);
+            Err(e)
+        }
+    }
 }
 
 /// A list of one.

@@ -1,12 +1,12 @@
 //! The commands on persons.
 
 ghost use Rattle.std.specs.Prelude.{◌≡◌, IfOk};
-ghost use Rattle.archive_view.specs.Looks.{Keeps, CountsFailures};
+ghost use Rattle.archive_view.specs.Looks.{CountsFailures, OnView};
 ghost use Rattle.archive_core.specs.Applied.{Plans};
 ghost use Rattle.archive_core.specs.Steps as steps;
 
 use crate::looks::{person_at, text_in};
-use crate::making::{changed, made, one, room};
+use crate::making::{creates, one, replaces};
 use archive_state::Changes;
 use archive_view::View;
 use commands::Field;
@@ -20,49 +20,46 @@ pub(crate) fn new_person<V: View>(
     name: &Field,
     sex: Option<Sex>,
 ) -> Result<Changes, RefusalKind>
-    ensures decides { Keeps (V.is_honest view.old) (V.is_honest view.new) (V.content view.old) (V.content view.new)
-        (Plans (V.content view.old) result (steps.new_person (V.content view.old) name.now sex)) }
+    ensures decides { OnView V.is_honest V.content view.old view.new
+        (λ c. Plans c result (steps.new_person c name.now sex)) }
     ensures counts { CountsFailures (V.failed view.old) (V.failed view.new) result }
 {
     let name = text_in(alloc, name)?;
-    let number = room(alloc, view)?;
     let person = plain_person(alloc, name, sex)?;
-    Ok(made(alloc, number, Record::Person(person))?)
+    creates(alloc, view, Record::Person(person))
 }
 
 /// A further name of a person.
-pub(crate) fn further_name<V: View>(
+pub(crate) fn add_name<V: View>(
     alloc: Global,
     view: &mut V,
     number: u32,
     name: &Field,
 ) -> Result<Changes, RefusalKind>
-    ensures decides { Keeps (V.is_honest view.old) (V.is_honest view.new) (V.content view.old) (V.content view.new)
-        (Plans (V.content view.old) result (steps.further_name (V.content view.old) number name.now)) }
+    ensures decides { OnView V.is_honest V.content view.old view.new
+        (λ c. Plans c result (steps.add_name c number name.now)) }
     ensures counts { CountsFailures (V.failed view.old) (V.failed view.new) result }
 {
     let name = text_in(alloc, name)?;
     let person = person_at(alloc, view, number)?;
     let person = with_name(alloc, person, name)?;
-    let next = view.next(alloc)?;
-    Ok(changed(alloc, number, Record::Person(person), next)?)
+    replaces(alloc, view, number, Record::Person(person))
 }
 
 /// The sex of a person.
-pub(crate) fn new_sex<V: View>(
+pub(crate) fn set_sex<V: View>(
     alloc: Global,
     view: &mut V,
     number: u32,
     sex: Sex,
 ) -> Result<Changes, RefusalKind>
-    ensures decides { Keeps (V.is_honest view.old) (V.is_honest view.new) (V.content view.old) (V.content view.new)
-        (Plans (V.content view.old) result (steps.new_sex (V.content view.old) number sex)) }
+    ensures decides { OnView V.is_honest V.content view.old view.new
+        (λ c. Plans c result (steps.set_sex c number sex)) }
     ensures counts { CountsFailures (V.failed view.old) (V.failed view.new) result }
 {
     let mut person = person_at(alloc, view, number)?;
     person.sex = Some(sex);
-    let next = view.next(alloc)?;
-    Ok(changed(alloc, number, Record::Person(person), next)?)
+    replaces(alloc, view, number, Record::Person(person))
 }
 
 /// A name as a command gives it.

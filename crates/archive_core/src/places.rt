@@ -2,7 +2,7 @@
 
 ghost use Rattle.std.specs.Prelude.{◌≡◌, not, ◌||◌, ◌==◌, true};
 ghost use Rattle.std.specs.List.{list_any};
-ghost use Rattle.archive_view.specs.Looks.{Keeps, Looked, Decided, CountsFailures};
+ghost use Rattle.archive_view.specs.Looks.{Agrees, CountsFailures, Looked, OnView, is_stop};
 ghost use Rattle.archive_core.specs.Checks as checks;
 
 use crate::looks::wrong_kind;
@@ -16,8 +16,8 @@ pub(crate) fn check_place<V: View>(
     view: &mut V,
     number: Option<u32>,
 ) -> Result<(), RefusalKind>
-    ensures decides { Keeps (V.is_honest view.old) (V.is_honest view.new) (V.content view.old) (V.content view.new)
-        (Decided result (checks.passed (checks.each (checks.said_place_at (V.content view.old)) number))) }
+    ensures decides { OnView V.is_honest V.content view.old view.new
+        (λ c. Agrees is_stop result (checks.passed (checks.each (checks.said_place_at c) number))) }
     ensures counts { CountsFailures (V.failed view.old) (V.failed view.new) result }
 {
     let Some(number) = number else {
@@ -49,8 +49,8 @@ fn is_said<V: View>(
     number: u32,
     place: &Place,
 ) -> Result<bool, RefusalKind>
-    ensures decides { Keeps (V.is_honest view.old) (V.is_honest view.new) (V.content view.old) (V.content view.new)
-        (Looked result (λ said. said ≡ checks.is_said number (V.content view.old).records number place.now)) }
+    ensures decides { OnView V.is_honest V.content view.old view.new
+        (λ c. Looked result (λ said. said ≡ checks.is_said number c.records number place.now)) }
     ensures counts { CountsFailures (V.failed view.old) (V.failed view.new) result }
 {
     if says_something(place.name.as_str().as_bytes()) {

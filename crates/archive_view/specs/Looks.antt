@@ -36,7 +36,11 @@ Looked (Err e) P = is_stop e ≡ true
 abbrev pub Keeps : Type 0 → Type 0 → Content → Content → Type 0 → Type 0
 Keeps honest_before honest_after before after P = honest_after → honest_before × (after ≡ before) × P
 
--- what a function over a view decides: the right answer, the right refusal, or a stop
-abbrev pub Decided : {A : Type 0} → Result A RefusalKind → Result A RefusalKind → Type 0
-Decided (Ok a) right = right ≡ Ok a
-Decided (Err e) right = is_stop e ≡ false → right ≡ Err e
+-- the same over a view, of whose content P holds
+abbrev pub OnView : {S : Type 0} → (S → Type 0) → (S → Content) → S → S → (Content → Type 0) → Type 0
+OnView honest content before after P = Keeps (honest before) (honest after) (content before) (content after) (P (content before))
+
+-- what code answers is what is right, an answer or a refusal; or it is a stop
+abbrev pub Agrees : {A E : Type 0} → (E → Bool) → Result A E → Result A E → Type 0
+Agrees stop (Ok a) right = right ≡ Ok a
+Agrees stop (Err e) right = stop e ≡ false → right ≡ Err e

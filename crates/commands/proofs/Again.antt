@@ -1,5 +1,5 @@
 -- The row of a command is read as that command.
-use Rattle.std.specs.Prelude.{◌≡◌, ◌<◌, ◌≤◌, ◌^◌, ◌++◌, ℕ, List, [], ◌∷◌, length, Option, Some, None, Result, Ok, refl, codes, decimal}
+use Rattle.std.specs.Prelude.{◌≡◌, ◌<◌, ◌≤◌, ◌^◌, ◌++◌, ℕ, List, [], ◌∷◌, length, Option, Some, None, Result, Ok, refl, decimal}
 use Rattle.std.proofs.Common.{ap, sym, ◌∙◌, arith}
 use Rattle.std.proofs.lemmas.Fmt.{decimal_is_IsNumeral}
 use Rattle.csv.specs.Machine.{Read, next_record}
@@ -101,17 +101,17 @@ one_outcome row r s x y = x.2 ∙ ap (λ g. read_row g row) (same-dates x.0 y.0 
 
 -- ---- bytes
 pub bytes_back : (c : Command) (rest : List ℕ) → next_record default_config st.StartRecord [] [] (bytes_of c ++ rest) ≡ Some (row_of c, st.StartRecord, rest)
-bytes_back (command.Person name sex) rest = read-write-many (codes "person") name (or_empty sex_word sex ∷ []) rest
-bytes_back (command.Name person name) rest = read-write-many (codes "name") (decimal person) (name ∷ []) rest
-bytes_back (command.Sex person sex) rest = read-write-many (codes "sex") (decimal person) (sex_word sex ∷ []) rest
-bytes_back (command.Family husband wife) rest = read-write-many (codes "family") (or_empty decimal husband) (or_empty decimal wife ∷ []) rest
-bytes_back (command.Child family person) rest = read-write-many (codes "child") (decimal family) (decimal person ∷ []) rest
+bytes_back (command.Person name sex) rest = read-write-many (verb_word verb.Person) name (or_empty sex_word sex ∷ []) rest
+bytes_back (command.Name person name) rest = read-write-many (verb_word verb.Name) (decimal person) (name ∷ []) rest
+bytes_back (command.Sex person sex) rest = read-write-many (verb_word verb.Sex) (decimal person) (sex_word sex ∷ []) rest
+bytes_back (command.Family husband wife) rest = read-write-many (verb_word verb.Family) (or_empty decimal husband) (or_empty decimal wife ∷ []) rest
+bytes_back (command.Child family person) rest = read-write-many (verb_word verb.Child) (decimal family) (decimal person ∷ []) rest
 bytes_back (command.Event owner tag value date place) rest =
-    read-write-many (codes "event") (decimal owner) (tag ∷ value ∷ or_empty spelt date ∷ or_empty decimal place ∷ []) rest
+    read-write-many (verb_word verb.Event) (decimal owner) (tag ∷ value ∷ or_empty spelt date ∷ or_empty decimal place ∷ []) rest
 bytes_back (command.Amend event value date place) rest =
-    read-write-many (codes "amend") (decimal event) (value ∷ or_empty spelt date ∷ or_empty decimal place ∷ []) rest
+    read-write-many (verb_word verb.Amend) (decimal event) (value ∷ or_empty spelt date ∷ or_empty decimal place ∷ []) rest
 bytes_back (command.Participant event person role) rest =
-    read-write-many (codes "participant") (decimal event) (decimal person ∷ role ∷ []) rest
+    read-write-many (verb_word verb.Participant) (decimal event) (decimal person ∷ role ∷ []) rest
 
 abbrev first-row : Option Read → List (List ℕ)
 first-row None = []

@@ -14,7 +14,7 @@ use Rattle.commands.specs.declared.command.Command.TheVariants as command
 use Rattle.commands.specs.declared.verb.Verb.{Verb}
 use Rattle.commands.specs.declared.verb.Verb.TheVariants as verb
 
--- one reading after another: the first refusal counts
+-- one step after another: the first refusal counts
 abbrev pub and_then : {A B : Type 0} → Result A RefusalKind → (A → Result B RefusalKind) → Result B RefusalKind
 and_then (Ok a) f = f a
 and_then (Err e) f = Err e

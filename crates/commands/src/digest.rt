@@ -1,6 +1,6 @@
 //! The bytes of a command and their digest.
 
-ghost use Rattle.std.specs.Prelude.{◌≡◌, IfOk, codes, decimal, string_bytes};
+ghost use Rattle.std.specs.Prelude.{◌≡◌, IfOk, decimal, string_bytes};
 ghost use Rattle.record_fields.specs.Words.{sex_word};
 ghost use Rattle.commands.specs.Bytes.{bytes_of, digest_of, or_empty, spelt};
 ghost use Rattle.commands.specs.declared.command.Command.TheVariants as command;
@@ -8,12 +8,13 @@ ghost use Rattle.commands.specs.declared.command.Command.TheVariants as command;
 use crate::command::Command;
 use crate::field::Field;
 use crate::given::GivenDate;
-use crate::rows::{row_of_five, row_of_four, row_of_six, row_of_three};
+use crate::rows::{row_of_five, row_of_four, row_of_three, row_of_two};
+use crate::verb::Verb;
 use record_fields::Sex;
 use sha2::{Digest, Sha256};
 use std::alloc::{AllocError, Global};
 
-/// The SHA-256 of the command's bytes: FIPS 180-4.
+/// The SHA-256 of the command's bytes: FIPS 180-4. Refused only for want of memory.
 pub fn command_digest(alloc: Global, command: &Command) -> Result<[u8; 32], AllocError>
     ensures { IfOk result (λ digest. digest ≡ digest_of command.now) }
 {
@@ -22,7 +23,7 @@ pub fn command_digest(alloc: Global, command: &Command) -> Result<[u8; 32], Allo
 }
 
 /// The bytes of a command: its verb and its fields as one row of CSV, numbers without leading zeros and dates in
-/// canonical spelling.
+/// canonical spelling. Refused only for want of memory.
 pub fn command_bytes(alloc: Global, command: &Command) -> Result<Vec<u8>, AllocError>
     ensures { IfOk result (λ bytes. bytes.items ≡ bytes_of command.now) }
 {
@@ -56,9 +57,9 @@ pub fn command_bytes(alloc: Global, command: &Command) -> Result<Vec<u8>, AllocE
 fn person_bytes(alloc: Global, name: &Field, sex: Option<Sex>) -> Result<Vec<u8>, AllocError>
     ensures { IfOk result (λ bytes. bytes.items ≡ bytes_of (command.Person name.now sex)) }
 {
-    row_of_three(
+    row_of_two(
         alloc,
-        b"person",
+        Verb::Person,
         name.as_str().as_bytes(),
         letter_or_empty(sex).as_bytes(),
     )
@@ -68,14 +69,15 @@ fn name_bytes(alloc: Global, person: u32, name: &Field) -> Result<Vec<u8>, Alloc
     ensures { IfOk result (λ bytes. bytes.items ≡ bytes_of (command.Name person name.now)) }
 {
     let person = person.to_string(alloc)?;
-    row_of_three(alloc, b"name", person.as_bytes(), name.as_str().as_bytes())
+    let name = name.as_str().as_bytes();
+    row_of_two(alloc, Verb::Name, person.as_bytes(), name)
 }
 
 fn sex_bytes(alloc: Global, person: u32, sex: Sex) -> Result<Vec<u8>, AllocError>
     ensures { IfOk result (λ bytes. bytes.items ≡ bytes_of (command.Sex person sex)) }
 {
     let person = person.to_string(alloc)?;
-    row_of_three(alloc, b"sex", person.as_bytes(), sex.as_str().as_bytes())
+    row_of_two(alloc, Verb::Sex, person.as_bytes(), sex.as_str().as_bytes())
 }
 
 fn family_bytes(
@@ -87,7 +89,7 @@ fn family_bytes(
 {
     let husband = number_or_empty(alloc, husband)?;
     let wife = number_or_empty(alloc, wife)?;
-    row_of_three(alloc, b"family", husband.as_bytes(), wife.as_bytes())
+    row_of_two(alloc, Verb::Family, husband.as_bytes(), wife.as_bytes())
 }
 
 fn child_bytes(alloc: Global, family: u32, person: u32) -> Result<Vec<u8>, AllocError>
@@ -95,7 +97,7 @@ fn child_bytes(alloc: Global, family: u32, person: u32) -> Result<Vec<u8>, Alloc
 {
     let family = family.to_string(alloc)?;
     let person = person.to_string(alloc)?;
-    row_of_three(alloc, b"child", family.as_bytes(), person.as_bytes())
+    row_of_two(alloc, Verb::Child, family.as_bytes(), person.as_bytes())
 }
 
 fn event_bytes(
@@ -110,9 +112,9 @@ fn event_bytes(
 {
     let owner = owner.to_string(alloc)?;
     let place = number_or_empty(alloc, place)?;
-    row_of_six(
+    row_of_five(
         alloc,
-        b"event",
+        Verb::Event,
         owner.as_bytes(),
         tag.as_str().as_bytes(),
         value.as_str().as_bytes(),
@@ -132,9 +134,9 @@ fn amend_bytes(
 {
     let event = event.to_string(alloc)?;
     let place = number_or_empty(alloc, place)?;
-    row_of_five(
+    row_of_four(
         alloc,
-        b"amend",
+        Verb::Amend,
         event.as_bytes(),
         value.as_str().as_bytes(),
         date_or_empty(date).as_bytes(),
@@ -152,20 +154,13 @@ fn participant_bytes(
 {
     let event = event.to_string(alloc)?;
     let person = person.to_string(alloc)?;
-    row_of_four(
+    row_of_three(
         alloc,
-        participant_verb().as_bytes(),
+        Verb::Participant,
         event.as_bytes(),
         person.as_bytes(),
         role.as_str().as_bytes(),
     )
-}
-
-/// The verb of a further participant, in a function of its own for the sake of the proof.
-fn participant_verb() -> &'static str
-    ensures { result.now ≡ codes "participant" }
-{
-    "participant"
 }
 
 /// A number as digits, or nothing.

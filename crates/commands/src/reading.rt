@@ -18,6 +18,7 @@ use std::alloc::{AllocError, Global};
 impl Command {
     /// The command of a row: its verb, and the fields behind it. Refused are, in this order, an unknown verb
     /// (`UnknownVerb`), too few or too many fields (`FieldCount`), and a field that is not of its type (`BadRow`).
+    /// `OutOfMemory` may come in place of any answer.
     pub fn of_row(alloc: Global, verb: &str, fields: &[&str]) -> Result<Command, RefusalKind>
         ensures { Decided result (Reads (verb.now ∷ map (λ f. f.now) fields.now)) }
     {
