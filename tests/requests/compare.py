@@ -2,9 +2,9 @@
 
     python3 tests/requests/compare.py 'COMMAND' [ARCHIVES [SEED]]
 
-COMMAND reads rows of requests for a new archive and writes a row of answer for each. It is run once for each of
-ARCHIVES (200), with ROWS rows each. One line an archive that differs, and a last line that counts; status 0 if there is
-none.
+COMMAND reads rows of requests for a new archive and writes a row of answer for each. It is run once for each
+of ARCHIVES (200), with ROWS rows. One line an archive that differs, how many rows were answered so, and a last line
+that counts what differs; status 0 if there is none.
 """
 
 import pathlib

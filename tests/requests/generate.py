@@ -1,4 +1,7 @@
-"""Rows of requests for a new archive, most of them accepted, by a seeded generator: python3 generate.py SEED COUNT."""
+"""Rows of requests for a new archive, most of them accepted, by a seeded generator.
+
+    python3 tests/requests/generate.py SEED COUNT
+"""
 
 import random
 import sys
@@ -73,7 +76,8 @@ class Rows:
     def event(self):
         kinds = [(self.people, PERSON_TAGS)] + [(self.families, FAMILY_TAGS)] * bool(self.families)
         numbers, tags = self.rng.choice(kinds)
-        return [self.of(numbers), self.rng.choice(tags), self.rng.choice(VALUES), self.rng.choice(DATES), PLACE]
+        value, date = self.rng.choice(VALUES), self.rng.choice(DATES)
+        return [self.of(numbers), self.rng.choice(tags), value, date, PLACE]
 
     def amend(self):
         return [self.of(self.events), self.rng.choice(VALUES), self.rng.choice(DATES), PLACE]
@@ -93,7 +97,7 @@ class Rows:
         return found
 
     def good(self):
-        """A verb and its fields, which are accepted under a new token, but for a child who is in the family already."""
+        """A verb and its fields that are accepted, but for a child who is in the family already."""
         verb = self.rng.choice(self.verbs())
         fields = getattr(self, verb)()
         made = {"person": self.people, "family": self.families, "event": self.events}.get(verb)
@@ -103,7 +107,7 @@ class Rows:
         return [verb, *fields]
 
     def odd(self):
-        """A row that is refused: a verb that nobody knows, a field more or less, one person twice, or a wrong field."""
+        """A row that is refused: an unknown verb, a field more or less, one person twice, or a wrong field."""
         verb = self.rng.choice(self.verbs())
         fields = getattr(self, verb)()
         form = self.rng.random()

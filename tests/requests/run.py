@@ -1,8 +1,11 @@
-"""Runs request_rows on the table beside this file: python3 tests/requests/run.py [--program COMMAND] [--only WORD].
+"""Runs request_rows on the table beside this file.
 
-Each scenario is a run of the program, in new archives. One line a failed case, and last `N passed, M failed`; status 0
-only if none failed and one passed. COMMAND is a program, or a command in quotes; without it, the executable that
-`rt ci` or `rt run` left under crates/.
+    python3 tests/requests/run.py [--program COMMAND] [--only WORD]
+
+Each scenario is a run of the program, in new archives; a row with its answer is a case, and a last one that
+both archives of the program hold the same at the end. One line a scenario that fails, and last
+`N passed, M failed`; status 0 only if none failed and one passed. COMMAND is a program, or a command in
+quotes; without it, the executable that `rt ci` or `rt run` left under crates/.
 """
 
 import argparse
@@ -14,6 +17,7 @@ import sys
 sys.dont_write_bytecode = True
 
 from table import again, failing, order, reading, worked  # noqa: E402
+from table.making import LAST  # noqa: E402
 
 ROOT = pathlib.Path(__file__).resolve().parents[2]
 PROGRAM = ROOT / "crates/request_rows/out/request_rows"
@@ -22,26 +26,35 @@ SCENARIOS = [
 ]
 LIMIT = 50  # seconds for one scenario
 SHOWN = 100  # bytes of a text in a message
+SHOW_ALL = b"".join(b"! show,%d\n" % number for number in (*range(1, 80), LAST)) + b"! next\n"
+
+
+def rows_of(scenario):
+    """The rows of a scenario. Behind them each record is shown, but for the scenario whose last row has no end."""
+    given = b"".join(given for given, _ in scenario.steps)
+    return given + SHOW_ALL if given.endswith(b"\n") else given
 
 
 def answers(command, scenario):
     """What the program writes, and its status."""
-    given = b"".join(given for given, _ in scenario.steps)
+    given = rows_of(scenario)
     ended = subprocess.run(command, input=given, stdout=subprocess.PIPE, check=False, timeout=LIMIT)
     return ended.stdout, ended.returncode
 
 
-def failure(scenario, out, status):
-    """How many steps passed, and the message of the one that failed, if one did."""
+def judged(scenario, out, status):
+    """How many cases passed, and what is wrong with the first that did not, if one did not."""
     at = 0
     for i, (given, wanted) in enumerate(scenario.steps):
         if not out.startswith(wanted, at):
             got = out[at : at + len(wanted)]
             return i, f"{given[:SHOWN]!r} gives {got[:SHOWN]!r}, and {wanted[:SHOWN]!r} was wanted"
         at += len(wanted)
-    if at < len(out) or status != 0:
-        return i, f"more is written: {out[at:][:SHOWN]!r}, or the status {status} is not 0"
-    return len(scenario.steps), None
+    rest = out[at:]
+    shown = rows_of(scenario).endswith(SHOW_ALL)
+    if status != 0 or b"differs" in rest or bool(rest) != shown:
+        return len(scenario.steps), f"status {status}, and last {rest[-SHOWN:]!r}"
+    return len(scenario.steps) + 1, None
 
 
 def main():
@@ -52,11 +65,11 @@ def main():
     passed = failed = 0
     for scenario in SCENARIOS:
         if told.only in scenario.name:
-            well, why = failure(scenario, *answers(shlex.split(told.program), scenario))
+            well, why = judged(scenario, *answers(shlex.split(told.program), scenario))
             passed += well
-            failed += len(scenario.steps) - well
+            failed += len(scenario.steps) + 1 - well
             if why is not None:
-                print(f"failed: {scenario.name}: row {well + 1}: {why}; the rows behind it were not judged")
+                print(f"failed: {scenario.name}, row {well + 1} and what follows: {why}")
     print(f"{passed} passed, {failed} failed")
     return 1 if failed or not passed else 0
 

@@ -71,8 +71,7 @@ fn answer_question(
     match asked {
         "! set next" => set_next(alloc, archives, fields),
         "! place" => put_place(alloc, archives, fields),
-        "! bytes" => bytes_row(alloc, fields),
-        "! digest" => digest_row(alloc, fields),
+        "! bytes" => bytes_rows(alloc, fields),
         _ => archives.see(alloc, asked, fields),
     }
 }
@@ -109,27 +108,22 @@ fn put_place(
     archives.see(alloc, "! show", &[number])
 }
 
-/// The bytes of a command as a field.
-fn bytes_row(alloc: Global, fields: &[&str]) -> Result<Vec<u8>, AllocError> {
+/// The bytes of a command as a field, and in a second row their digest in hexadecimal.
+fn bytes_rows(alloc: Global, fields: &[&str]) -> Result<Vec<u8>, AllocError> {
     match command_of(alloc, fields) {
         Ok(command) => {
             let bytes = command_bytes(alloc, &command);
+            let digest = command_digest(alloc, &command);
             drop(command);
-            said(alloc, "bytes", bytes?.as_slice())
+            bytes_and_digest(alloc, bytes?.as_slice(), digest?.as_slice())
         }
         Err(kind) => refused(alloc, "", kind),
     }
 }
 
-/// The digest of a command in hexadecimal.
-fn digest_row(alloc: Global, fields: &[&str]) -> Result<Vec<u8>, AllocError> {
-    match command_of(alloc, fields) {
-        Ok(command) => {
-            let digest = command_digest(alloc, &command);
-            drop(command);
-            let text = hex::encode(alloc, digest?.as_slice())?;
-            said(alloc, "digest", text.as_bytes())
-        }
-        Err(kind) => refused(alloc, "", kind),
-    }
+fn bytes_and_digest(alloc: Global, bytes: &[u8], digest: &[u8]) -> Result<Vec<u8>, AllocError> {
+    let mut rows = said(alloc, "bytes", bytes)?;
+    let digest = hex::encode(alloc, digest)?;
+    rows.extend_from_slice(said(alloc, "digest", digest.as_bytes())?.as_slice())?;
+    Ok(rows)
 }

@@ -12,15 +12,13 @@ pub(crate) fn outcome_row(
     outcome: Result<Answer, Refusal>,
 ) -> Result<Vec<u8>, AllocError> {
     match outcome {
-        Ok(answer) => accepted(alloc, token, answer),
+        Ok(answer) => {
+            let first = answer.first.to_string(alloc)?;
+            let count = answer.count.to_string(alloc)?;
+            row_of_four(alloc, token, "ok", first.as_str(), count.as_str())
+        }
         Err(refusal) => refused(alloc, token, refusal.kind),
     }
-}
-
-fn accepted(alloc: Global, token: &str, answer: Answer) -> Result<Vec<u8>, AllocError> {
-    let first = answer.first.to_string(alloc)?;
-    let count = answer.count.to_string(alloc)?;
-    row_of_four(alloc, token, "ok", first.as_str(), count.as_str())
 }
 
 /// The answer of a row that is refused.

@@ -1,4 +1,7 @@
-"""Requests that come again: the kept answer for the same command, 52 for another one, and nothing kept of a refused one."""
+"""Requests that come again.
+
+The same command under the same token gets the kept answer, another one is 52, and nothing is kept of a refused one.
+"""
 
 from __future__ import annotations
 

@@ -1,5 +1,8 @@
-"""Requests over a view of which a look fails: a request looks for its receipt, at what its numbers name, at the places above
-a place that has no name, and at the next number; it stops at the look that fails, or at the check that refuses it."""
+"""Requests over a view of which a look fails.
+
+A request looks for its receipt, at what its numbers name, at the places above a place that has no name, and at the
+next number; it stops at the look that fails, or at the check that refuses it.
+"""
 
 from __future__ import annotations
 

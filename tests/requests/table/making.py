@@ -119,11 +119,8 @@ def keeps_nothing(token: str) -> Step:
 
 def spells(given: tuple[str | int, ...], *command: str | int) -> list[Step]:
     """A command, given in some spelling, with its bytes and their digest."""
-    wanted = row(*command)
-    return [
-        (row("! bytes", *given).encode(), row("bytes", wanted).encode()),
-        (row("! digest", *given).encode(), row("digest", digest(*command)).encode()),
-    ]
+    wanted = row("bytes", row(*command)) + row("digest", digest(*command))
+    return [(row("! bytes", *given).encode(), wanted.encode())]
 
 
 def itself(*command: str | int) -> list[Step]:

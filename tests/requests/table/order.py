@@ -1,5 +1,8 @@
-"""The order of the checks of a command: 52, then 58 for the texts, then for each number in the order of its field 50
-and 51, then 58 for a place, then the command's own (54, 59, 62), and last 63."""
+"""The order of the checks of a command.
+
+52, then 58 for the texts, then for each number in the order of its field 50 and 51, then 58 for a place, then the
+command's own (54, 59, 62), and last 63.
+"""
 
 from __future__ import annotations
 

@@ -145,14 +145,18 @@ BYTES = (
         "the bytes of commands",
         itself("person", "John /Smith/", "M"),
         ask(
-            "! digest,person,John /Smith/,M",
+            "! bytes,person,John /Smith/,M",
+            'bytes,"person,John /Smith/,M\n"',
             "digest,d0c6599be6fcf592528d98b12a13b517482f56bf05a18206e8a8075647d87fd6",
         ),
-        ask("! bytes,person,John /Smith/,M", 'bytes,"person,John /Smith/,M\n"'),
         itself("person", "", ""),
         itself("person", "", "F"),
         itself("name", "7", 'Smith, "Jon"'),
-        ask('! bytes,name,7,"Smith, ""Jon"""', 'bytes,"name,7,""Smith, """"Jon""""""\n"'),
+        ask(
+            '! bytes,name,7,"Smith, ""Jon"""',
+            'bytes,"name,7,""Smith, """"Jon""""""\n"',
+            "digest,e458350d46f1d81710db0fea1b6795a08a1b4b7aa2446fdf32219ee1b0548148",
+        ),
         itself("name", "7", "Smith, Jon"),
         itself("name", "7", 'O"Hara'),
         itself("name", "7", "a\rb"),
@@ -194,8 +198,7 @@ BYTES = (
         ask("! bytes,frob", ",refused,91,UnknownVerb"),
         ask("! bytes,person", ",refused,92,FieldCount"),
         ask("! bytes,sex,1,X", ",refused,90,BadRow"),
-        ask("! digest,frob", ",refused,91,UnknownVerb"),
-        ask("! digest", ",refused,92,FieldCount"),
+        ask("! bytes", ",refused,92,FieldCount"),
     ),
 )
 
