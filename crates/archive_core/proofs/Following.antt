@@ -7,65 +7,82 @@ use Rattle.record_text.specs.declared.refusal.RefusalKind.TheVariants.{Full, Sam
 use Rattle.record_kinds.specs.Model as model
 use Rattle.record_kinds.specs.declared.record.Record.{Record}
 use Rattle.record_kinds.specs.declared.record.Record.TheVariants as kind
+use Rattle.receipts.specs.declared.answer.Answer.{Answer}
 use Rattle.archive_state.specs.Content.{Content}
 use Rattle.archive_state.specs.Sound.{IsSound}
 use Rattle.commands.specs.Rows.{and_then}
 use Rattle.commands.specs.declared.command.Command.{Command}
 use Rattle.commands.specs.declared.command.Command.TheVariants as command
 use Rattle.archive_core.specs.Checks.{text_in, date_in, person_at, family_at, event_at, owner_at, place_at, tag_in, event_tag, is_tag_of, is_said, said_place_at, passed, each, need}
-use Rattle.archive_core.specs.Steps.{Step, step, creates, replaces, plain_person, plain_partners, plain_place, with_name, with_child, with_fields, with_participant, is_same, is_partner, is_child}
-use Rattle.archive_core.specs.Machine.{Draws, NoneAgain}
+use Rattle.archive_core.specs.Steps.{RowStep, placed, row_step, step, creates, replaces, plain_person, plain_partners, plain_place, with_name, with_child, with_fields, with_participant, is_same, is_partner, is_child}
+use Rattle.archive_core.specs.Machine.{Draws, UsesNoneAgain}
 use Rattle.archive_core.specs.declared.looks.Owner.{Owner}
-use Rattle.archive_core.proofs.Putting.{put_elsewhere}
+use Rattle.archive_core.proofs.Putting.{put_elsewhere, put_here}
 use Rattle.archive_core.proofs.Keeping.{IsFit, put_keeps}
 use Rattle.archive_core.proofs.Found.{person_found, family_found, event_found, owner_found, person_stands, place_stands, passes}
 use Rattle.archive_core.proofs.SaidPaths.{said_has_part}
 use Rattle.archive_core.proofs.Fitting.{PersonAt, PlaceAt, new_person_fits, add_name_fits, set_sex_fits, new_family_fits, add_child_fits, new_event_fits, amend_event_fits, add_participant_fits}
 
--- an accepted step leaves receipts and slips as they are, makes nothing or a record at the next number, uses no number
--- again, and leaves a sound archive sound
-abbrev pub Follows : Content → Step → Type 0
-Follows c (Ok done) = (done.0.receipts ≡ c.receipts) × (done.0.slips ≡ c.slips) × Draws c done.1 done.0 × NoneAgain c done.0 × (IsSound c → IsSound done.0)
+-- an accepted step leaves receipts and slips as they are, draws the numbers of what it makes, uses no number again, and
+-- leaves a sound archive sound
+abbrev pub Follows : {E : Type 0} → Content → Result (Content × Answer) E → Type 0
+Follows c (Ok done) = (done.0.receipts ≡ c.receipts) × (done.0.slips ≡ c.slips) × Draws c done.1 done.0 × UsesNoneAgain c done.0 × (IsSound c → IsSound done.0)
 Follows c (Err e) = Unit {0}
 
-then_follows : {A : Type 0} (c : Content) (r : Result A RefusalKind) (f : A → Step) → ((a : A) → r ≡ Ok a → Follows c (f a)) → Follows c (and_then r f)
+then_follows : {A : Type 0} (c : Content) (r : Result A RefusalKind) (f : A → RowStep) → ((a : A) → r ≡ Ok a → Follows c (f a)) → Follows c (and_then r f)
 then_follows c (Ok a) f h = h a refl
 then_follows c (Err e) f h = tt
 
-need_follows : (c : Content) (b : Bool) (k : RefusalKind) (f : Unit {0} → Step) → (b ≡ true → Follows c (f tt)) → Follows c (and_then (need b k) f)
+need_follows : (c : Content) (b : Bool) (k : RefusalKind) (f : Unit {0} → RowStep) → (b ≡ true → Follows c (f tt)) → Follows c (and_then (need b k) f)
 need_follows c true k f h = h refl
 need_follows c false k f h = tt
 
--- a record changes that stands below the next number
-replaces_again : (c : Content) (n : ℕ) (old r : Record) → get c.records n ≡ Some old → NoneAgain c (record c { records = insert c.records n r })
+-- a record changes that is there
+replaces_again : (c : Content) (n : ℕ) (old r : Record) → get c.records n ≡ Some old → UsesNoneAgain c (record c { records = insert c.records n r })
 replaces_again c n old r at = (
   omega arith,
-  λ k less. (
-    (λ none. put_elsewhere c.records n r k (λ same. let both : Some old ≡ None = sym at ∙ (ap (get c.records) (sym same) ∙ none) in absurd cc) ∙ none),
-    (λ none. none),
+  (λ k less none. none),
+  λ k used. (
+    used.0,
+    put_elsewhere c.records n r k (λ same. let both : Some old ≡ None = sym at ∙ (ap (get c.records) (sym same) ∙ used.1) in absurd cc) ∙ used.1,
+    used.2,
   ),
 )
+
+replaces_draws : (c : Content) (n : ℕ) (r : Record) → Draws c (record { first = 0; count = 0 }) (record c { records = insert c.records n r })
+replaces_draws c n r = (omega arith, inr (refl, refl), λ k low high. absurd (omega arith))
 
 replaces_follows : (c : Content) (n : ℕ) (old r : Record) → get c.records n ≡ Some old → (IsSound c → IsFit c n r) → Follows c (replaces c n r)
 replaces_follows c n old r at fit = (
   refl,
   refl,
-  inl (refl, refl),
+  replaces_draws c n r,
   replaces_again c n old r at,
   (λ sound. put_keeps c n c.next r sound (fit sound) (omega arith) (sound.rules.numbered n old at)),
 )
 
 -- a record is made at the next number
-abbrev created : Content → ℕ → Record → Step
+abbrev created : Content → ℕ → Record → RowStep
 created c n r = Ok (record c { records = insert c.records n r; next = n + 1 }, record { first = n; count = 1 })
 
-creates_again : (c : Content) (r : Record) → NoneAgain c (record c { records = insert c.records c.next r; next = c.next + 1 })
+creates_again : (c : Content) (r : Record) → UsesNoneAgain c (record c { records = insert c.records c.next r; next = c.next + 1 })
 creates_again c r = (
   omega arith,
-  λ k less. (
-    (λ none. put_elsewhere c.records c.next r k (λ same. let here : c.next < c.next = subst (λ x. x < c.next) same less in absurd (omega arith)) ∙ none),
-    (λ none. none),
+  (λ k less none. none),
+  λ k used. let below : k < c.next = used.0 in (
+    omega arith,
+    put_elsewhere c.records c.next r k (λ same. let here : c.next < c.next = subst (λ x. x < c.next) same below in absurd (omega arith)) ∙ used.1,
+    used.2,
   ),
+)
+
+creates_draws : (c : Content) (r : Record) → Draws c (record { first = c.next; count = 1 }) (record c { records = insert c.records c.next r; next = c.next + 1 })
+creates_draws c r = (
+  refl,
+  inl refl,
+  λ k low high.
+      let same : c.next ≡ k = omega arith in
+      inl (λ none. let both : Some r ≡ None = sym (put_here c.records c.next r) ∙ ap (get (insert c.records c.next r)) same ∙ none in absurd cc),
 )
 
 creates_follows : (c : Content) (r : Record) → (IsSound c → IsFit c c.next r) → Follows c (creates c r)
@@ -73,7 +90,7 @@ creates_follows c r fit = elim (nat_le c.next 4_294_967_295) as (λ b. Follows c
   | true ↦ (
     refl,
     refl,
-    inr (refl, refl, refl),
+    creates_draws c r,
     creates_again c r,
     (λ sound. let begun : 0 < c.next = sound.begun in put_keeps c c.next (c.next + 1) r sound (fit sound) (omega arith) (begun, omega arith)),
   )
@@ -122,29 +139,29 @@ event_tag_found c owner place t tag e =
     (o.0, o.1, maybe_place c place p.0 p.1, tag_found o.0 t tag p.2)
 
 -- ---- each command
-pub step_follows : (c : Content) (k : Command) → Follows c (step c k)
-step_follows c (command.Person name sex) =
+row_follows : (c : Content) (k : Command) → Follows c (row_step c k)
+row_follows c (command.Person name sex) =
     then_follows c (text_in name) _ (λ t e. creates_follows c (kind.Person (plain_person t sex)) (new_person_fits c t sex))
-step_follows c (command.Name person name) =
+row_follows c (command.Name person name) =
     then_follows c (text_in name) _ (λ t e. then_follows c (person_at c person) _ (λ p found.
     let at : get c.records person ≡ Some (kind.Person p) = person_found (get c.records person) p found in
     replaces_follows c person (kind.Person p) (kind.Person (with_name t p)) at (λ sound. add_name_fits c person p t sound at)))
-step_follows c (command.Sex person sex) =
+row_follows c (command.Sex person sex) =
     then_follows c (person_at c person) _ (λ p found.
     let at : get c.records person ≡ Some (kind.Person p) = person_found (get c.records person) p found in
     replaces_follows c person (kind.Person p) (kind.Person (record p { sex = Some sex })) at (λ sound. set_sex_fits c person p (Some sex) sound at))
-step_follows c (command.Family husband wife) =
+row_follows c (command.Family husband wife) =
     let family : model.Family = record { partners = plain_partners husband wife; children = []; carried = [] } in
     then_follows c (passed (each (person_at c) husband)) _ (λ h first. then_follows c (passed (each (person_at c) wife)) _ (λ w second.
     need_follows c (not (is_same husband wife)) SamePerson _ (λ other. creates_follows c (kind.Family family)
     (λ sound. new_family_fits c husband wife sound (maybe_person c husband h first) (maybe_person c wife w second) (not_true (is_same husband wife) other)))))
-step_follows c (command.Child family person) =
+row_follows c (command.Child family person) =
     then_follows c (family_at c family) _ (λ f found. then_follows c (passed (person_at c person)) _ (λ u there.
     need_follows c (not (is_partner person f || is_child person f)) AlreadyInFamily _ (λ other.
     let at : get c.records family ≡ Some (kind.Family f) = family_found (get c.records family) f found in
     replaces_follows c family (kind.Family f) (kind.Family (with_child person f)) at
     (λ sound. add_child_fits c family f person sound at (one_person c person u there) (not_true (is_partner person f || is_child person f) other)))))
-step_follows c (command.Event owner tag value date place) =
+row_follows c (command.Event owner tag value date place) =
     then_follows c (text_in tag) _ (λ t i. then_follows c (text_in value) _ (λ v j. then_follows c (each date_in date) _ (λ d k.
     then_follows c (event_tag c owner place t) _ (λ is found.
     let event : model.Event = record {
@@ -160,14 +177,22 @@ step_follows c (command.Event owner tag value date place) =
     let holder = owner_found (get c.records owner) one.0 one.1 in
     creates_follows c (kind.Event event)
     (λ sound. new_event_fits c owner one.0 holder.0 is v d place sound holder.1 holder.2 holder.3 one.3 one.2)))))
-step_follows c (command.Amend event value date place) =
+row_follows c (command.Amend event value date place) =
     then_follows c (text_in value) _ (λ v i. then_follows c (each date_in date) _ (λ d j. then_follows c (event_at c event) _ (λ e found.
     then_follows c (passed (each (said_place_at c) place)) _ (λ u there.
     let at : get c.records event ≡ Some (kind.Event e) = event_found (get c.records event) e found in
     replaces_follows c event (kind.Event e) (kind.Event (with_fields v d place e)) at
     (λ sound. amend_event_fits c event e v d place sound at (maybe_place c place u there))))))
-step_follows c (command.Participant event person role) =
+row_follows c (command.Participant event person role) =
     then_follows c (text_in role) _ (λ r i. then_follows c (event_at c event) _ (λ e found. then_follows c (passed (person_at c person)) _ (λ u there.
     let at : get c.records event ≡ Some (kind.Event e) = event_found (get c.records event) e found in
     replaces_follows c event (kind.Event e) (kind.Event (with_participant person r e)) at
     (λ sound. add_participant_fits c event e person r sound at (one_person c person u there)))))
+
+-- where a refusal is does not matter
+placed_follows : (c : Content) (place : Option ℕ) (s : RowStep) → Follows c s → Follows c (placed place s)
+placed_follows c place (Ok done) h = h
+placed_follows c place (Err e) h = tt
+
+pub step_follows : (c : Content) (k : Command) → Follows c (step c k)
+step_follows c k = placed_follows c None (row_step c k) (row_follows c k)

@@ -1,8 +1,10 @@
+mod Exactness
 mod Fitting
 mod Following
 mod Found
 mod Keeping
 mod Putting
+mod Room
 mod Said
 mod SaidPaths
 mod Serving

@@ -6,7 +6,6 @@ use Rattle.std.specs.Ordering.{nat_cmp, eq_by_cmp}
 use Rattle.std.specs.Cmp.{eq_by_cmp_equiv, Equal-is}
 use Rattle.std.specs.Cmp.Lexicographic.{slice_cmp, nat_list_cmp_total}
 use Rattle.record_text.specs.declared.refusal.Refusal.{Refusal}
-use Rattle.record_text.specs.declared.refusal.RefusalKind.{RefusalKind}
 use Rattle.record_text.specs.declared.refusal.RefusalKind.TheVariants.{TokenReused}
 use Rattle.record_fields.specs.Bytes.{bytes_same}
 use Rattle.archive_state.specs.Content.{Content, Receipts}
@@ -15,24 +14,19 @@ use Rattle.receipts.specs.declared.answer.Answer.{Answer}
 use Rattle.receipts.specs.declared.answer.Receipt.{Receipt}
 use Rattle.commands.specs.Bytes.{digest_of}
 use Rattle.commands.specs.declared.command.Command.{Command}
-use Rattle.archive_core.specs.Steps.{Step, step}
-use Rattle.archive_core.specs.Machine.{Draws, NoneAgain, Does, Runs, Done, served, kept_under, answered_again, unplaced}
+use Rattle.archive_core.specs.Steps.{Step, refused_at, step}
+use Rattle.archive_core.specs.Machine.{Draws, UsesNoneAgain, Does, Runs, Done, served, kept_under, answered_again}
 use Rattle.archive_core.specs.declared.request.Request.{Request}
 use Rattle.archive_core.proofs.Following.{Follows, step_follows}
 
-ok_is : {A : Type 0} (x y : A) (r : Result A RefusalKind) → r ≡ Ok x → r ≡ Ok y → x ≡ y
+ok_is : {A : Type 0} (x y : A) (r : Result A Refusal) → r ≡ Ok x → r ≡ Ok y → x ≡ y
 ok_is x y r e f = let both : Ok x ≡ Ok y = sym e ∙ f in cc
 
-err_is_not : {A : Type 0} (k : RefusalKind) (y : A) (r : Result A RefusalKind) → r ≡ Err k → r ≡ Ok y → ⊥
+err_is_not : {A : Type 0} (k : Refusal) (y : A) (r : Result A Refusal) → r ≡ Err k → r ≡ Ok y → ⊥
 err_is_not k y r e f = let both : Err k ≡ Ok y = sym e ∙ f in absurd cc
 
--- an answer has no place
-without_place : {A : Type 0} (x : A) (r : Result A RefusalKind) → unplaced r ≡ Ok x → r ≡ Ok x
-without_place x (Ok a) e = let same : a ≡ x = cc in ap Ok same
-without_place x (Err k) e = absurd cc
-
 pub step_draws : (c t : Content) (k : Command) (a : Answer) → step c k ≡ Ok (t, a) → Draws c a t
-step_draws c t k a e = let f : Follows c (Ok (t, a)) = subst (Follows c) e (step_follows c k) in f.2
+step_draws c t k a e = let f : Follows {E = Refusal} c (Ok (t, a)) = subst (Follows c) e (step_follows c k) in f.2
 
 -- ---- one request
 at_itself : (token : List ℕ) → eq_by_cmp (slice_cmp nat_cmp) token token ≡ true
@@ -43,7 +37,7 @@ found_again : (c : Content) (token : List ℕ) (x : Receipt) → get (insert c.r
 found_again c token x = get-insert nat_list_cmp_total c.receipts token x token ∙ ap (λ b. cond b (Some x) (get c.receipts token)) (at_itself token)
 
 same_again : (c : Content) (d : List ℕ) (a : Answer) → answered_again c d (record { digest = d; answer = a }) ≡ Ok (c, a)
-same_again c d a = ap (λ b. if b then Ok (c, a) else Err TokenReused) (bytes_same d d refl)
+same_again c d a = ap (λ b. if b then Ok (c, a) else Err (refused_at None TokenReused)) (bytes_same d d refl)
 
 one_token : (a b : List ℕ) → eq_by_cmp (slice_cmp nat_cmp) a b ≡ true → a ≡ b
 one_token a b e = slice_cmp-IsAntisymmetric nat_cmp-IsAntisymmetric a b ((Equal-is (slice_cmp nat_cmp a b)).0 e)
@@ -69,10 +63,10 @@ stays c after digest x a e =
     let here : Content × Answer = (c, x.answer) in
     let left : Content × Answer = (after, a) in
     let kept : Step = Ok here in
-    let refused : Step = Err TokenReused in
+    let refused : Step = Err (refused_at None TokenReused) in
     elim (bytes_eq x.digest digest) as (λ b. (if b then kept else refused) ≡ Ok left → c ≡ after) [
       | true ↦ λ h. ap (λ (p : Content × Answer). p.0) (ok_is here left kept refl h)
-      | false ↦ λ h. absurd (err_is_not TokenReused left refused refl h)
+      | false ↦ λ h. absurd (err_is_not (refused_at None TokenReused) left refused refl h)
     ] e
 
 again : (c after : Content) (r : Request) (a : Answer) (o : Option Receipt) → get c.receipts r.token ≡ o → served c r o ≡ Ok (after, a) → served after r (get after.receipts r.token) ≡ Ok (after, a)
@@ -81,13 +75,9 @@ again c after r a None is e =
 again c after r a (Some x) is e =
     subst (λ (z : Content). served z r (get z.receipts r.token) ≡ Ok (after, a)) (stays c after (digest_of r.command) x a e) (ap (served c r) is ∙ e)
 
--- what is answered without its place
-answered : (c after : Content) (r : Request) (a : Answer) → Does c r (Ok a) after → served c r (get c.receipts r.token) ≡ Ok (after, a)
-answered c after r a e = without_place (after, a) (served c r (get c.receipts r.token)) e
-
 -- an accepted request is answered as before, and leaves what it left
 pub repeated : (c after : Content) (r : Request) (a : Answer) → Does c r (Ok a) after → Does after r (Ok a) after
-repeated c after r a e = ap unplaced (again c after r a (get c.receipts r.token) refl (answered c after r a e))
+repeated c after r a e = again c after r a (get c.receipts r.token) refl e
 
 -- ---- receipts
 still_there : (c : Content) (token other : List ℕ) (x v : Receipt) → get c.receipts token ≡ None → get c.receipts other ≡ Some x → get (insert c.receipts token v) other ≡ Some x
@@ -111,7 +101,7 @@ kept_on c after r a (Some y) other x is e some = ap (λ (z : Content). get z.rec
 
 -- what is kept under a token is kept for good
 pub kept_for_good : (c after : Content) (r : Request) (o : Result Answer Refusal) (other : List ℕ) (x : Receipt) → Does c r o after → get c.receipts other ≡ Some x → get after.receipts other ≡ Some x
-kept_for_good c after r (Ok a) other x e some = kept_on c after r a (get c.receipts r.token) other x refl (answered c after r a e) some
+kept_for_good c after r (Ok a) other x e some = kept_on c after r a (get c.receipts r.token) other x refl e some
 kept_for_good c after r (Err k) other x e some = ap (λ (z : Content). get z.receipts other) e.0 ∙ some
 
 -- ---- runs
@@ -119,17 +109,21 @@ pub goes_on : (first rest : List Done) (c after : Content) → Runs c (first ++ 
 goes_on [] rest c after h = (c, refl, h)
 goes_on (done ∷ first) rest c after (next, does, more) = let g = goes_on first rest next after more in (g.0, (next, does, g.1), g.2)
 
--- ---- sound archives, and numbers
-none_here : (c : Content) → NoneAgain c c
-none_here c = (omega arith, λ n less. ((λ h. h), (λ h. h)))
+pub joined : (first rest : List Done) (c between after : Content) → Runs c first between → Runs between rest after → Runs c (first ++ rest) after
+joined [] rest c between after here more = rw here at more
+joined (done ∷ first) rest c between after run more = (run.0, run.1, joined first rest run.0 between after run.2 more)
 
-none_between : (c d e : Content) → NoneAgain c d → NoneAgain d e → NoneAgain c e
+-- ---- sound archives, and numbers
+none_here : (c : Content) → UsesNoneAgain c c
+none_here c = (omega arith, (λ n less h. h), (λ n h. h))
+
+none_between : (c d e : Content) → UsesNoneAgain c d → UsesNoneAgain d e → UsesNoneAgain c e
 none_between c d e h k =
     let first : c.next ≤ d.next = h.0 in
     let second : d.next ≤ e.next = k.0 in (
       omega arith,
-      λ n less. let below : n < d.next = omega arith in
-          ((λ none. (k.1 n below).0 ((h.1 n less).0 none)), (λ none. (k.1 n below).1 ((h.1 n less).1 none))),
+      (λ n less none. let below : n < d.next = omega arith in k.1 n below (h.1 n less none)),
+      (λ n used. k.2 n (h.2 n used)),
     )
 
 -- what holds of what a step leaves, and does not look at receipts, holds of what a request leaves
@@ -146,14 +140,14 @@ through P blind c after r (Ok a) here h e =
     elim (get c.receipts r.token) as (λ o. served c r o ≡ Ok (after, a) → P after) [
       | None ↦ λ f. left P blind c after r a (step c r.command) h f
       | Some x ↦ λ f. subst P (stays c after (digest_of r.command) x a f) here
-    ] (answered c after r a e)
+    ] e
 
 -- a step leaves a sound archive sound, and uses no number again
 step_sound : (c : Content) (k : Command) → IsSound c → (done : Content × Answer) → step c k ≡ Ok done → IsSound done.0
-step_sound c k sound done e = let f : Follows c (Ok done) = subst (Follows c) e (step_follows c k) in f.4 sound
+step_sound c k sound done e = let f : Follows {E = Refusal} c (Ok done) = subst (Follows c) e (step_follows c k) in f.4 sound
 
-step_again : (c : Content) (k : Command) (done : Content × Answer) → step c k ≡ Ok done → NoneAgain c done.0
-step_again c k done e = let f : Follows c (Ok done) = subst (Follows c) e (step_follows c k) in f.3
+step_again : (c : Content) (k : Command) (done : Content × Answer) → step c k ≡ Ok done → UsesNoneAgain c done.0
+step_again c k done e = let f : Follows {E = Refusal} c (Ok done) = subst (Follows c) e (step_follows c k) in f.3
 
 sound_blind : (d : Content) (receipts : Receipts) → IsSound d → IsSound (record d { receipts = receipts })
 sound_blind d receipts h = record { begun = h.begun; named = h.named; rules = h.rules; slips = h.slips }
@@ -161,14 +155,14 @@ sound_blind d receipts h = record { begun = h.begun; named = h.named; rules = h.
 pub request_sound : (c after : Content) (r : Request) (o : Result Answer Refusal) → IsSound c → Does c r o after → IsSound after
 request_sound c after r o sound does = through IsSound sound_blind c after r o sound (step_sound c r.command sound) does
 
-request_again : (c after : Content) (r : Request) (o : Result Answer Refusal) → Does c r o after → NoneAgain c after
-request_again c after r o does = through (NoneAgain c) (λ d receipts h. h) c after r o (none_here c) (step_again c r.command) does
+request_again : (c after : Content) (r : Request) (o : Result Answer Refusal) → Does c r o after → UsesNoneAgain c after
+request_again c after r o does = through (UsesNoneAgain c) (λ d receipts h. h) c after r o (none_here c) (step_again c r.command) does
 
 pub run_sound : (dones : List Done) (c after : Content) → IsSound c → Runs c dones after → IsSound after
 run_sound [] c after sound h = subst IsSound (sym h) sound
 run_sound (done ∷ more) c after sound (between, does, rest) = run_sound more between after (request_sound c between done.0 done.1 sound does) rest
 
-pub run_again : (dones : List Done) (c after : Content) → Runs c dones after → NoneAgain c after
-run_again [] c after h = subst (NoneAgain c) (sym h) (none_here c)
+pub run_again : (dones : List Done) (c after : Content) → Runs c dones after → UsesNoneAgain c after
+run_again [] c after h = subst (UsesNoneAgain c) (sym h) (none_here c)
 run_again (done ∷ more) c after (between, does, rest) =
     none_between c between after (request_again c between done.0 done.1 does) (run_again more between after rest)

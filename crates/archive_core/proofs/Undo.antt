@@ -4,8 +4,7 @@ use Rattle.std.specs.Prelude.{Option, Some, None}
 use Rattle.std.specs.FinMap.{FinMap, get, insert, remove, get-insert, get-remove, same_map, nat_cmp-IsAntisymmetric}
 use Rattle.std.specs.Ordering.{nat_cmp, eq_by_cmp}
 use Rattle.std.specs.Cmp.{nat_cmp_total, eq_by_cmp_equiv, Equal-is}
-use Rattle.record_kinds.specs.declared.record.Record.{Record}
-use Rattle.archive_state.specs.Content.{Content, Records, Slips}
+use Rattle.archive_state.specs.Content.{Content, Slips}
 use Rattle.archive_state.specs.Slips.{Slip}
 
 one_number : (a b : ℕ) → eq_by_cmp nat_cmp a b ≡ true → a ≡ b
@@ -23,6 +22,15 @@ module _ {X : Type 0} where
       ∙ ap (cond (eq_by_cmp nat_cmp q n) (Some old)) (get-insert nat_cmp_total m n v q)
       ∙ at_once (eq_by_cmp nat_cmp q n) v (Some old) (get m q) (λ t. ap (get m) (one_number q n t) ∙ e))
 
+  once : (b : Bool) (v : X) (o : Option X) → (b ≡ true → o ≡ Some v) → cond b (Some v) o ≡ o
+  once true v o h = sym (h refl)
+  once false v o h = refl
+
+  -- what is there is put there
+  pub put_same : (m : FinMap nat_cmp X) (n : ℕ) (v : X) → get m n ≡ Some v → insert m n v ≡ m
+  put_same m n v e = same_map nat_cmp_total nat_cmp-IsAntisymmetric _ _ (λ q.
+      get-insert nat_cmp_total m n v q ∙ once (eq_by_cmp nat_cmp q n) v (get m q) (λ t. ap (get m) (one_number q n t) ∙ e))
+
   -- what was not there is taken out
   pub taken_out : (m : FinMap nat_cmp X) (n : ℕ) (v : X) → get m n ≡ None → remove (insert m n v) n ≡ m
   taken_out m n v e = same_map nat_cmp_total nat_cmp-IsAntisymmetric _ _ (λ q.
@@ -35,15 +43,6 @@ module _ {X : Type 0} where
   stands m n v = get-insert nat_cmp_total m n v n ∙ ap (λ b. cond b (Some v) (get m n)) ((eq_by_cmp_equiv nat_cmp_total).refl n)
 
 -- ---- of what an archive holds
-pub record_taken_out : (c after : Content) (m : Records) (n : ℕ) (r : Record) → after ≡ record c { records = remove c.records n } → c.records ≡ insert m n r → None ≡ get m n → after ≡ record c { records = m }
-record_taken_out c after m n r is e none = is ∙ ap (λ x. record c { records = x }) (ap (λ x. remove x n) e ∙ taken_out m n r (sym none))
-
-pub record_put_over : (c after : Content) (m : Records) (n : ℕ) (r old : Record) → after ≡ record c { records = insert c.records n old } → c.records ≡ insert m n r → Some old ≡ get m n → after ≡ record c { records = m }
-record_put_over c after m n r old is e some = is ∙ ap (λ x. record c { records = x }) (ap (λ x. insert x n old) e ∙ put_over m n r old (sym some))
-
-pub record_stands : (c after : Content) (m : Records) (n : ℕ) (r : Record) → get c.records n ≡ None → c.records ≡ insert m n r → after ≡ record c { records = m }
-record_stands c after m n r none e = let both : Some r ≡ None = sym (stands m n r) ∙ ap (λ x. get x n) (sym e) ∙ none in absurd cc
-
 pub slip_taken_out : (c after : Content) (m : Slips) (n : ℕ) (s : Slip) → after ≡ record c { slips = remove c.slips n } → c.slips ≡ insert m n s → None ≡ get m n → after ≡ record c { slips = m }
 slip_taken_out c after m n s is e none = is ∙ ap (λ x. record c { slips = x }) (ap (λ x. remove x n) e ∙ taken_out m n s (sym none))
 

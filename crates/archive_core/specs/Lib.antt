@@ -1,4 +1,6 @@
 pub mod Applied
 pub mod Checks
+pub mod Exact
 pub mod Machine
+pub mod Room
 pub mod Steps

@@ -1,16 +1,16 @@
 -- What a request does: an accepted one acts once, and its answer is kept under its token for good. Rules of our own.
-use Rattle.std.specs.Prelude.{ℕ, ◌+◌, ◌<◌, ◌≤◌, ◌⊎◌, false, List, [], ◌∷◌, ◌≡◌, Option, Some, None, Result, Ok, Err, if◌then◌else◌}
+use Rattle.std.specs.Prelude.{ℕ, ◌+◌, ◌<◌, ◌≤◌, ◌⊎◌, true, false, List, [], ◌∷◌, ◌≡◌, ◌≢◌, Option, Some, None, Result, Ok, Err, if◌then◌else◌}
 use Rattle.std.specs.Str.{bytes_eq}
 use Rattle.std.specs.FinMap.{get, insert}
 use Rattle.record_text.specs.declared.refusal.Refusal.{Refusal}
-use Rattle.record_text.specs.declared.refusal.RefusalKind.{RefusalKind}
 use Rattle.record_text.specs.declared.refusal.RefusalKind.TheVariants.{TokenReused}
 use Rattle.archive_state.specs.Content.{Content}
+use Rattle.archive_state.specs.Slips.{Slip}
 use Rattle.receipts.specs.declared.answer.Answer.{Answer}
 use Rattle.receipts.specs.declared.answer.Receipt.{Receipt}
 use Rattle.commands.specs.Bytes.{digest_of}
 use Rattle.commands.specs.Rows.{is_want}
-use Rattle.archive_core.specs.Steps.{Step, step}
+use Rattle.archive_core.specs.Steps.{Step, refused_at, step}
 use Rattle.archive_core.specs.declared.request.Request.{Request}
 
 -- an accepted step, with its answer kept
@@ -21,26 +21,17 @@ kept_under token digest (Err e) = Err e
 
 -- the kept answer, where the command is the same
 abbrev pub answered_again : Content → List ℕ → Receipt → Step
-answered_again c digest receipt = if bytes_eq receipt.digest digest then Ok (c, receipt.answer) else Err TokenReused
+answered_again c digest receipt =
+    if bytes_eq receipt.digest digest then Ok (c, receipt.answer) else Err (refused_at None TokenReused)
 
 -- what a request leaves and is answered, by what is kept under its token
 abbrev pub served : Content → Request → Option Receipt → Step
 served c r None = kept_under r.token (digest_of r.command) (step c r.command)
 served c r (Some receipt) = answered_again c (digest_of r.command) receipt
 
--- a refusal with its place, which is none: a request has no rows
-abbrev pub unplaced : {A : Type 0} → Result A RefusalKind → Result A Refusal
-unplaced (Ok a) = Ok a
-unplaced (Err e) = Err (record { kind = e; at = None })
-
--- the kind of a refusal, without its place
-abbrev pub kinds : {A : Type 0} → Result A Refusal → Result A RefusalKind
-kinds (Ok a) = Ok a
-kinds (Err e) = Err e.kind
-
 -- what a request leaves and is answered, or its refusal
-abbrev pub outcome : Content → Request → Result (Content × Answer) Refusal
-outcome c r = unplaced (served c r (get c.receipts r.token))
+abbrev pub outcome : Content → Request → Step
+outcome c r = served c r (get c.receipts r.token)
 
 -- a request with this answer or refusal leaves that; a refusal changes nothing, and want of memory may come in place of any
 abbrev pub Does : Content → Request → Result Answer Refusal → Content → Type 0
@@ -56,12 +47,26 @@ abbrev pub Runs : Content → List Done → Content → Type 0
 Runs c [] after = after ≡ c
 Runs c (done ∷ more) after = (between : Content) × Does c done.0 done.1 between × Runs between more after
 
--- nothing is made, and the next number stays; or one record gets the next number, which rises above it
-abbrev pub Draws : Content → Answer → Content → Type 0
-Draws c a after = ((after.next ≡ c.next) × (a.count ≡ 0)) ⊎ ((after.next ≡ c.next + 1) × (a.first ≡ c.next) × (a.count ≡ 1))
+-- a record or a slip has the number
+abbrev pub IsTaken : Content → ℕ → Type 0
+IsTaken c n = (get c.records n ≢ None) ⊎ (get c.slips n ≢ None)
 
--- no number is used twice: the next one does not fall, and below it no record stands where none stood, and no slip where
--- none stood
-abbrev pub NoneAgain : Content → Content → Type 0
-NoneAgain c after = (c.next ≤ after.next) × ((n : ℕ) → n < c.next
-    → (get c.records n ≡ None → get after.records n ≡ None) × (get c.slips n ≡ None → get after.slips n ≡ None))
+-- the numbers from the next one of before up to that of after are drawn, each for a record or a slip, and the answer is the
+-- first of them with their count; or it is 0 and 0, and none is drawn
+abbrev pub Draws : Content → Answer → Content → Type 0
+Draws c a after =
+    (after.next ≡ c.next + a.count) × ((a.first ≡ c.next) ⊎ ((a.first ≡ 0) × (a.count ≡ 0)))
+    × ((n : ℕ) → c.next ≤ n → n < after.next → IsTaken after n)
+
+-- a number that is used up: it is below the next one, no record has it, and each merge that took its record away was undone,
+-- so that none can bring it back
+abbrev pub IsUsedUp : Content → ℕ → Type 0
+IsUsedUp c n =
+    (n < c.next) × (get c.records n ≡ None)
+    × ((k : ℕ) (s : Slip) → get c.slips k ≡ Some s → s.gone ≡ n → s.is_undone ≡ true)
+
+-- no number is used twice: the next one does not fall, below it no slip is where none was, and what is used up stays so
+abbrev pub UsesNoneAgain : Content → Content → Type 0
+UsesNoneAgain c after =
+    (c.next ≤ after.next) × ((n : ℕ) → n < c.next → get c.slips n ≡ None → get after.slips n ≡ None)
+    × ((n : ℕ) → IsUsedUp c n → IsUsedUp after n)

@@ -1,8 +1,9 @@
 -- What each command makes of an archive, or the refusal that it gets: the texts are looked at first, then each number in
 -- the order of its field, then what is the command's own, and last whether a number is left. Rules of our own.
-use Rattle.std.specs.Prelude.{ℕ, ◌+◌, List, [], ◌∷◌, ◌++◌, Bool, false, not, ◌||◌, ◌==◌, Option, Some, None, option_map, Result, Ok}
+use Rattle.std.specs.Prelude.{ℕ, ◌+◌, List, [], ◌∷◌, ◌++◌, Bool, false, not, ◌||◌, ◌==◌, Option, Some, None, option_map, Result, Ok, Err}
 use Rattle.std.specs.List.{list_any}
 use Rattle.std.specs.FinMap.{insert}
+use Rattle.record_text.specs.declared.refusal.Refusal.{Refusal}
 use Rattle.record_text.specs.declared.refusal.RefusalKind.{RefusalKind}
 use Rattle.record_text.specs.declared.refusal.RefusalKind.TheVariants.{SamePerson, AlreadyInFamily}
 use Rattle.record_fields.specs.declared.date.Date.{Date}
@@ -20,18 +21,31 @@ use Rattle.commands.specs.declared.command.Command.{Command}
 use Rattle.commands.specs.declared.command.Command.TheVariants as command
 use Rattle.archive_core.specs.Checks.{need, passed, each, text_in, date_in, person_at, family_at, event_at, event_tag, said_place_at, next_free}
 
--- what an accepted command leaves, and its answer
+-- what an accepted command leaves, and its answer; or its refusal, with the place of it
 abbrev pub Step : Type 0
-Step = Result (Content × Answer) RefusalKind
+Step = Result (Content × Answer) Refusal
+
+-- the same of a command of one row, whose refusals have no place
+abbrev pub RowStep : Type 0
+RowStep = Result (Content × Answer) RefusalKind
+
+-- a refusal at a place: a row of a batch, a line of a file, or none
+abbrev pub refused_at : Option ℕ → RefusalKind → Refusal
+refused_at place kind = record { kind = kind; at = place }
+
+-- the same, where what is refused is at that place
+abbrev pub placed : {A : Type 0} → Option ℕ → Result A RefusalKind → Result A Refusal
+placed place (Ok a) = Ok a
+placed place (Err e) = Err (refused_at place e)
 
 -- a new record at the next number, where one is left
-abbrev pub creates : Content → Record → Step
+abbrev pub creates : Content → Record → RowStep
 creates c r =
     and_then (next_free c) (λ n.
     Ok (record c { records = insert c.records n r; next = n + 1 }, record { first = n; count = 1 }))
 
 -- another record at a number
-abbrev pub replaces : Content → ℕ → Record → Step
+abbrev pub replaces : Content → ℕ → Record → RowStep
 replaces c n r = Ok (record c { records = insert c.records n r }, record { first = 0; count = 0 })
 
 -- ---- persons
@@ -102,37 +116,37 @@ with_fields value date place e = record e {
 }
 
 -- ---- the commands
-abbrev pub new_person : Content → List ℕ → Option Sex → Step
+abbrev pub new_person : Content → List ℕ → Option Sex → RowStep
 new_person c name sex =
     and_then (text_in name) (λ t.
     creates c (kind.Person (plain_person t sex)))
 
-abbrev pub add_name : Content → ℕ → List ℕ → Step
+abbrev pub add_name : Content → ℕ → List ℕ → RowStep
 add_name c n name =
     and_then (text_in name) (λ t.
     and_then (person_at c n) (λ p.
     replaces c n (kind.Person (with_name t p))))
 
-abbrev pub set_sex : Content → ℕ → Sex → Step
+abbrev pub set_sex : Content → ℕ → Sex → RowStep
 set_sex c n sex =
     and_then (person_at c n) (λ p.
     replaces c n (kind.Person (record p { sex = Some sex })))
 
-abbrev pub new_family : Content → Option ℕ → Option ℕ → Step
+abbrev pub new_family : Content → Option ℕ → Option ℕ → RowStep
 new_family c husband wife =
     and_then (passed (each (person_at c) husband)) (λ _.
     and_then (passed (each (person_at c) wife)) (λ _.
     and_then (need (not (is_same husband wife)) SamePerson) (λ _.
     creates c (kind.Family (record { partners = plain_partners husband wife; children = []; carried = [] })))))
 
-abbrev pub add_child : Content → ℕ → ℕ → Step
+abbrev pub add_child : Content → ℕ → ℕ → RowStep
 add_child c n person =
     and_then (family_at c n) (λ f.
     and_then (passed (person_at c person)) (λ _.
     and_then (need (not (is_partner person f || is_child person f)) AlreadyInFamily) (λ _.
     replaces c n (kind.Family (with_child person f)))))
 
-abbrev pub new_event : Content → ℕ → List ℕ → List ℕ → Option GivenDate → Option ℕ → Step
+abbrev pub new_event : Content → ℕ → List ℕ → List ℕ → Option GivenDate → Option ℕ → RowStep
 new_event c owner tag value date place =
     and_then (text_in tag) (λ t.
     and_then (text_in value) (λ v.
@@ -148,7 +162,7 @@ new_event c owner tag value date place =
       carried = [];
     }))))))
 
-abbrev pub amend_event : Content → ℕ → List ℕ → Option GivenDate → Option ℕ → Step
+abbrev pub amend_event : Content → ℕ → List ℕ → Option GivenDate → Option ℕ → RowStep
 amend_event c n value date place =
     and_then (text_in value) (λ v.
     and_then (each date_in date) (λ d.
@@ -156,19 +170,23 @@ amend_event c n value date place =
     and_then (passed (each (said_place_at c) place)) (λ _.
     replaces c n (kind.Event (with_fields v d place e))))))
 
-abbrev pub add_participant : Content → ℕ → ℕ → List ℕ → Step
+abbrev pub add_participant : Content → ℕ → ℕ → List ℕ → RowStep
 add_participant c n person role =
     and_then (text_in role) (λ r.
     and_then (event_at c n) (λ e.
     and_then (passed (person_at c person)) (λ _.
     replaces c n (kind.Event (with_participant person r e)))))
 
+abbrev pub row_step : Content → Command → RowStep
+row_step c (command.Person name sex) = new_person c name sex
+row_step c (command.Name person name) = add_name c person name
+row_step c (command.Sex person sex) = set_sex c person sex
+row_step c (command.Family husband wife) = new_family c husband wife
+row_step c (command.Child family person) = add_child c family person
+row_step c (command.Event owner tag value date place) = new_event c owner tag value date place
+row_step c (command.Amend event value date place) = amend_event c event value date place
+row_step c (command.Participant event person role) = add_participant c event person role
+
+-- a command of one row
 abbrev pub step : Content → Command → Step
-step c (command.Person name sex) = new_person c name sex
-step c (command.Name person name) = add_name c person name
-step c (command.Sex person sex) = set_sex c person sex
-step c (command.Family husband wife) = new_family c husband wife
-step c (command.Child family person) = add_child c family person
-step c (command.Event owner tag value date place) = new_event c owner tag value date place
-step c (command.Amend event value date place) = amend_event c event value date place
-step c (command.Participant event person role) = add_participant c event person role
+step c command = placed None (row_step c command)

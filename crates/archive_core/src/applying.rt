@@ -1,104 +1,164 @@
 //! Changes made on a state, all of them or none.
 
-ghost use Rattle.std.specs.Prelude.{◌≡◌, ℕ, IfOk, OnOk, OnErr, option_map};
+ghost use Rattle.std.specs.Prelude.{◌≡◌, ◌≢◌, ℕ, IfOk, OnOk, OnErr, None, option_map};
 ghost use Rattle.std.specs.FinMap as map;
-ghost use Rattle.std.specs.Vec.Iter.{into_iter_items};
-ghost use Rattle.record_kinds.specs.declared.record.Record.{Record};
 ghost use Rattle.archive_state.specs.Content.{Records, Slips};
 ghost use Rattle.archive_state.specs.Slips.{Slip};
+ghost use Rattle.archive_state.specs.Sound.{EachOf};
+ghost use Rattle.archive_state.specs.declared.changes.Numbered.{Numbered};
 ghost use Rattle.archive_core.specs.Applied as specs;
+ghost use Rattle.archive_core.specs.Room as room;
 
 use archive_state::{Answer, Changes, Kept, Numbered, Slip, SlipChange, State};
-use records::Record;
+use records::{Person, Record};
 use std::alloc::{AllocError, Global};
-use std::mem;
-use std::vec::IntoIter;
+use std::collections::VecDeque;
 
 /// Makes the changes of a request, and answers its answer. Refused only for want of memory, and then nothing is changed.
 ///
-/// What may be refused comes first, the records, the slip and the receipt, and what may not be comes last, the removals
-/// and the next number. At a refusal the last that was put is put back first: each finds the state that its own put
-/// left, and so what stood before is put back with no memory.
+/// What takes memory comes first: a blank record wherever a new one will be, then the slip and the receipt. Where one
+/// of these is refused, the blank records are taken out again. What comes last takes no memory: the records, the
+/// removals and the next number. So any number of records is put with the same stack.
+#[tactic(auto, using(crate::proofs::Room::put_in_room))]
 pub fn apply(alloc: Global, state: &mut State, changes: Changes) -> Result<Answer, AllocError>
     ensures ok { IfOk result (λ answer. answer ≡ changes.answer) }
     ensures applied { OnOk result (state.new ≡ specs.applied state.old changes) }
     ensures err { OnErr result (state.new ≡ state.old) }
 {
-    let mut rest = changes;
-    let answer = rest.answer;
-    let puts = mem::replace(&mut rest.puts, Vec::new(alloc));
-    put_all(alloc, state, &mut puts.into_iter(), rest)?;
+    let Changes {
+        puts,
+        removals,
+        next,
+        answer,
+        kept,
+        slip,
+    } = changes;
+    make_ready(alloc, state, &puts, slip, kept)?;
+    put_all(state, puts);
+    remove_all(state, &removals);
+    state.set_next(next);
     Ok(answer)
 }
 
-/// Puts the records, one after the other, and then makes the rest.
-fn put_all(
+/// Does what takes memory: room for the records, the slip, and the receipt.
+fn make_ready(
     alloc: Global,
     state: &mut State,
-    puts: &mut IntoIter<Numbered>,
-    rest: Changes,
+    puts: &[Numbered],
+    slip: Option<SlipChange>,
+    kept: Option<Kept>,
 ) -> Result<(), AllocError>
-    ensures ok { OnOk result (state.new ≡ specs.finished (specs.with_all state.old (into_iter_items puts.old)) rest) }
+    ensures ok { OnOk result (state.new ≡ record state.old {
+      records = room.with_room state.old.records puts.now;
+      slips = specs.with_slip state.old.slips slip;
+      receipts = specs.with_kept state.old.receipts kept;
+    }) }
     ensures err { OnErr result (state.new ≡ state.old) }
 {
-    let Some(put) = puts.next() else {
-        return finish(alloc, state, rest);
-    };
-    let Numbered { number, record } = put;
-    let before = state.put_record(number, record)?;
-    match put_all(alloc, state, puts, rest) {
-        Ok(()) => {
-            drop(before);
-            Ok(())
-        }
+    let room = make_room(alloc, state, puts)?;
+    match change_slip(alloc, state, slip, kept) {
+        Ok(()) => Ok(()),
         Err(e) => {
-            put_back(state, number, before);
+            take_out(state, room);
             Err(e)
         }
     }
 }
 
-/// Puts back what stood at a number before another record was put there. Takes no memory.
-#[tactic(auto, using(crate::proofs::Undo::record_taken_out, crate::proofs::Undo::record_put_over, crate::proofs::Undo::record_stands))]
-fn put_back(state: &mut State, number: u32, before: Option<Record>)
-    ensures { (m : Records) (r : Record) → state.old.records ≡ map.insert m number r → before ≡ map.get m number
-        → state.new ≡ record state.old { records = m } }
+/// Puts a blank record at each number that has none, and answers these numbers, the last first.
+#[tactic(auto, using(crate::proofs::Room::room_for_one_more))]
+fn make_room(
+    alloc: Global,
+    state: &mut State,
+    puts: &[Numbered],
+) -> Result<VecDeque<u32>, AllocError>
+    ensures ok { OnOk result (state.new ≡ record state.old { records = room.with_room state.old.records puts.now }) }
+    ensures back { IfOk result (λ blanks. specs.without state.new.records blanks.items ≡ state.old.records) }
+    ensures err { OnErr result (state.new ≡ state.old) }
 {
-    match before {
-        None => drop(state.remove_record(number)),
-        Some(old) => {
-            if let Ok(replaced) = state.put_record(number, old) {
-                drop(replaced);
-            }
+    let mut blanks = VecDeque::new(alloc);
+    'puts: for put in puts {
+        if let Err(e) = make_one(alloc, state, &mut blanks, put.number) {
+            take_out(state, blanks);
+            return Err(e);
+        }
+    }
+    Ok(blanks)
+}
+
+/// Puts a blank record at a number that has none, and the number before the others. At a refusal neither is done.
+fn make_one(
+    alloc: Global,
+    state: &mut State,
+    blanks: &mut VecDeque<u32>,
+    number: u32,
+) -> Result<(), AllocError>
+    ensures ok { OnOk result (state.new ≡ record state.old { records = room.with_blank state.old.records number }) }
+    ensures back { specs.without state.new.records blanks.new.items ≡ specs.without state.old.records blanks.old.items }
+    ensures err { OnErr result (state.new ≡ state.old) }
+{
+    if state.record(number).is_some() {
+        return Ok(());
+    }
+    drop(state.put_record(number, blank(alloc))?);
+    match blanks.push_front(number) {
+        Ok(()) => Ok(()),
+        Err(e) => {
+            drop(state.remove_record(number));
+            Err(e.into())
         }
     }
 }
 
-/// Makes all but the records that are put.
-fn finish(alloc: Global, state: &mut State, rest: Changes) -> Result<(), AllocError>
-    ensures ok { OnOk result (state.new ≡ specs.finished state.old rest) }
-    ensures err { OnErr result (state.new ≡ state.old) }
+/// A record that takes no memory of its own.
+fn blank(alloc: Global) -> Record
+    ensures { result ≡ room.blank }
 {
-    let Changes {
-        removals,
-        next,
-        kept,
-        slip,
-        ..
-    } = rest;
-    change_slip(alloc, state, slip, kept)?;
-    remove_all(state, removals.as_slice());
-    state.set_next(next);
-    Ok(())
+    Record::Person(Person {
+        names: Vec::new(alloc),
+        sex: None,
+        carried: Vec::new(alloc),
+    })
+}
+
+/// Takes the records of these numbers out, and gives the list back. Takes no memory.
+fn take_out(state: &mut State, numbers: VecDeque<u32>)
+    ensures { state.new ≡ record state.old { records = specs.without state.old.records numbers.items } }
+{
+    let mut numbers = numbers;
+    'numbers: while let Some(blank) = numbers.pop_front() {
+        drop(state.remove_record(blank));
+    }
+}
+
+/// Puts the records at their numbers, each of which has one. Takes no memory.
+fn put_all(state: &mut State, puts: Vec<Numbered>)
+    requires { EachOf (λ (p : Numbered). map.get state.now.records p.number ≢ None) puts.items }
+    ensures { state.new ≡ specs.with_all state.old puts.items }
+{
+    let mut puts = puts.into_iter();
+    'puts: while let Some(put) = puts.next() {
+        put_over(state, put);
+    }
+}
+
+/// Puts a record at its number, which has one. Takes no memory.
+fn put_over(state: &mut State, put: Numbered)
+    requires { map.get state.now.records put.number ≢ None }
+    ensures { state.new ≡ record state.old { records = map.insert state.old.records put.number put.«record» } }
+{
+    let Numbered { number, record } = put;
+    if let Ok(before) = state.put_record(number, record) {
+        drop(before);
+    }
 }
 
 /// Takes the records of these numbers out. Takes no memory.
 fn remove_all(state: &mut State, numbers: &[u32])
     ensures { state.new ≡ record state.old { records = specs.without state.old.records numbers.now } }
 {
-    if let [first, rest @ ..] = numbers {
-        drop(state.remove_record(*first));
-        remove_all(state, rest);
+    'numbers: for number in numbers {
+        drop(state.remove_record(*number));
     }
 }
 

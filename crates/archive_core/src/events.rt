@@ -1,18 +1,20 @@
 //! The commands on events.
 
-ghost use Rattle.std.specs.Prelude.{◌≡◌, [], IfOk, IfErr, false, option_map};
+ghost use Rattle.std.specs.Prelude.{◌≡◌, ◌↔◌, [], IfOk, IfErr, IsTrue, false, option_map};
 ghost use Rattle.std.specs.List.{list_any};
 ghost use Rattle.std.specs.Str.{bytes_eq};
 ghost use Rattle.archive_state.specs.Entries.{person_tags, family_tags};
 ghost use Rattle.archive_view.specs.Looks.{Agrees, CountsFailures, OnView, is_failure, is_stop};
 ghost use Rattle.record_kinds.specs.Model as model;
+ghost use Rattle.archive_state.specs.Sound.{IsSound};
 ghost use Rattle.archive_core.specs.Applied.{Plans};
 ghost use Rattle.archive_core.specs.Checks as checks;
+ghost use Rattle.archive_core.specs.Exact.{IsExact};
 ghost use Rattle.archive_core.specs.Steps as steps;
 
 use crate::families::check_person;
 use crate::looks::{Owner, date_in, event_at, owner_at, text_in};
-use crate::making::{creates, kept_if, replaces};
+use crate::making::{creates, kept_if, replaces, unchanged};
 use crate::places::check_place;
 use archive_state::Changes;
 use archive_view::View;
@@ -45,6 +47,8 @@ pub(crate) fn new_event<V: View>(
 ) -> Result<Changes, RefusalKind>
     ensures decides { OnView V.is_honest V.content view.old view.new
         (λ c. Plans c result (steps.new_event c owner tag.now value.now date.now place)) }
+    ensures exact { OnView V.is_honest V.content view.old view.new
+        (λ c. IfOk result (λ changes. IsSound c → IsExact c changes)) }
     ensures counts { CountsFailures (V.failed view.old) (V.failed view.new) result }
 {
     let tag = text_in(alloc, tag)?;
@@ -56,6 +60,7 @@ pub(crate) fn new_event<V: View>(
 }
 
 /// Another value, date or place of an event.
+#[tactic(auto, using(crate::proofs::Exactness::same_event))]
 pub(crate) fn amend_event<V: View>(
     alloc: Global,
     view: &mut V,
@@ -66,17 +71,24 @@ pub(crate) fn amend_event<V: View>(
 ) -> Result<Changes, RefusalKind>
     ensures decides { OnView V.is_honest V.content view.old view.new
         (λ c. Plans c result (steps.amend_event c number value.now date.now place)) }
+    ensures exact { OnView V.is_honest V.content view.old view.new
+        (λ c. IfOk result (λ changes. IsSound c → IsExact c changes)) }
     ensures counts { CountsFailures (V.failed view.old) (V.failed view.new) result }
 {
     let value = text_in(alloc, value)?;
     let date = date_in(alloc, date)?;
     let event = event_at(alloc, view, number)?;
     let event = kept_if(event, check_place(alloc, view, place))?;
+    if has_fields(&event, &value, &date, place) {
+        drop(event);
+        return unchanged(alloc, view);
+    }
     let event = with_fields(alloc, event, value, date, place);
     replaces(alloc, view, number, Record::Event(event))
 }
 
 /// A further participant of an event.
+
 pub(crate) fn add_participant<V: View>(
     alloc: Global,
     view: &mut V,
@@ -86,6 +98,8 @@ pub(crate) fn add_participant<V: View>(
 ) -> Result<Changes, RefusalKind>
     ensures decides { OnView V.is_honest V.content view.old view.new
         (λ c. Plans c result (steps.add_participant c number person role.now)) }
+    ensures exact { OnView V.is_honest V.content view.old view.new
+        (λ c. IfOk result (λ changes. IsSound c → IsExact c changes)) }
     ensures counts { CountsFailures (V.failed view.old) (V.failed view.new) result }
 {
     let role = text_in(alloc, role)?;
@@ -183,6 +197,42 @@ fn plain_place(alloc: Global, place: Option<u32>) -> Option<EventPlace>
             carried: Vec::new(alloc),
         }),
         None => None,
+    }
+}
+
+/// Whether the event has the fields that are given already.
+fn has_fields(event: &Event, value: &Text, date: &Option<Date>, place: Option<u32>) -> bool
+    ensures { IsTrue result ↔ (steps.with_fields value.now date.now place event.now ≡ event.now) }
+{
+    has_value(value, &event.value) && has_date(date, &event.date) && has_place(place, &event.place)
+}
+
+/// Whether no value is given, or the one that is there.
+fn has_value(value: &Text, old: &Text) -> bool
+    ensures { IsTrue result ↔ (steps.or_kept_text value.now old.now ≡ old.now) }
+{
+    value.as_str().is_empty() || value.as_str() == old.as_str()
+}
+
+/// Whether no date is given, or the one that is there.
+fn has_date(date: &Option<Date>, old: &Option<Date>) -> bool
+    ensures { IsTrue result ↔ (steps.or_kept_date date.now old.now ≡ old.now) }
+{
+    match (date, old) {
+        (None, _) => true,
+        (Some(date), Some(old)) => date.as_str() == old.as_str(),
+        (Some(_), None) => false,
+    }
+}
+
+/// Whether no place is given, or the one that is there.
+fn has_place(place: Option<u32>, old: &Option<EventPlace>) -> bool
+    ensures { IsTrue result ↔ (steps.or_kept_place place old.now ≡ old.now) }
+{
+    match (place, old) {
+        (None, _) => true,
+        (Some(place), Some(old)) => place == old.place,
+        (Some(_), None) => false,
     }
 }
 

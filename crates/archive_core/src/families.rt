@@ -4,8 +4,10 @@ ghost use Rattle.std.specs.Prelude.{◌≡◌, ◌++◌, ◌==◌, ◌||◌, [],
 ghost use Rattle.std.specs.List.{list_any};
 ghost use Rattle.archive_view.specs.Looks.{Agrees, CountsFailures, OnView, is_stop};
 ghost use Rattle.record_kinds.specs.Model as model;
+ghost use Rattle.archive_state.specs.Sound.{IsSound};
 ghost use Rattle.archive_core.specs.Applied.{Plans};
 ghost use Rattle.archive_core.specs.Checks as checks;
+ghost use Rattle.archive_core.specs.Exact.{IsExact};
 ghost use Rattle.archive_core.specs.Steps as steps;
 
 use crate::looks::{family_at, person_at};
@@ -24,6 +26,8 @@ pub(crate) fn new_family<V: View>(
 ) -> Result<Changes, RefusalKind>
     ensures decides { OnView V.is_honest V.content view.old view.new
         (λ c. Plans c result (steps.new_family c husband wife)) }
+    ensures exact { OnView V.is_honest V.content view.old view.new
+        (λ c. IfOk result (λ changes. IsSound c → IsExact c changes)) }
     ensures counts { CountsFailures (V.failed view.old) (V.failed view.new) result }
 {
     check_partner(alloc, view, husband)?;
@@ -36,6 +40,7 @@ pub(crate) fn new_family<V: View>(
 }
 
 /// A further child of a family.
+
 pub(crate) fn add_child<V: View>(
     alloc: Global,
     view: &mut V,
@@ -44,6 +49,8 @@ pub(crate) fn add_child<V: View>(
 ) -> Result<Changes, RefusalKind>
     ensures decides { OnView V.is_honest V.content view.old view.new
         (λ c. Plans c result (steps.add_child c number person)) }
+    ensures exact { OnView V.is_honest V.content view.old view.new
+        (λ c. IfOk result (λ changes. IsSound c → IsExact c changes)) }
     ensures counts { CountsFailures (V.failed view.old) (V.failed view.new) result }
 {
     let family = family_at(alloc, view, number)?;

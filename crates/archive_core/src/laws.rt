@@ -13,7 +13,7 @@ ghost use Rattle.archive_state.specs.Changes.{Changes};
 ghost use Rattle.archive_state.specs.Sound.{IsSound};
 ghost use Rattle.archive_core.specs.Applied.{Decides, applied};
 ghost use Rattle.archive_core.specs.Checks.{need, said_place_at};
-ghost use Rattle.archive_core.specs.Machine.{Does, Done, Draws, NoneAgain, Runs, outcome};
+ghost use Rattle.archive_core.specs.Machine.{Does, Done, Draws, Runs, UsesNoneAgain, outcome};
 ghost use Rattle.archive_core.specs.Steps.{step};
 ghost use Rattle.archive_core.specs.declared.request.Request.{Request};
 
@@ -33,16 +33,16 @@ pub fn a_receipt_is_kept_for_good()
         → Does c r o after → get c.receipts token ≡ Some kept → get after.receipts token ≡ Some kept }
 {}
 
-/// An accepted command is answered that it made nothing, and leaves the next number; or it is answered with the next
-/// number, which then rises by one.
-pub fn an_answer_has_the_next_number()
+/// An accepted command draws the numbers from the next one of before up to that of after, each for a record or a slip,
+/// and is answered with the first of them and their count; or with 0 and 0, where it makes nothing.
+pub fn an_answer_has_the_numbers_drawn()
     ensures { (c after : Content) (command : Command) (a : Answer) → step c command ≡ Ok (after, a) → Draws c a after }
 {}
 
-/// No number is used twice: over a run the next number does not fall, and a number below it at which no record stood
-/// gets none; so with slips.
+/// No number is used twice: over a run the next number does not fall, no slip is at a number below it where none was, and a
+/// number that is used up stays so.
 pub fn no_number_is_used_twice()
-    ensures { (dones : List Done) (c after : Content) → Runs c dones after → NoneAgain c after }
+    ensures { (dones : List Done) (c after : Content) → IsSound c → Runs c dones after → UsesNoneAgain c after }
 {}
 
 /// A request leaves a sound archive sound, accepted or refused.
@@ -72,4 +72,10 @@ pub fn a_said_place_has_a_part()
 pub fn a_run_goes_on_from_its_beginning()
     ensures { (first rest : List Done) (c after : Content) → Runs c (first ++ rest) after
         → (between : Content) × Runs c first between × Runs between rest after }
+{}
+
+/// What two runs did, one after the other, is a run.
+pub fn two_runs_are_one()
+    ensures { (first rest : List Done) (c between after : Content) → Runs c first between → Runs between rest after
+        → Runs c (first ++ rest) after }
 {}

@@ -1,18 +1,13 @@
 //! The machine: a request is done once, and is answered again by its token.
 
-ghost use Rattle.std.specs.Prelude.{◌≡◌, Some, IfErr, false};
+ghost use Rattle.std.specs.Prelude.{◌≡◌, Some, IfOk, IfErr, None, false};
 ghost use Rattle.std.specs.FinMap as map;
-ghost use Rattle.archive_view.specs.Looks.{Agrees, CountsFailures, OnView, is_failure, is_stop};
-ghost use Rattle.archive_core.specs.Applied.{Decides, Plans, leaves};
-ghost use Rattle.archive_core.specs.Machine.{
-  Does,
-  answered_again,
-  kept_under,
-  kinds,
-  outcome,
-  served,
-};
-ghost use Rattle.archive_core.specs.Steps.{step};
+ghost use Rattle.archive_view.specs.Looks.{CountsFailures, CountsStops, OnView, is_failure};
+ghost use Rattle.archive_state.specs.Sound.{IsSound};
+ghost use Rattle.archive_core.specs.Applied.{Decides, Plans};
+ghost use Rattle.archive_core.specs.Exact.{ChangesNothing, IsExact, IsExactFor};
+ghost use Rattle.archive_core.specs.Machine.{Does, answered_again, kept_under, outcome, served};
+ghost use Rattle.archive_core.specs.Steps.{row_step, step};
 
 use crate::applying::apply;
 use crate::events::{add_participant, amend_event, new_event};
@@ -54,17 +49,9 @@ fn decide_over(alloc: Global, state: &State, request: &Request) -> Result<Change
 pub fn decide<V: View>(alloc: Global, view: &mut V, request: &Request) -> Result<Changes, Refusal>
     ensures decides { OnView V.is_honest V.content view.old view.new
         (λ c. Decides c result (outcome c request.now)) }
-    ensures counts { CountsFailures (V.failed view.old) (V.failed view.new) (kinds result) }
-{
-    Ok(serve(alloc, view, request)?)
-}
-
-/// The same without the place of a refusal, which is none.
-fn serve<V: View>(alloc: Global, view: &mut V, request: &Request) -> Result<Changes, RefusalKind>
-    ensures decides { OnView V.is_honest V.content view.old view.new
-        (λ c. Agrees is_stop (leaves c result)
-        (served c request.now (map.get c.receipts request.now.token))) }
-    ensures counts { CountsFailures (V.failed view.old) (V.failed view.new) result }
+    ensures exact { OnView V.is_honest V.content view.old view.new
+        (λ c. IfOk result (IsExactFor c request.now)) }
+    ensures counts { CountsStops (V.failed view.old) (V.failed view.new) result }
 {
     let digest = command_digest(alloc, &request.command)?;
     match view.receipt(alloc, &request.token)? {
@@ -79,13 +66,15 @@ fn answer_again<V: View>(
     view: &mut V,
     receipt: &Receipt,
     digest: &[u8; 32],
-) -> Result<Changes, RefusalKind>
+) -> Result<Changes, Refusal>
     ensures decides { OnView V.is_honest V.content view.old view.new
-        (λ c. Agrees is_stop (leaves c result) (answered_again c digest.now receipt.now)) }
-    ensures counts { CountsFailures (V.failed view.old) (V.failed view.new) result }
+        (λ c. Decides c result (answered_again c digest.now receipt.now)) }
+    ensures exact { OnView V.is_honest V.content view.old view.new
+        (λ c. IfOk result (ChangesNothing c)) }
+    ensures counts { CountsStops (V.failed view.old) (V.failed view.new) result }
 {
     if receipt.digest.as_slice() != digest.as_slice() {
-        return Err(RefusalKind::TokenReused);
+        return Err(RefusalKind::TokenReused.into());
     }
     Ok(Changes {
         puts: Vec::new(alloc),
@@ -98,19 +87,25 @@ fn answer_again<V: View>(
 }
 
 /// What a command changes, with its answer to keep.
+#[tactic(auto, using(crate::proofs::Exactness::kept_is_exact))]
 fn decide_anew<V: View>(
     alloc: Global,
     view: &mut V,
     request: &Request,
     digest: [u8; 32],
-) -> Result<Changes, RefusalKind>
+) -> Result<Changes, Refusal>
     ensures decides { OnView V.is_honest V.content view.old view.new
-        (λ c. Agrees is_stop (leaves c result)
-        (kept_under «request».now.token digest (step c «request».now.command))) }
-    ensures counts { CountsFailures (V.failed view.old) (V.failed view.new) result }
+        (λ c. Decides c result (kept_under «request».now.token digest (step c «request».now.command))) }
+    ensures exact { OnView V.is_honest V.content view.old view.new
+        (λ c. IfOk result (λ changes. IsSound c → IsExact c changes)) }
+    ensures keeps { IfOk result (λ changes. changes.kept ≡ Some (record {
+      token = «request».now.token;
+      receipt = record { digest = digest; answer = changes.answer };
+    })) }
+    ensures counts { CountsStops (V.failed view.old) (V.failed view.new) result }
 {
     let token = request.token.copy(alloc)?;
-    let changes = decide_command(alloc, view, &request.command)?;
+    let changes = decide_row(alloc, view, &request.command)?;
     Ok(with_receipt(changes, token, digest))
 }
 
@@ -129,14 +124,16 @@ fn with_receipt(changes: Changes, token: Token, digest: [u8; 32]) -> Changes
     changes
 }
 
-/// What a command changes.
-fn decide_command<V: View>(
+/// What a command of one row changes.
+fn decide_row<V: View>(
     alloc: Global,
     view: &mut V,
     command: &Command,
 ) -> Result<Changes, RefusalKind>
     ensures decides { OnView V.is_honest V.content view.old view.new
-        (λ c. Plans c result (step c command.now)) }
+        (λ c. Plans c result (row_step c command.now)) }
+    ensures exact { OnView V.is_honest V.content view.old view.new
+        (λ c. IfOk result (λ changes. IsSound c → IsExact c changes)) }
     ensures counts { CountsFailures (V.failed view.old) (V.failed view.new) result }
 {
     match command {

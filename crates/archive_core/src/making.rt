@@ -1,9 +1,12 @@
 //! The changes of one record, and what goes into records.
 
-ghost use Rattle.std.specs.Prelude.{◌≡◌, ◌+◌, ◌∷◌, [], IfErr, IfOk, None, Err, Ok};
+ghost use Rattle.std.specs.Prelude.{◌≡◌, ◌≢◌, ◌+◌, ◌∷◌, [], IfErr, IfOk, None, Some, Err, Ok};
+ghost use Rattle.std.specs.FinMap as map;
+ghost use Rattle.archive_state.specs.Sound.{IsSound};
 ghost use Rattle.archive_view.specs.Looks.{Agrees, CountsFailures, OnView, is_stop};
 ghost use Rattle.archive_core.specs.Applied.{Plans};
 ghost use Rattle.archive_core.specs.Checks as checks;
+ghost use Rattle.archive_core.specs.Exact.{IsExact};
 ghost use Rattle.archive_core.specs.Steps as steps;
 
 use archive_state::{Answer, Changes, Numbered};
@@ -28,6 +31,7 @@ fn next_free<V: View>(alloc: Global, view: &mut V) -> Result<u32, RefusalKind>
 }
 
 /// A new record at the next number, where one is left.
+#[tactic(auto, using(crate::proofs::Exactness::new_is_exact))]
 pub(crate) fn creates<V: View>(
     alloc: Global,
     view: &mut V,
@@ -35,6 +39,8 @@ pub(crate) fn creates<V: View>(
 ) -> Result<Changes, RefusalKind>
     ensures decides { OnView V.is_honest V.content view.old view.new
         (λ c. Plans c result (steps.creates c value)) }
+    ensures exact { OnView V.is_honest V.content view.old view.new
+        (λ c. IfOk result (λ changes. IsSound c → IsExact c changes)) }
     ensures counts { CountsFailures (V.failed view.old) (V.failed view.new) result }
 {
     match next_free(alloc, view) {
@@ -63,7 +69,8 @@ fn put_new(alloc: Global, number: u32, value: Record) -> Result<Changes, AllocEr
     put(alloc, number, value, u64::from(number) + 1, answer)
 }
 
-/// Another record at a number.
+/// Another record at a number, where another one is.
+#[tactic(auto, using(crate::proofs::Exactness::one_is_exact))]
 pub(crate) fn replaces<V: View>(
     alloc: Global,
     view: &mut V,
@@ -72,6 +79,8 @@ pub(crate) fn replaces<V: View>(
 ) -> Result<Changes, RefusalKind>
     ensures decides { OnView V.is_honest V.content view.old view.new
         (λ c. Plans c result (steps.replaces c number value)) }
+    ensures exact { OnView V.is_honest V.content view.old view.new
+        (λ c. IfOk result (λ changes. map.get c.records number ≢ Some value → IsExact c changes)) }
     ensures counts { CountsFailures (V.failed view.old) (V.failed view.new) result }
 {
     match view.next(alloc) {
@@ -81,6 +90,26 @@ pub(crate) fn replaces<V: View>(
             Err(e)
         }
     }
+}
+
+/// Nothing, where what is asked for is there already.
+#[tactic(auto, using(crate::proofs::Exactness::none_is_exact))]
+pub(crate) fn unchanged<V: View>(alloc: Global, view: &mut V) -> Result<Changes, RefusalKind>
+    ensures decides { OnView V.is_honest V.content view.old view.new
+        (λ c. Plans c result (Ok (c, record { first = 0; count = 0 }))) }
+    ensures exact { OnView V.is_honest V.content view.old view.new
+        (λ c. IfOk result (IsExact c)) }
+    ensures counts { CountsFailures (V.failed view.old) (V.failed view.new) result }
+{
+    let next = view.next(alloc)?;
+    Ok(Changes {
+        puts: Vec::new(alloc),
+        removals: Vec::new(alloc),
+        next,
+        answer: NOTHING_MADE,
+        kept: None,
+        slip: None,
+    })
 }
 
 /// One record to put, and nothing else.

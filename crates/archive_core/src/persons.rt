@@ -1,12 +1,14 @@
 //! The commands on persons.
 
-ghost use Rattle.std.specs.Prelude.{◌≡◌, IfOk};
+ghost use Rattle.std.specs.Prelude.{◌≡◌, ◌↔◌, IfOk, IsTrue, Some};
 ghost use Rattle.archive_view.specs.Looks.{CountsFailures, OnView};
+ghost use Rattle.archive_state.specs.Sound.{IsSound};
 ghost use Rattle.archive_core.specs.Applied.{Plans};
+ghost use Rattle.archive_core.specs.Exact.{IsExact};
 ghost use Rattle.archive_core.specs.Steps as steps;
 
 use crate::looks::{person_at, text_in};
-use crate::making::{creates, one, replaces};
+use crate::making::{creates, one, replaces, unchanged};
 use archive_state::Changes;
 use archive_view::View;
 use commands::Field;
@@ -22,6 +24,8 @@ pub(crate) fn new_person<V: View>(
 ) -> Result<Changes, RefusalKind>
     ensures decides { OnView V.is_honest V.content view.old view.new
         (λ c. Plans c result (steps.new_person c name.now sex)) }
+    ensures exact { OnView V.is_honest V.content view.old view.new
+        (λ c. IfOk result (λ changes. IsSound c → IsExact c changes)) }
     ensures counts { CountsFailures (V.failed view.old) (V.failed view.new) result }
 {
     let name = text_in(alloc, name)?;
@@ -30,6 +34,7 @@ pub(crate) fn new_person<V: View>(
 }
 
 /// A further name of a person.
+#[tactic(auto, using(crate::proofs::Exactness::name_differs))]
 pub(crate) fn add_name<V: View>(
     alloc: Global,
     view: &mut V,
@@ -38,6 +43,8 @@ pub(crate) fn add_name<V: View>(
 ) -> Result<Changes, RefusalKind>
     ensures decides { OnView V.is_honest V.content view.old view.new
         (λ c. Plans c result (steps.add_name c number name.now)) }
+    ensures exact { OnView V.is_honest V.content view.old view.new
+        (λ c. IfOk result (λ changes. IsSound c → IsExact c changes)) }
     ensures counts { CountsFailures (V.failed view.old) (V.failed view.new) result }
 {
     let name = text_in(alloc, name)?;
@@ -47,6 +54,7 @@ pub(crate) fn add_name<V: View>(
 }
 
 /// The sex of a person.
+#[tactic(auto, using(crate::proofs::Exactness::sex_differs, crate::proofs::Exactness::same_person))]
 pub(crate) fn set_sex<V: View>(
     alloc: Global,
     view: &mut V,
@@ -55,11 +63,27 @@ pub(crate) fn set_sex<V: View>(
 ) -> Result<Changes, RefusalKind>
     ensures decides { OnView V.is_honest V.content view.old view.new
         (λ c. Plans c result (steps.set_sex c number sex)) }
+    ensures exact { OnView V.is_honest V.content view.old view.new
+        (λ c. IfOk result (λ changes. IsSound c → IsExact c changes)) }
     ensures counts { CountsFailures (V.failed view.old) (V.failed view.new) result }
 {
     let mut person = person_at(alloc, view, number)?;
+    if has_sex(&person, sex) {
+        drop(person);
+        return unchanged(alloc, view);
+    }
     person.sex = Some(sex);
     replaces(alloc, view, number, Record::Person(person))
+}
+
+/// Whether the person has that sex already.
+fn has_sex(person: &Person, sex: Sex) -> bool
+    ensures { IsTrue result ↔ (record person.now { sex = Some sex } ≡ person.now) }
+{
+    match person.sex {
+        Some(old) => old == sex,
+        None => false,
+    }
 }
 
 /// A name as a command gives it.

@@ -1,6 +1,7 @@
 -- What a call of a view does, and what is decided over a view.
-use Rattle.std.specs.Prelude.{ℕ, ◌≡◌, ◌+◌, ◌≤◌, Result, Ok, Err, Bool, true, false}
+use Rattle.std.specs.Prelude.{ℕ, ◌≡◌, ◌+◌, ◌≤◌, Result, Ok, Err, Bool, true, false, None}
 use Rattle.std.specs.Result.{IfErr}
+use Rattle.record_text.specs.declared.refusal.Refusal.{Refusal}
 use Rattle.record_text.specs.declared.refusal.RefusalKind.{RefusalKind}
 use Rattle.record_text.specs.declared.refusal.RefusalKind.TheVariants.{OutOfMemory, BadStored, Storage}
 use Rattle.devices.specs.Devices.{Rose}
@@ -22,6 +23,11 @@ is_stop _ = false
 -- the count does not fall, and has risen where a failure is answered
 abbrev pub CountsFailures : {A : Type 0} → ℕ → ℕ → Result A RefusalKind → Type 0
 CountsFailures before after r = (before ≤ after) × IfErr r (λ e. is_failure e ≡ true → Rose before after)
+
+-- the same of a refusal with its place; a stop has none
+abbrev pub CountsStops : {A : Type 0} → ℕ → ℕ → Result A Refusal → Type 0
+CountsStops before after r = (before ≤ after)
+    × IfErr r (λ e. (is_failure e.kind ≡ true → Rose before after) × (is_stop e.kind ≡ true → e.at ≡ None))
 
 -- the same of one call of a view, which counts one failure at the most
 abbrev pub CountsOne : {A : Type 0} → ℕ → ℕ → Result A RefusalKind → Type 0

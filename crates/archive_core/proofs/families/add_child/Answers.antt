@@ -1,0 +1,21 @@
+use Rattle.std.proofs.Common.{rules, ◌≡◌, ap, ◌∙◌}
+use Rattle.std.specs.Prelude.{Some}
+use Rattle.std.specs.FinMap.{get}
+use Rattle.record_kinds.specs.declared.record.Record.TheVariants as kind
+use Rattle.archive_state.specs.Content.{Content}
+use Rattle.archive_core.specs.Steps.{with_child}
+use Rattle.archive_core.proofs.Exactness.{child_differs, exact_if}
+use Rattle.archive_core.proofs.families.add_child.Goals as goal
+
+pub returns-clause-exact : goal.returns-clause-exact
+returns-clause-exact g c honest =
+    let made = c.replaces.ensures.exact honest in
+    let person = c.check_person.ensures.decides made.0 in
+    let family = c.in_ok-family.ensures.decides person.0 in
+    let before : Content = g.V.View.content c.args.view.now in
+    let new : c.in_ok-family-3.family ≡ with_child c.args.person c.in_ok-family.family = search rules in (
+      family.0,
+      made.1 ∙ person.1 ∙ family.1,
+      exact_if c.replaces.result before _ c.args.number (kind.Family c.in_ok-family-3.family) (person.1 ∙ family.1) made.2
+          (λ e. child_differs (get before.records c.args.number) c.in_ok-family.family c.args.person family.2 (e ∙ ap (λ x. Some (kind.Family x)) new)),
+    )
