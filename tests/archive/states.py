@@ -292,6 +292,14 @@ def through(how: str, asks: tuple[Ask, ...]) -> list[Ask]:
     return [Ask(f"{how}\t{asked.row}", asked.wanted) for asked in asks]
 
 
+def as_shown(asks: tuple[Ask, ...]) -> tuple[Ask, ...]:
+    """The same questions to what is shown, which has no receipts and no slips."""
+    return tuple(
+        Ask(asked.row, "none\n") if asked.row.startswith(("receipt\t", "slip\t")) else asked
+        for asked in asks
+    )
+
+
 def cases(scene: Scene):
     """The rows of one run: each change, the questions, and the same of what is shown."""
     yield from (Case(f"{scene.name}: {asked.row!r}", (asked,)) for asked in scene.changes)
@@ -299,7 +307,7 @@ def cases(scene: Scene):
     for how, asks in (("state", scene.asks), ("view", looks)):
         yield from named(scene, through(how, asks))
     yield Case(f"{scene.name}: shown", (change("", "show"),))
-    yield from named(scene, through("shown", looks))
+    yield from named(scene, through("shown", as_shown(looks)))
     yield from named(scene, through("state", NEW.asks))
 
 

@@ -19,13 +19,13 @@ impl Session {
         Session {
             lines: Vec::new(alloc),
             state: State::new(alloc),
-            shown: Shown::of_masked(State::new(alloc)),
+            shown: Shown::of_masked(alloc, State::new(alloc)),
         }
     }
 
     /// Shows the state; a new one takes its place.
     pub(crate) fn show(&mut self, alloc: Global) {
         let state = mem::replace(&mut self.state, State::new(alloc));
-        self.shown = Shown::of_masked(state);
+        self.shown = Shown::of_masked(alloc, state);
     }
 }

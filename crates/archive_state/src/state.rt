@@ -55,6 +55,26 @@ impl State {
         }
     }
 
+    /// The same records and the same next number, without receipts and slips. Takes no memory.
+    pub fn records_alone(self, alloc: Global) -> State
+        ensures { result ≡ record self { receipts = map.empty; slips = map.empty } }
+    {
+        let State {
+            records,
+            next,
+            receipts,
+            slips,
+        } = self;
+        drop(receipts);
+        drop(slips);
+        State {
+            records,
+            next,
+            receipts: BTreeMap::new(alloc),
+            slips: BTreeMap::new(alloc),
+        }
+    }
+
     /// The number that the next record or slip gets.
     pub fn next(&self) -> u64
         ensures { result ≡ self.now.next }

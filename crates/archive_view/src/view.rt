@@ -7,6 +7,7 @@ ghost use Rattle.archive_state.specs.Entries.{IsEntryAt};
 ghost use Rattle.archive_state.specs.Referrers.{referrers};
 ghost use Rattle.archive_view.specs.Looks.{Keeps, Looked, CountsOne};
 ghost use Rattle.archive_state.specs.Paths.{HasPath, IsLowest};
+ghost use Rattle.archive_view.specs.Shown.{content_of};
 
 use crate::shown::Shown;
 use archive_state::{Receipt, Slip, State, Token};
@@ -143,7 +144,7 @@ impl View for &State {
 }
 
 impl View for &Shown {
-    ghost content = { λ s. s.now };
+    ghost content = { λ s. content_of s.now };
 
     ghost is_honest = { λ s. ⊤ };
 
@@ -164,15 +165,12 @@ impl View for &Shown {
         Ok(shown.as_state().referrers(alloc, number)?)
     }
 
-    fn receipt(&mut self, _alloc: Global, token: &Token) -> Result<Option<Receipt>, RefusalKind> {
-        let shown: &Shown = *self;
-        Ok(shown.as_state().receipt(token).copied())
+    fn receipt(&mut self, _alloc: Global, _token: &Token) -> Result<Option<Receipt>, RefusalKind> {
+        Ok(None)
     }
 
-    fn slip(&mut self, alloc: Global, number: u32) -> Result<Option<Slip>, RefusalKind> {
-        let shown: &Shown = *self;
-        let mut state = shown.as_state();
-        View::slip(&mut state, alloc, number)
+    fn slip(&mut self, _alloc: Global, _number: u32) -> Result<Option<Slip>, RefusalKind> {
+        Ok(None)
     }
 
     fn next(&mut self, _alloc: Global) -> Result<u64, RefusalKind> {
