@@ -16,13 +16,13 @@ import sys
 
 sys.dont_write_bytecode = True
 
-from table import again, failing, order, reading, worked  # noqa: E402
+from table import again, failing, many, order, reading, worked  # noqa: E402
 from table.making import LAST  # noqa: E402
 
 ROOT = pathlib.Path(__file__).resolve().parents[2]
 PROGRAM = ROOT / "crates/request_rows/out/request_rows"
 SCENARIOS = [
-    scenario for part in (worked, reading, order, again, failing) for scenario in part.SCENARIOS
+    scenario for part in (worked, reading, order, again, failing, many) for scenario in part.SCENARIOS
 ]
 LIMIT = 50  # seconds for one scenario
 SHOWN = 100  # bytes of a text in a message

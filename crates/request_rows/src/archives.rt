@@ -3,7 +3,7 @@
 use crate::rows::{outcome_row, word};
 use crate::seeing::see;
 use archive_core::{Request, apply, decide, step};
-use archive_state::{Answer, Changes, State};
+use archive_state::{Answer, Changes, Numbered, State};
 use records::{Place, Record, Refusal, Text};
 use std::alloc::{AllocError, Global};
 
@@ -64,6 +64,50 @@ impl Archives {
         put_place(alloc, &mut self.stepped, number, name, parent)?;
         put_place(alloc, &mut self.decided, number, name, parent)
     }
+
+    /// Puts places of one name at the numbers from 1 on of both. A name that is no text is put nowhere.
+    pub(crate) fn put_places(
+        &mut self,
+        alloc: Global,
+        count: u32,
+        name: &str,
+    ) -> Result<(), AllocError> {
+        let Some(name) = Text::try_new(String::from_str(alloc, name)?) else {
+            return Ok(());
+        };
+        put_places(alloc, &mut self.stepped, count, &name)?;
+        put_places(alloc, &mut self.decided, count, &name)
+    }
+}
+
+/// Puts places of one name at the numbers from 1 on, by one change.
+fn put_places(alloc: Global, state: &mut State, count: u32, name: &Text) -> Result<(), AllocError> {
+    let mut puts = Vec::new(alloc);
+    for i in 0..count {
+        puts.push(numbered_place(alloc, i.saturating_add(1), name)?)?;
+    }
+    let changes = Changes {
+        puts,
+        removals: Vec::new(alloc),
+        next: u64::from(count) + 1,
+        answer: Answer { first: 1, count },
+        kept: None,
+        slip: None,
+    };
+    apply(alloc, state, changes)?;
+    Ok(())
+}
+
+fn numbered_place(alloc: Global, number: u32, name: &Text) -> Result<Numbered, AllocError> {
+    let place = Place {
+        name: name.copy(alloc)?,
+        parent: None,
+        carried: Vec::new(alloc),
+    };
+    Ok(Numbered {
+        number,
+        record: Record::Place(place),
+    })
 }
 
 fn decide_and_make(alloc: Global, state: &mut State, request: &Request) -> Result<Answer, Refusal> {

@@ -71,6 +71,7 @@ fn answer_question(
     match asked {
         "! set next" => set_next(alloc, archives, fields),
         "! place" => put_place(alloc, archives, fields),
+        "! places" => put_places(alloc, archives, fields),
         "! bytes" => bytes_rows(alloc, fields),
         _ => archives.see(alloc, asked, fields),
     }
@@ -106,6 +107,22 @@ fn put_place(
     };
     archives.put_place(alloc, at, name, parent.parse::<u32>().ok())?;
     archives.see(alloc, "! show", &[number])
+}
+
+/// Puts so many places of one name by one change, and shows the last.
+fn put_places(
+    alloc: Global,
+    archives: &mut Archives,
+    fields: &[&str],
+) -> Result<Vec<u8>, AllocError> {
+    let [count, name] = fields else {
+        return refused(alloc, "", RefusalKind::FieldCount);
+    };
+    let Ok(number) = count.parse::<u32>() else {
+        return refused(alloc, "", RefusalKind::BadRow);
+    };
+    archives.put_places(alloc, number, name)?;
+    archives.see(alloc, "! show", &[count])
 }
 
 /// The bytes of a command as a field, and in a second row their digest in hexadecimal.

@@ -96,6 +96,11 @@ def place(number: int, name: str, parent: int | str = "") -> Step:
     return given.encode(), row(0, "place", name, parent or "-").encode()
 
 
+def places(count: int, name: str) -> Step:
+    """Puts places at the numbers from 1 on by one change, and shows the last."""
+    return row("! places", count, name).encode(), row(0, "place", name, "-").encode()
+
+
 def shows(number: int, *lines: tuple[str | int, ...]) -> Step:
     """The stored lines of a record: depth, tag, text and number, with `-` for nothing."""
     wanted = "".join(row(*line) for line in lines) or "none\n"
