@@ -1,49 +1,46 @@
 -- Words that are taken name a command of the program.
-use Rattle.std.proofs.Common.{◌≡◌, ◌⊎◌, inl, inr, Bool, true, false, ◌&&◌, ◌||◌, not, cond, List, Option, Some, None, option_map, is_some, codes, refl}
-use Rattle.std.specs.List.{list_all, list_any}
+use Rattle.std.proofs.Common.{◌≡◌, ◌⊎◌, inl, inr, Bool, true, false, ◌&&◌, not, cond, List, [], ◌∷◌, Option, Some, None, option_map, is_some, codes, refl}
 use Rattle.std.specs.Prelude.{Box}
 use Rattle.std.specs.Box.{box_value}
-use Rattle.clap.specs.Facts.{explicit_source}
 use Rattle.clap.specs.Words.{subcommand_name_of}
-use Rattle.clap.specs.Walk.{Held, Names, Row, Text, finished, nothing_held, walk, walk_from}
-use Rattle.clap.specs.Simple.{App, Shape, argument_words, built, entered, is_simple, names_of, rows_at, subcommand_rows, subcommand_rows_of}
-use Rattle.clap.specs.Takes.{built_takes, default_passes, entered_passes, is_given, is_valid, level_passes, settle_passes, takes, walk_passes}
+use Rattle.clap.specs.Faults.{built_fault, check_fault, defaults_fault, entered_fault, fault_of, level_fault, settle_fault, walk_fault}
+use Rattle.clap.specs.Kinds.{Kinds, check_kinds, or_else}
+use Rattle.clap.specs.Walk.{Held, Names, Text, finished, nothing_held, settled, walk, walk_from}
+use Rattle.clap.specs.Simple.{App, Shape, argument_words, built, entered, names_of, rows_at, subcommand_rows, subcommand_rows_of}
 use Rattle.clap.specs.declared.parser.matches.ArgMatches.{ArgMatches}
 use Rattle.clap.specs.declared.parser.matches.ArgMatches.TheViews.{out-ArgMatches, out-SubCommand}
 use Rattle.clap.specs.declared.parser.matches.SubCommand.{SubCommand}
 use Rattle.command_line.specs.Commands.{command_named, program}
 
-both : (a b : Bool) → (a && b) ≡ true → (a ≡ true) × (b ≡ true)
-both true true h = (refl, refl)
-both true false h = absurd cc
-both false b h = absurd cc
+neither : (a b : Kinds) → or_else a b ≡ [] → (a ≡ []) × (b ≡ [])
+neither [] b h = (refl, h)
+neither (k ∷ ks) b h = absurd cc
 
-wanted : (required has : Bool) → required ≡ true → (not required || has) ≡ true → has ≡ true
-wanted true has r h = h
-wanted false has r h = absurd cc
+none_wanted : (a b c : Bool) → check_kinds a b c ≡ [] → b ≡ false
+none_wanted true b c h = absurd cc
+none_wanted false true c h = absurd cc
+none_wanted false false c h = refl
 
--- where a command wants a subcommand, words that it takes have one
-valid_has : (s : Shape) (rows : List Row) (has : Bool) → s.subcommand_required ≡ true → is_valid s rows has ≡ true → has ≡ true
-valid_has s rows has r h =
-    let helped = not s.arg_required_else_help || (has || list_any (λ r. explicit_source r.source) rows) in
-    let free = list_all (λ a. a.is_free) s.rules && ((s.subcommand_negates_reqs && has) || list_all (λ a. not a.required || is_given a.id rows) s.rules) in
-    let rest = (both helped ((not s.subcommand_required || has) && free) h).1 in
-    wanted s.subcommand_required has r ((both (not s.subcommand_required || has) free rest).0)
+there : (has required : Bool) → required ≡ true → (not has && required) ≡ false → has ≡ true
+there true required r h = refl
+there false required r h = absurd cc
 
-level_has : (s : Shape) (names : Names) (held : Held) (words : List Text) (has : Bool) → s.subcommand_required ≡ true → level_passes s names held words has ≡ true → has ≡ true
-level_has s names held words has r h =
+-- where a command wants a subcommand, words without a fault have one
+level_has : (s : Shape) (names : Names) (held : Held) (words : List Text) (has : Bool) (below : Kinds) → s.subcommand_required ≡ true → level_fault s names held words has below ≡ [] → has ≡ true
+level_has s names held words has below r h =
     let end = (walk s.rules names held words).held in
-    let settled = settle_passes s.rules s.args_override_self end in
-    let valid = is_valid s (finished s.rules end) has in
-    let behind = (both (walk_passes s names (walk_from held) words) (settled && (list_all default_passes s.rules && valid)) h).1 in
-    let last = (both settled (list_all default_passes s.rules && valid) behind).1 in
-    valid_has s (finished s.rules end) has r ((both (list_all default_passes s.rules) valid last).1)
+    let rows = finished s.rules end in
+    let check = check_fault s rows has in
+    let defaults = defaults_fault (settled s.rules end).rows s.rules in
+    let settle = settle_fault s.rules s.args_override_self end in
+    let behind = (neither (walk_fault s names (walk_from held) words) (or_else below (or_else settle (or_else defaults check))) h).1 in
+    let last = (neither settle (or_else defaults check) (neither below (or_else settle (or_else defaults check)) behind).1).1 in
+    there has s.subcommand_required r (none_wanted _ (not has && s.subcommand_required) _ (neither defaults check last).1)
 
-built_has : (a : App) (held : Held) (words : List Text) → a.top.subcommand_required ≡ true → built_takes a held words ≡ true → is_some (entered a (walk a.top.rules (names_of a) held words).stopped) ≡ true
+built_has : (a : App) (held : Held) (words : List Text) → a.top.subcommand_required ≡ true → built_fault a held words ≡ [] → is_some (entered a (walk a.top.rules (names_of a) held words).stopped) ≡ true
 built_has a held words r h =
     let stop = (walk a.top.rules (names_of a) held words).stopped in
-    let has = is_some (entered a stop) in
-    level_has a.top (names_of a) held words has r ((both (entered_passes a stop) (level_passes a.top (names_of a) held words has) h).1)
+    level_has a.top (names_of a) held words (is_some (entered a stop)) (entered_fault a stop) r h
 
 -- the one of two subcommands that is entered
 one_of : (b c : Bool) (s t : Shape) (words : List Text) → is_some (option_map (λ (x : Shape). rows_at x words) (cond b (Some s) (cond c (Some t) None))) ≡ true → (option_map (λ f. f.0) (option_map (λ (x : Shape). rows_at x words) (cond b (Some s) (cond c (Some t) None))) ≡ Some s.name) ⊎ (option_map (λ f. f.0) (option_map (λ (x : Shape). rows_at x words) (cond b (Some s) (cond c (Some t) None))) ≡ Some t.name)
@@ -56,12 +53,11 @@ entered_one None h = absurd cc
 entered_one (Some p) h = one_of _ _ _ _ p.1 h
 
 -- words that are taken name `norm` or `check`
-pub taken_names : (words : List Text) → takes program words ≡ true → (command_named words ≡ Some (codes "norm")) ⊎ (command_named words ≡ Some (codes "check"))
+pub taken_names : (words : List Text) → fault_of program words ≡ [] → (command_named words ≡ Some (codes "norm")) ⊎ (command_named words ≡ Some (codes "check"))
 taken_names words h =
     let a = built program in
     let ws = argument_words program words in
-    let passes = (both (is_simple program) (built_takes a nothing_held ws) h).1 in
-    entered_one (walk a.top.rules (names_of a) nothing_held ws).stopped (built_has a nothing_held ws refl passes)
+    entered_one (walk a.top.rules (names_of a) nothing_held ws).stopped (built_has a nothing_held ws refl h)
 
 -- the name of the subcommand that was found is that of its rows
 same_name : {Z : Type 0} (o : Option (Box SubCommand Z)) → option_map (λ b. (out-SubCommand (box_value b)).name.now) o ≡ option_map (λ p. p.0) (subcommand_rows o)

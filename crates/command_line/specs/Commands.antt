@@ -1,6 +1,6 @@
 -- The commands of the program, and which of them a command line names, by the grammar of `clap`.
 use Rattle.std.specs.Prelude.{◌≡◌, List, [], Option, Some, None, IfSome, IsSome, MatchResult, Result, true, codes, option_map}
-use Rattle.clap.specs.Words.{App, Text, subcommand_of, takes, with_subcommand}
+use Rattle.clap.specs.Words.{App, Text, fault_of, subcommand_of, with_subcommand}
 use Rattle.clap.specs.Simple.{new_shape}
 use Rattle.command_line.specs.declared.reading.Asked.{Asked}
 use Rattle.command_line.specs.declared.reading.Asked.TheVariants.{Norm, Check}
@@ -32,13 +32,13 @@ name_of Norm = Some (codes "norm")
 name_of Check = Some (codes "check")
 name_of _ = None
 
--- work is asked for only by words that name its command
-abbrev pub Asks : List Text → Asked → Type 0
-Asks words asked = IfSome (name_of asked) (λ name. command_named words ≡ Some name)
-
--- the words are those of a command, with nothing that it does not take
+-- the words are those of a command, with nothing that it does not take: the grammar has no fault to find in them
 abbrev pub IsTaken : List Text → Type 0
-IsTaken words = takes program words ≡ true
+IsTaken words = fault_of program words ≡ []
+
+-- work is asked for only by words that are taken, and that name its command
+abbrev pub Asks : List Text → Asked → Type 0
+Asks words asked = IfSome (name_of asked) (λ name. IsTaken words × (command_named words ≡ Some name))
 
 -- work is asked for, unless memory is wanting
 abbrev pub AsksForWork : Result Asked Refused → Type 0

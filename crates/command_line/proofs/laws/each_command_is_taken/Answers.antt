@@ -1,14 +1,14 @@
-use Rattle.std.proofs.Common.{◌≡◌, [], ◌∷◌, codes, true, refl}
-use Rattle.clap.specs.Words.{Text, takes}
+use Rattle.std.proofs.Common.{◌≡◌, [], ◌∷◌, codes, refl}
+use Rattle.clap.specs.Words.{Text, fault_of}
 use Rattle.clap.proofs.OnLiterals.{clap_on_literals}
 use Rattle.command_line.specs.Commands.{program}
 use Rattle.command_line.proofs.laws.each_command_is_taken.Goals as goal
 
-norm_taken : (name : Text) → takes program (name ∷ codes "norm" ∷ []) ≡ true
+norm_taken : (name : Text) → fault_of program (name ∷ codes "norm" ∷ []) ≡ []
 unfolding clap_on_literals
 norm_taken name = refl
 
-check_taken : (name : Text) → takes program (name ∷ codes "check" ∷ []) ≡ true
+check_taken : (name : Text) → fault_of program (name ∷ codes "check" ∷ []) ≡ []
 unfolding clap_on_literals
 check_taken name = refl
 
