@@ -1,22 +1,33 @@
 -- How a command ends.
-use Rattle.std.specs.Prelude.{◌⊎◌, ◌++◌, ◌∷◌, [], ℕ, List, Option, IfSome, codes}
+use Rattle.std.specs.Prelude.{◌≡◌, ◌⊎◌, ◌++◌, ◌∷◌, ◌≤◌, [], ℕ, List, Option, Some, IfSome, codes}
 use Rattle.std.specs.Fmt.{decimal}
 use Rattle.std.specs.Io.KnownBytes.{Appends, Keeps}
+use Rattle.command_line.specs.Commands.{IsTaken, command_named}
 use Rattle.devices.specs.Devices.{AppendsBeginning}
+use Rattle.gedcom_rules.specs.Faults.{Fault}
 use Rattle.gedcom_tree.specs.File.{ReadsFile}
 use Rattle.gedcom_tree.specs.Forest.{Item}
+use Rattle.gedcom_tree.specs.Streams.{Begun, Normalised, NotRead, NotWritten}
 use Rattle.gedcom_tree.specs.Text.{record_count, text}
 
--- of the text of the forest that the bytes are, the writer got a beginning
-pub record Begun (known old new : Option (List ℕ)) : Type 0 where
-  pub forest : List Item
-  pub read : IfSome known (λ b. ReadsFile b forest)
-  pub written : AppendsBeginning old new (text forest)
+-- the words are those of this command, with nothing that it does not take
+abbrev pub AreOf : List (List ℕ) → List ℕ → Type 0
+AreOf words name = IsTaken words × (command_named words ≡ Some name)
 
--- nothing was written, or a beginning of the text of the forest
-abbrev pub Unfinished : Option (List ℕ) → Option (List ℕ) → Option (List ℕ) → Type 0
-Unfinished known old new = Keeps old new ⊎ Begun known old new
+-- ---- norm
+-- why it was not done: no forest was read, and nothing is written; or a beginning of its text is. The first type says that
+-- the reader failed in this call, the second that the writer did
+abbrev pub Unfinished : Option (List ℕ) → Option (List ℕ) → Option (List ℕ) → Type 0 → Type 0 → Fault → Type 0
+Unfinished known old new ReaderFailed WriterFailed f =
+    (NotRead known ReaderFailed f × Keeps old new) ⊎ Begun known old new WriterFailed f
 
+-- 0 where the output has got the canonical text of the forest that the input is, 1 where there is a reason why not
+pub record NormEnds (status : ℕ) (known old new : Option (List ℕ)) (ReaderFailed WriterFailed : Type 0) : Type 0 where
+  pub bound : status ≤ 1
+  pub done : status ≡ 0 → Normalised known old new
+  pub refused : status ≡ 1 → (f : Fault) × Unfinished known old new ReaderFailed WriterFailed f
+
+-- ---- check
 -- how many records a forest has, as it is told
 abbrev pub count_text : List Item → List ℕ
 count_text f = codes "ok: " ++ (decimal (record_count f) ++ (codes " records" ++ 10 ∷ []))
@@ -28,11 +39,19 @@ pub record Told (known old new : Option (List ℕ)) : Type 0 where
   pub written : Appends old new (count_text forest)
 
 -- of what is told of the forest that the bytes are, the writer got a beginning
-pub record Telling (known old new : Option (List ℕ)) : Type 0 where
+pub record Telling (known old new : Option (List ℕ)) (Failed : Type 0) (f : Fault) : Type 0 where
   pub forest : List Item
   pub read : IfSome known (λ b. ReadsFile b forest)
+  pub why : NotWritten Failed f
   pub written : AppendsBeginning old new (count_text forest)
 
--- nothing was written, or a beginning of what is told
-abbrev pub Untold : Option (List ℕ) → Option (List ℕ) → Option (List ℕ) → Type 0
-Untold known old new = Keeps old new ⊎ Telling known old new
+-- why it was not done: no forest was read, and nothing is written; or a beginning of what is told
+abbrev pub Untold : Option (List ℕ) → Option (List ℕ) → Option (List ℕ) → Type 0 → Type 0 → Fault → Type 0
+Untold known old new ReaderFailed WriterFailed f =
+    (NotRead known ReaderFailed f × Keeps old new) ⊎ Telling known old new WriterFailed f
+
+-- 0 where the records of the forest that the input is were told, 1 where there is a reason why not
+pub record CheckEnds (status : ℕ) (known old new : Option (List ℕ)) (ReaderFailed WriterFailed : Type 0) : Type 0 where
+  pub bound : status ≤ 1
+  pub done : status ≡ 0 → Told known old new
+  pub refused : status ≡ 1 → (f : Fault) × Untold known old new ReaderFailed WriterFailed f

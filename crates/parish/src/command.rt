@@ -1,11 +1,13 @@
 //! What a command line does, over any streams, and its exit status.
 
-ghost use Rattle.std.specs.Prelude.{◌≡◌, ◌≢◌, ◌≤◌, if◌then◌else◌, is_ok, OnOk, OnErr};
+ghost use Rattle.std.specs.Prelude.{◌≡◌, ◌≢◌, ◌≤◌, if◌then◌else◌, is_ok, codes, map, string_bytes, IfErr, OnOk, OnErr};
 ghost use Rattle.std.specs.Io.KnownBytes.{Appends};
 ghost use Rattle.std.specs.IoError.{error_kind};
-ghost use Rattle.devices.specs.Devices.{AppendsBeginning};
-ghost use Rattle.gedcom_tree.specs.Streams.{Normalised};
-ghost use Rattle.parish.specs.Ends.{Told, Unfinished, Untold};
+ghost use Rattle.command_line.specs.Commands.{IsTaken};
+ghost use Rattle.devices.specs.Devices.{AppendsBeginning, Rose};
+ghost use Rattle.gedcom_rules.specs.Views.{fault_view};
+ghost use Rattle.gedcom_tree.specs.Streams.{NotWritten};
+ghost use Rattle.parish.specs.Ends.{AreOf, CheckEnds, NormEnds, Told, Untold};
 
 use command_line::{Asked, Refused, read_words};
 use gedcom_tree::{
@@ -41,6 +43,7 @@ const WRITE_FAILED: TreeFault = TreeFault {
 ///
 /// Results go to `output`, a refusal goes to `faults` as one line. Where `faults` fails too, the
 /// status tells alone. Where the words are refused nothing is read, and nothing written elsewhere.
+/// Words that are taken are never refused: what they name is done, with 0, or 1 and a reason.
 pub fn command<R: Read + Device, W: Write + Device, F: Write + Device>(
     alloc: Global,
     words: &[String],
@@ -51,6 +54,13 @@ pub fn command<R: Read + Device, W: Write + Device, F: Write + Device>(
     ensures status { result ≤ 2 }
     ensures done { result ≡ 0 → faults.new ≡ faults.old }
     ensures words { result ≡ 2 → (input.new ≡ input.old) × (output.new ≡ output.old) }
+    ensures norm { AreOf (map string_bytes words.now) (codes "norm") → NormEnds result (R.remaining input.old)
+        (W.contents output.old) (W.contents output.new)
+        (Rose (R.failed input.old) (R.failed input.new)) (Rose (W.failed output.old) (W.failed output.new)) }
+    ensures check { AreOf (map string_bytes words.now) (codes "check") → CheckEnds result (R.remaining input.old)
+        (W.contents output.old) (W.contents output.new)
+        (Rose (R.failed input.old) (R.failed input.new)) (Rose (W.failed output.old) (W.failed output.new)) }
+    ensures others { ¬ (IsTaken (map string_bytes words.now)) → input.new ≡ input.old }
 {
     match read_words(alloc, words) {
         Ok(Asked::Norm) => norm(alloc, input, output, faults),
@@ -68,12 +78,10 @@ pub fn norm<R: Read + Device, W: Write + Device, F: Write + Device>(
     output: &mut W,
     faults: &mut F,
 ) -> u8
-    ensures status { result ≤ 1 }
+    ensures ends { NormEnds result (R.remaining input.old)
+        (W.contents output.old) (W.contents output.new)
+        (Rose (R.failed input.old) (R.failed input.new)) (Rose (W.failed output.old) (W.failed output.new)) }
     ensures done { result ≡ 0 → faults.new ≡ faults.old }
-    ensures written { result ≡ 0 → Normalised (R.remaining input.old)
-        (W.contents output.old) (W.contents output.new) }
-    ensures refused { result ≡ 1 → Unfinished (R.remaining input.old)
-        (W.contents output.old) (W.contents output.new) }
 {
     status_of(normalise(alloc, input, output), faults)
 }
@@ -85,17 +93,16 @@ pub fn check<R: Read + Device, W: Write + Device, F: Write + Device>(
     output: &mut W,
     faults: &mut F,
 ) -> u8
-    ensures status { result ≤ 1 }
+    ensures ends { CheckEnds result (R.remaining input.old)
+        (W.contents output.old) (W.contents output.new)
+        (Rose (R.failed input.old) (R.failed input.new)) (Rose (W.failed output.old) (W.failed output.new)) }
     ensures done { result ≡ 0 → faults.new ≡ faults.old }
-    ensures counted { result ≡ 0 → Told (R.remaining input.old)
-        (W.contents output.old) (W.contents output.new) }
-    ensures refused { result ≡ 1 → Untold (R.remaining input.old)
-        (W.contents output.old) (W.contents output.new) }
 {
     status_of(count_records(alloc, input, output), faults)
 }
 
 /// Reads a whole file, and writes how many records it has.
+#[tactic(auto, using(crate::proofs::Ending::keeps))]
 fn count_records<R: Read + Device, W: Write + Device>(
     alloc: Global,
     input: &mut R,
@@ -103,10 +110,14 @@ fn count_records<R: Read + Device, W: Write + Device>(
 ) -> Result<(), TreeFault>
     ensures ok { OnOk result (Told (R.remaining input.old)
         (W.contents output.old) (W.contents output.new)) }
-    ensures err { OnErr result (Untold (R.remaining input.old)
-        (W.contents output.old) (W.contents output.new)) }
+    ensures err { IfErr result (λ f. Untold (R.remaining input.old)
+        (W.contents output.old) (W.contents output.new)
+        (Rose (R.failed input.old) (R.failed input.new)) (Rose (W.failed output.old) (W.failed output.new)) (fault_view f)) }
 {
-    let forest = read_forest(alloc, input)?;
+    let forest = match read_forest(alloc, input) {
+        Ok(forest) => forest,
+        Err(fault) => return Err(fault),
+    };
     let records = forest.record_count();
     let line = format!(in alloc; "ok: {records} records\n")?;
     match show(output, &line) {
@@ -140,6 +151,7 @@ fn show<W: Write + Device>(output: &mut W, text: &str) -> Result<(), TreeFault>
         (Appends (W.contents output.old) (W.contents output.new) text.now) }
     ensures err { OnErr result
         (AppendsBeginning (W.contents output.old) (W.contents output.new) text.now) }
+    ensures why { IfErr result (λ f. NotWritten (Rose (W.failed output.old) (W.failed output.new)) (fault_view f)) }
 {
     let before = output.failures();
     match write_bytes(output, before, text.as_bytes()) {

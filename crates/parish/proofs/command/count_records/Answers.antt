@@ -5,5 +5,10 @@ use Rattle.parish.proofs.command.count_records.Goals as goal
 
 pub returns-clause-err : goal.returns-clause-err
 returns-clause-err g c =
-    let told : c.deref.result.now ≡ count_text c.in_ok-forest.forest = search rules in
-    inr (record { forest = c.in_ok-forest.forest; read = c.in_ok-forest.ensures.read; written = subst (AppendsBeginning (g.W.Write.contents c.args.output.now) (g.W.Write.contents c.show.new.output)) told c.in-Err.ensures.err })
+    let told : c.deref.result.now ≡ count_text c.in-Ok.forest = search rules in
+    inr (record {
+      forest = c.in-Ok.forest;
+      read = c.in-Ok.ensures.read;
+      why = c.in-Err-show.ensures.why;
+      written = subst (AppendsBeginning (g.W.Write.contents c.args.output.now) (g.W.Write.contents c.show.new.output)) told c.in-Err-show.ensures.err;
+    })
