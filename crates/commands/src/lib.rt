@@ -5,8 +5,9 @@
 //! and on `csv` and `sha2` of the kit. What a command does to an archive is for `archive_core` to say.
 //!
 //! Callers may rely on: a row is read as one command, or refused for one reason, and the row of a command is read as
-//! that command; the bytes of a command are its verb and its fields as one row of CSV, and its digest is
-//! their SHA-256; no row, batch of entries or import has the bytes of another; a date is kept in canonical spelling, so that two spellings of one date are one command.
+//! that command; the bytes of a command are its verb and its fields as one row of CSV, and its digest is their
+//! SHA-256; no row, batch of entries or import has the bytes of another; a date is kept in canonical spelling, so that
+//! two spellings of one date are one command.
 #![tactic(auto)]
 
 mod batch;
