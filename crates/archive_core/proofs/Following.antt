@@ -13,6 +13,8 @@ use Rattle.archive_state.specs.Sound.{IsSound}
 use Rattle.commands.specs.Rows.{and_then}
 use Rattle.commands.specs.declared.command.Command.{Command}
 use Rattle.commands.specs.declared.command.Command.TheVariants as command
+use Rattle.commands.specs.declared.row_command.RowCommand.{RowCommand}
+use Rattle.commands.specs.declared.row_command.RowCommand.TheVariants as row_command
 use Rattle.archive_core.specs.Checks.{text_in, date_in, person_at, family_at, event_at, owner_at, place_at, tag_in, event_tag, is_tag_of, is_said, said_place_at, passed, each, need}
 use Rattle.archive_core.specs.Steps.{RowStep, placed, row_step, step, creates, replaces, plain_person, plain_partners, plain_place, with_name, with_child, with_fields, with_participant, is_same, is_partner, is_child}
 use Rattle.archive_core.specs.Machine.{Draws, UsesNoneAgain}
@@ -139,29 +141,29 @@ event_tag_found c owner place t tag e =
     (o.0, o.1, maybe_place c place p.0 p.1, tag_found o.0 t tag p.2)
 
 -- ---- each command
-row_follows : (c : Content) (k : Command) → Follows c (row_step c k)
-row_follows c (command.Person name sex) =
+row_follows : (c : Content) (k : RowCommand) → Follows c (row_step c k)
+row_follows c (row_command.Person name sex) =
     then_follows c (text_in name) _ (λ t e. creates_follows c (kind.Person (plain_person t sex)) (new_person_fits c t sex))
-row_follows c (command.Name person name) =
+row_follows c (row_command.Name person name) =
     then_follows c (text_in name) _ (λ t e. then_follows c (person_at c person) _ (λ p found.
     let at : get c.records person ≡ Some (kind.Person p) = person_found (get c.records person) p found in
     replaces_follows c person (kind.Person p) (kind.Person (with_name t p)) at (λ sound. add_name_fits c person p t sound at)))
-row_follows c (command.Sex person sex) =
+row_follows c (row_command.Sex person sex) =
     then_follows c (person_at c person) _ (λ p found.
     let at : get c.records person ≡ Some (kind.Person p) = person_found (get c.records person) p found in
     replaces_follows c person (kind.Person p) (kind.Person (record p { sex = Some sex })) at (λ sound. set_sex_fits c person p (Some sex) sound at))
-row_follows c (command.Family husband wife) =
+row_follows c (row_command.Family husband wife) =
     let family : model.Family = record { partners = plain_partners husband wife; children = []; carried = [] } in
     then_follows c (passed (each (person_at c) husband)) _ (λ h first. then_follows c (passed (each (person_at c) wife)) _ (λ w second.
     need_follows c (not (is_same husband wife)) SamePerson _ (λ other. creates_follows c (kind.Family family)
     (λ sound. new_family_fits c husband wife sound (maybe_person c husband h first) (maybe_person c wife w second) (not_true (is_same husband wife) other)))))
-row_follows c (command.Child family person) =
+row_follows c (row_command.Child family person) =
     then_follows c (family_at c family) _ (λ f found. then_follows c (passed (person_at c person)) _ (λ u there.
     need_follows c (not (is_partner person f || is_child person f)) AlreadyInFamily _ (λ other.
     let at : get c.records family ≡ Some (kind.Family f) = family_found (get c.records family) f found in
     replaces_follows c family (kind.Family f) (kind.Family (with_child person f)) at
     (λ sound. add_child_fits c family f person sound at (one_person c person u there) (not_true (is_partner person f || is_child person f) other)))))
-row_follows c (command.Event owner tag value date place) =
+row_follows c (row_command.Event owner tag value date place) =
     then_follows c (text_in tag) _ (λ t i. then_follows c (text_in value) _ (λ v j. then_follows c (each date_in date) _ (λ d k.
     then_follows c (event_tag c owner place t) _ (λ is found.
     let event : model.Event = record {
@@ -177,13 +179,13 @@ row_follows c (command.Event owner tag value date place) =
     let holder = owner_found (get c.records owner) one.0 one.1 in
     creates_follows c (kind.Event event)
     (λ sound. new_event_fits c owner one.0 holder.0 is v d place sound holder.1 holder.2 holder.3 one.3 one.2)))))
-row_follows c (command.Amend event value date place) =
+row_follows c (row_command.Amend event value date place) =
     then_follows c (text_in value) _ (λ v i. then_follows c (each date_in date) _ (λ d j. then_follows c (event_at c event) _ (λ e found.
     then_follows c (passed (each (said_place_at c) place)) _ (λ u there.
     let at : get c.records event ≡ Some (kind.Event e) = event_found (get c.records event) e found in
     replaces_follows c event (kind.Event e) (kind.Event (with_fields v d place e)) at
     (λ sound. amend_event_fits c event e v d place sound at (maybe_place c place u there))))))
-row_follows c (command.Participant event person role) =
+row_follows c (row_command.Participant event person role) =
     then_follows c (text_in role) _ (λ r i. then_follows c (event_at c event) _ (λ e found. then_follows c (passed (person_at c person)) _ (λ u there.
     let at : get c.records event ≡ Some (kind.Event e) = event_found (get c.records event) e found in
     replaces_follows c event (kind.Event e) (kind.Event (with_participant person r e)) at
@@ -195,4 +197,4 @@ placed_follows c place (Ok done) h = h
 placed_follows c place (Err e) h = tt
 
 pub step_follows : (c : Content) (k : Command) → Follows c (step c k)
-step_follows c k = placed_follows c None (row_step c k) (row_follows c k)
+step_follows c (command.Row row) = placed_follows c None (row_step c row) (row_follows c row)

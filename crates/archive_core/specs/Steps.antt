@@ -19,6 +19,8 @@ use Rattle.commands.specs.Given.{GivenDate}
 use Rattle.commands.specs.Rows.{and_then}
 use Rattle.commands.specs.declared.command.Command.{Command}
 use Rattle.commands.specs.declared.command.Command.TheVariants as command
+use Rattle.commands.specs.declared.row_command.RowCommand.{RowCommand}
+use Rattle.commands.specs.declared.row_command.RowCommand.TheVariants as row_command
 use Rattle.archive_core.specs.Checks.{need, passed, each, text_in, date_in, person_at, family_at, event_at, event_tag, said_place_at, next_free}
 
 -- what an accepted command leaves, and its answer; or its refusal, with the place of it
@@ -177,16 +179,15 @@ add_participant c n person role =
     and_then (passed (person_at c person)) (λ _.
     replaces c n (kind.Event (with_participant person r e)))))
 
-abbrev pub row_step : Content → Command → RowStep
-row_step c (command.Person name sex) = new_person c name sex
-row_step c (command.Name person name) = add_name c person name
-row_step c (command.Sex person sex) = set_sex c person sex
-row_step c (command.Family husband wife) = new_family c husband wife
-row_step c (command.Child family person) = add_child c family person
-row_step c (command.Event owner tag value date place) = new_event c owner tag value date place
-row_step c (command.Amend event value date place) = amend_event c event value date place
-row_step c (command.Participant event person role) = add_participant c event person role
+abbrev pub row_step : Content → RowCommand → RowStep
+row_step c (row_command.Person name sex) = new_person c name sex
+row_step c (row_command.Name person name) = add_name c person name
+row_step c (row_command.Sex person sex) = set_sex c person sex
+row_step c (row_command.Family husband wife) = new_family c husband wife
+row_step c (row_command.Child family person) = add_child c family person
+row_step c (row_command.Event owner tag value date place) = new_event c owner tag value date place
+row_step c (row_command.Amend event value date place) = amend_event c event value date place
+row_step c (row_command.Participant event person role) = add_participant c event person role
 
--- a command of one row
 abbrev pub step : Content → Command → Step
-step c command = placed None (row_step c command)
+step c (command.Row row) = placed None (row_step c row)

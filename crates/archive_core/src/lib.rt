@@ -20,6 +20,6 @@ mod places;
 mod request;
 
 pub use applying::apply;
-pub use commands::{Command, Field, GivenDate};
+pub use commands::{Command, Field, GivenDate, RowCommand};
 pub use machine::{decide, step};
 pub use request::Request;

@@ -16,7 +16,7 @@ use crate::persons::{add_name, new_person, set_sex};
 use crate::request::Request;
 use archive_state::{Answer, Changes, Kept, Receipt, State, Token};
 use archive_view::View;
-use commands::{Command, command_digest};
+use commands::{Command, RowCommand, command_digest};
 use records::{Refusal, RefusalKind};
 use std::alloc::Global;
 
@@ -105,7 +105,8 @@ fn decide_anew<V: View>(
     ensures counts { CountsStops (V.failed view.old) (V.failed view.new) result }
 {
     let token = request.token.copy(alloc)?;
-    let changes = decide_row(alloc, view, &request.command)?;
+    let Command::Row(row) = &request.command;
+    let changes = decide_row(alloc, view, row)?;
     Ok(with_receipt(changes, token, digest))
 }
 
@@ -128,34 +129,34 @@ fn with_receipt(changes: Changes, token: Token, digest: [u8; 32]) -> Changes
 fn decide_row<V: View>(
     alloc: Global,
     view: &mut V,
-    command: &Command,
+    row: &RowCommand,
 ) -> Result<Changes, RefusalKind>
     ensures decides { OnView V.is_honest V.content view.old view.new
-        (λ c. Plans c result (row_step c command.now)) }
+        (λ c. Plans c result (row_step c row.now)) }
     ensures exact { OnView V.is_honest V.content view.old view.new
         (λ c. IfOk result (λ changes. IsSound c → IsExact c changes)) }
     ensures counts { CountsFailures (V.failed view.old) (V.failed view.new) result }
 {
-    match command {
-        Command::Person { name, sex } => new_person(alloc, view, name, *sex),
-        Command::Name { person, name } => add_name(alloc, view, *person, name),
-        Command::Sex { person, sex } => set_sex(alloc, view, *person, *sex),
-        Command::Family { husband, wife } => new_family(alloc, view, *husband, *wife),
-        Command::Child { family, person } => add_child(alloc, view, *family, *person),
-        Command::Event {
+    match row {
+        RowCommand::Person { name, sex } => new_person(alloc, view, name, *sex),
+        RowCommand::Name { person, name } => add_name(alloc, view, *person, name),
+        RowCommand::Sex { person, sex } => set_sex(alloc, view, *person, *sex),
+        RowCommand::Family { husband, wife } => new_family(alloc, view, *husband, *wife),
+        RowCommand::Child { family, person } => add_child(alloc, view, *family, *person),
+        RowCommand::Event {
             owner,
             tag,
             value,
             date,
             place,
         } => new_event(alloc, view, *owner, tag, value, date, *place),
-        Command::Amend {
+        RowCommand::Amend {
             event,
             value,
             date,
             place,
         } => amend_event(alloc, view, *event, value, date, *place),
-        Command::Participant {
+        RowCommand::Participant {
             event,
             person,
             role,

@@ -2,7 +2,7 @@
 use Rattle.std.specs.Prelude.{◌≡◌, ◌<◌, ◌≤◌, ◌^◌, ◌++◌, ℕ, List, [], ◌∷◌, length, Option, Some, None, Result, Ok, refl, decimal}
 use Rattle.std.proofs.Common.{ap, sym, ◌∙◌, arith}
 use Rattle.std.proofs.lemmas.Fmt.{decimal_is_IsNumeral}
-use Rattle.csv.specs.Machine.{Read, next_record}
+use Rattle.csv.specs.Machine.{next_record}
 use Rattle.csv.specs.Reading.{default_config}
 use Rattle.csv.specs.declared.parser.State.TheVariants as st
 use Rattle.csv.proofs.RoundTrip.{read-write-many}
@@ -12,14 +12,15 @@ use Rattle.record_fields.specs.Words.{sex_word}
 use Rattle.record_fields.specs.declared.words.Sex.{Sex}
 use Rattle.record_fields.specs.declared.words.Sex.TheVariants as sex
 use Rattle.record_fields.proofs.Worded.{sex_back}
-use Rattle.commands.specs.Bytes.{bytes_of, or_empty, row_of, spelt}
+use Rattle.csv.specs.Writing.{default_writer, row_text}
+use Rattle.commands.specs.Bytes.{or_empty, row_of, spelt}
 use Rattle.commands.specs.Dated.{given_of}
 use Rattle.commands.specs.Given.{GivenDate, Gives}
 use Rattle.commands.specs.Rows.{Reads, and_then, number_in, ok_or, or_none, read_fields, read_row, sex_in}
-use Rattle.commands.specs.Sound.{IsDate, IsNumber, IsSound, WhereSome}
+use Rattle.commands.specs.Sound.{IsDate, IsNumber, IsSoundRow, WhereSome}
 use Rattle.commands.specs.Verbs.{verb_of, verb_word}
-use Rattle.commands.specs.declared.command.Command.{Command}
-use Rattle.commands.specs.declared.command.Command.TheVariants as command
+use Rattle.commands.specs.declared.row_command.RowCommand.{RowCommand}
+use Rattle.commands.specs.declared.row_command.RowCommand.TheVariants as row_command
 use Rattle.commands.specs.declared.verb.Verb.{Verb}
 use Rattle.commands.specs.declared.verb.Verb.TheVariants as verb
 use Rattle.commands.proofs.Dated.{gives_of, one_given}
@@ -53,78 +54,68 @@ date-again None h = one_given [] (given_of []) None (gives_of []) refl
 date-again (Some g) h = one_given g.spelling (given_of g.spelling) (Some g) (gives_of g.spelling) (h.some, h, h.written)
 
 -- ---- verbs
-verb-back : (v : Verb) → verb_of (verb_word v) ≡ Some v
+pub verb_back : (v : Verb) → verb_of (verb_word v) ≡ Some v
 unfolding verb_of
-verb-back verb.Person = refl
-verb-back verb.Name = refl
-verb-back verb.Sex = refl
-verb-back verb.Family = refl
-verb-back verb.Child = refl
-verb-back verb.Event = refl
-verb-back verb.Amend = refl
-verb-back verb.Participant = refl
+verb_back verb.Person = refl
+verb_back verb.Name = refl
+verb_back verb.Sex = refl
+verb_back verb.Family = refl
+verb_back verb.Child = refl
+verb_back verb.Event = refl
+verb_back verb.Amend = refl
+verb_back verb.Participant = refl
 
 by-verb : (v : Verb) (fields : List (List ℕ)) → read_row given_of (verb_word v ∷ fields) ≡ read_fields given_of v fields
-by-verb v fields = rw (verb-back v) refl
+by-verb v fields = rw (verb_back v) refl
 
 -- ---- rows
-row-again : (c : Command) → IsSound c → read_row given_of (row_of c) ≡ Ok c
-row-again (command.Person name sex) h = by-verb verb.Person (name ∷ or_empty sex_word sex ∷ []) ∙ rw (sex-or-none sex) refl
-row-again (command.Name person name) h = by-verb verb.Name (decimal person ∷ name ∷ []) ∙ rw (number_back person h.0 h.1) refl
-row-again (command.Sex person sex) h = by-verb verb.Sex (decimal person ∷ sex_word sex ∷ []) ∙ rw (number_back person h.0 h.1, sex-again sex) refl
-row-again (command.Family husband wife) h =
+row-again : (c : RowCommand) → IsSoundRow c → read_row given_of (row_of c) ≡ Ok c
+row-again (row_command.Person name sex) h = by-verb verb.Person (name ∷ or_empty sex_word sex ∷ []) ∙ rw (sex-or-none sex) refl
+row-again (row_command.Name person name) h = by-verb verb.Name (decimal person ∷ name ∷ []) ∙ rw (number_back person h.0 h.1) refl
+row-again (row_command.Sex person sex) h = by-verb verb.Sex (decimal person ∷ sex_word sex ∷ []) ∙ rw (number_back person h.0 h.1, sex-again sex) refl
+row-again (row_command.Family husband wife) h =
     by-verb verb.Family (or_empty decimal husband ∷ or_empty decimal wife ∷ []) ∙ rw (number-or-none husband h.0, number-or-none wife h.1) refl
-row-again (command.Child family person) h =
+row-again (row_command.Child family person) h =
     by-verb verb.Child (decimal family ∷ decimal person ∷ []) ∙ rw (number_back family h.0.0 h.0.1, number_back person h.1.0 h.1.1) refl
-row-again (command.Event owner tag value date place) h =
+row-again (row_command.Event owner tag value date place) h =
     by-verb verb.Event (decimal owner ∷ tag ∷ value ∷ or_empty spelt date ∷ or_empty decimal place ∷ [])
     ∙ rw (number_back owner h.0.0 h.0.1, number-or-none place h.2, date-again date h.1) refl
-row-again (command.Amend event value date place) h =
+row-again (row_command.Amend event value date place) h =
     by-verb verb.Amend (decimal event ∷ value ∷ or_empty spelt date ∷ or_empty decimal place ∷ [])
     ∙ rw (number_back event h.0.0 h.0.1, number-or-none place h.2, date-again date h.1) refl
-row-again (command.Participant event person role) h =
+row-again (row_command.Participant event person role) h =
     by-verb verb.Participant (decimal event ∷ decimal person ∷ role ∷ []) ∙ rw (number_back event h.0.0 h.0.1, number_back person h.1.0 h.1.1) refl
 
-pub row_back : (c : Command) → IsSound c → Reads (row_of c) (Ok c)
+pub row_back : (c : RowCommand) → IsSoundRow c → Reads (row_of c) (Ok c)
 row_back c h = is_reading (row_of c) (Ok c) (sym (row-again c h))
 
 -- ---- outcomes
-pub some_outcome : (row : List (List ℕ)) → (r : Result Command RefusalKind) × Reads row r
+pub some_outcome : (row : List (List ℕ)) → (r : Result RowCommand RefusalKind) × Reads row r
 some_outcome row = (read_row given_of row, is_reading row (read_row given_of row) refl)
 
 -- dates are read in one way
 same-dates : (g h : List ℕ → Option GivenDate) → ((words : List ℕ) → Gives words (g words)) → ((words : List ℕ) → Gives words (h words)) → g ≡ h
 same-dates g h x y = λ i words. one_given words (g words) (h words) (x words) (y words) i
 
-pub one_outcome : (row : List (List ℕ)) (r s : Result Command RefusalKind) → Reads row r → Reads row s → r ≡ s
+pub one_outcome : (row : List (List ℕ)) (r s : Result RowCommand RefusalKind) → Reads row r → Reads row s → r ≡ s
 one_outcome row r s x y = x.2 ∙ ap (λ g. read_row g row) (same-dates x.0 y.0 x.1 y.1) ∙ sym y.2
 
 -- ---- bytes
-pub bytes_back : (c : Command) (rest : List ℕ) → next_record default_config st.StartRecord [] [] (bytes_of c ++ rest) ≡ Some (row_of c, st.StartRecord, rest)
-bytes_back (command.Person name sex) rest = read-write-many (verb_word verb.Person) name (or_empty sex_word sex ∷ []) rest
-bytes_back (command.Name person name) rest = read-write-many (verb_word verb.Name) (decimal person) (name ∷ []) rest
-bytes_back (command.Sex person sex) rest = read-write-many (verb_word verb.Sex) (decimal person) (sex_word sex ∷ []) rest
-bytes_back (command.Family husband wife) rest = read-write-many (verb_word verb.Family) (or_empty decimal husband) (or_empty decimal wife ∷ []) rest
-bytes_back (command.Child family person) rest = read-write-many (verb_word verb.Child) (decimal family) (decimal person ∷ []) rest
-bytes_back (command.Event owner tag value date place) rest =
+pub bytes_back : (c : RowCommand) (rest : List ℕ) → next_record default_config st.StartRecord [] [] (row_text default_writer (row_of c) ++ rest) ≡ Some (row_of c, st.StartRecord, rest)
+bytes_back (row_command.Person name sex) rest = read-write-many (verb_word verb.Person) name (or_empty sex_word sex ∷ []) rest
+bytes_back (row_command.Name person name) rest = read-write-many (verb_word verb.Name) (decimal person) (name ∷ []) rest
+bytes_back (row_command.Sex person sex) rest = read-write-many (verb_word verb.Sex) (decimal person) (sex_word sex ∷ []) rest
+bytes_back (row_command.Family husband wife) rest = read-write-many (verb_word verb.Family) (or_empty decimal husband) (or_empty decimal wife ∷ []) rest
+bytes_back (row_command.Child family person) rest = read-write-many (verb_word verb.Child) (decimal family) (decimal person ∷ []) rest
+bytes_back (row_command.Event owner tag value date place) rest =
     read-write-many (verb_word verb.Event) (decimal owner) (tag ∷ value ∷ or_empty spelt date ∷ or_empty decimal place ∷ []) rest
-bytes_back (command.Amend event value date place) rest =
+bytes_back (row_command.Amend event value date place) rest =
     read-write-many (verb_word verb.Amend) (decimal event) (value ∷ or_empty spelt date ∷ or_empty decimal place ∷ []) rest
-bytes_back (command.Participant event person role) rest =
+bytes_back (row_command.Participant event person role) rest =
     read-write-many (verb_word verb.Participant) (decimal event) (decimal person ∷ role ∷ []) rest
 
-abbrev first-row : Option Read → List (List ℕ)
-first-row None = []
-first-row (Some p) = p.0
-
-same-rows : (c d : Command) → bytes_of c ≡ bytes_of d → row_of c ≡ row_of d
-same-rows c d e =
-    ap first-row (sym (bytes_back c []))
-    ∙ ap (λ (bytes : List ℕ). first-row (next_record default_config st.StartRecord [] [] (bytes ++ []))) e
-    ∙ ap first-row (bytes_back d [])
-
-pub one_command : (c d : Command) → IsSound c → IsSound d → bytes_of c ≡ bytes_of d → c ≡ d
-one_command c d x y e =
-    let same : ◌≡◌ {A = Result Command RefusalKind} (Ok c) (Ok d) =
-    sym (row-again c x) ∙ ap (read_row given_of) (same-rows c d e) ∙ row-again d y in
+-- row commands of one row are one
+pub one_row : (c d : RowCommand) → IsSoundRow c → IsSoundRow d → row_of c ≡ row_of d → c ≡ d
+one_row c d x y e =
+    let same : ◌≡◌ {A = Result RowCommand RefusalKind} (Ok c) (Ok d) = sym (row-again c x) ∙ ap (read_row given_of) e ∙ row-again d y in
     cc

@@ -9,10 +9,10 @@ use Rattle.record_text.specs.declared.refusal.RefusalKind.{RefusalKind}
 use Rattle.record_text.specs.declared.refusal.RefusalKind.TheVariants.{BadRow, UnknownVerb}
 use Rattle.commands.specs.Given.{GivenDate, Gives}
 use Rattle.commands.specs.Rows.{Reads, and_then, is_number, number_in, ok_or, or_none, read_fields, read_row, sex_in}
-use Rattle.commands.specs.Sound.{IsDate, IsNumber, IsSound, WhereSome}
+use Rattle.commands.specs.Sound.{IsDate, IsNumber, IsSoundRow, WhereSome}
 use Rattle.commands.specs.Verbs.{verb_of}
-use Rattle.commands.specs.declared.command.Command.{Command}
-use Rattle.commands.specs.declared.command.Command.TheVariants as command
+use Rattle.commands.specs.declared.row_command.RowCommand.{RowCommand}
+use Rattle.commands.specs.declared.row_command.RowCommand.TheVariants as row_command
 use Rattle.commands.specs.declared.verb.Verb.{Verb}
 use Rattle.commands.specs.declared.verb.Verb.TheVariants as verb
 
@@ -44,50 +44,50 @@ date-sound words None h = tt
 date-sound words (Some g) h = h.1
 
 -- ---- rows
-then-sound : {A : Type 0} (r : Result A RefusalKind) (P : A → Type 0) (f : A → Result Command RefusalKind) (c : Command)
-    → ((a : A) → r ≡ Ok a → P a) → ((a : A) → P a → f a ≡ Ok c → IsSound c) → and_then r f ≡ Ok c → IsSound c
+then-sound : {A : Type 0} (r : Result A RefusalKind) (P : A → Type 0) (f : A → Result RowCommand RefusalKind) (c : RowCommand)
+    → ((a : A) → r ≡ Ok a → P a) → ((a : A) → P a → f a ≡ Ok c → IsSoundRow c) → and_then r f ≡ Ok c → IsSoundRow c
 then-sound (Ok a) P f c h k e = k a (h a refl) e
 then-sound (Err x) P f c h k e = absurd cc
 
-is-that : (d c : Command) → ◌≡◌ {A = Result Command RefusalKind} (Ok d) (Ok c) → IsSound d → IsSound c
-is-that d c e h = subst IsSound (ok-is d c e) h
+is-that : (d c : RowCommand) → ◌≡◌ {A = Result RowCommand RefusalKind} (Ok d) (Ok c) → IsSoundRow d → IsSoundRow c
+is-that d c e h = subst IsSoundRow (ok-is d c e) h
 
-fields-sound : (given : List ℕ → Option GivenDate) (v : Verb) (fields : List (List ℕ)) (c : Command)
-    → ((words : List ℕ) → WhereSome IsDate (given words)) → read_fields given v fields ≡ Ok c → IsSound c
+fields-sound : (given : List ℕ → Option GivenDate) (v : Verb) (fields : List (List ℕ)) (c : RowCommand)
+    → ((words : List ℕ) → WhereSome IsDate (given words)) → read_fields given v fields ≡ Ok c → IsSoundRow c
 fields-sound given verb.Person (name ∷ sex ∷ []) c dates e =
-    then-sound (or_none sex_in sex) (λ s. Unit {0}) (λ s. Ok (command.Person name s)) c (λ s h. tt) (λ s h. λ same. is-that (command.Person name s) c same tt) e
+    then-sound (or_none sex_in sex) (λ s. Unit {0}) (λ s. Ok (row_command.Person name s)) c (λ s h. tt) (λ s h. λ same. is-that (row_command.Person name s) c same tt) e
 fields-sound given verb.Name (person ∷ name ∷ []) c dates e =
-    then-sound (number_in person) IsNumber (λ p. Ok (command.Name p name)) c (number-in person) (λ p h same. is-that (command.Name p name) c same h) e
+    then-sound (number_in person) IsNumber (λ p. Ok (row_command.Name p name)) c (number-in person) (λ p h same. is-that (row_command.Name p name) c same h) e
 fields-sound given verb.Sex (person ∷ sex ∷ []) c dates e =
-    then-sound (number_in person) IsNumber (λ p. and_then (sex_in sex) (λ s. Ok (command.Sex p s))) c (number-in person)
-    (λ p h. then-sound (sex_in sex) (λ s. Unit {0}) (λ s. Ok (command.Sex p s)) c (λ s i. tt) (λ s i same. is-that (command.Sex p s) c same h)) e
+    then-sound (number_in person) IsNumber (λ p. and_then (sex_in sex) (λ s. Ok (row_command.Sex p s))) c (number-in person)
+    (λ p h. then-sound (sex_in sex) (λ s. Unit {0}) (λ s. Ok (row_command.Sex p s)) c (λ s i. tt) (λ s i same. is-that (row_command.Sex p s) c same h)) e
 fields-sound given verb.Family (husband ∷ wife ∷ []) c dates e =
-    then-sound (or_none number_in husband) (WhereSome IsNumber) (λ h. and_then (or_none number_in wife) (λ w. Ok (command.Family h w))) c (number-or-none husband)
-    (λ h x. then-sound (or_none number_in wife) (WhereSome IsNumber) (λ w. Ok (command.Family h w)) c (number-or-none wife)
-    (λ w y same. is-that (command.Family h w) c same (x, y))) e
+    then-sound (or_none number_in husband) (WhereSome IsNumber) (λ h. and_then (or_none number_in wife) (λ w. Ok (row_command.Family h w))) c (number-or-none husband)
+    (λ h x. then-sound (or_none number_in wife) (WhereSome IsNumber) (λ w. Ok (row_command.Family h w)) c (number-or-none wife)
+    (λ w y same. is-that (row_command.Family h w) c same (x, y))) e
 fields-sound given verb.Child (family ∷ person ∷ []) c dates e =
-    then-sound (number_in family) IsNumber (λ f. and_then (number_in person) (λ p. Ok (command.Child f p))) c (number-in family)
-    (λ f x. then-sound (number_in person) IsNumber (λ p. Ok (command.Child f p)) c (number-in person)
-    (λ p y same. is-that (command.Child f p) c same (x, y))) e
+    then-sound (number_in family) IsNumber (λ f. and_then (number_in person) (λ p. Ok (row_command.Child f p))) c (number-in family)
+    (λ f x. then-sound (number_in person) IsNumber (λ p. Ok (row_command.Child f p)) c (number-in person)
+    (λ p y same. is-that (row_command.Child f p) c same (x, y))) e
 fields-sound given verb.Event (owner ∷ tag ∷ value ∷ date ∷ place ∷ []) c dates e =
-    then-sound (number_in owner) IsNumber (λ o. and_then (or_none number_in place) (λ p. Ok (command.Event o tag value (given date) p))) c (number-in owner)
-    (λ o x. then-sound (or_none number_in place) (WhereSome IsNumber) (λ p. Ok (command.Event o tag value (given date) p)) c (number-or-none place)
-    (λ p y same. is-that (command.Event o tag value (given date) p) c same (x, dates date, y))) e
+    then-sound (number_in owner) IsNumber (λ o. and_then (or_none number_in place) (λ p. Ok (row_command.Event o tag value (given date) p))) c (number-in owner)
+    (λ o x. then-sound (or_none number_in place) (WhereSome IsNumber) (λ p. Ok (row_command.Event o tag value (given date) p)) c (number-or-none place)
+    (λ p y same. is-that (row_command.Event o tag value (given date) p) c same (x, dates date, y))) e
 fields-sound given verb.Amend (event ∷ value ∷ date ∷ place ∷ []) c dates e =
-    then-sound (number_in event) IsNumber (λ v. and_then (or_none number_in place) (λ p. Ok (command.Amend v value (given date) p))) c (number-in event)
-    (λ v x. then-sound (or_none number_in place) (WhereSome IsNumber) (λ p. Ok (command.Amend v value (given date) p)) c (number-or-none place)
-    (λ p y same. is-that (command.Amend v value (given date) p) c same (x, dates date, y))) e
+    then-sound (number_in event) IsNumber (λ v. and_then (or_none number_in place) (λ p. Ok (row_command.Amend v value (given date) p))) c (number-in event)
+    (λ v x. then-sound (or_none number_in place) (WhereSome IsNumber) (λ p. Ok (row_command.Amend v value (given date) p)) c (number-or-none place)
+    (λ p y same. is-that (row_command.Amend v value (given date) p) c same (x, dates date, y))) e
 fields-sound given verb.Participant (event ∷ person ∷ role ∷ []) c dates e =
-    then-sound (number_in event) IsNumber (λ v. and_then (number_in person) (λ p. Ok (command.Participant v p role))) c (number-in event)
-    (λ v x. then-sound (number_in person) IsNumber (λ p. Ok (command.Participant v p role)) c (number-in person)
-    (λ p y same. is-that (command.Participant v p role) c same (x, y))) e
+    then-sound (number_in event) IsNumber (λ v. and_then (number_in person) (λ p. Ok (row_command.Participant v p role))) c (number-in event)
+    (λ v x. then-sound (number_in person) IsNumber (λ p. Ok (row_command.Participant v p role)) c (number-in person)
+    (λ p y same. is-that (row_command.Participant v p role) c same (x, y))) e
 fields-sound given _ _ c dates e = absurd cc
 
-row-sound : (given : List ℕ → Option GivenDate) (row : List (List ℕ)) (c : Command)
-    → ((words : List ℕ) → WhereSome IsDate (given words)) → read_row given row ≡ Ok c → IsSound c
+row-sound : (given : List ℕ → Option GivenDate) (row : List (List ℕ)) (c : RowCommand)
+    → ((words : List ℕ) → WhereSome IsDate (given words)) → read_row given row ≡ Ok c → IsSoundRow c
 row-sound given [] c dates e = absurd cc
 row-sound given (word ∷ fields) c dates e =
     then-sound (ok_or UnknownVerb (verb_of word)) (λ v. Unit {0}) (λ v. read_fields given v fields) c (λ v h. tt) (λ v h same. fields-sound given v fields c dates same) e
 
-pub read_sound : (row : List (List ℕ)) (c : Command) → Reads row (Ok c) → IsSound c
+pub read_sound : (row : List (List ℕ)) (c : RowCommand) → Reads row (Ok c) → IsSoundRow c
 read_sound row c x = row-sound x.0 row c (λ words. date-sound words (x.0 words) (x.1 words)) (sym x.2)

@@ -3,3 +3,4 @@ pub mod Dated
 pub mod Heard
 pub mod Numbers
 pub mod Outcomes
+pub mod Wordings

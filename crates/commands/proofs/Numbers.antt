@@ -80,11 +80,14 @@ number_unparsed field r e h digits is =
     number-bad field (outside (list_all is_ascii_digit field) (length field) v k)
 
 -- ---- what the decimal of a number is read as
+pub decimal_digits : (n : ℕ) → n ≤ 4294967295 → list_all is_ascii_digit (decimal n) ≡ true
+decimal_digits n h = let small : n < 2 ^ 64 = omega arith in sym (all-digits (decimal n)) ∙ digits_decimal own n small
+
 pub number_back : (n : ℕ) → 1 ≤ n → n ≤ 4294967295 → number_in (decimal n) ≡ Ok n
 number_back n l h =
     let small : n < 2 ^ 64 = omega arith in
     let field : List ℕ = decimal n in
-    let digits : list_all is_ascii_digit (decimal n) ≡ true = sym (all-digits (decimal n)) ∙ digits_decimal own n small in
+    let digits : list_all is_ascii_digit (decimal n) ≡ true = decimal_digits n h in
     let value : digits_value 10 (decimal n) ≡ n = digits_value-decimal own n small in
     let short : length (decimal n) ≤ 10 = length-decimal-le 10 n (omega arith) (omega arith) small in
     let some : 1 ≤ length (decimal n) = (decimal_is_IsNumeral n small).0.0 in

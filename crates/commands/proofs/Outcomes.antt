@@ -6,19 +6,19 @@ use Rattle.record_text.specs.declared.refusal.RefusalKind.TheVariants.{UnknownVe
 use Rattle.commands.specs.Dated.{given_of}
 use Rattle.commands.specs.Rows.{Decided, Reads, and_then, ok_or, read_fields, read_row}
 use Rattle.commands.specs.Verbs.{verb_of}
-use Rattle.commands.specs.declared.command.Command.{Command}
+use Rattle.commands.specs.declared.row_command.RowCommand.{RowCommand}
 use Rattle.commands.specs.declared.verb.Verb.{Verb}
 use Rattle.commands.proofs.Dated.{gives_of}
 
 -- what is computed of a row is what it is read as
-pub is_reading : (row : List (List ℕ)) (r : Result Command RefusalKind) → r ≡ read_row given_of row → Reads row r
+pub is_reading : (row : List (List ℕ)) (r : Result RowCommand RefusalKind) → r ≡ read_row given_of row → Reads row r
 is_reading row r e = (given_of, gives_of, e)
 
 by-verb : (word : List ℕ) (fields : List (List ℕ)) (o : Option Verb) → verb_of word ≡ o
     → read_row given_of (word ∷ fields) ≡ and_then (ok_or UnknownVerb o) (λ v. read_fields given_of v fields)
 by-verb word fields o e = ap (λ (x : Option Verb). and_then (ok_or UnknownVerb x) (λ v. read_fields given_of v fields)) e
 
-pub read_by_verb : (word : List ℕ) (fields : List (List ℕ)) (v : Verb) (r : Result Command RefusalKind) → Some v ≡ verb_of word
+pub read_by_verb : (word : List ℕ) (fields : List (List ℕ)) (v : Verb) (r : Result RowCommand RefusalKind) → Some v ≡ verb_of word
     → Decided r (λ x. x ≡ read_fields given_of v fields) → Decided r (Reads (word ∷ fields))
 read_by_verb word fields v (Ok c) e h = is_reading (word ∷ fields) (Ok c) (h ∙ sym (by-verb word fields (Some v) (sym e)))
 read_by_verb word fields v (Err k) e h = λ w. is_reading (word ∷ fields) (Err k) (h w ∙ sym (by-verb word fields (Some v) (sym e)))

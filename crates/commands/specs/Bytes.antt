@@ -1,6 +1,7 @@
--- The bytes of a command, of which a digest is kept under the token: its verb and its fields as one row of CSV (RFC 4180,
--- section 2) as the default writer writes it, and their SHA-256 (FIPS 180-4). A rule of our own.
-use Rattle.std.specs.Prelude.{ℕ, List, [], ◌∷◌, Option, Some, None, decimal}
+-- The bytes of a command, of which a digest is kept under the token: rows of CSV (RFC 4180, section 2) as the default
+-- writer writes them, and their SHA-256 (FIPS 180-4). A rule of our own.
+use Rattle.std.specs.Prelude.{ℕ, List, [], ◌∷◌, ◌++◌, codes, Option, Some, None, decimal}
+use Rattle.std.specs.List.{flat_map}
 use Rattle.csv.specs.Writing.{default_writer, row_text}
 use Rattle.sha2.specs.Sha256.{sha256}
 use Rattle.record_fields.specs.Words.{sex_word}
@@ -8,33 +9,52 @@ use Rattle.commands.specs.Given.{GivenDate}
 use Rattle.commands.specs.Verbs.{verb_word}
 use Rattle.commands.specs.declared.command.Command.{Command}
 use Rattle.commands.specs.declared.command.Command.TheVariants as command
+use Rattle.commands.specs.declared.row_command.RowCommand.{RowCommand}
+use Rattle.commands.specs.declared.row_command.RowCommand.TheVariants as row_command
 use Rattle.commands.specs.declared.verb.Verb.TheVariants as verb
 
 -- ---- fields that may be empty
 abbrev pub or_empty : {A : Type 0} → (A → List ℕ) → Option A → List ℕ
-or_empty written None = []
-or_empty written (Some a) = written a
+or_empty text None = []
+or_empty text (Some a) = text a
 
 abbrev pub spelt : GivenDate → List ℕ
 spelt given = given.spelling
 
 -- the verb and the fields, in the order of a row
-abbrev pub row_of : Command → List (List ℕ)
-row_of (command.Person name sex) = verb_word verb.Person ∷ name ∷ or_empty sex_word sex ∷ []
-row_of (command.Name person name) = verb_word verb.Name ∷ decimal person ∷ name ∷ []
-row_of (command.Sex person sex) = verb_word verb.Sex ∷ decimal person ∷ sex_word sex ∷ []
-row_of (command.Family husband wife) =
+abbrev pub row_of : RowCommand → List (List ℕ)
+row_of (row_command.Person name sex) = verb_word verb.Person ∷ name ∷ or_empty sex_word sex ∷ []
+row_of (row_command.Name person name) = verb_word verb.Name ∷ decimal person ∷ name ∷ []
+row_of (row_command.Sex person sex) = verb_word verb.Sex ∷ decimal person ∷ sex_word sex ∷ []
+row_of (row_command.Family husband wife) =
     verb_word verb.Family ∷ or_empty decimal husband ∷ or_empty decimal wife ∷ []
-row_of (command.Child family person) = verb_word verb.Child ∷ decimal family ∷ decimal person ∷ []
-row_of (command.Event owner tag value date place) =
+row_of (row_command.Child family person) = verb_word verb.Child ∷ decimal family ∷ decimal person ∷ []
+row_of (row_command.Event owner tag value date place) =
     verb_word verb.Event ∷ decimal owner ∷ tag ∷ value ∷ or_empty spelt date ∷ or_empty decimal place ∷ []
-row_of (command.Amend event value date place) =
+row_of (row_command.Amend event value date place) =
     verb_word verb.Amend ∷ decimal event ∷ value ∷ or_empty spelt date ∷ or_empty decimal place ∷ []
-row_of (command.Participant event person role) =
+row_of (row_command.Participant event person role) =
     verb_word verb.Participant ∷ decimal event ∷ decimal person ∷ role ∷ []
 
+-- ---- bytes
+-- what the bytes of a command are written from: the fields of one row; the source of a batch of entries and the fields of
+-- each of its rows; or the canonical text of the forest of an import
+pub data Wording : Type 0 where
+  Row : List (List ℕ) → Wording
+  Batch : ℕ → List (List (List ℕ)) → Wording
+  Import : List ℕ → Wording
+
+-- a row as a row of CSV; a batch as `entries,`, its source, LF and each row; an import as `import`, LF and its text
+abbrev pub written : Wording → List ℕ
+written (Row fields) = row_text default_writer fields
+written (Batch source rows) = codes "entries," ++ decimal source ++ 10 ∷ flat_map (row_text default_writer) rows
+written (Import text) = codes "import" ++ 10 ∷ text
+
+abbrev pub wording_of : Command → Wording
+wording_of (command.Row c) = Row (row_of c)
+
 abbrev pub bytes_of : Command → List ℕ
-bytes_of c = row_text default_writer (row_of c)
+bytes_of c = written (wording_of c)
 
 abbrev pub digest_of : Command → List ℕ
 digest_of c = sha256 (bytes_of c)

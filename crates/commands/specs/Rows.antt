@@ -9,8 +9,8 @@ use Rattle.record_fields.specs.Words.{sex_of}
 use Rattle.record_fields.specs.declared.words.Sex.{Sex}
 use Rattle.commands.specs.Given.{GivenDate, Gives}
 use Rattle.commands.specs.Verbs.{verb_of}
-use Rattle.commands.specs.declared.command.Command.{Command}
-use Rattle.commands.specs.declared.command.Command.TheVariants as command
+use Rattle.commands.specs.declared.row_command.RowCommand.{RowCommand}
+use Rattle.commands.specs.declared.row_command.RowCommand.TheVariants as row_command
 use Rattle.commands.specs.declared.verb.Verb.{Verb}
 use Rattle.commands.specs.declared.verb.Verb.TheVariants as verb
 
@@ -45,30 +45,30 @@ or_none read (b ∷ more) = and_then (read (b ∷ more)) (λ a. Ok (Some a))
 
 -- ---- rows
 -- the fields of each verb in their order; names, tags, values and roles are any words, and so are dates
-abbrev pub read_fields : (List ℕ → Option GivenDate) → Verb → List (List ℕ) → Result Command RefusalKind
-read_fields given verb.Person (name ∷ sex ∷ []) = and_then (or_none sex_in sex) (λ s. Ok (command.Person name s))
-read_fields given verb.Name (person ∷ name ∷ []) = and_then (number_in person) (λ p. Ok (command.Name p name))
+abbrev pub read_fields : (List ℕ → Option GivenDate) → Verb → List (List ℕ) → Result RowCommand RefusalKind
+read_fields given verb.Person (name ∷ sex ∷ []) = and_then (or_none sex_in sex) (λ s. Ok (row_command.Person name s))
+read_fields given verb.Name (person ∷ name ∷ []) = and_then (number_in person) (λ p. Ok (row_command.Name p name))
 read_fields given verb.Sex (person ∷ sex ∷ []) =
-    and_then (number_in person) (λ p. and_then (sex_in sex) (λ s. Ok (command.Sex p s)))
+    and_then (number_in person) (λ p. and_then (sex_in sex) (λ s. Ok (row_command.Sex p s)))
 read_fields given verb.Family (husband ∷ wife ∷ []) =
-    and_then (or_none number_in husband) (λ h. and_then (or_none number_in wife) (λ w. Ok (command.Family h w)))
+    and_then (or_none number_in husband) (λ h. and_then (or_none number_in wife) (λ w. Ok (row_command.Family h w)))
 read_fields given verb.Child (family ∷ person ∷ []) =
-    and_then (number_in family) (λ f. and_then (number_in person) (λ p. Ok (command.Child f p)))
+    and_then (number_in family) (λ f. and_then (number_in person) (λ p. Ok (row_command.Child f p)))
 read_fields given verb.Event (owner ∷ tag ∷ value ∷ date ∷ place ∷ []) =
-    and_then (number_in owner) (λ o. and_then (or_none number_in place) (λ p. Ok (command.Event o tag value (given date) p)))
+    and_then (number_in owner) (λ o. and_then (or_none number_in place) (λ p. Ok (row_command.Event o tag value (given date) p)))
 read_fields given verb.Amend (event ∷ value ∷ date ∷ place ∷ []) =
-    and_then (number_in event) (λ e. and_then (or_none number_in place) (λ p. Ok (command.Amend e value (given date) p)))
+    and_then (number_in event) (λ e. and_then (or_none number_in place) (λ p. Ok (row_command.Amend e value (given date) p)))
 read_fields given verb.Participant (event ∷ person ∷ role ∷ []) =
-    and_then (number_in event) (λ e. and_then (number_in person) (λ p. Ok (command.Participant e p role)))
+    and_then (number_in event) (λ e. and_then (number_in person) (λ p. Ok (row_command.Participant e p role)))
 read_fields given _ _ = Err FieldCount
 
 -- the verb first
-abbrev pub read_row : (List ℕ → Option GivenDate) → List (List ℕ) → Result Command RefusalKind
+abbrev pub read_row : (List ℕ → Option GivenDate) → List (List ℕ) → Result RowCommand RefusalKind
 read_row given [] = Err UnknownVerb
 read_row given (word ∷ fields) = and_then (ok_or UnknownVerb (verb_of word)) (λ v. read_fields given v fields)
 
 -- the row is read as this command, or refused so, where each date is what its words give
-abbrev pub Reads : List (List ℕ) → Result Command RefusalKind → Type 0
+abbrev pub Reads : List (List ℕ) → Result RowCommand RefusalKind → Type 0
 Reads row outcome =
     (given : List ℕ → Option GivenDate) × ((words : List ℕ) → Gives words (given words)) × (outcome ≡ read_row given row)
 

@@ -1,8 +1,13 @@
--- Commands as rows have them. A rule of our own.
-use Rattle.std.specs.Prelude.{ℕ, ◌≤◌, Option, Some, None}
+-- Commands as rows have them, and what bytes are written from. A rule of our own.
+use Rattle.std.specs.Prelude.{◌≡◌, ◌≢◌, ℕ, ◌≤◌, List, [], ◌∷◌, Option, Some, None}
+use Rattle.commands.specs.Bytes.{Wording, Row, Batch, Import}
 use Rattle.commands.specs.Given.{GivenDate, IsGiven}
+use Rattle.commands.specs.Verbs.{verb_word}
 use Rattle.commands.specs.declared.command.Command.{Command}
 use Rattle.commands.specs.declared.command.Command.TheVariants as command
+use Rattle.commands.specs.declared.row_command.RowCommand.{RowCommand}
+use Rattle.commands.specs.declared.row_command.RowCommand.TheVariants as row_command
+use Rattle.commands.specs.declared.verb.Verb.{Verb}
 
 -- 1 to 4,294,967,295
 abbrev pub IsNumber : ℕ → Type 0
@@ -17,13 +22,34 @@ abbrev pub WhereSome : {A : Type 0} → (A → Type 0) → Option A → Type 0
 WhereSome P None = Unit {0}
 WhereSome P (Some a) = P a
 
--- its numbers are in range, and its dates as their type keeps them
+-- the numbers of a row are in range, and its dates as their type keeps them
+abbrev pub IsSoundRow : RowCommand → Type 0
+IsSoundRow (row_command.Person name sex) = Unit {0}
+IsSoundRow (row_command.Name person name) = IsNumber person
+IsSoundRow (row_command.Sex person sex) = IsNumber person
+IsSoundRow (row_command.Family husband wife) = WhereSome IsNumber husband × WhereSome IsNumber wife
+IsSoundRow (row_command.Child family person) = IsNumber family × IsNumber person
+IsSoundRow (row_command.Event owner tag value date place) = IsNumber owner × WhereSome IsDate date × WhereSome IsNumber place
+IsSoundRow (row_command.Amend event value date place) = IsNumber event × WhereSome IsDate date × WhereSome IsNumber place
+IsSoundRow (row_command.Participant event person role) = IsNumber event × IsNumber person
+
+-- the same of any command
 abbrev pub IsSound : Command → Type 0
-IsSound (command.Person name sex) = Unit {0}
-IsSound (command.Name person name) = IsNumber person
-IsSound (command.Sex person sex) = IsNumber person
-IsSound (command.Family husband wife) = WhereSome IsNumber husband × WhereSome IsNumber wife
-IsSound (command.Child family person) = IsNumber family × IsNumber person
-IsSound (command.Event owner tag value date place) = IsNumber owner × WhereSome IsDate date × WhereSome IsNumber place
-IsSound (command.Amend event value date place) = IsNumber event × WhereSome IsDate date × WhereSome IsNumber place
-IsSound (command.Participant event person role) = IsNumber event × IsNumber person
+IsSound (command.Row c) = IsSoundRow c
+
+-- a row begins with the word of a verb
+abbrev pub BeginsWithVerb : List (List ℕ) → Type 0
+BeginsWithVerb [] = ⊥
+BeginsWithVerb (word ∷ fields) = (verb : Verb) × (word ≡ verb_word verb)
+
+-- each row has a field
+abbrev pub HaveFields : List (List (List ℕ)) → Type 0
+HaveFields [] = Unit {0}
+HaveFields (row ∷ rows) = (row ≢ []) × HaveFields rows
+
+-- a row begins with the word of a verb; the source of a batch is a number of 32 bits, and its rows have fields; the text of
+-- an import is any
+abbrev pub IsSoundWording : Wording → Type 0
+IsSoundWording (Row fields) = BeginsWithVerb fields
+IsSoundWording (Batch source rows) = (source ≤ 4294967295) × HaveFields rows
+IsSoundWording (Import text) = Unit {0}

@@ -4,10 +4,12 @@ ghost use Rattle.std.specs.Prelude.{◌≡◌, IfOk, decimal, string_bytes};
 ghost use Rattle.record_fields.specs.Words.{sex_word};
 ghost use Rattle.commands.specs.Bytes.{bytes_of, digest_of, or_empty, spelt};
 ghost use Rattle.commands.specs.declared.command.Command.TheVariants as command;
+ghost use Rattle.commands.specs.declared.row_command.RowCommand.TheVariants as row_command;
 
 use crate::command::Command;
 use crate::field::Field;
 use crate::given::GivenDate;
+use crate::row_command::RowCommand;
 use crate::rows::{row_of_five, row_of_four, row_of_three, row_of_two};
 use crate::verb::Verb;
 use record_fields::Sex;
@@ -22,31 +24,39 @@ pub fn command_digest(alloc: Global, command: &Command) -> Result<[u8; 32], Allo
     Ok(Sha256::digest(bytes.as_slice()))
 }
 
-/// The bytes of a command: its verb and its fields as one row of CSV, numbers without leading zeros and dates in
-/// canonical spelling. Refused only for want of memory.
+/// The bytes of a command: of one row, its verb and its fields as a row of CSV, numbers without leading zeros and
+/// dates in canonical spelling. Refused only for want of memory.
 pub fn command_bytes(alloc: Global, command: &Command) -> Result<Vec<u8>, AllocError>
     ensures { IfOk result (λ bytes. bytes.items ≡ bytes_of command.now) }
 {
     match command {
-        Command::Person { name, sex } => person_bytes(alloc, name, *sex),
-        Command::Name { person, name } => name_bytes(alloc, *person, name),
-        Command::Sex { person, sex } => sex_bytes(alloc, *person, *sex),
-        Command::Family { husband, wife } => family_bytes(alloc, *husband, *wife),
-        Command::Child { family, person } => child_bytes(alloc, *family, *person),
-        Command::Event {
+        Command::Row(row) => row_command_bytes(alloc, row),
+    }
+}
+
+fn row_command_bytes(alloc: Global, row: &RowCommand) -> Result<Vec<u8>, AllocError>
+    ensures { IfOk result (λ bytes. bytes.items ≡ bytes_of (command.Row row.now)) }
+{
+    match row {
+        RowCommand::Person { name, sex } => person_bytes(alloc, name, *sex),
+        RowCommand::Name { person, name } => name_bytes(alloc, *person, name),
+        RowCommand::Sex { person, sex } => sex_bytes(alloc, *person, *sex),
+        RowCommand::Family { husband, wife } => family_bytes(alloc, *husband, *wife),
+        RowCommand::Child { family, person } => child_bytes(alloc, *family, *person),
+        RowCommand::Event {
             owner,
             tag,
             value,
             date,
             place,
         } => event_bytes(alloc, *owner, tag, value, date, *place),
-        Command::Amend {
+        RowCommand::Amend {
             event,
             value,
             date,
             place,
         } => amend_bytes(alloc, *event, value, date, *place),
-        Command::Participant {
+        RowCommand::Participant {
             event,
             person,
             role,
@@ -55,7 +65,7 @@ pub fn command_bytes(alloc: Global, command: &Command) -> Result<Vec<u8>, AllocE
 }
 
 fn person_bytes(alloc: Global, name: &Field, sex: Option<Sex>) -> Result<Vec<u8>, AllocError>
-    ensures { IfOk result (λ bytes. bytes.items ≡ bytes_of (command.Person name.now sex)) }
+    ensures { IfOk result (λ bytes. bytes.items ≡ bytes_of (command.Row (row_command.Person name.now sex))) }
 {
     row_of_two(
         alloc,
@@ -66,7 +76,7 @@ fn person_bytes(alloc: Global, name: &Field, sex: Option<Sex>) -> Result<Vec<u8>
 }
 
 fn name_bytes(alloc: Global, person: u32, name: &Field) -> Result<Vec<u8>, AllocError>
-    ensures { IfOk result (λ bytes. bytes.items ≡ bytes_of (command.Name person name.now)) }
+    ensures { IfOk result (λ bytes. bytes.items ≡ bytes_of (command.Row (row_command.Name person name.now))) }
 {
     let person = person.to_string(alloc)?;
     let name = name.as_str().as_bytes();
@@ -74,7 +84,7 @@ fn name_bytes(alloc: Global, person: u32, name: &Field) -> Result<Vec<u8>, Alloc
 }
 
 fn sex_bytes(alloc: Global, person: u32, sex: Sex) -> Result<Vec<u8>, AllocError>
-    ensures { IfOk result (λ bytes. bytes.items ≡ bytes_of (command.Sex person sex)) }
+    ensures { IfOk result (λ bytes. bytes.items ≡ bytes_of (command.Row (row_command.Sex person sex))) }
 {
     let person = person.to_string(alloc)?;
     row_of_two(alloc, Verb::Sex, person.as_bytes(), sex.as_str().as_bytes())
@@ -85,7 +95,7 @@ fn family_bytes(
     husband: Option<u32>,
     wife: Option<u32>,
 ) -> Result<Vec<u8>, AllocError>
-    ensures { IfOk result (λ bytes. bytes.items ≡ bytes_of (command.Family husband wife)) }
+    ensures { IfOk result (λ bytes. bytes.items ≡ bytes_of (command.Row (row_command.Family husband wife))) }
 {
     let husband = number_or_empty(alloc, husband)?;
     let wife = number_or_empty(alloc, wife)?;
@@ -93,7 +103,7 @@ fn family_bytes(
 }
 
 fn child_bytes(alloc: Global, family: u32, person: u32) -> Result<Vec<u8>, AllocError>
-    ensures { IfOk result (λ bytes. bytes.items ≡ bytes_of (command.Child family person)) }
+    ensures { IfOk result (λ bytes. bytes.items ≡ bytes_of (command.Row (row_command.Child family person))) }
 {
     let family = family.to_string(alloc)?;
     let person = person.to_string(alloc)?;
@@ -108,7 +118,7 @@ fn event_bytes(
     date: &Option<GivenDate>,
     place: Option<u32>,
 ) -> Result<Vec<u8>, AllocError>
-    ensures { IfOk result (λ bytes. bytes.items ≡ bytes_of (command.Event owner tag.now value.now date.now place)) }
+    ensures { IfOk result (λ bytes. bytes.items ≡ bytes_of (command.Row (row_command.Event owner tag.now value.now date.now place))) }
 {
     let owner = owner.to_string(alloc)?;
     let place = number_or_empty(alloc, place)?;
@@ -130,7 +140,7 @@ fn amend_bytes(
     date: &Option<GivenDate>,
     place: Option<u32>,
 ) -> Result<Vec<u8>, AllocError>
-    ensures { IfOk result (λ bytes. bytes.items ≡ bytes_of (command.Amend event value.now date.now place)) }
+    ensures { IfOk result (λ bytes. bytes.items ≡ bytes_of (command.Row (row_command.Amend event value.now date.now place))) }
 {
     let event = event.to_string(alloc)?;
     let place = number_or_empty(alloc, place)?;
@@ -150,7 +160,7 @@ fn participant_bytes(
     person: u32,
     role: &Field,
 ) -> Result<Vec<u8>, AllocError>
-    ensures { IfOk result (λ bytes. bytes.items ≡ bytes_of (command.Participant event person role.now)) }
+    ensures { IfOk result (λ bytes. bytes.items ≡ bytes_of (command.Row (row_command.Participant event person role.now))) }
 {
     let event = event.to_string(alloc)?;
     let person = person.to_string(alloc)?;

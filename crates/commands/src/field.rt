@@ -44,3 +44,33 @@ impl Field {
         Ok(Text::try_new(words))
     }
 }
+
+/// The fields of one row. Contracts see it as the list of their bytes.
+#[derive(Debug, Drop)]
+pub struct FieldRow {
+    fields: Vec<Field>,
+}
+
+impl Model for FieldRow {
+    ghost use Rattle.std.specs.Prelude.{List, ℕ};
+
+    ghost Value = { List (List ℕ) };
+
+    ghost view = { λ a. a.fields.items };
+}
+
+impl FieldRow {
+    /// The fields as a row. Takes no memory.
+    pub fn new(fields: Vec<Field>) -> FieldRow
+        ensures { result ≡ fields.items }
+    {
+        FieldRow { fields }
+    }
+
+    /// The fields of the row, in their order.
+    pub fn fields(&self) -> &[Field]
+        ensures { result.now ≡ self.now }
+    {
+        self.fields.as_slice()
+    }
+}

@@ -5,32 +5,41 @@ ghost use Rattle.csv.specs.Machine.{next_record};
 ghost use Rattle.csv.specs.Reading.{default_config};
 ghost use Rattle.csv.specs.declared.parser.State.TheVariants as state;
 ghost use Rattle.record_text.specs.declared.refusal.RefusalKind.{RefusalKind};
-ghost use Rattle.commands.specs.Bytes.{bytes_of, row_of};
+ghost use Rattle.commands.specs.Bytes.{Wording, bytes_of, row_of, written};
 ghost use Rattle.commands.specs.Rows.{Reads};
-ghost use Rattle.commands.specs.Sound.{IsSound};
+ghost use Rattle.commands.specs.Sound.{IsSound, IsSoundRow, IsSoundWording};
 ghost use Rattle.commands.specs.declared.command.Command.{Command};
+ghost use Rattle.commands.specs.declared.command.Command.TheVariants as command;
+ghost use Rattle.commands.specs.declared.row_command.RowCommand.{RowCommand};
 
 /// Each row is read as one command, or refused for one reason.
 pub fn a_row_is_read_in_one_way()
-    ensures some { (row : List (List ℕ)) → (outcome : Result Command RefusalKind) × Reads row outcome }
-    ensures one { (row : List (List ℕ)) (first second : Result Command RefusalKind)
+    ensures some { (row : List (List ℕ)) → (outcome : Result RowCommand RefusalKind) × Reads row outcome }
+    ensures one { (row : List (List ℕ)) (first second : Result RowCommand RefusalKind)
         → Reads row first → Reads row second → first ≡ second }
 {}
 
 /// What a row is read as has its numbers in range, and dates as given ones are.
 pub fn what_a_row_is_read_as_is_sound()
-    ensures { (row : List (List ℕ)) (command : Command) → Reads row (Ok command) → IsSound command }
+    ensures { (row : List (List ℕ)) (command : RowCommand) → Reads row (Ok command) → IsSoundRow command }
 {}
 
-/// The row of a command is read as that command, where its numbers are in range and its dates are as given ones are.
+/// The row of a command of one row is read as that command, where its numbers are in range and its dates are as given ones are.
 pub fn a_row_of_a_command_is_read_as_it()
-    ensures { (command : Command) → IsSound command → Reads (row_of command) (Ok command) }
+    ensures { (command : RowCommand) → IsSoundRow command → Reads (row_of command) (Ok command) }
 {}
 
-/// The bytes of a command, whatever stands behind them, are read by the default reader of `csv` as its row.
+/// The bytes of a command of one row, whatever stands behind them, are read by the default reader of `csv` as its row.
 pub fn the_bytes_of_a_command_are_its_row()
-    ensures { (command : Command) (rest : List ℕ) → next_record default_config state.StartRecord [] [] (bytes_of command ++ rest)
-        ≡ Some (row_of command, state.StartRecord, rest) }
+    ensures { (row : RowCommand) (rest : List ℕ)
+        → next_record default_config state.StartRecord [] [] (bytes_of (command.Row row) ++ rest)
+        ≡ Some (row_of row, state.StartRecord, rest) }
+{}
+
+/// Rows, batches of entries and imports that are not the same have other bytes, where a row begins with the word of a
+/// verb, the source of a batch is a number of 32 bits, and each row of a batch has a field.
+pub fn two_wordings_have_other_bytes()
+    ensures { (first second : Wording) → IsSoundWording first → IsSoundWording second → written first ≡ written second → first ≡ second }
 {}
 
 /// No two commands have the same bytes, where their numbers are in range and their dates are as given ones are.

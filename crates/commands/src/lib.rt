@@ -5,21 +5,26 @@
 //! and on `csv` and `sha2` of the kit. What a command does to an archive is for `archive_core` to say.
 //!
 //! Callers may rely on: a row is read as one command, or refused for one reason, and the row of a command is read as
-//! that command; the bytes of a command are its verb and its fields as one row of CSV, and its digest is
-//! their SHA-256; a date is kept in canonical spelling, so that two spellings of one date are one command.
+//! that command; the bytes of a command are its verb and its fields as one row of CSV, and its digest is their
+//! SHA-256; no row, batch of entries or import has the bytes of another; a date is kept in canonical spelling, so that
+//! two spellings of one date are one command.
 #![tactic(auto)]
 
+mod batch;
 mod command;
 mod digest;
 mod field;
 mod given;
 pub mod laws;
 mod reading;
+mod row_command;
 mod rows;
 mod verb;
 
+pub use batch::{batch_bytes, import_bytes};
 pub use command::Command;
 pub use digest::{command_bytes, command_digest};
-pub use field::Field;
+pub use field::{Field, FieldRow};
 pub use given::GivenDate;
+pub use row_command::RowCommand;
 pub use verb::Verb;

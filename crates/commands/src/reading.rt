@@ -7,19 +7,19 @@ ghost use Rattle.commands.specs.Dated.{given_of};
 ghost use Rattle.commands.specs.Rows.{Decided, Reads, number_in, or_none, read_fields, sex_in};
 ghost use Rattle.commands.specs.declared.verb.Verb.TheVariants as verb;
 
-use crate::command::Command;
 use crate::field::Field;
 use crate::given::GivenDate;
+use crate::row_command::RowCommand;
 use crate::verb::Verb;
 use record_fields::Sex;
 use record_text::RefusalKind;
 use std::alloc::{AllocError, Global};
 
-impl Command {
+impl RowCommand {
     /// The command of a row: its verb, and the fields behind it. Refused are, in this order, an unknown verb
     /// (`UnknownVerb`), too few or too many fields (`FieldCount`), and a field that is not of its type (`BadRow`).
     /// `OutOfMemory` may come in place of any answer.
-    pub fn of_row(alloc: Global, verb: &str, fields: &[&str]) -> Result<Command, RefusalKind>
+    pub fn of_row(alloc: Global, verb: &str, fields: &[&str]) -> Result<RowCommand, RefusalKind>
         ensures { Decided result (Reads (verb.now ∷ map (λ f. f.now) fields.now)) }
     {
         match Verb::from_word(verb) {
@@ -30,7 +30,7 @@ impl Command {
 }
 
 /// The command of a verb and its fields.
-fn of_fields(alloc: Global, verb: Verb, fields: &[&str]) -> Result<Command, RefusalKind>
+fn of_fields(alloc: Global, verb: Verb, fields: &[&str]) -> Result<RowCommand, RefusalKind>
     ensures { Decided result (λ r. r ≡ read_fields given_of verb (map (λ f. f.now) fields.now)) }
 {
     match (verb, fields) {
@@ -48,44 +48,44 @@ fn of_fields(alloc: Global, verb: Verb, fields: &[&str]) -> Result<Command, Refu
     }
 }
 
-fn person(alloc: Global, name: &str, sex: &str) -> Result<Command, RefusalKind>
+fn person(alloc: Global, name: &str, sex: &str) -> Result<RowCommand, RefusalKind>
     ensures { Decided result (λ r. r ≡ read_fields given_of verb.Person (name.now ∷ sex.now ∷ [])) }
 {
     let sex = sex_or_none(sex)?;
     let name = words_in(alloc, name)?;
-    Ok(Command::Person { name, sex })
+    Ok(RowCommand::Person { name, sex })
 }
 
-fn further_name(alloc: Global, person: &str, name: &str) -> Result<Command, RefusalKind>
+fn further_name(alloc: Global, person: &str, name: &str) -> Result<RowCommand, RefusalKind>
     ensures { Decided result (λ r. r ≡ read_fields given_of verb.Name (person.now ∷ name.now ∷ [])) }
 {
     let person = number_in(person)?;
     let name = words_in(alloc, name)?;
-    Ok(Command::Name { person, name })
+    Ok(RowCommand::Name { person, name })
 }
 
-fn sex_of(person: &str, sex: &str) -> Result<Command, RefusalKind>
+fn sex_of(person: &str, sex: &str) -> Result<RowCommand, RefusalKind>
     ensures { result ≡ read_fields given_of verb.Sex (person.now ∷ sex.now ∷ []) }
 {
     let person = number_in(person)?;
     let sex = sex_in(sex)?;
-    Ok(Command::Sex { person, sex })
+    Ok(RowCommand::Sex { person, sex })
 }
 
-fn family(husband: &str, wife: &str) -> Result<Command, RefusalKind>
+fn family(husband: &str, wife: &str) -> Result<RowCommand, RefusalKind>
     ensures { result ≡ read_fields given_of verb.Family (husband.now ∷ wife.now ∷ []) }
 {
     let husband = number_or_none(husband)?;
     let wife = number_or_none(wife)?;
-    Ok(Command::Family { husband, wife })
+    Ok(RowCommand::Family { husband, wife })
 }
 
-fn child(family: &str, person: &str) -> Result<Command, RefusalKind>
+fn child(family: &str, person: &str) -> Result<RowCommand, RefusalKind>
     ensures { result ≡ read_fields given_of verb.Child (family.now ∷ person.now ∷ []) }
 {
     let family = number_in(family)?;
     let person = number_in(person)?;
-    Ok(Command::Child { family, person })
+    Ok(RowCommand::Child { family, person })
 }
 
 fn event(
@@ -95,7 +95,7 @@ fn event(
     value: &str,
     date: &str,
     place: &str,
-) -> Result<Command, RefusalKind>
+) -> Result<RowCommand, RefusalKind>
     ensures { Decided result (λ r. r
         ≡ read_fields given_of verb.Event (owner.now ∷ tag.now ∷ value.now ∷ date.now ∷ place.now ∷ [])) }
 {
@@ -104,7 +104,7 @@ fn event(
     let tag = words_in(alloc, tag)?;
     let value = words_in(alloc, value)?;
     let date = date_or_none(alloc, date)?;
-    Ok(Command::Event {
+    Ok(RowCommand::Event {
         owner,
         tag,
         value,
@@ -119,7 +119,7 @@ fn amend(
     value: &str,
     date: &str,
     place: &str,
-) -> Result<Command, RefusalKind>
+) -> Result<RowCommand, RefusalKind>
     ensures { Decided result (λ r. r
         ≡ read_fields given_of verb.Amend (event.now ∷ value.now ∷ date.now ∷ place.now ∷ [])) }
 {
@@ -127,7 +127,7 @@ fn amend(
     let place = number_or_none(place)?;
     let value = words_in(alloc, value)?;
     let date = date_or_none(alloc, date)?;
-    Ok(Command::Amend {
+    Ok(RowCommand::Amend {
         event,
         value,
         date,
@@ -135,14 +135,19 @@ fn amend(
     })
 }
 
-fn participant(alloc: Global, event: &str, person: &str, role: &str) -> Result<Command, RefusalKind>
+fn participant(
+    alloc: Global,
+    event: &str,
+    person: &str,
+    role: &str,
+) -> Result<RowCommand, RefusalKind>
     ensures { Decided result (λ r. r
         ≡ read_fields given_of verb.Participant (event.now ∷ person.now ∷ role.now ∷ [])) }
 {
     let event = number_in(event)?;
     let person = number_in(person)?;
     let role = words_in(alloc, role)?;
-    Ok(Command::Participant {
+    Ok(RowCommand::Participant {
         event,
         person,
         role,

@@ -2,10 +2,10 @@
 
 use crate::archives::Archives;
 use crate::reading::{command_of, fields_of};
-use crate::rows::{refused, said};
+use crate::rows::refused;
+use crate::wordings::{batch_row, bytes_rows, import_row};
 use archive_core::{Command, Request};
 use archive_state::Token;
-use commands::{command_bytes, command_digest};
 use csv::ByteRecord;
 use records::RefusalKind;
 use std::alloc::{AllocError, Global};
@@ -73,6 +73,8 @@ fn answer_question(
         "! place" => put_place(alloc, archives, fields),
         "! places" => put_places(alloc, archives, fields),
         "! bytes" => bytes_rows(alloc, fields),
+        "! batch" => batch_row(alloc, fields),
+        "! import" => import_row(alloc, fields),
         _ => archives.see(alloc, asked, fields),
     }
 }
@@ -123,24 +125,4 @@ fn put_places(
     };
     archives.put_places(alloc, number, name)?;
     archives.see(alloc, "! show", &[count])
-}
-
-/// The bytes of a command as a field, and in a second row their digest in hexadecimal.
-fn bytes_rows(alloc: Global, fields: &[&str]) -> Result<Vec<u8>, AllocError> {
-    match command_of(alloc, fields) {
-        Ok(command) => {
-            let bytes = command_bytes(alloc, &command);
-            let digest = command_digest(alloc, &command);
-            drop(command);
-            bytes_and_digest(alloc, bytes?.as_slice(), digest?.as_slice())
-        }
-        Err(kind) => refused(alloc, "", kind),
-    }
-}
-
-fn bytes_and_digest(alloc: Global, bytes: &[u8], digest: &[u8]) -> Result<Vec<u8>, AllocError> {
-    let mut rows = said(alloc, "bytes", bytes)?;
-    let digest = hex::encode(alloc, digest)?;
-    rows.extend_from_slice(said(alloc, "digest", digest.as_bytes())?.as_slice())?;
-    Ok(rows)
 }

@@ -8,6 +8,7 @@ mod looks;
 mod reading;
 mod rows;
 mod seeing;
+mod wordings;
 
 use crate::archives::Archives;
 use crate::asking::answer;

@@ -1,6 +1,6 @@
 //! What a row has: its fields, and the command of a verb.
 
-use archive_core::Command;
+use commands::{Command, RowCommand};
 use csv::ByteRecord;
 use records::RefusalKind;
 use std::alloc::{AllocError, Global};
@@ -23,7 +23,7 @@ pub(crate) fn fields_of<'a>(
 /// The command of a verb with its fields.
 pub(crate) fn command_of(alloc: Global, fields: &[&str]) -> Result<Command, RefusalKind> {
     match fields {
-        [verb, rest @ ..] => Command::of_row(alloc, verb, rest),
+        [verb, rest @ ..] => Ok(Command::Row(RowCommand::of_row(alloc, verb, rest)?)),
         [] => Err(RefusalKind::FieldCount),
     }
 }

@@ -140,6 +140,16 @@ def counts():
         yield refuses(92, "x", verb, *["?"] * (len(fields) + 1))
 
 
+def batch(source, rows, wanted):
+    """The bytes of a batch of entries; each row is given with a bar between its fields."""
+    return row("! batch", source, *rows).encode(), row("bytes", wanted).encode()
+
+
+def imported(text, wanted):
+    """The bytes of an import of a text."""
+    return row("! import", text).encode(), row("bytes", wanted).encode()
+
+
 BYTES = (
     scenario(
         "the bytes of commands",
@@ -196,9 +206,52 @@ BYTES = (
     scenario(
         "rows that are refused have no bytes",
         ask("! bytes,frob", ",refused,91,UnknownVerb"),
+        ask("! bytes,entries,7", ",refused,91,UnknownVerb"),
+        ask("! bytes,import", ",refused,91,UnknownVerb"),
         ask("! bytes,person", ",refused,92,FieldCount"),
         ask("! bytes,sex,1,X", ",refused,90,BadRow"),
         ask("! bytes", ",refused,92,FieldCount"),
+    ),
+    scenario(
+        "the bytes of batches of entries",
+        ask(
+            "! batch,7,BAPTISM|f. 3|1|15 APR 1699/00||John|child|John|father|Tom Lee,"
+            '"BURIAL|f. 3, verso|2|||Ann|buried|Ann Lee"',
+            'bytes,"entries,7\nBAPTISM,f. 3,1,15 APR 1699/00,,John,child,John,father,Tom Lee\n'
+            'BURIAL,""f. 3, verso"",2,,,Ann,buried,Ann Lee\n"',
+        ),
+        batch(7, (), "entries,7\n"),
+        batch(0, (), "entries,0\n"),
+        batch("007", (), "entries,7\n"),
+        batch(LAST, ("a|b",), "entries,4294967295\na,b\n"),
+        batch(1, ("a",), "entries,1\na\n"),
+        batch(1, ("a", "b"), "entries,1\na\nb\n"),
+        batch(1, ("a|b",), "entries,1\na,b\n"),
+        batch(1, ("",), 'entries,1\n""\n'),
+        batch(1, ("", ""), 'entries,1\n""\n""\n'),
+        batch(1, ("|",), "entries,1\n,\n"),
+        batch(1, ("a|", "|b|"), "entries,1\na,\n,b,\n"),
+        batch(1, ("a|b|c", "d"), "entries,1\na,b,c\nd\n"),
+        batch(1, ('say "a"|two\nlines|c\rd| ',), 'entries,1\n"say ""a""","two\nlines","c\rd", \n'),
+        batch(1, ("\u00e9|\u4e2d\U0001f600\0",), "entries,1\n\u00e9,\u4e2d\U0001f600\0\n"),
+        batch(1, ("x" * 20_000 + "|y",), "entries,1\n" + "x" * 20_000 + ",y\n"),
+        batch(1, ("a|b",) * 1_000, "entries,1\n" + "a,b\n" * 1_000),
+        ask("! batch", ",refused,92,FieldCount"),
+        ask("! batch,,a", ",refused,90,BadRow"),
+        next_is(1),
+    ),
+    scenario(
+        "the bytes of imports",
+        imported(
+            "0 HEAD\n1 GEDC\n2 VERS 5.5.1\n0 TRLR\n",
+            "import\n0 HEAD\n1 GEDC\n2 VERS 5.5.1\n0 TRLR\n",
+        ),
+        imported("", "import\n"),
+        imported("\n", "import\n\n"),
+        imported('a,"b"', 'import\na,"b"'),
+        imported("x" * 20_000, "import\n" + "x" * 20_000),
+        ask("! import", ",refused,92,FieldCount"),
+        next_is(1),
     ),
 )
 

@@ -1,6 +1,6 @@
 use Rattle.std.proofs.Common.{map}
 use Rattle.commands.proofs.Outcomes.{read_by_verb, read_unknown}
-use Rattle.commands.proofs.command.Command.of_row.Goals as goal
+use Rattle.commands.proofs.row_command.RowCommand.of_row.Goals as goal
 
 pub returns-in-Some : goal.returns-in-Some
 returns-in-Some c =
