@@ -12,3 +12,4 @@ pub mod Lengths
 pub mod Whole
 pub mod Exact
 pub mod Written
+pub mod Beginnings
