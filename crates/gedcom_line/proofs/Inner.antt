@@ -111,7 +111,7 @@ inner_all (x ∷ xs) h k =
     let s = both (not (is_lf x)) (list_all (λ b. not (is_lf b)) xs) k in
     rw (inner_char x r.0 (not-true (is_lf x) s.0), inner_all xs r.1 s.1) refl
 
-no_lf_of : (t : List ℕ) → list_all (λ b. not (is_lf b)) t ≡ true → NoLf t
+pub no_lf_of : (t : List ℕ) → list_all (λ b. not (is_lf b)) t ≡ true → NoLf t
 no_lf_of t h = λ i lt e. eqb_no (get_or t i 0) 10 (not-true _ (AllPass-from_list_all (λ b. not (is_lf b)) t h i 0 lt)) e
 
 last_inner : (t : List ℕ) → IsUtf8 t → list_all is_textual t ≡ true → length t ≤ position_or_len is_lf t → EachPart IsInner (canonical t)

@@ -13,3 +13,4 @@ pub mod Whole
 pub mod Exact
 pub mod Written
 pub mod Beginnings
+pub mod Segments

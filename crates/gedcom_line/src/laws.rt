@@ -5,7 +5,7 @@ ghost use Rattle.std.specs.List.{list_all};
 ghost use Rattle.std.specs.Str.{IsUtf8};
 ghost use Rattle.gedcom_line.specs.Escape.{escaped, unescaped};
 ghost use Rattle.gedcom_line.specs.Reading.{Parts as LineParts};
-ghost use Rattle.gedcom_line.specs.Split.{EachPart, IsShort, Parts, canonical, char_count, joined, segment_parts};
+ghost use Rattle.gedcom_line.specs.Split.{EachPart, IsShort, IsSplit, Part, Parts, canonical, char_count, joined, segment_parts};
 ghost use Rattle.gedcom_line.specs.Value.{Text, Pointer, IsPointer, meaning};
 ghost use Rattle.gedcom_line.specs.Line.{Line};
 ghost use Rattle.gedcom_line.specs.Spelling.{spelling, is_textual, IsInner, IsLine};
@@ -30,9 +30,11 @@ pub fn a_pointer_is_a_cross_reference()
     ensures is { (raw name : List ℕ) → meaning raw ≡ Pointer name → IsPointer raw name }
 {}
 
-/// The parts of a text joined give the text, those of a segment are cut where the rule says, and the parts
-/// of a text without CR and U+0000 can each stand on a line.
+/// A text has one split into parts: what `canonical` gives. The parts joined give the text, those of a segment
+/// are cut where the rule says, and the parts of a text without CR and U+0000 can each stand on a line.
 pub fn a_text_is_split_and_joined()
+    ensures split { (t : List ℕ) → IsUtf8 t → IsSplit t (canonical t) }
+    ensures one { (t : List ℕ) (ps qs : List Part) → IsSplit t ps → IsSplit t qs → ps ≡ qs }
     ensures joins { (t : List ℕ) → joined (canonical t) ≡ t }
     ensures parts { (s : List ℕ) → IsUtf8 s → Parts s (segment_parts s) }
     ensures lines { (t : List ℕ) → IsUtf8 t → list_all is_textual t ≡ true → EachPart IsInner (canonical t) }
