@@ -14,3 +14,5 @@ pub mod Exact
 pub mod Written
 pub mod Beginnings
 pub mod Segments
+pub mod Elements
+pub mod Examples

@@ -24,7 +24,7 @@ cut_one s p q (inl a) (inr b) = absurd (b.0 p a.holds)
 cut_one s p q (inr a) (inl b) = absurd (a.0 q b.holds)
 cut_one s p q (inr a) (inr b) = greatest_one (MayCut s) p q a.1 b.1
 
-front_one : (s p q a b : List ℕ) → s ≡ p ++ a → s ≡ q ++ b → length p ≡ length q → (p ≡ q) × (a ≡ b)
+pub front_one : (s p q a b : List ℕ) → s ≡ p ++ a → s ≡ q ++ b → length p ≡ length q → (p ≡ q) × (a ≡ b)
 front_one s p q a b e f n = (
   sym (take-append_seam p a) ∙ ap (take (length p)) (sym e ∙ f) ∙ ap (λ (x : ℕ). take x (q ++ b)) n ∙ take-append_seam q b,
   sym (drop-append_seam p a) ∙ ap (drop (length p)) (sym e ∙ f) ∙ ap (λ (x : ℕ). drop x (q ++ b)) n ∙ drop-append_seam q b,

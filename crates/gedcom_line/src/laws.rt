@@ -3,7 +3,7 @@
 ghost use Rattle.std.specs.Prelude.{◌≡◌, ◌≤◌, ℕ, List, true};
 ghost use Rattle.std.specs.List.{list_all};
 ghost use Rattle.std.specs.Str.{IsUtf8};
-ghost use Rattle.gedcom_line.specs.Escape.{escaped, unescaped};
+ghost use Rattle.gedcom_line.specs.Escape.{Element, Elements, IsEscaped, escaped, unescaped};
 ghost use Rattle.gedcom_line.specs.Reading.{Parts as LineParts};
 ghost use Rattle.gedcom_line.specs.Split.{EachPart, IsShort, IsSplit, Part, Parts, canonical, char_count, joined, segment_parts};
 ghost use Rattle.gedcom_line.specs.Value.{Text, Pointer, IsPointer, meaning};
@@ -16,6 +16,14 @@ pub fn a_line_is_read_again()
     ensures one { (b : List ℕ) (l m : LineParts) → Line b l → Line b m → l ≡ m }
     ensures again { (b : List ℕ) (l : LineParts) → Line b l → Line (spelling l) l }
     ensures made { (l : LineParts) → IsLine l → Line (spelling l) l }
+{}
+
+/// A text is made of escapes and other characters in one way, so there is one written form of it: what `escaped`
+/// gives.
+pub fn a_text_has_one_written_form()
+    ensures elements { (t : List ℕ) (es fs : List Element) → Elements t es → Elements t fs → es ≡ fs }
+    ensures one { (t v w : List ℕ) → IsEscaped t v → IsEscaped t w → v ≡ w }
+    ensures computed { (t : List ℕ) → IsEscaped t (escaped t) }
 {}
 
 /// What is written of a text is read as that text, and never as a cross reference.
