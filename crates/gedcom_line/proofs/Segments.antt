@@ -1,18 +1,15 @@
 -- The segments of a text and their parts: a text has one split, and it is the computed one.
-use Rattle.std.proofs.Common.{◌≡◌, ℕ, zero, suc, ◌+◌, ◌<◌, ◌≤◌, List, [], ◌∷◌, ◌++◌, length, get_or, take, drop, refl, sym, ap, ◌∙◌, subst, inl, inr, arith, not, true, length-drop}
-use Rattle.std.specs.List.{AllByRecursion, join_with_byte, list_all, position_or_len, before_first, slice_split}
+use Rattle.std.proofs.Common.{◌≡◌, ℕ, zero, suc, ◌<◌, ◌≤◌, List, [], ◌∷◌, ◌++◌, length, take, drop, refl, sym, ap, ◌∙◌, subst, inl, inr, arith}
+use Rattle.std.specs.List.{AllByRecursion, join_with_byte, position_or_len, slice_split}
 use Rattle.std.specs.Str.{IsUtf8}
-use Rattle.std.proofs.lemmas.Bool.{eqb-true, cases_lt, not-false}
-use Rattle.std.proofs.lemmas.List.{append-nil, take_all}
+use Rattle.std.proofs.lemmas.Bool.{cases_lt}
+use Rattle.std.proofs.lemmas.List.{append-nil}
 use Rattle.std.proofs.lemmas.List.Splits.{slice_split_at, slice_split_none}
-use Rattle.std.proofs.lemmas.List.Sums.{split_at_first, prefix_len_stops}
-use Rattle.std.proofs.lemmas.Str.{IsUtf8-take, IsUtf8-drop, IsCharBoundary-before_ascii, IsCharBoundary-after_ascii}
 use Rattle.std.proofs.Math.Seq.{take-append_seam, drop-append_seam}
 use Rattle.gedcom_line.specs.Split.{MayCut, IsGoodCut, IsGreatest, IsCut, Parts, Part, marked, PartsOf, IsSplit, segment_parts, canonical, is_lf, NoLf}
 use Rattle.gedcom_line.specs.declared.splitting.Mark.TheVariants.{Cont}
-use Rattle.gedcom_line.proofs.Steps.{all_front}
 use Rattle.gedcom_line.proofs.Cuts.{segment_parts_hold, canonical_step, canonical_last, no_lf_each}
-use Rattle.gedcom_line.proofs.Inner.{no_lf_of}
+use Rattle.gedcom_line.proofs.Inner.{no_lf_of, last_none, LfCut, lf_cut}
 
 -- a segment has one cut, and one list of parts
 greatest_one : (Holds : ℕ → Type 0) (p q : ℕ) → IsGreatest Holds p → IsGreatest Holds q → p ≡ q
@@ -62,34 +59,10 @@ split_one t ps qs a b =
     let e : a.segments ≡ b.segments = sym (segments_are t a.segments a.some a.whole a.plain) ∙ segments_are t b.segments b.some b.whole b.plain in
     parts_of_one b.segments ps qs (subst (λ (x : List (List ℕ)). PartsOf x ps) e a.parts) b.parts
 
--- what stands at the first LF and round it
-record LfCut (t : List ℕ) : Type 0 where
-  front : List ℕ
-  rest : List ℕ
-  parts : t ≡ front ++ 10 ∷ rest
-  none : NoLf front
-  front_utf8 : IsUtf8 front
-  rest_utf8 : IsUtf8 rest
-  shorter : length rest < length t
-
-lf_cut : (t : List ℕ) → IsUtf8 t → position_or_len is_lf t < length t → LfCut t
-lf_cut t u lt =
-    let n : ℕ = position_or_len is_lf t in
-    let lf : get_or t n 0 ≡ 10 = eqb-true (get_or t n 0) 10 (not-false _ (prefix_len_stops (λ x. not (is_lf x)) t 0 lt)) in
-    record {
-      front = take n t;
-      rest = drop (n + 1) t;
-      parts = split_at_first is_lf t 0 lt ∙ ap (λ (x : ℕ). take n t ++ x ∷ drop (n + 1) t) lf;
-      none = no_lf_of (take n t) (all_front (λ b. not (is_lf b)) t);
-      front_utf8 = IsUtf8-take t n u (IsCharBoundary-before_ascii t n lt (omega (arith, lf)));
-      rest_utf8 = IsUtf8-drop t (n + 1) u (IsCharBoundary-after_ascii t n u lt (omega (arith, lf)));
-      shorter = omega (arith, length-drop (n + 1) t);
-    }
-
+-- what was computed is a split
 last_split : (t : List ℕ) → IsUtf8 t → length t ≤ position_or_len is_lf t → IsSplit t (canonical t)
 last_split t u ge =
-    let whole : before_first is_lf t ≡ t = take_all (position_or_len is_lf t) t ge in
-    let none : NoLf t = no_lf_of t (subst (λ (x : List ℕ). list_all (λ b. not (is_lf b)) x ≡ true) whole (all_front (λ b. not (is_lf b)) t)) in
+    let none : NoLf t = no_lf_of t (last_none t ge) in
     record {
       segments = t ∷ [];
       some = omega arith;
@@ -103,13 +76,15 @@ join_cons s [] some = absurd (omega arith)
 join_cons s (r ∷ ss) some = refl
 
 more_split : (t : List ℕ) (c : LfCut t) → IsSplit c.rest (canonical c.rest) → IsSplit t (canonical t)
-more_split t c s = record {
-  segments = c.front ∷ s.segments;
-  some = omega arith;
-  whole = c.parts ∙ ap (λ (x : List ℕ). c.front ++ 10 ∷ x) s.whole ∙ sym (join_cons c.front s.segments s.some);
-  plain = (c.none, s.plain);
-  parts = (segment_parts c.front, (segment_parts_hold c.front c.front_utf8, (canonical c.rest, (canonical_step t c.front c.rest c.parts c.none, s.parts))));
-}
+more_split t c s =
+    let none : NoLf c.front = no_lf_of c.front c.none in
+    record {
+      segments = c.front ∷ s.segments;
+      some = omega arith;
+      whole = c.parts ∙ ap (λ (x : List ℕ). c.front ++ 10 ∷ x) s.whole ∙ sym (join_cons c.front s.segments s.some);
+      plain = (none, s.plain);
+      parts = (segment_parts c.front, (segment_parts_hold c.front c.front_utf8, (canonical c.rest, (canonical_step t c.front c.rest c.parts none, s.parts))));
+    }
 
 split_by : (n : ℕ) (t : List ℕ) → IsUtf8 t → length t ≤ n → IsSplit t (canonical t)
 split_by zero t u le = elim (cases_lt (position_or_len is_lf t) (length t)) [
