@@ -8,7 +8,7 @@ use Rattle.std.proofs.lemmas.List.{length-take-le}
 use Rattle.std.proofs.lemmas.List.Sums.{AllPass-from_list_all}
 use Rattle.gedcom_line.specs.Words.{is_at}
 use Rattle.gedcom_line.specs.Past.{past_char}
-use Rattle.gedcom_line.specs.Escape.{NoAt, HasEscape, Element, Escape, Char, Elements, element_text, IsEscaped, ends_escape, begins_escape, escaped_from, escaped}
+use Rattle.gedcom_line.specs.Escape.{NoAt, HasEscape, Element, Escape, Byte, Elements, element_text, IsEscaped, ends_escape, begins_escape, escaped_from, escaped}
 use Rattle.gedcom_line.proofs.Steps.{both, eqb_no, at_parts, all_front, before_len}
 use Rattle.gedcom_line.proofs.Doubled.{cases_bool, space_after, head_no_at, tail_no_at, escaped_skip, marks_begin, marks_pair}
 use Rattle.gedcom_line.proofs.Fronts.{ends_spelled}
@@ -85,14 +85,14 @@ escape_shorter cs body rest h =
 -- the computed form is a written form
 char_made : (c : ℕ) (cs : List ℕ) → eqb c 64 ≡ false → IsEscaped cs (escaped cs) → IsEscaped (c ∷ cs) (escaped (c ∷ cs))
 char_made c cs k r = record {
-  elements = Char c ∷ r.elements;
+  elements = Byte c ∷ r.elements;
   cut = (none_but_at c cs k, (cs, (refl, r.cut)));
   each = rw k (ap (λ (x : List ℕ). c ∷ x) r.each);
 }
 
 pair_made : (cs : List ℕ) → begins_escape cs ≡ false → IsEscaped cs (escaped cs) → IsEscaped (64 ∷ cs) (escaped (64 ∷ cs))
 pair_made cs k r = record {
-  elements = Char 64 ∷ r.elements;
+  elements = Byte 64 ∷ r.elements;
   cut = (none_begins cs k, (cs, (refl, r.cut)));
   each = marks_pair false cs refl k ∙ ap (λ (x : List ℕ). 64 ∷ 64 ∷ x) r.each;
 }
@@ -136,21 +136,21 @@ no_escape body rest h = let e : [] ≡ 64 ∷ 35 ∷ body ++ 64 ∷ 32 ∷ rest 
 pub elements_one : (t : List ℕ) (es fs : List Element) → Elements t es → Elements t fs → es ≡ fs
 elements_one t [] [] h k = refl
 elements_one t [] (Escape b ∷ fs) h k = absurd (no_escape b k.0 (subst (λ (x : List ℕ). HasEscape x b k.0) h k.1.0))
-elements_one t [] (Char d ∷ fs) h k = absurd (let e : [] ≡ d ∷ k.1.0 = sym h ∙ k.1.1.0 in cc)
+elements_one t [] (Byte d ∷ fs) h k = absurd (let e : [] ≡ d ∷ k.1.0 = sym h ∙ k.1.1.0 in cc)
 elements_one t (Escape a ∷ es) [] h k = absurd (no_escape a h.0 (subst (λ (x : List ℕ). HasEscape x a h.0) k h.1.0))
-elements_one t (Char c ∷ es) [] h k = absurd (let e : [] ≡ c ∷ h.1.0 = sym k ∙ h.1.1.0 in cc)
-elements_one t (Escape a ∷ es) (Char d ∷ fs) h k = absurd (k.0 a h.0 h.1.0)
-elements_one t (Char c ∷ es) (Escape b ∷ fs) h k = absurd (h.0 b k.0 k.1.0)
+elements_one t (Byte c ∷ es) [] h k = absurd (let e : [] ≡ c ∷ h.1.0 = sym k ∙ h.1.1.0 in cc)
+elements_one t (Escape a ∷ es) (Byte d ∷ fs) h k = absurd (k.0 a h.0 h.1.0)
+elements_one t (Byte c ∷ es) (Escape b ∷ fs) h k = absurd (h.0 b k.0 k.1.0)
 elements_one t (Escape a ∷ es) (Escape b ∷ fs) h k =
     let e = escape_one t a b h.0 k.0 h.1.0 k.1.0 in
     let rest : es ≡ fs = elements_one k.0 es fs (subst (λ (x : List ℕ). Elements x es) e.1 h.1.1) k.1.1 in
     ap (λ (x : List ℕ). Escape x ∷ es) e.0 ∙ ap (λ (x : List Element). Escape b ∷ x) rest
-elements_one t (Char c ∷ es) (Char d ∷ fs) h k =
+elements_one t (Byte c ∷ es) (Byte d ∷ fs) h k =
     let e : c ∷ h.1.0 ≡ d ∷ k.1.0 = sym h.1.1.0 ∙ k.1.1.0 in
     let same : c ≡ d = cc in
     let tail : h.1.0 ≡ k.1.0 = cc in
     let rest : es ≡ fs = elements_one k.1.0 es fs (subst (λ (x : List ℕ). Elements x es) tail h.1.1.1) k.1.1.1 in
-    ap (λ (x : ℕ). Char x ∷ es) same ∙ ap (λ (x : List Element). Char d ∷ x) rest
+    ap (λ (x : ℕ). Byte x ∷ es) same ∙ ap (λ (x : List Element). Byte d ∷ x) rest
 
 -- and one written form
 pub written_one : (t v w : List ℕ) → IsEscaped t v → IsEscaped t w → v ≡ w

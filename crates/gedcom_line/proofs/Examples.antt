@@ -2,7 +2,7 @@
 -- docs/FORMATS.md give.
 use Rattle.std.proofs.Common.{◌≡◌, [], ◌∷◌, refl, arith}
 use Rattle.std.specs.Prelude.{codes}
-use Rattle.gedcom_line.specs.Escape.{Escape, Char, Elements, escaped}
+use Rattle.gedcom_line.specs.Escape.{Escape, Byte, Elements, escaped}
 use Rattle.gedcom_line.proofs.Elements.{no_at_of, none_but_at, none_begins}
 
 -- the characters @#A@ @#B@ and a space are two escapes
@@ -10,7 +10,7 @@ two_escapes : Elements (codes "@#A@ @#B@ ") (Escape (codes "A") ∷ Escape (code
 two_escapes = (codes "@#B@ ", (record { spelled = refl; some = omega arith; plain = no_at_of (codes "A") refl }, ([], (record { spelled = refl; some = omega arith; plain = no_at_of (codes "B") refl }, refl))))
 
 -- the @ that might end an escape begins one, since no space stands behind it
-one_escape : Elements (codes "@#A@#B@ ") (Char 64 ∷ Char 35 ∷ Char 65 ∷ Escape (codes "B") ∷ [])
+one_escape : Elements (codes "@#A@#B@ ") (Byte 64 ∷ Byte 35 ∷ Byte 65 ∷ Escape (codes "B") ∷ [])
 one_escape = (
   none_begins (codes "#A@#B@ ") refl,
   (

@@ -16,21 +16,21 @@ pub record HasEscape (t body rest : List ℕ) : Type 0 where
   pub some : 0 < length body
   pub plain : NoAt body
 
--- what a text is made of: escapes, by what stands between their @# and their second @, and characters that belong to none
+-- what a text is made of: escapes, by what stands between their @# and their second @, and bytes that belong to none
 pub data Element : Type 0 where
   Escape : List ℕ → Element
-  Char : ℕ → Element
+  Byte : ℕ → Element
 
--- the text is these elements, from left to right: an escape wherever one begins, and else one character
+-- the text is these elements, from left to right: an escape wherever one begins, and else one byte
 abbrev pub Elements : List ℕ → List Element → Type 0
 Elements t [] = t ≡ []
 Elements t (Escape body ∷ es) = (rest : List ℕ) × (HasEscape t body rest × Elements rest es)
-Elements t (Char c ∷ es) = ((body rest : List ℕ) → ¬ (HasEscape t body rest)) × ((rest : List ℕ) × ((t ≡ c ∷ rest) × Elements rest es))
+Elements t (Byte c ∷ es) = ((body rest : List ℕ) → ¬ (HasEscape t body rest)) × ((rest : List ℕ) × ((t ≡ c ∷ rest) × Elements rest es))
 
--- an escape is written as it stands, an @ that belongs to none as two, and each other character as itself
+-- an escape is written as it stands, an @ that belongs to none as two, and each other byte as itself
 abbrev pub element_text : Element → List ℕ
 element_text (Escape body) = 64 ∷ 35 ∷ body ++ 64 ∷ 32 ∷ []
-element_text (Char c) = if c == 64 then 64 ∷ 64 ∷ [] else c ∷ []
+element_text (Byte c) = if c == 64 then 64 ∷ 64 ∷ [] else c ∷ []
 
 -- what is written of a text
 pub record IsEscaped (t written : List ℕ) : Type 0 where

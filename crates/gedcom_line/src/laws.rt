@@ -38,8 +38,8 @@ pub fn a_pointer_is_a_cross_reference()
     ensures is { (raw name : List ℕ) → meaning raw ≡ Pointer name → IsPointer raw name }
 {}
 
-/// A text has one split into parts: what `canonical` gives. The parts joined give the text, those of a segment
-/// are cut where the rule says, and the parts of a text without CR and U+0000 can each stand on a line.
+/// A text in UTF-8 has one split into parts: what `canonical` gives. The parts joined give the text, those of a
+/// segment are cut where the rule says, and the parts of a text without CR and U+0000 can each stand on a line.
 pub fn a_text_is_split_and_joined()
     ensures split { (t : List ℕ) → IsUtf8 t → IsSplit t (canonical t) }
     ensures one { (t : List ℕ) (ps qs : List Part) → IsSplit t ps → IsSplit t qs → ps ≡ qs }

@@ -219,7 +219,7 @@ fn cut_segment(text: &str) -> Option<(&str, &str)>
 /// CONC and CONT: The GEDCOM Standard Release 5.5.1, chapter 1. The places of the cuts: docs/FORMATS.md.
 /// An error comes only where memory for the list of parts is refused.
 pub fn split_text<'a>(alloc: Global, text: &'a str) -> Result<Vec<TextPart<'a>>, AllocError>
-    ensures parts { IfOk result (λ ps. IsSplit text.now (map part ps.items)) }
+    ensures split { IfOk result (λ ps. IsSplit text.now (map part ps.items)) }
 
     // The same as one function.
     ensures exact { IfOk result (λ ps. map part ps.items ≡ canonical text.now) }
