@@ -1,8 +1,8 @@
-"""The numbers and names of refusals, wherever they are told: two crates and docs/REFUSALS.md.
+"""The numbers and names of refusals, wherever they are told: three crates and docs/REFUSALS.md.
 
 The crate of files and the crate of the archive each have a definition that gives a kind its number, and one
-that gives it its name; the calls `number` and `name` are proved to answer these. So the definitions are
-read here, and the table of the document.
+that gives it its name; the calls `number` and `name` are proved to answer these. The crate of lines gives
+each fault of a line its number alone. So the definitions are read here, and the table of the document.
 """
 
 from __future__ import annotations
@@ -12,6 +12,7 @@ import re
 
 from harness import ROOT, Case, Tools, demand
 
+LINES = "crates/gedcom_line/specs/Refusals.antt"
 FILES = "crates/gedcom_rules/specs/Refusals.antt"
 ARCHIVE = "crates/record_text/specs/Refusals.antt"
 DOCUMENT = "docs/REFUSALS.md"
@@ -40,10 +41,16 @@ def once(found, where):
     return dict(found)
 
 
+def numbers_of(path):
+    """The number of each kind of a crate."""
+    found = NUMBER.findall(text_of(path))
+    return once(((kind, int(number)) for kind, number in found), f"{path}, numbers")
+
+
 def kinds_of(path):
     """The number and the name of each kind of a crate."""
     text = text_of(path)
-    numbers = once(((kind, int(number)) for kind, number in NUMBER.findall(text)), f"{path}, numbers")
+    numbers = numbers_of(path)
     names = once(NAME.findall(text), f"{path}, names")
     demand(numbers.keys() == names.keys(), f"{path}: {numbers.keys() ^ names.keys()} has one alone")
     return {kind: (number, names[kind]) for kind, number in numbers.items()}
@@ -63,6 +70,13 @@ def crates_agree():
     once({*files.values(), *archive.values()}, f"{FILES} and {ARCHIVE}")
 
 
+def lines_agree_with_files():
+    files = kinds_of(FILES)
+    for kind, number in numbers_of(LINES).items():
+        told = files.get(kind, (None, None))[0]
+        demand(told == number, f"{kind}: {LINES} has {number}, {FILES} {told}")
+
+
 def code_agrees_with_the_document():
     listed = rows()
     told = {name: number for path in (FILES, ARCHIVE) for number, name in kinds_of(path).values()}
@@ -74,8 +88,11 @@ def code_agrees_with_the_document():
         if name not in listed and number not in NOT_PRINTED
     )
     demand(not missing, f"{DOCUMENT} has no row for {missing}")
+    for kind, number in numbers_of(LINES).items():
+        demand(listed.get(kind) == number, f"{LINES} has {number} {kind}, {DOCUMENT} {listed.get(kind)}")
 
 
 def cases(_tools: Tools):
     yield Case("refusals: two crates have the same numbers and names", crates_agree)
+    yield Case("refusals: a fault of a line has the number of files", lines_agree_with_files)
     yield Case("refusals: the code agrees with the document", code_agrees_with_the_document)

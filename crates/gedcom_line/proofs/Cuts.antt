@@ -264,7 +264,7 @@ joined-canonical t =
     joined_from h.0 t h.1.0 (canonical t) h.1.1 (canonical_added t)
 
 -- the steps of the code
-no_lf_each : (xs : List ℕ) → NoLf xs → All (λ x. is_lf x ≡ false) xs
+pub no_lf_each : (xs : List ℕ) → NoLf xs → All (λ x. is_lf x ≡ false) xs
 no_lf_each xs h = λ i d lt. eqb_false (get_or xs i d) 10 (λ e. h i lt (get_or_default xs i 0 d lt ∙ e))
 
 pub canonical_step : (t xs ys : List ℕ) → t ≡ xs ++ 10 ∷ ys → NoLf xs → canonical t ≡ marked Cont (segment_parts xs) ++ canonical ys

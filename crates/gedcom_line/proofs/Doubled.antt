@@ -10,10 +10,10 @@ use Rattle.gedcom_line.specs.Past.{past_char}
 use Rattle.gedcom_line.specs.Escape.{NoAt, ends_escape, begins_escape, escaped_from, escaped, unescaped, past_pair}
 use Rattle.gedcom_line.proofs.Steps.{both, eqb_false, eqb_no, at_parts, all_front}
 
-tail_no_at : (c : ℕ) (cs : List ℕ) → NoAt (c ∷ cs) → NoAt cs
+pub tail_no_at : (c : ℕ) (cs : List ℕ) → NoAt (c ∷ cs) → NoAt cs
 tail_no_at c cs h = λ i lt. h (suc i) (omega arith)
 
-head_no_at : (c : ℕ) (cs : List ℕ) → NoAt (c ∷ cs) → eqb c 64 ≡ false
+pub head_no_at : (c : ℕ) (cs : List ℕ) → NoAt (c ∷ cs) → eqb c 64 ≡ false
 head_no_at c cs h = eqb_false c 64 (h 0 (omega arith))
 
 pub escaped_skip : (inside : Bool) (front after : List ℕ) → NoAt front → escaped_from inside (front ++ after) ≡ front ++ escaped_from inside after

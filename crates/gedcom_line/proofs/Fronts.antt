@@ -20,7 +20,7 @@ use Rattle.gedcom_line.proofs.Doubled.{cases_bool, space_after, marks_begin, mar
 use Rattle.gedcom_line.proofs.Counts.{char_count-append, char_count-cons, char_count-nil, escaped_step, front_len-le-length, front_len_more, count_turn, count_last}
 
 -- an escape stays one whatever follows it
-ends_spelled : (front after : List ℕ) → list_all (λ b. not (is_at b)) front ≡ true → 0 < length front → ends_escape (front ++ 64 ∷ 32 ∷ after) ≡ true
+pub ends_spelled : (front after : List ℕ) → list_all (λ b. not (is_at b)) front ≡ true → 0 < length front → ends_escape (front ++ 64 ∷ 32 ∷ after) ≡ true
 ends_spelled front after h some =
     let at : position_or_len is_at (front ++ 64 ∷ 32 ∷ after) ≡ length front = before_len front (32 ∷ after) h in
     let inside : ltb (length front) (length (front ++ 64 ∷ 32 ∷ after)) ≡ true = lt-ltb (length front) (length (front ++ 64 ∷ 32 ∷ after)) (omega (arith, length-append front (64 ∷ 32 ∷ after))) in

@@ -2,7 +2,7 @@
 use Rattle.std.proofs.Common.{◌≡◌, ℕ, zero, suc, ◌+◌, ◌<◌, ◌≤◌, Bool, true, false, not, List, [], ◌∷◌, ◌++◌, length, get_or, take, drop, refl, sym, ap, ◌∙◌, subst, inl, inr, arith, length-drop}
 use Rattle.std.specs.Char.{encode_utf8, IsScalar}
 use lib.Utf8.{scalar}
-use Rattle.std.specs.List.{list_all, position_or_len, before_first}
+use Rattle.std.specs.List.{list_all, position_or_len}
 use Rattle.std.specs.Str.{IsUtf8, encode_utf8_all, all_scalars}
 use Rattle.std.proofs.lemmas.Bool.{eqb-true, cases_eq, cases_lt, not-true, not-false}
 use Rattle.std.proofs.lemmas.Bool.Decides.{nat_tests}
@@ -18,6 +18,7 @@ use Rattle.gedcom_line.specs.declared.splitting.Mark.TheVariants.{Conc, Cont}
 use Rattle.gedcom_line.proofs.Steps.{both, eqb_no, all_front}
 use Rattle.gedcom_line.proofs.Doubled.{escaped_skip, cases_bool}
 use Rattle.gedcom_line.proofs.Counts.{escaped_step}
+use Rattle.gedcom_line.proofs.Written.{in_front, in_back}
 use Rattle.gedcom_line.proofs.Cuts.{cut_may_be, canonical_step, canonical_last}
 
 -- one character more is UTF-8 still
@@ -111,41 +112,41 @@ inner_all (x ∷ xs) h k =
     let s = both (not (is_lf x)) (list_all (λ b. not (is_lf b)) xs) k in
     rw (inner_char x r.0 (not-true (is_lf x) s.0), inner_all xs r.1 s.1) refl
 
-no_lf_of : (t : List ℕ) → list_all (λ b. not (is_lf b)) t ≡ true → NoLf t
+pub no_lf_of : (t : List ℕ) → list_all (λ b. not (is_lf b)) t ≡ true → NoLf t
 no_lf_of t h = λ i lt e. eqb_no (get_or t i 0) 10 (not-true _ (AllPass-from_list_all (λ b. not (is_lf b)) t h i 0 lt)) e
 
-last_inner : (t : List ℕ) → IsUtf8 t → list_all is_textual t ≡ true → length t ≤ position_or_len is_lf t → EachPart IsInner (canonical t)
-last_inner t u h ge =
-    let whole : before_first is_lf t ≡ t = take_all (position_or_len is_lf t) t ge in
-    let none : list_all (λ b. not (is_lf b)) t ≡ true = subst (λ (x : List ℕ). list_all (λ b. not (is_lf b)) x ≡ true) whole (all_front (λ b. not (is_lf b)) t) in
-    rw (canonical_last t (no_lf_of t none)) (segment_inner t (record { utf8 = u; each = inner_all t h none }))
+-- a text without LF
+pub last_none : (t : List ℕ) → length t ≤ position_or_len is_lf t → list_all (λ b. not (is_lf b)) t ≡ true
+last_none t ge = subst (λ (x : List ℕ). list_all (λ b. not (is_lf b)) x ≡ true) (take_all (position_or_len is_lf t) t ge) (all_front (λ b. not (is_lf b)) t)
 
 -- what stands at the first LF and round it
-record Cut (t : List ℕ) : Type 0 where
-  front : List ℕ
-  rest : List ℕ
-  parts : t ≡ front ++ 10 ∷ rest
-  none : list_all (λ b. not (is_lf b)) front ≡ true
-  front_inner : IsInner front
-  rest_utf8 : IsUtf8 rest
-  rest_textual : list_all is_textual rest ≡ true
-  shorter : length rest < length t
+pub record LfCut (t : List ℕ) : Type 0 where
+  pub front : List ℕ
+  pub rest : List ℕ
+  pub parts : t ≡ front ++ 10 ∷ rest
+  pub none : list_all (λ b. not (is_lf b)) front ≡ true
+  pub front_utf8 : IsUtf8 front
+  pub rest_utf8 : IsUtf8 rest
+  pub shorter : length rest < length t
 
-cut_of : (t : List ℕ) → IsUtf8 t → list_all is_textual t ≡ true → position_or_len is_lf t < length t → Cut t
-cut_of t u h lt =
+pub lf_cut : (t : List ℕ) → IsUtf8 t → position_or_len is_lf t < length t → LfCut t
+lf_cut t u lt =
     let n : ℕ = position_or_len is_lf t in
     let lf : get_or t n 0 ≡ 10 = eqb-true (get_or t n 0) 10 (not-false _ (prefix_len_stops (λ x. not (is_lf x)) t 0 lt)) in
-    let none : list_all (λ b. not (is_lf b)) (take n t) ≡ true = all_front (λ b. not (is_lf b)) t in
     record {
       front = take n t;
       rest = drop (n + 1) t;
       parts = split_at_first is_lf t 0 lt ∙ ap (λ (x : ℕ). take n t ++ x ∷ drop (n + 1) t) lf;
-      none = none;
-      front_inner = record { utf8 = IsUtf8-take t n u (IsCharBoundary-before_ascii t n lt (omega (arith, lf))); each = inner_all (take n t) (all-take is_textual n t h) none };
+      none = all_front (λ b. not (is_lf b)) t;
+      front_utf8 = IsUtf8-take t n u (IsCharBoundary-before_ascii t n lt (omega (arith, lf)));
       rest_utf8 = IsUtf8-drop t (n + 1) u (IsCharBoundary-after_ascii t n u lt (omega (arith, lf)));
-      rest_textual = all-drop is_textual (n + 1) t h;
       shorter = omega (arith, length-drop (n + 1) t);
     }
+
+last_inner : (t : List ℕ) → IsUtf8 t → list_all is_textual t ≡ true → length t ≤ position_or_len is_lf t → EachPart IsInner (canonical t)
+last_inner t u h ge =
+    let none : list_all (λ b. not (is_lf b)) t ≡ true = last_none t ge in
+    rw (canonical_last t (no_lf_of t none)) (segment_inner t (record { utf8 = u; each = inner_all t h none }))
 
 pub canonical_inner : (n : ℕ) (t : List ℕ) → IsUtf8 t → list_all is_textual t ≡ true → length t ≤ n → EachPart IsInner (canonical t)
 canonical_inner zero t u h le = elim (cases_lt (position_or_len is_lf t) (length t)) [
@@ -155,6 +156,8 @@ canonical_inner zero t u h le = elim (cases_lt (position_or_len is_lf t) (length
 canonical_inner (suc n) t u h le = elim (cases_lt (position_or_len is_lf t) (length t)) [
   | inr ge ↦ last_inner t u h ge
   | inl lt ↦
-      let c = cut_of t u h lt in
-      rw (canonical_step t c.front c.rest c.parts (no_lf_of c.front c.none)) (each-append IsInner (marked Cont (segment_parts c.front)) (canonical c.rest) (segment_inner c.front c.front_inner) (canonical_inner n c.rest c.rest_utf8 c.rest_textual (omega (arith, c.shorter))))
+      let c = lf_cut t u lt in
+      let parts : list_all is_textual (c.front ++ 10 ∷ c.rest) ≡ true = ap (list_all is_textual) (sym c.parts) ∙ h in
+      let front : IsInner c.front = record { utf8 = c.front_utf8; each = inner_all c.front (in_front is_textual c.front (10 ∷ c.rest) parts) c.none } in
+      rw (canonical_step t c.front c.rest c.parts (no_lf_of c.front c.none)) (each-append IsInner (marked Cont (segment_parts c.front)) (canonical c.rest) (segment_inner c.front front) (canonical_inner n c.rest c.rest_utf8 (in_back is_textual c.front (10 ∷ c.rest) parts) (omega (arith, c.shorter))))
 ]

@@ -12,3 +12,7 @@ pub mod Lengths
 pub mod Whole
 pub mod Exact
 pub mod Written
+pub mod Beginnings
+pub mod Segments
+pub mod Elements
+pub mod Examples

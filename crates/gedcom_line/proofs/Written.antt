@@ -30,13 +30,13 @@ inner_each (x ∷ xs) h k =
 text_inner : (b : List ℕ) → IsText b → IsInner b
 text_inner b t = record { utf8 = t.utf8; each = inner_each b t.no_nul t.piece }
 
-all_front : (p : ℕ → Bool) (a b : List ℕ) → list_all p (a ++ b) ≡ true → list_all p a ≡ true
-all_front p [] b h = refl
-all_front p (x ∷ xs) b h = let r = both (p x) (list_all p (xs ++ b)) h in rw (r.0, all_front p xs b r.1) refl
+pub in_front : (p : ℕ → Bool) (a b : List ℕ) → list_all p (a ++ b) ≡ true → list_all p a ≡ true
+in_front p [] b h = refl
+in_front p (x ∷ xs) b h = let r = both (p x) (list_all p (xs ++ b)) h in rw (r.0, in_front p xs b r.1) refl
 
-all_back : (p : ℕ → Bool) (a b : List ℕ) → list_all p (a ++ b) ≡ true → list_all p b ≡ true
-all_back p [] b h = h
-all_back p (x ∷ xs) b h = let r = both (p x) (list_all p (xs ++ b)) h in all_back p xs b r.1
+pub in_back : (p : ℕ → Bool) (a b : List ℕ) → list_all p (a ++ b) ≡ true → list_all p b ≡ true
+in_back p [] b h = h
+in_back p (x ∷ xs) b h = let r = both (p x) (list_all p (xs ++ b)) h in in_back p xs b r.1
 
 -- behind characters of a class
 utf8_behind_one : (x : ℕ) (t : List ℕ) → x < 128 → IsUtf8 (x ∷ t) → IsUtf8 t
@@ -49,7 +49,7 @@ utf8_behind k (x ∷ xs) t h u =
     utf8_behind k xs t r.1 (utf8_behind_one x (xs ++ t) (in_class_ascii k x r.0) u)
 
 inner_behind : (k : Class) (a t : List ℕ) → list_all (in_class k) a ≡ true → IsInner (a ++ t) → IsInner t
-inner_behind k a t h i = record { utf8 = utf8_behind k a t h i.utf8; each = all_back is_inner a t i.each }
+inner_behind k a t h i = record { utf8 = utf8_behind k a t h i.utf8; each = in_back is_inner a t i.each }
 
 -- behind what a class spans
 inner_spanned : (k : Class) (text front rest : List ℕ) → Spans (in_class k) text front rest → IsInner text → IsInner rest
@@ -95,8 +95,8 @@ cut_inner name after i =
     let back : drop (length x) t ≡ after = ap (drop (length x)) parts ∙ drop-append_seam x after in
     let each : list_all is_inner (x ++ after) ≡ true = ap (list_all is_inner) (sym parts) ∙ i.each in
     record {
-      front = record { utf8 = subst IsUtf8 front (IsUtf8-take t (length x) i.utf8 b); each = all_front is_inner x after each };
-      back = record { utf8 = subst IsUtf8 back (IsUtf8-drop t (length x) i.utf8 b); each = all_back is_inner x after each };
+      front = record { utf8 = subst IsUtf8 front (IsUtf8-take t (length x) i.utf8 b); each = in_front is_inner x after each };
+      back = record { utf8 = subst IsUtf8 back (IsUtf8-drop t (length x) i.utf8 b); each = in_back is_inner x after each };
     }
 
 xref_inner : (t : List ℕ) (x : Option (List ℕ)) (last : List ℕ) → HasXref t x last → IsInner t → IsXref x × IsInner last

@@ -1,6 +1,6 @@
 -- A text cut into parts that each stand on one line: at each LF, and where a segment is too long.
 use Rattle.std.specs.Prelude.{◌≡◌, ◌≢◌, ◌⊎◌, ℕ, zero, suc, ◌+◌, ◌-◌, ◌<◌, ◌≤◌, Bool, not, ◌&&◌, ◌||◌, ◌==◌, nat_le, nat_lt, if◌then◌else◌, List, [], ◌∷◌, ◌++◌, length, take, drop, slice_index, Option, Some, None, unwrap_or}
-use Rattle.std.specs.List.{count_by, flat_map, slice_split}
+use Rattle.std.specs.List.{AllByRecursion, count_by, flat_map, join_with_byte, slice_split}
 use Rattle.std.specs.Str.{IsCharBoundary}
 use Rattle.gedcom_line.specs.Escape.{escaped}
 use Rattle.gedcom_line.specs.declared.splitting.Mark.{Mark}
@@ -53,6 +53,55 @@ Parts s [] = ⊥
 Parts s (p ∷ []) = (s ≡ p) × IsShort s
 Parts s (p ∷ q ∷ ps) = (200 < char_count (escaped s)) × ((rest : List ℕ) × ((s ≡ p ++ rest) × (IsCut s (length p) × Parts rest (q ∷ ps))))
 
+-- a part of a text, with how it is joined to what stands before it
+pub record Part : Type 0 where
+  pub mark : Mark
+  pub text : List ℕ
+
+abbrev pub part : TextPart → Part
+part p = record { mark = p.mark; text = p.text.now }
+
+-- the first part with the mark, the others with CONC
+abbrev pub marked : Mark → List (List ℕ) → List Part
+marked m [] = []
+marked m (p ∷ ps) = record { mark = m; text = p } ∷ marked Conc ps
+
+-- no character is LF
+abbrev pub NoLf : List ℕ → Type 0
+NoLf xs = (i : ℕ) → i < length xs → slice_index xs i ≢ 10
+
+-- the parts of segments, one segment after another: the first part of each is marked CONT, and the others CONC
+abbrev pub PartsOf : List (List ℕ) → List Part → Type 0
+PartsOf [] ps = ps ≡ []
+PartsOf (s ∷ ss) ps = (own : List (List ℕ)) × (Parts s own × ((more : List Part) × ((ps ≡ marked Cont own ++ more) × PartsOf ss more)))
+
+-- The parts of a text: it is one segment or more, without LF, joined by LF, and the parts are theirs. The first part stands
+-- on the line itself, and its mark is not looked at.
+pub record IsSplit (t : List ℕ) (ps : List Part) : Type 0 where
+  pub segments : List (List ℕ)
+  pub some : 0 < length segments
+  pub whole : t ≡ join_with_byte 10 segments
+  pub plain : AllByRecursion NoLf segments
+  pub parts : PartsOf segments ps
+
+-- the text of each part
+abbrev pub EachPart : (List ℕ → Type 0) → List Part → Type 0
+EachPart P [] = Unit {0}
+EachPart P (x ∷ xs) = P x.text × EachPart P xs
+
+-- what stands before a part in the text
+abbrev pub between : Mark → List ℕ
+between Conc = []
+between Cont = 10 ∷ []
+
+abbrev pub added : Part → List ℕ
+added p = between p.mark ++ p.text
+
+-- the texts of the parts, with a line end before each but the first that has a line of its own
+abbrev pub joined : List Part → List ℕ
+joined [] = []
+joined (p ∷ ps) = p.text ++ flat_map added ps
+
 -- The same by computing.
 
 abbrev pub is_short : List ℕ → Bool
@@ -80,44 +129,9 @@ parts_by (suc n) s = if is_short s then s ∷ [] else take (cut_len s) s ∷ par
 unfoldable pub segment_parts : List ℕ → List (List ℕ)
 segment_parts s = parts_by (length s) s
 
--- a part of a text, with how it is joined to what stands before it
-pub record Part : Type 0 where
-  pub mark : Mark
-  pub text : List ℕ
-
-abbrev pub part : TextPart → Part
-part p = record { mark = p.mark; text = p.text.now }
-
--- the first part with the mark, the others with CONC
-abbrev pub marked : Mark → List (List ℕ) → List Part
-marked m [] = []
-marked m (p ∷ ps) = record { mark = m; text = p } ∷ marked Conc ps
-
 abbrev pub is_lf : ℕ → Bool
 is_lf b = b == 10
-
--- no character is LF
-abbrev pub NoLf : List ℕ → Type 0
-NoLf xs = (i : ℕ) → i < length xs → slice_index xs i ≢ 10
 
 -- the parts of a text; the first stands on the line itself, and its mark is not looked at
 unfoldable pub canonical : List ℕ → List Part
 canonical t = flat_map (λ s. marked Cont (segment_parts s)) (slice_split is_lf t)
-
--- the text of each part
-abbrev pub EachPart : (List ℕ → Type 0) → List Part → Type 0
-EachPart P [] = Unit {0}
-EachPart P (x ∷ xs) = P x.text × EachPart P xs
-
--- what stands before a part in the text
-abbrev pub between : Mark → List ℕ
-between Conc = []
-between Cont = 10 ∷ []
-
-abbrev pub added : Part → List ℕ
-added p = between p.mark ++ p.text
-
--- the texts of the parts, with a line end before each but the first that has a line of its own
-abbrev pub joined : List Part → List ℕ
-joined [] = []
-joined (p ∷ ps) = p.text ++ flat_map added ps

@@ -1,7 +1,7 @@
 //! The doubling of `@` in values.
 
 ghost use Rattle.std.specs.Prelude.{◌≡◌, ◌+◌, ◌==◌, ◌<◌, true, false, List, ℕ, [], ◌∷◌, ◌++◌, IfOk, OnOk, MatchOption, string_bytes};
-ghost use Rattle.gedcom_line.specs.Escape.{begins_escape as escape_test, ends_escape as end_test, NoAt, escaped_from, escaped, unescaped, past_pair as pair_rest};
+ghost use Rattle.gedcom_line.specs.Escape.{begins_escape as escape_test, ends_escape as end_test, NoAt, IsEscaped, escaped_from, escaped, unescaped, past_pair as pair_rest};
 
 use crate::class::past;
 use std::alloc::{AllocError, Global};
@@ -61,7 +61,10 @@ pub(crate) fn mark_of(is_inside: bool, after: &str) -> (&'static str, bool)
 /// The GEDCOM Standard Release 5.5.1, chapter 1 (the character `@`, escapes). An error comes only where
 /// memory for the result is refused.
 pub fn escape(alloc: Global, text: &str) -> Result<String, AllocError>
-    ensures { IfOk result (λ s. string_bytes s ≡ escaped text.now) }
+    ensures written { IfOk result (λ s. IsEscaped text.now (string_bytes s)) }
+
+    // The same as one function.
+    ensures exact { IfOk result (λ s. string_bytes s ≡ escaped text.now) }
 {
     let mut out = String::new(alloc);
     let mut rest = text;

@@ -3,9 +3,9 @@
 ghost use Rattle.std.specs.Prelude.{◌≡◌, ◌≤◌, ℕ, List, true};
 ghost use Rattle.std.specs.List.{list_all};
 ghost use Rattle.std.specs.Str.{IsUtf8};
-ghost use Rattle.gedcom_line.specs.Escape.{escaped, unescaped};
+ghost use Rattle.gedcom_line.specs.Escape.{Element, Elements, IsEscaped, escaped, unescaped};
 ghost use Rattle.gedcom_line.specs.Reading.{Parts as LineParts};
-ghost use Rattle.gedcom_line.specs.Split.{EachPart, IsShort, Parts, canonical, char_count, joined, segment_parts};
+ghost use Rattle.gedcom_line.specs.Split.{EachPart, IsShort, IsSplit, Part, Parts, canonical, char_count, joined, segment_parts};
 ghost use Rattle.gedcom_line.specs.Value.{Text, Pointer, IsPointer, meaning};
 ghost use Rattle.gedcom_line.specs.Line.{Line};
 ghost use Rattle.gedcom_line.specs.Spelling.{spelling, is_textual, IsInner, IsLine};
@@ -16,6 +16,14 @@ pub fn a_line_is_read_again()
     ensures one { (b : List ℕ) (l m : LineParts) → Line b l → Line b m → l ≡ m }
     ensures again { (b : List ℕ) (l : LineParts) → Line b l → Line (spelling l) l }
     ensures made { (l : LineParts) → IsLine l → Line (spelling l) l }
+{}
+
+/// A text is made of escapes and other characters in one way, so there is one written form of it: what `escaped`
+/// gives.
+pub fn a_text_has_one_written_form()
+    ensures elements { (t : List ℕ) (es fs : List Element) → Elements t es → Elements t fs → es ≡ fs }
+    ensures one { (t v w : List ℕ) → IsEscaped t v → IsEscaped t w → v ≡ w }
+    ensures computed { (t : List ℕ) → IsEscaped t (escaped t) }
 {}
 
 /// What is written of a text is read as that text, and never as a cross reference.
@@ -30,9 +38,11 @@ pub fn a_pointer_is_a_cross_reference()
     ensures is { (raw name : List ℕ) → meaning raw ≡ Pointer name → IsPointer raw name }
 {}
 
-/// The parts of a text joined give the text, those of a segment are cut where the rule says, and the parts
-/// of a text without CR and U+0000 can each stand on a line.
+/// A text in UTF-8 has one split into parts: what `canonical` gives. The parts joined give the text, those of a
+/// segment are cut where the rule says, and the parts of a text without CR and U+0000 can each stand on a line.
 pub fn a_text_is_split_and_joined()
+    ensures split { (t : List ℕ) → IsUtf8 t → IsSplit t (canonical t) }
+    ensures one { (t : List ℕ) (ps qs : List Part) → IsSplit t ps → IsSplit t qs → ps ≡ qs }
     ensures joins { (t : List ℕ) → joined (canonical t) ≡ t }
     ensures parts { (s : List ℕ) → IsUtf8 s → Parts s (segment_parts s) }
     ensures lines { (t : List ℕ) → IsUtf8 t → list_all is_textual t ≡ true → EachPart IsInner (canonical t) }

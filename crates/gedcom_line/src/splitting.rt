@@ -4,7 +4,7 @@ ghost use Rattle.std.specs.Prelude.{◌≡◌, ◌+◌, ◌-◌, ◌<◌, ◌≤
 ghost use Rattle.std.specs.List.{AllByRecursion, list_all};
 ghost use Rattle.std.specs.Str.{IsCharBoundary, IsUtf8};
 ghost use Rattle.gedcom_line.specs.Escape.{escaped, unescaped};
-ghost use Rattle.gedcom_line.specs.Split.{begins_char as begins_test, char_count, front_len, is_short as short_test, may_cut as cut_test, is_good_cut as good_test, greatest, cut_len, segment_parts, marked, part, canonical, joined, Parts, Part, is_lf, NoLf};
+ghost use Rattle.gedcom_line.specs.Split.{begins_char as begins_test, char_count, front_len, is_short as short_test, may_cut as cut_test, is_good_cut as good_test, greatest, cut_len, segment_parts, marked, part, canonical, joined, Parts, Part, is_lf, NoLf, IsSplit};
 
 use crate::escapes::{cut, mark_of};
 use std::alloc::{AllocError, Global};
@@ -219,7 +219,10 @@ fn cut_segment(text: &str) -> Option<(&str, &str)>
 /// CONC and CONT: The GEDCOM Standard Release 5.5.1, chapter 1. The places of the cuts: docs/FORMATS.md.
 /// An error comes only where memory for the list of parts is refused.
 pub fn split_text<'a>(alloc: Global, text: &'a str) -> Result<Vec<TextPart<'a>>, AllocError>
-    ensures { IfOk result (λ ps. map part ps.items ≡ canonical text.now) }
+    ensures split { IfOk result (λ ps. IsSplit text.now (map part ps.items)) }
+
+    // The same as one function.
+    ensures exact { IfOk result (λ ps. map part ps.items ≡ canonical text.now) }
 {
     let mut out = Vec::new(alloc);
     let mut rest = text;

@@ -18,7 +18,7 @@ loop-node-preserved g c = record {
 pub returns-in-Ok-write_line-clause-err : goal.returns-in-Ok-write_line-clause-err
 returns-in-Ok-write_line-clause-err g c =
     if_err c.hand_over.result _ _
-    (λ f h. (h.0, going_stops _ _ _ _ _ _ _ _ c.loop-node.invariant.going (node_last c.args.nodes.now c.loop-node.node-index (line_text trailer) (omega arith)) (begins_same _ _ _ _ c.in-Ok-write_line.ensures h.1)))
+    (λ f h. (h.0, going_stops _ _ _ _ _ _ _ _ c.loop-node.invariant.going (node_last c.args.nodes.now c.loop-node.node-index (line_text trailer) (omega arith)) (begins_same _ _ _ _ c.in-Ok-write_line.ensures.ok h.1)))
     c.hand_over.ensures.err
 
 pub returns-clause-err : goal.returns-clause-err
