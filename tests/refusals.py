@@ -1,4 +1,4 @@
-"""The numbers and names of refusals, wherever they are told: two crates and docs/REFUSALS.md.
+"""The numbers and names of refusals, wherever they are told: two crates, that of dates, and docs/REFUSALS.md.
 
 The crate of files and the crate of the archive each have a definition that gives a kind its number, and one
 that gives it its name; the calls `number` and `name` are proved to answer these. So the definitions are
@@ -14,6 +14,7 @@ from harness import ROOT, Case, Tools, demand
 
 FILES = "crates/gedcom_rules/specs/Refusals.antt"
 ARCHIVE = "crates/record_text/specs/Refusals.antt"
+DATES = "crates/gedcom_date/specs/Refusals.antt"
 DOCUMENT = "docs/REFUSALS.md"
 
 NUMBER = re.compile(r"^number_of kind\.(\w+) = ([0-9]+)$", re.MULTILINE)
@@ -63,6 +64,15 @@ def crates_agree():
     once({*files.values(), *archive.values()}, f"{FILES} and {ARCHIVE}")
 
 
+def dates_agree():
+    """The crate of dates has numbers alone, of kinds that the crate of the archive has too."""
+    numbers = once(((kind, int(number)) for kind, number in NUMBER.findall(text_of(DATES))), DATES)
+    archive = kinds_of(ARCHIVE)
+    for kind, number in numbers.items():
+        told = archive.get(kind, (None,))[0]
+        demand(told == number, f"{kind}: {number} in {DATES}, {told} in {ARCHIVE}")
+
+
 def code_agrees_with_the_document():
     listed = rows()
     told = {name: number for path in (FILES, ARCHIVE) for number, name in kinds_of(path).values()}
@@ -78,4 +88,5 @@ def code_agrees_with_the_document():
 
 def cases(_tools: Tools):
     yield Case("refusals: two crates have the same numbers and names", crates_agree)
+    yield Case("refusals: the crate of dates has the same numbers", dates_agree)
     yield Case("refusals: the code agrees with the document", code_agrees_with_the_document)
