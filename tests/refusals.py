@@ -1,8 +1,8 @@
-"""The numbers and names of refusals, wherever they are told: three crates and docs/REFUSALS.md.
+"""The numbers and names of refusals, wherever they are told: four crates and docs/REFUSALS.md.
 
 The crate of files and the crate of the archive each have a definition that gives a kind its number, and one
-that gives it its name; the calls `number` and `name` are proved to answer these. The crate of lines gives
-each fault of a line its number alone. So the definitions are read here, and the table of the document.
+that gives it its name; the calls `number` and `name` are proved to answer these. The crates of lines and of
+dates give their faults numbers alone. So the definitions are read here, and the table of the document.
 """
 
 from __future__ import annotations
@@ -15,6 +15,7 @@ from harness import ROOT, Case, Tools, demand
 LINES = "crates/gedcom_line/specs/Refusals.antt"
 FILES = "crates/gedcom_rules/specs/Refusals.antt"
 ARCHIVE = "crates/record_text/specs/Refusals.antt"
+DATES = "crates/gedcom_date/specs/Refusals.antt"
 DOCUMENT = "docs/REFUSALS.md"
 
 NUMBER = re.compile(r"^number_of kind\.(\w+) = ([0-9]+)$", re.MULTILINE)
@@ -71,10 +72,19 @@ def crates_agree():
 
 
 def lines_agree_with_files():
-    files = kinds_of(FILES)
-    for kind, number in numbers_of(LINES).items():
-        told = files.get(kind, (None, None))[0]
-        demand(told == number, f"{kind}: {LINES} has {number}, {FILES} {told}")
+    agree(LINES, FILES)
+
+
+def dates_agree_with_the_archive():
+    agree(DATES, ARCHIVE)
+
+
+def agree(path, table):
+    """A crate has numbers alone, of kinds that another has with their names."""
+    kinds = kinds_of(table)
+    for kind, number in numbers_of(path).items():
+        told = kinds.get(kind, (None,))[0]
+        demand(told == number, f"{kind}: {path} has {number}, {table} {told}")
 
 
 def code_agrees_with_the_document():
@@ -95,4 +105,5 @@ def code_agrees_with_the_document():
 def cases(_tools: Tools):
     yield Case("refusals: two crates have the same numbers and names", crates_agree)
     yield Case("refusals: a fault of a line has the number of files", lines_agree_with_files)
+    yield Case("refusals: a fault of a date has the number of the archive", dates_agree_with_the_archive)
     yield Case("refusals: the code agrees with the document", code_agrees_with_the_document)

@@ -2,11 +2,11 @@
 use Rattle.std.proofs.Common.{◌≡◌, ◌⊎◌, inl, inr, ℕ, zero, suc, ◌+◌, ◌*◌, ◌-◌, ◌/◌, ◌<◌, ◌≤◌, refl, ap, sym, subst, ◌∙◌, arith, ℤ, pos, negsuc, unsigned_abs, ◌+ℤ◌, ◌-ℤ◌, ◌<ℤ◌, ◌≤ℤ◌}
 use Rattle.jiff_core.proofs.SignedLemmas.{signed_arith}
 use Rattle.calendar_days.specs.Calendars.{last_month, month_days, days_of_months, days_of_years, day_count, day_zero, day_number, HasDay}
-use Rattle.calendar_days.specs.Laws.{IsNext, IsReckoned}
+use Rattle.calendar_days.specs.Laws.{IsNext, IsReckoned, julian_formula}
 use Rattle.calendar_days.specs.declared.calendar.Calendar.{Calendar}
 use Rattle.calendar_days.specs.declared.calendar.Calendar.TheVariants.{Julian}
 use Rattle.calendar_days.proofs.Counts.{month_days_bounds, some_month, days_of_months_more, days_of_months_mono, day_count-in_year, year_holds, day_count-first, days_of_years-suc}
-use Rattle.calendar_days.proofs.Julians.{years_closed, zero_closed}
+use Rattle.calendar_days.proofs.Julians.{years_closed, zero_closed, julian_floor}
 
 -- a year from -10000 on, counted from there
 whole : (z : ℤ) → pos 0 ≤ℤ z → z ≡ pos (unsigned_abs z)
@@ -138,3 +138,6 @@ unfolding day_number
 julian_rule y m d h k =
     let n : pos y +ℤ pos 10000 ≡ pos (y + 10000) = omega (arith, signed_arith) in
     omega (arith, signed_arith, day_count-in_year Julian (pos y) m d, day_count-first Julian (pos y) (y + 10000) n, years_closed (y + 10000), zero_closed)
+
+pub julian_rule_both_ways : (y : ℤ) (m d : ℕ) → IsReckoned y → 1 ≤ d → day_number Julian y m d ≡ julian_formula y (days_of_months Julian y (m - 1) + d)
+julian_rule_both_ways y m d r k = julian_floor y (unsigned_abs (y +ℤ pos 10000)) m d (shift y r) k

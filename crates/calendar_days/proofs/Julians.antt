@@ -3,6 +3,7 @@ use Rattle.std.proofs.Common.{◌≡◌, ℕ, zero, suc, ◌+◌, ◌-◌, ◌*�
 use Rattle.std.proofs.lemmas.Bool.Decides.{nat_tests}
 use Rattle.jiff_core.proofs.SignedLemmas.{signed_arith}
 use Rattle.calendar_days.specs.Calendars.{leap, days_of_months, days_of_years, day_count, day_zero, day_number, days_before_month}
+use Rattle.calendar_days.specs.Laws.{julian_formula}
 use Rattle.calendar_days.specs.declared.calendar.Calendar.TheVariants.{Julian}
 use Rattle.calendar_days.proofs.Counts.{days_of_years-suc, day_count-first, day_count-in_year}
 
@@ -60,3 +61,8 @@ julian_closed y n m d e low high first =
     let k : cond (nat_lt 1 (m - 1)) (leap_day y) 0 ≡ cond (nat_lt 2 m && (n % 4 == 0)) 1 0 = rw s (grind (arith, nat_tests)) in
     omega (arith, day_count-in_year Julian y m d, day_count-first Julian y n e, years_closed n) in
     rw (count, zero_closed) refl
+
+-- the same by the formula of the year itself
+pub julian_floor : (y : ℤ) (n m d : ℕ) → y +ℤ pos 10000 ≡ pos n → 1 ≤ d → day_number Julian y m d ≡ julian_formula y (days_of_months Julian y (m - 1) + d)
+unfolding day_number
+julian_floor y n m d e k = omega (arith, signed_arith, day_count-in_year Julian y m d, day_count-first Julian y n e, years_closed n, zero_closed)

@@ -1,5 +1,6 @@
 -- The laws of days.
-use Rattle.std.specs.Prelude.{◌≡◌, ◌⊎◌, ℕ, ◌+◌, ◌-◌, ◌*◌, ◌/◌, ◌≤◌, ℤ, pos, negsuc, ◌+ℤ◌, ◌-ℤ◌, ◌≤ℤ◌}
+use Rattle.std.specs.Prelude.{◌≡◌, ◌⊎◌, ℕ, ◌+◌, ◌-◌, ◌*◌, ◌/◌, ◌≤◌, ℤ, pos, negsuc, ◌+ℤ◌, ◌-ℤ◌, ◌*ℤ◌, ◌≤ℤ◌}
+use Rattle.std.specs.Int.{int_div_euclid}
 use Rattle.jiff_core.specs.Calendar.{days_from_civil}
 use Rattle.calendar_days.specs.Calendars.{HasDay, last_month, month_days, days_of_months, day_number}
 use Rattle.calendar_days.specs.declared.calendar.Calendar.{Calendar}
@@ -45,3 +46,14 @@ abbrev pub JulianCounts : Type 0
 JulianCounts =
     (y m d : ℕ) → 1 ≤ y → 1 ≤ d
     → day_number Julian (pos y) m d ≡ pos (365 * (y - 1) + (y - 1) / 4 + (days_of_months Julian (pos y) (m - 1) + d)) -ℤ pos 719165
+
+-- The number of the n-th day of the Julian year y, in years before Christ too, of which n B.C. is the year 1 - n:
+-- 365(y - 1) + (y - 1) / 4 + n - 2 - 719163, where the division rounds down.
+abbrev pub julian_formula : ℤ → ℕ → ℤ
+julian_formula y n = pos 365 *ℤ (y -ℤ pos 1) +ℤ int_div_euclid (y -ℤ pos 1) (pos 4) +ℤ pos n -ℤ pos 2 -ℤ pos 719163
+
+-- the formula is the Julian count both ways, in each year that is reckoned
+abbrev pub JulianCountsBothWays : Type 0
+JulianCountsBothWays =
+    (y : ℤ) (m d : ℕ) → IsReckoned y → 1 ≤ d
+    → day_number Julian y m d ≡ julian_formula y (days_of_months Julian y (m - 1) + d)

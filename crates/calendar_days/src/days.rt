@@ -1,9 +1,10 @@
 //! The first and the last day of a date, and the number of a day.
 
-ghost use Rattle.std.specs.Prelude.{◌≡◌, ◌≤◌, ◌<◌, ◌-◌, ◌≤ℤ◌, ◌+ℤ◌, ◌-ℤ◌, ◌%◌, ◌==◌, ◌&&◌, nat_lt, if◌then◌else◌, pos, negsuc, ℤ};
+ghost use Rattle.std.specs.Prelude.{◌≡◌, ◌≤◌, ◌<◌, ◌-◌, ◌≤ℤ◌, ◌+ℤ◌, ◌-ℤ◌, ◌+◌, ◌%◌, ◌==◌, ◌&&◌, nat_lt, if◌then◌else◌, pos, negsuc, ℤ};
 ghost use Rattle.jiff_core.specs.Calendar.{days_from_civil};
 ghost use Rattle.calendar_days.specs.Bounds.{IsLeast, IsGreatest};
-ghost use Rattle.calendar_days.specs.Calendars.{HasDay, last_month, IsCounted, leap, day_number, month_days, counted, opening, days_before_month};
+ghost use Rattle.calendar_days.specs.Calendars.{HasDay, last_month, IsCounted, leap, day_number, month_days, days_of_months, counted, opening, days_before_month};
+ghost use Rattle.calendar_days.specs.Laws.{julian_formula};
 ghost use Rattle.calendar_days.specs.Told.{told};
 ghost use Rattle.calendar_days.specs.Within.{IsIn};
 
@@ -169,6 +170,8 @@ fn julian_number(year: i16, month: u8, day: u8) -> i32
     requires high { year ≤ℤ pos 9999 }
     requires day { HasDay Calendar.Julian year month day }
     ensures value { result ≡ day_number Calendar.Julian year month day }
+    ensures formula { result
+        ≡ julian_formula year (days_of_months Calendar.Julian year (month - 1) + day) }
     ensures low { negsuc 4999999 ≤ℤ result }
     ensures high { result ≤ℤ pos 5000000 }
 {

@@ -1,6 +1,6 @@
 //! Laws of days, over the definitions that the contracts cite.
 
-ghost use Rattle.calendar_days.specs.Laws.{IsConsecutive, IsApart, IsComplete, CivilCounts, JulianCounts};
+ghost use Rattle.calendar_days.specs.Laws.{IsConsecutive, IsApart, IsComplete, CivilCounts, JulianCounts, JulianCountsBothWays};
 ghost use Rattle.calendar_days.specs.declared.calendar.Calendar.{Calendar};
 
 /// Consecutive dates have consecutive numbers, and each number is that of one day of each calendar,
@@ -11,8 +11,10 @@ pub fn each_day_has_one_number()
     ensures every { (c : Calendar) → IsComplete c }
 {}
 
-/// The fast formulas are the count: `jiff`'s of the Gregorian calendar, and ours of the Julian one.
+/// The fast formulas are the count: `jiff`'s of the Gregorian calendar, and ours of the Julian one, for the
+/// years of our era and, with a division that rounds down, for each year from -10000 on.
 pub fn the_formulas_count()
     ensures gregorian { CivilCounts }
     ensures julian { JulianCounts }
+    ensures both_ways { JulianCountsBothWays }
 {}

@@ -9,3 +9,4 @@ pub mod Found
 pub mod Days
 pub mod Reading
 pub mod Laws
+pub mod Refusals

@@ -17,6 +17,7 @@ pub mod laws;
 mod period;
 mod phrase;
 mod reading;
+mod refusals;
 mod texts;
 mod value;
 mod words;

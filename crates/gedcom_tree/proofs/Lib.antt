@@ -32,3 +32,5 @@ pub mod Again
 pub mod Same
 pub mod Short
 pub mod Stays
+pub mod Matched
+pub mod Alike

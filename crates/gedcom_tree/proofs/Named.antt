@@ -44,7 +44,7 @@ fits_rises n k q (l ∷ ls) b f =
     ]
 
 -- a cross reference that stands on a line before
-equal_names : (x y : List ℕ) → bytes_eq x y ≡ true → x ≡ y
+pub equal_names : (x y : List ℕ) → bytes_eq x y ≡ true → x ≡ y
 equal_names x y e = (bytes_eq-Decides x y).0 e
 
 own_name : (q : Progress) (l : Parts) (x : List ℕ) → (o : Option (List ℕ)) → l.xref ≡ o → option_map_or q.named o false ≡ false → q.named x ≡ true → option_map_or (bytes_eq x) o false ≡ false

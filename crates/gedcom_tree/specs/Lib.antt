@@ -7,3 +7,4 @@ pub mod Flat
 pub mod Depth
 pub mod Text
 pub mod Streams
+pub mod Comparing

@@ -9,6 +9,7 @@
 //! the character set and the version.
 #![tactic(auto)]
 
+mod comparing;
 mod forest;
 mod growing;
 pub mod laws;

@@ -23,7 +23,7 @@ pub enum NodeValue {
 /// A line of a forest, with the lines below it.
 #[derive(Debug, Drop)]
 pub struct Node {
-    /// The number of its line in the file, counted from 1 without blank lines.
+    /// The number of its line in the file, counted from 1 without blank lines. `==` does not look at it.
     pub line: u32,
     /// The cross reference with its two `@`.
     pub xref: Option<String>,

@@ -2,7 +2,7 @@
 //! byte decides a fault. A check of `gedcom_tree`; no part of the product.
 #![tactic(auto)]
 
-use gedcom_tree::{Counted, Node, TreeFault, TreeReader, read_up_to, write_forest};
+use gedcom_tree::{Counted, Forest, Node, TreeFault, TreeReader, read_up_to, write_forest};
 use std::alloc::{AllocError, Global};
 use std::io;
 use std::io::Write;
@@ -76,6 +76,44 @@ fn cut_that_shows(alloc: Global, bytes: &[u8], whole: &Answer) -> Option<usize> 
     (1..bytes.len()).find(|k| in_two(alloc, bytes.split_at(*k)) != *whole)
 }
 
+/// The forest that bytes are.
+fn forest_of(alloc: Global, bytes: &[u8]) -> Result<Forest, TreeFault> {
+    let mut reader = TreeReader::new(alloc);
+    reader.feed(bytes)?;
+    reader.finish()
+}
+
+/// The text with other line ends, and a blank line behind each line.
+fn spelled_otherwise(alloc: Global, text: &[u8]) -> Result<Vec<u8>, AllocError> {
+    let mut all = Vec::new(alloc);
+    for byte in text {
+        match *byte {
+            b'\n' => all.extend_from_slice(b"\r\n\r\n")?,
+            other => all.push(other)?,
+        }
+    }
+    Ok(all)
+}
+
+/// The text with a longer value on its first line.
+fn with_another_value(alloc: Global, text: &[u8]) -> Result<Vec<u8>, AllocError> {
+    let mut all = Vec::new(alloc);
+    let mut lines = text.splitn(2, |byte| *byte == b'\n');
+    all.extend_from_slice(lines.next().unwrap_or(&[]))?;
+    all.extend_from_slice(b" x\n")?;
+    all.extend_from_slice(lines.next().unwrap_or(&[]))?;
+    Ok(all)
+}
+
+/// Whether the forest of the bytes equals that of its text in another spelling, where lines may have other
+/// numbers, and differs from one with another value.
+fn is_compared(alloc: Global, bytes: &[u8], text: &[u8]) -> Result<bool, TreeFault> {
+    let forest = forest_of(alloc, bytes)?;
+    let same = forest_of(alloc, &spelled_otherwise(alloc, text)?)?;
+    let other = forest_of(alloc, &with_another_value(alloc, text)?)?;
+    Ok(forest == same && forest != other)
+}
+
 /// Tells a fault, and the byte that decides it.
 fn tell(rt: &HostRuntime, fault: TreeFault, byte: Option<usize>) -> io::Result<()> {
     match byte {
@@ -101,6 +139,9 @@ fn main(rt: HostRuntime) -> io::Result<ExitCode> {
     }
     match whole {
         Ok((text, lines)) => {
+            if is_compared(alloc, &bytes, &text) != Ok(true) {
+                return println!(rt; "compared wrongly").map(|()| ExitCode::from(3));
+            }
             io::writer(&rt).write_all(&text)?;
             println!(rt; "lines {lines:?}").map(|()| ExitCode::SUCCESS)
         }
