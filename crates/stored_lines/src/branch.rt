@@ -88,7 +88,8 @@ fn branch_of(alloc: Global, carried: &Carried) -> Result<Branch, AllocError>
 /// Carried lines from stored ones. `None`: they have more than 99 levels.
 pub fn carried_of(alloc: Global, branches: &[Branch]) -> Result<Option<Vec<Carried>>, AllocError>
     ensures { IfOk result (λ found. MatchOption found
-        (¬ (AreShallow branches.now)) (λ c. c.items ≡ map (relabel line_of) branches.now)) }
+        (¬ (AreShallow branches.now))
+        (λ c. AreShallow branches.now × (c.items ≡ map (relabel line_of) branches.now))) }
 {
     if !are_within(branches, MAX_LEVELS) {
         return Ok(None);
