@@ -1,4 +1,5 @@
 pub mod Back
 pub mod Fields
 pub mod Segments
+pub mod Shallow
 pub mod Worded

@@ -7,7 +7,7 @@ ghost use Rattle.record_fields.specs.Items.{first_item, item_of};
 ghost use Rattle.record_fields.specs.declared.entry_words.EntryKind.TheVariants as kinds;
 ghost use Rattle.record_fields.specs.declared.entry_words.Role.TheVariants as roles;
 ghost use Rattle.records.specs.Stored.{mention_tree, entry_tree, link_person, link_reason, bare_place};
-ghost use Rattle.records.specs.Reading.{mention_from, entry_from, link_from, read_by, place_number, event_place_from, first, under, text_from};
+ghost use Rattle.records.specs.Reading.{shallow_lines, mention_from, entry_from, link_from, read_by, place_number, event_place_from, first, under, text_from};
 ghost use Rattle.records.specs.declared.field.Field.TheVariants as field;
 
 use crate::event_parts::{date_at, date_words, place_at, push_when};
@@ -25,6 +25,8 @@ impl Part for Mention {
     ghost kept_as = { mention_tree };
 
     ghost read_of = { mention_from };
+
+    ghost is_shallow = { λ _. Unit {0} };
 
     fn write(&self, alloc: Global) -> Result<Branch, AllocError> {
         let mut below = Vec::new(alloc);
@@ -57,7 +59,9 @@ impl Part for Mention {
 impl Part for Entry {
     ghost kept_as = { entry_tree };
 
-    ghost read_of = { entry_from };
+    ghost read_of = { entry_from shallow_lines };
+
+    ghost is_shallow = { λ _. Unit {0} };
 
     fn write(&self, alloc: Global) -> Result<Branch, AllocError> {
         let mut below = Vec::new(alloc);
@@ -102,7 +106,7 @@ fn bare(alloc: Global, place: Option<u32>) -> Option<EventPlace>
 /// The number of the place on the line of a date.
 fn number_at_date(alloc: Global, branches: &[Branch]) -> Result<Option<u32>, AllocError>
     ensures { IfOk result (λ n. n
-        ≡ option_map place_number (event_place_from (first (under field.Date branches.now)))) }
+        ≡ option_map place_number (event_place_from shallow_lines (first (under field.Date branches.now)))) }
 {
     match place_at(alloc, branches)? {
         None => Ok(None),

@@ -2,8 +2,10 @@
 
 ghost use Rattle.std.specs.Prelude.{◌≡◌, ◌++◌, IfOk, OnOk, option_map};
 ghost use Rattle.record_fields.specs.Dated.{date_text, date_from};
+ghost use Rattle.stored_lines.specs.Levels.{AreShallow};
+ghost use Rattle.records.specs.Shallow.{InPlaceLine, InParticipant, InEvent};
 ghost use Rattle.records.specs.Stored.{participant_tree, event_tree, place_line, when_trees};
-ghost use Rattle.records.specs.Reading.{participant_from, event_from, event_place_from, text_from, first, under, tag_or_event, text_or_empty, text_at as text_of_first, rest};
+ghost use Rattle.records.specs.Reading.{shallow_lines, participant_from, event_from, event_place_from, text_from, first, under, tag_or_event, text_or_empty, text_at as text_of_first, rest};
 ghost use Rattle.records.specs.declared.field.Field.TheVariants as field;
 
 use crate::field::Field;
@@ -19,7 +21,9 @@ use stored_lines::{Branch, Carried};
 impl Part for Participant {
     ghost kept_as = { participant_tree };
 
-    ghost read_of = { participant_from };
+    ghost read_of = { participant_from shallow_lines };
+
+    ghost is_shallow = { InParticipant AreShallow };
 
     fn write(&self, alloc: Global) -> Result<Branch, AllocError> {
         let mut below = Vec::new(alloc);
@@ -41,7 +45,9 @@ impl Part for Participant {
 impl Part for Event {
     ghost kept_as = { event_tree };
 
-    ghost read_of = { event_from };
+    ghost read_of = { event_from shallow_lines };
+
+    ghost is_shallow = { InEvent AreShallow };
 
     fn write(&self, alloc: Global) -> Result<Branch, AllocError> {
         let mut below = Vec::new(alloc);
@@ -84,7 +90,8 @@ pub(crate) fn push_when(
     date: Option<Text>,
     place: &Option<EventPlace>,
 ) -> Result<(), AllocError>
-    ensures { OnOk result (below.new.items ≡ below.old.items ++ when_trees date place.now) }
+    ensures added { OnOk result (below.new.items ≡ below.old.items ++ when_trees date place.now) }
+    ensures shallow { IfOk result (λ _. InPlaceLine AreShallow place.now) }
 {
     let Some(place) = place else {
         return push_text(alloc, below, Field::Date, date);
@@ -99,7 +106,8 @@ fn line_of_place(
     date: Option<Text>,
     place: &EventPlace,
 ) -> Result<Branch, AllocError>
-    ensures { IfOk result (λ b. b ≡ place_line date place.now) }
+    ensures kept { IfOk result (λ b. b ≡ place_line date place.now) }
+    ensures shallow { IfOk result (λ _. AreShallow place.now.carried) }
 {
     let mut below = Vec::new(alloc);
     push_lines(alloc, &mut below, Field::Carried, &place.carried)?;
@@ -128,7 +136,7 @@ pub(crate) fn date_at(alloc: Global, branches: &[Branch]) -> Result<Option<Date>
 
 /// The place on the line of a date.
 pub(crate) fn place_at(alloc: Global, branches: &[Branch]) -> Result<Option<EventPlace>, AllocError>
-    ensures { IfOk result (λ p. p ≡ event_place_from (first (under field.Date branches.now))) }
+    ensures { IfOk result (λ p. p ≡ event_place_from shallow_lines (first (under field.Date branches.now))) }
 {
     let Some(line) = first_under(branches, Field::Date) else {
         return Ok(None);

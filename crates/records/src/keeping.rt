@@ -1,6 +1,7 @@
 //! Records kept as lines, and read again.
 
 ghost use Rattle.std.specs.Prelude.{◌≡◌, ◌≢◌, ◌⊎◌, ◌↔◌, IfOk, IfErr, IsTrue, MatchOption};
+ghost use Rattle.records.specs.Shallow.{IsShallow};
 ghost use Rattle.records.specs.Stored.{stored};
 ghost use Rattle.record_kinds.specs.declared.record.Record.{Record};
 ghost use Rattle.record_text.specs.declared.refusal.RefusalKind.TheVariants as kinds;
@@ -13,7 +14,8 @@ use stored_lines::{StoredLine, are_same, branch_of_lines, lines_of_branch};
 
 /// The lines that a record is kept as.
 pub fn lines_of(alloc: Global, record: &Record) -> Result<Vec<StoredLine>, AllocError>
-    ensures { IfOk result (λ lines. lines.items ≡ stored «record».now) }
+    ensures kept { IfOk result (λ lines. lines.items ≡ stored «record».now) }
+    ensures shallow { IfOk result (λ _. IsShallow «record».now) }
 {
     let branch = branch_of_record(alloc, record)?;
     lines_of_branch(alloc, &branch)
@@ -23,7 +25,7 @@ pub fn lines_of(alloc: Global, record: &Record) -> Result<Vec<StoredLine>, Alloc
 pub fn record_of(alloc: Global, lines: &[StoredLine]) -> Result<Record, RefusalKind>
     ensures read { IfOk result (λ r. lines.now ≡ stored r) }
     ensures refused { IfErr result (λ kind. (kind ≡ kinds.OutOfMemory)
-        ⊎ ((kind ≡ kinds.BadStored) × ((r : Record) → lines.now ≢ stored r))) }
+        ⊎ ((kind ≡ kinds.BadStored) × ((r : Record) → IsShallow r → lines.now ≢ stored r))) }
 {
     match found_in(alloc, lines)? {
         Some(found) => Ok(found),
@@ -32,7 +34,7 @@ pub fn record_of(alloc: Global, lines: &[StoredLine]) -> Result<Record, RefusalK
 }
 
 /// The same record in memory of its own.
-#[tactic(auto, using(crate::proofs::Back::copied_back))]
+#[tactic(auto, using(crate::proofs::Shallow::copied_back))]
 pub fn copy_record(alloc: Global, record: &Record) -> Result<Record, AllocError>
     ensures { IfOk result (λ r. r ≡ «record».now) }
 {
@@ -44,9 +46,10 @@ pub fn copy_record(alloc: Global, record: &Record) -> Result<Record, AllocError>
 }
 
 /// The record that is kept as these lines. `None`: no record is.
+#[tactic(auto, using(crate::proofs::Shallow::no_tree, crate::proofs::Shallow::no_record))]
 fn found_in(alloc: Global, lines: &[StoredLine]) -> Result<Option<Record>, AllocError>
     ensures { IfOk result (λ found. MatchOption found
-        ((r : Record) → lines.now ≢ stored r) (λ r. lines.now ≡ stored r)) }
+        ((r : Record) → IsShallow r → lines.now ≢ stored r) (λ r. lines.now ≡ stored r)) }
 {
     let Some(tree) = branch_of_lines(alloc, lines)? else {
         return Ok(None);

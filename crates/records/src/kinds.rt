@@ -1,8 +1,9 @@
 //! Records as branches, each kind by its word.
 
 ghost use Rattle.std.specs.Prelude.{◌≡◌, IfOk};
+ghost use Rattle.records.specs.Shallow.{IsShallow};
 ghost use Rattle.records.specs.Stored.{record_tree};
-ghost use Rattle.records.specs.Reading.{record_from};
+ghost use Rattle.records.specs.Reading.{shallow_lines, record_from};
 
 use crate::field::Field;
 use crate::part::Part;
@@ -13,7 +14,8 @@ use stored_lines::Branch;
 
 /// The branch of a record.
 pub(crate) fn branch_of_record(alloc: Global, record: &Record) -> Result<Branch, AllocError>
-    ensures { IfOk result (λ b. b ≡ record_tree «record».now) }
+    ensures kept { IfOk result (λ b. b ≡ record_tree «record».now) }
+    ensures shallow { IfOk result (λ _. IsShallow «record».now) }
 {
     match record {
         Record::Place(place) => place.write(alloc),
@@ -31,7 +33,7 @@ pub(crate) fn branch_of_record(alloc: Global, record: &Record) -> Result<Branch,
 /// The record of a branch. `None`: its word is that of no kind. Of a branch that no record is kept as it
 /// is what the fields say.
 pub(crate) fn record_in(alloc: Global, branch: &Branch) -> Result<Option<Record>, AllocError>
-    ensures { IfOk result (λ r. r ≡ record_from branch.now) }
+    ensures { IfOk result (λ r. r ≡ record_from shallow_lines branch.now) }
 {
     let found = if has_word(branch, Field::Place) {
         Record::Place(Place::read(alloc, branch)?)

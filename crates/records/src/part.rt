@@ -1,6 +1,7 @@
 //! Parts of records: what stands on a line of its own, with the lines below it.
 
 ghost use Rattle.std.specs.Prelude.{[], ◌∷◌, ◌≡◌, ◌++◌, map, IfOk, OnOk};
+ghost use Rattle.std.specs.List.{All};
 ghost use Rattle.stored_lines.specs.Tree.{Tree};
 ghost use Rattle.stored_lines.specs.Line.{Label};
 ghost use Rattle.records.specs.Reading.{under};
@@ -16,9 +17,12 @@ pub trait Part: Drop {
 
     ghost read_of: { Tree Label → Self };
 
+    ghost is_shallow: { Self → Type 0 };
+
     /// The branch that it is kept as.
     fn write(&self, alloc: Global) -> Result<Branch, AllocError>
-        ensures { IfOk result (λ b. b ≡ kept_as self.now) };
+        ensures kept { IfOk result (λ b. b ≡ kept_as self.now) }
+        ensures shallow { IfOk result (λ _. is_shallow self.now) };
 
     /// What the fields of a branch say, also of one that no part is kept as.
     fn read(alloc: Global, branch: &Branch) -> Result<Self, AllocError>
@@ -31,7 +35,8 @@ pub(crate) fn push_parts<P: Part>(
     below: &mut Vec<Branch>,
     parts: &[P],
 ) -> Result<(), AllocError>
-    ensures { OnOk result (below.new.items ≡ below.old.items ++ map P.kept_as parts.now) }
+    ensures added { OnOk result (below.new.items ≡ below.old.items ++ map P.kept_as parts.now) }
+    ensures shallow { IfOk result (λ _. All P.is_shallow parts.now) }
 {
     'parts: for part in parts {
         push_part(alloc, below, part)?;
@@ -41,7 +46,8 @@ pub(crate) fn push_parts<P: Part>(
 
 /// Adds the branch of a part behind the others.
 fn push_part<P: Part>(alloc: Global, below: &mut Vec<Branch>, part: &P) -> Result<(), AllocError>
-    ensures { OnOk result (below.new.items ≡ below.old.items ++ (P.kept_as part.now ∷ [])) }
+    ensures added { OnOk result (below.new.items ≡ below.old.items ++ (P.kept_as part.now ∷ [])) }
+    ensures shallow { IfOk result (λ _. P.is_shallow part.now) }
 {
     below.push(part.write(alloc)?)?;
     Ok(())

@@ -1,11 +1,13 @@
 //! Persons and families as branches.
 
 ghost use Rattle.std.specs.Prelude.{◌≡◌, IfOk, Some, map, option_map};
+ghost use Rattle.stored_lines.specs.Levels.{AreShallow};
+ghost use Rattle.records.specs.Shallow.{InName, InPerson, InPartner, InChild, InFamily};
 ghost use Rattle.records.specs.Stored.{name_tree, person_tree, partner_tree, child_tree, family_tree};
 ghost use Rattle.std.specs.Option.{unwrap_or};
 ghost use Rattle.record_fields.specs.Words.{sex_word, partnership_word, sex_of, partnership_of};
 ghost use Rattle.record_fields.specs.declared.words.Partnership.TheVariants as partnerships;
-ghost use Rattle.records.specs.Reading.{name_from, person_from, partner_from, child_from, family_from, read_by, under};
+ghost use Rattle.records.specs.Reading.{shallow_lines, name_from, person_from, partner_from, child_from, family_from, read_by, under};
 ghost use Rattle.records.specs.declared.field.Field.TheVariants as field;
 
 use crate::field::Field;
@@ -21,7 +23,9 @@ use stored_lines::Branch;
 impl Part for Name {
     ghost kept_as = { name_tree };
 
-    ghost read_of = { name_from };
+    ghost read_of = { name_from shallow_lines };
+
+    ghost is_shallow = { InName AreShallow };
 
     fn write(&self, alloc: Global) -> Result<Branch, AllocError> {
         let mut below = Vec::new(alloc);
@@ -42,7 +46,9 @@ impl Part for Name {
 impl Part for Person {
     ghost kept_as = { person_tree };
 
-    ghost read_of = { person_from };
+    ghost read_of = { person_from shallow_lines };
+
+    ghost is_shallow = { InPerson AreShallow };
 
     fn write(&self, alloc: Global) -> Result<Branch, AllocError> {
         let mut below = Vec::new(alloc);
@@ -65,7 +71,9 @@ impl Part for Person {
 impl Part for Partner {
     ghost kept_as = { partner_tree };
 
-    ghost read_of = { partner_from };
+    ghost read_of = { partner_from shallow_lines };
+
+    ghost is_shallow = { InPartner AreShallow };
 
     fn write(&self, alloc: Global) -> Result<Branch, AllocError> {
         let mut below = Vec::new(alloc);
@@ -89,7 +97,9 @@ impl Part for Partner {
 impl Part for Child {
     ghost kept_as = { child_tree };
 
-    ghost read_of = { child_from };
+    ghost read_of = { child_from shallow_lines };
+
+    ghost is_shallow = { InChild AreShallow };
 
     fn write(&self, alloc: Global) -> Result<Branch, AllocError> {
         let mut below = Vec::new(alloc);
@@ -111,7 +121,9 @@ impl Part for Child {
 impl Part for Family {
     ghost kept_as = { family_tree };
 
-    ghost read_of = { family_from };
+    ghost read_of = { family_from shallow_lines };
+
+    ghost is_shallow = { InFamily AreShallow };
 
     fn write(&self, alloc: Global) -> Result<Branch, AllocError> {
         let mut below = Vec::new(alloc);
@@ -133,7 +145,7 @@ impl Part for Family {
 
 /// The children of a family.
 fn children_at(alloc: Global, branches: &[Branch]) -> Result<Vec<Child>, AllocError>
-    ensures { IfOk result (λ c. c.items ≡ map child_from (under field.Child branches.now)) }
+    ensures { IfOk result (λ c. c.items ≡ map (child_from shallow_lines) (under field.Child branches.now)) }
 {
     parts_at(alloc, branches, Field::Child)
 }

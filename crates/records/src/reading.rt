@@ -1,7 +1,7 @@
 //! The fields of branches, each by its word.
 
 ghost use Rattle.std.specs.Prelude.{◌≡◌, IfOk, option_copied, bytes_eq};
-ghost use Rattle.records.specs.Reading.{below, tag_of, under, first, text_or_empty, number_or_0, number_at as number_of_first, lines_from, text_from};
+ghost use Rattle.records.specs.Reading.{shallow_lines, below, tag_of, under, first, text_or_empty, number_or_0, number_at as number_of_first, lines_from, text_from};
 ghost use Rattle.records.specs.Stored.{word};
 
 use crate::field::Field;
@@ -15,11 +15,22 @@ pub(crate) fn lines_at(
     branches: &[Branch],
     field: Field,
 ) -> Result<Vec<Carried>, AllocError>
-    ensures { IfOk result (λ c. c.items ≡ lines_from field branches.now) }
+    ensures { IfOk result (λ c. c.items ≡ lines_from shallow_lines field branches.now) }
 {
     match first_under(branches, field) {
         None => Ok(Vec::new(alloc)),
-        Some(branch) => carried_of(alloc, children_of(branch)),
+        Some(branch) => lines_in(alloc, children_of(branch)),
+    }
+}
+
+/// Carried lines from stored ones; none where they are too deep to be carried.
+#[tactic(auto, using(crate::proofs::Shallow::lines_read, crate::proofs::Shallow::no_lines_read))]
+pub(crate) fn lines_in(alloc: Global, branches: &[Branch]) -> Result<Vec<Carried>, AllocError>
+    ensures { IfOk result (λ c. c.items ≡ shallow_lines branches.now) }
+{
+    match carried_of(alloc, branches)? {
+        Some(carried) => Ok(carried),
+        None => Ok(Vec::new(alloc)),
     }
 }
 

@@ -1,9 +1,11 @@
 //! Places, repositories, sources and citations as branches.
 
 ghost use Rattle.std.specs.Prelude.{[], ◌≡◌, IfOk, Some, option_map};
+ghost use Rattle.stored_lines.specs.Levels.{AreShallow};
+ghost use Rattle.records.specs.Shallow.{InHolding, InSource};
 ghost use Rattle.records.specs.Stored.{branch, place_tree, repo_tree, holding_tree, source_fields, source_tree, citation_tree};
 ghost use Rattle.record_fields.specs.Words.{quality_word, quality_of};
-ghost use Rattle.records.specs.Reading.{place_from, repo_from, holding_from, source_from, citation_from, read_by};
+ghost use Rattle.records.specs.Reading.{shallow_lines, place_from, repo_from, holding_from, source_from, citation_from, read_by};
 ghost use Rattle.records.specs.declared.field.Field.TheVariants as field;
 
 use crate::field::Field;
@@ -19,7 +21,9 @@ use stored_lines::{Branch, copied};
 impl Part for Place {
     ghost kept_as = { place_tree };
 
-    ghost read_of = { place_from };
+    ghost read_of = { place_from shallow_lines };
+
+    ghost is_shallow = { λ p. AreShallow p.carried };
 
     fn write(&self, alloc: Global) -> Result<Branch, AllocError> {
         let mut below = Vec::new(alloc);
@@ -41,7 +45,9 @@ impl Part for Place {
 impl Part for Repo {
     ghost kept_as = { repo_tree };
 
-    ghost read_of = { repo_from };
+    ghost read_of = { repo_from shallow_lines };
+
+    ghost is_shallow = { λ r. AreShallow r.carried };
 
     fn write(&self, alloc: Global) -> Result<Branch, AllocError> {
         let mut below = Vec::new(alloc);
@@ -62,7 +68,9 @@ impl Part for Repo {
 impl Part for Holding {
     ghost kept_as = { holding_tree };
 
-    ghost read_of = { holding_from };
+    ghost read_of = { holding_from shallow_lines };
+
+    ghost is_shallow = { InHolding AreShallow };
 
     fn write(&self, alloc: Global) -> Result<Branch, AllocError> {
         let mut below = Vec::new(alloc);
@@ -84,7 +92,9 @@ impl Part for Holding {
 impl Part for Source {
     ghost kept_as = { source_tree };
 
-    ghost read_of = { source_from };
+    ghost read_of = { source_from shallow_lines };
+
+    ghost is_shallow = { InSource AreShallow };
 
     fn write(&self, alloc: Global) -> Result<Branch, AllocError> {
         let below = fields_of_source(alloc, self)?;
@@ -107,7 +117,9 @@ impl Part for Source {
 impl Part for Citation {
     ghost kept_as = { citation_tree };
 
-    ghost read_of = { citation_from };
+    ghost read_of = { citation_from shallow_lines };
+
+    ghost is_shallow = { λ c. AreShallow c.carried };
 
     fn write(&self, alloc: Global) -> Result<Branch, AllocError> {
         let mut below = Vec::new(alloc);
@@ -136,7 +148,8 @@ impl Part for Citation {
 
 /// The lines below that of a source.
 fn fields_of_source(alloc: Global, source: &Source) -> Result<Vec<Branch>, AllocError>
-    ensures { IfOk result (λ below. below.items ≡ source_fields source.now) }
+    ensures kept { IfOk result (λ below. below.items ≡ source_fields source.now) }
+    ensures shallow { IfOk result (λ _. InSource AreShallow source.now) }
 {
     let mut below = Vec::new(alloc);
     push_text(

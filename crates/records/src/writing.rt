@@ -1,6 +1,7 @@
 //! The branches of fields.
 
 ghost use Rattle.std.specs.Prelude.{◌≡◌, ◌++◌, option_map, IfOk, OnOk};
+ghost use Rattle.stored_lines.specs.Levels.{AreShallow};
 ghost use Rattle.records.specs.Stored.{lines_below, text_trees};
 
 use crate::field::Field;
@@ -30,7 +31,8 @@ pub(crate) fn push_lines(
     field: Field,
     carried: &[Carried],
 ) -> Result<(), AllocError>
-    ensures { OnOk result (below.new.items ≡ below.old.items ++ lines_below field carried.now) }
+    ensures added { OnOk result (below.new.items ≡ below.old.items ++ lines_below field carried.now) }
+    ensures shallow { IfOk result (λ _. AreShallow carried.now) }
 {
     if carried.is_empty() {
         return Ok(());

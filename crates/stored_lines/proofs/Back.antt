@@ -1,5 +1,5 @@
 -- Carried lines are read again from stored ones, and lines are of one tree.
-use Rattle.std.specs.Prelude.{ℕ, List, [], ◌∷◌, ◌≡◌, map, Option, Some, refl}
+use Rattle.std.specs.Prelude.{ℕ, List, [], ◌∷◌, ◌≡◌, map, Some, refl}
 use Rattle.std.proofs.Common.{ap, sym, ◌∙◌}
 use Rattle.stored_lines.specs.Tree.{Tree, flat, forest_of, list_of, relabel}
 use Rattle.stored_lines.specs.Line.{Line, Lines, label_for, label_of, line_of}

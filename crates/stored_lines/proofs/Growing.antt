@@ -5,6 +5,7 @@ use Rattle.std.proofs.lemmas.List.{take_more}
 use Rattle.std.proofs.lemmas.Bool.{eqb-true}
 use Rattle.std.proofs.lemmas.Bool.Decides.{nat_tests}
 use Rattle.stored_lines.specs.Tree.{Tree, Forest, node, none, more, forest_of, flat, flat_all}
+use Rattle.stored_lines.specs.Levels.{IsLow}
 use Rattle.stored_lines.specs.Growing.{fronts, backs, graft, grown, sole}
 
 at_self : {X : Type 0} (d : ℕ) (x y : X) → cond (d == d) x y ≡ x
@@ -100,3 +101,7 @@ module _ {A : Type 0} where
   pub sole_exact : (ls : List (ℕ × A)) (r : Option (Tree A)) → r ≡ sole (grown ls) → MatchOption r ((t : Tree A) → ls ≢ flat 0 t) (λ t. ls ≡ flat 0 t)
   sole_exact ls None e = λ t h. let found : sole (grown ls) ≡ Some t = ap (λ (x : List (ℕ × A)). sole (grown x)) h ∙ ap sole (grown_tree t) in absurd cc
   sole_exact ls (Some t) e = sym (flats-grown ls) ∙ sole-flat (grown ls) t e
+
+  pub sole_low : (ls : List (ℕ × A)) (r : Option (Tree A)) → r ≡ sole (grown ls) → MatchOption r ((t : Tree A) → IsLow t → ls ≢ flat 0 t) (λ t. ls ≡ flat 0 t)
+  sole_low ls None e = λ t low. sole_exact ls None e t
+  sole_low ls (Some t) e = sole_exact ls (Some t) e

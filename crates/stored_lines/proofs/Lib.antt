@@ -1,3 +1,4 @@
 pub mod Back
 pub mod Growing
+pub mod Levels
 pub mod Relabel

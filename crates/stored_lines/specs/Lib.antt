@@ -1,3 +1,4 @@
 pub mod Growing
+pub mod Levels
 pub mod Line
 pub mod Tree

@@ -1,13 +1,17 @@
 //! Branches: stored lines with those below them.
 
-ghost use Rattle.std.specs.Prelude.{◌≡◌, map, IfOk};
-ghost use Rattle.stored_lines.specs.Tree.{relabel};
+ghost use Rattle.std.specs.Prelude.{◌≡◌, ◌≤◌, ◌↔◌, map, IfOk, IsTrue, MatchOption};
+ghost use Rattle.stored_lines.specs.Tree.{relabel, forest_of};
+ghost use Rattle.stored_lines.specs.Levels.{levels as levels_of, forest_levels, AreShallow};
 ghost use Rattle.stored_lines.specs.Line.{label_of, line_of, value_for};
 
 use crate::carried::{Carried, Value};
 use record_text::{Tag, Text};
 use std::alloc::{AllocError, Global};
 use std::marker::Model;
+
+/// The most levels of carried lines: those of a file from 1 to 99.
+const MAX_LEVELS: u32 = 99;
 
 /// A stored line with those below it. Contracts see a tree.
 #[derive(Drop)]
@@ -46,10 +50,12 @@ pub fn copied(alloc: Global, text: &Option<Text>) -> Result<Option<Text>, AllocE
 
 /// Carried lines as they are stored.
 pub fn branches_of(alloc: Global, carried: &[Carried]) -> Result<Vec<Branch>, AllocError>
-    ensures { IfOk result (λ b. b.items ≡ map (relabel label_of) carried.now) }
+    ensures stored { IfOk result (λ b. b.items ≡ map (relabel label_of) carried.now) }
+    ensures shallow { IfOk result (λ _. AreShallow carried.now) }
 {
     let mut branches = Vec::new(alloc);
     'lines: for line in carried {
+        line.keep();
         branches.push(branch_of(alloc, line)?)?;
     }
     Ok(branches)
@@ -79,8 +85,46 @@ fn branch_of(alloc: Global, carried: &Carried) -> Result<Branch, AllocError>
     }
 }
 
-/// Carried lines from stored ones.
-pub fn carried_of(alloc: Global, branches: &[Branch]) -> Result<Vec<Carried>, AllocError>
+/// Carried lines from stored ones. `None`: they have more than 99 levels.
+pub fn carried_of(alloc: Global, branches: &[Branch]) -> Result<Option<Vec<Carried>>, AllocError>
+    ensures { IfOk result (λ found. MatchOption found
+        (¬ (AreShallow branches.now))
+        (λ c. AreShallow branches.now × (c.items ≡ map (relabel line_of) branches.now))) }
+{
+    if !are_within(branches, MAX_LEVELS) {
+        return Ok(None);
+    }
+    Ok(Some(carried_lines_of(alloc, branches)?))
+}
+
+/// Whether branches have no more levels than that.
+fn are_within(branches: &[Branch], levels: u32) -> bool
+    ensures { IsTrue result ↔ (forest_levels (forest_of branches.now) ≤ levels) }
+{
+    'branches: for branch in branches {
+        if !is_within(branch, levels) {
+            return false;
+        }
+    }
+    true
+}
+
+fn is_within(branch: &Branch, levels: u32) -> bool
+    ensures { IsTrue result ↔ (levels_of branch.now ≤ levels) }
+{
+    if levels == 0 {
+        return false;
+    }
+    'children: for child in &branch.children {
+        if !is_within(child, levels - 1) {
+            return false;
+        }
+    }
+    true
+}
+
+fn carried_lines_of(alloc: Global, branches: &[Branch]) -> Result<Vec<Carried>, AllocError>
+    requires { AreShallow branches.now }
     ensures { IfOk result (λ c. c.items ≡ map (relabel line_of) branches.now) }
 {
     let mut carried = Vec::new(alloc);
@@ -91,6 +135,7 @@ pub fn carried_of(alloc: Global, branches: &[Branch]) -> Result<Vec<Carried>, Al
 }
 
 fn carried_line_of(alloc: Global, branch: &Branch) -> Result<Carried, AllocError>
+    requires { levels_of branch.now ≤ 99 }
     ensures { IfOk result (λ c. c ≡ relabel line_of branch.now) }
 {
     let mut children = Vec::new(alloc);

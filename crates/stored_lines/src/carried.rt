@@ -1,6 +1,7 @@
 //! Carried lines: what a record keeps of a file beside its fields.
 
-ghost use Rattle.std.specs.Prelude.{◌≡◌, IfOk};
+ghost use Rattle.std.specs.Prelude.{◌≡◌, ◌≤◌, IfOk};
+ghost use Rattle.stored_lines.specs.Levels.{levels};
 
 use record_text::{Tag, Text};
 use std::alloc::{AllocError, Global};
@@ -15,7 +16,7 @@ pub enum Value {
     Ref(u32),
 }
 
-/// A line with the lines below it. Contracts see a tree, whose labels are the lines.
+/// A line with the lines below it, with at most 99 levels in all. Contracts see a tree, whose labels are the lines.
 #[derive(Drop)]
 pub struct Carried {
     pub tag: Tag,
@@ -24,8 +25,10 @@ pub struct Carried {
 }
 
 impl Model for Carried {
+    ghost use Rattle.std.specs.Prelude.{◌<◌};
     ghost use Rattle.std.proofs.Common.{arith};
     ghost use Rattle.stored_lines.specs.Tree.{Tree, node, forest_of, coded_tree, tree_size, most_le-forest_size};
+    ghost use Rattle.stored_lines.specs.Levels.{forest_levels};
     ghost use Rattle.stored_lines.specs.Line.{Line, line_code};
 
     ghost Value = { Tree Line };
@@ -33,6 +36,8 @@ impl Model for Carried {
     ghost coded = { coded_tree line_code };
 
     ghost view = { λ a. node (record { tag = a.tag; value = a.value }) (forest_of a.children.items) };
+
+    ghost invariant = { λ a. forest_levels (forest_of a.children.items) < 99 };
 
     ghost size = { tree_size };
 
@@ -52,6 +57,13 @@ impl Value {
 }
 
 impl Carried {
+    /// Does nothing: it tells a proof how many levels there are.
+    pub(crate) fn keep(&self)
+        ensures { levels self.now ≤ 99 }
+    {
+        let _ = &self.children;
+    }
+
     /// The same lines in memory of their own.
     pub fn copy(&self, alloc: Global) -> Result<Carried, AllocError>
         ensures { IfOk result (λ c. c ≡ self.now) }

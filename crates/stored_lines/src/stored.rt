@@ -1,7 +1,9 @@
 //! Lines as they are stored: those of a branch in order, each with its depth.
 
-ghost use Rattle.std.specs.Prelude.{◌≡◌, ◌≢◌, ◌++◌, ◌+◌, IfOk, OnOk, MatchOption};
+ghost use Rattle.std.specs.Prelude.{◌≡◌, ◌≢◌, ◌++◌, ◌+◌, IfOk, OnOk, MatchOption, nat_le};
+ghost use Rattle.std.specs.List.{list_any};
 ghost use Rattle.stored_lines.specs.Tree.{Tree, flat};
+ghost use Rattle.stored_lines.specs.Levels.{IsLow};
 ghost use Rattle.stored_lines.specs.Growing.{grown, graft, begins_at, sole};
 ghost use Rattle.stored_lines.specs.Line.{Label};
 
@@ -10,6 +12,9 @@ use record_text::{Tag, Text};
 use std::alloc::{AllocError, Global};
 use std::collections::VecDeque;
 use std::marker::Model;
+
+/// How many depths a branch that is read has, from 0 on.
+const MAX_DEPTHS: u32 = 128;
 
 /// A line as it is stored. Contracts see its depth, and the rest beside it.
 #[derive(Drop)]
@@ -88,14 +93,25 @@ fn push_branch(
     Ok(())
 }
 
-/// The branch that has these lines. `None`: no branch has them.
-#[tactic(auto, using(crate::proofs::Growing::sole_exact))]
+/// The branch that has these lines. `None`: no branch of at most 128 levels has them. The limit keeps branches
+/// so low that a call may follow them to their ends; all records are lower.
+#[tactic(auto, using(crate::proofs::Growing::sole_low, crate::proofs::Levels::none_low))]
 pub fn branch_of_lines(alloc: Global, lines: &[StoredLine]) -> Result<Option<Branch>, AllocError>
     ensures { IfOk result (λ found. MatchOption found
-        ((t : Tree Label) → lines.now ≢ flat 0 t) (λ t. lines.now ≡ flat 0 t)) }
+        ((t : Tree Label) → IsLow t → lines.now ≢ flat 0 t) (λ t. lines.now ≡ flat 0 t)) }
 {
+    if are_deep(lines) {
+        return Ok(None);
+    }
     let branches = branches_of(alloc, lines)?;
     Ok(sole_branch(branches))
+}
+
+/// Whether a line stands deeper than those of a branch that is read.
+fn are_deep(lines: &[StoredLine]) -> bool
+    ensures { result ≡ list_any (λ l. nat_le 128 l.0) lines.now }
+{
+    lines.iter().any(|line| line.depth >= MAX_DEPTHS)
 }
 
 /// The one branch, where there is one and it stands at depth 0.
