@@ -16,6 +16,7 @@ BRANCHES = (
         (Line(0, "a"), Line(1, "b"), Line(2, "c", ""), Line(1, "d"), Line(2, "e", None, 1), Line(2, "f")),
     ),
     ("lines 40 deep", tuple(Line(depth, "x") for depth in range(40))),
+    ("lines 128 deep", tuple(Line(depth, "x") for depth in range(128))),
 )
 
 NO_BRANCHES = (
@@ -24,7 +25,17 @@ NO_BRANCHES = (
     ("two lines of depth 0", (Line(0, "a"), Line(0, "b"))),
     ("a line two deeper", (Line(0, "a"), Line(2, "b"))),
     ("a line two deeper, further down", (Line(0, "a"), Line(1, "b"), Line(1, "c"), Line(3, "d"))),
+    ("a line of the greatest depth", (Line(0, "a"), Line(4_294_967_295, "b"))),
+    ("lines 129 deep", tuple(Line(depth, "x") for depth in range(129))),
+    ("lines 100,000 deep", tuple(Line(depth, "x") for depth in range(100_000))),
 )
+
+
+def nested(levels: int) -> tuple[Line, ...]:
+    """A line, and as many levels of carried lines below it."""
+    return tuple(Line(depth, "A", "x") for depth in range(levels + 1))
+
+
 
 # Lines, and those below the first of them as carried lines. A line that has a text and a number is one of the
 # text, and a line that has neither is one of an empty text.
@@ -38,7 +49,11 @@ CARRIED = (
     ),
     ("a text and a number", (Line(0, "x"), Line(1, "A", "1", 2)), "0 A =1\n"),
     ("neither", (Line(0, "x"), Line(1, "A")), "0 A =\n"),
+    ("99 levels", nested(99), "".join(f"{depth} A =x\n" for depth in range(99))),
 )
+
+# Levels of carried lines that are too many: a file has 99 below level 0.
+TOO_DEEP = (100, 127, 1_000, 100_000)
 
 # Lines, the place from which on they are compared with the whole, and whether these are the same.
 SAME = (
@@ -62,5 +77,7 @@ def cases():
     for name, lines, below in CARRIED:
         wanted = f"first\n{below}again\n{below}copies\n{below}"
         yield case(f"carried: {name}", lines, ("carried",), wanted)
+    for levels in TOO_DEEP:
+        yield case(f"carried: {levels} levels", nested(levels), ("carried",), "none\n")
     for lines, at, wanted in SAME:
         yield case(f"{len(lines)} lines and those from {at} on", lines, ("same", at), wanted)

@@ -31,7 +31,38 @@ def but(lines, at, *others):
     return (*lines[:at], *others, *lines[at + 1 :])
 
 
+def nested(depth, levels):
+    """Carried lines that stand one below another, the first of them at the depth."""
+    return tuple(Line(depth + level, "NOTE", "x") for level in range(levels))
+
+
+# Parts whose carried lines begin at depth 2 or at depth 3.
+PLACE = (Line(0, "place", "Ashby"), Line(1, "carried"))
+NAME = (*PERSON[:2], Line(2, "carried"))
+SIDE = (*FAMILY, Line(2, "side"))
+WHERE = (*EVENT, Line(1, "date", None, 3), Line(2, "carried"))
+OTHER = (Line(0, "other"), Line(1, "SUBM", ""))
+
+# A level of a file is 99 at most, so carried lines have 99 levels at most: each part with as many.
+DEEPEST = (
+    ("a place", (*PLACE, *nested(2, 99))),
+    ("a name", (*NAME, *nested(3, 99))),
+    ("a partner, on the person's side", (*SIDE, *nested(3, 99))),
+    ("the place of an event", (*WHERE, *nested(3, 99))),
+    ("another record", (*OTHER, *nested(2, 99))),
+)
+
 REFUSED = (
+    ("a line of the greatest depth", (*PERSON, Line(4_294_967_295, "NOTE", "x"))),
+    ("a first line of the greatest depth", (Line(4_294_967_295, "person"),)),
+    ("carried lines of 100 levels", (*PLACE, *nested(2, 100))),
+    ("carried lines of 100 levels below a name", (*NAME, *nested(3, 100))),
+    ("carried lines of 100 levels on the person's side", (*SIDE, *nested(3, 100))),
+    ("carried lines of 100 levels below the place of an event", (*WHERE, *nested(3, 100))),
+    ("carried lines of 100 levels below another record", (*OTHER, *nested(2, 100))),
+    ("carried lines of 126 levels", (*PLACE, *nested(2, 126))),
+    ("carried lines of 127 levels", (*PLACE, *nested(2, 127))),
+    ("carried lines of 100,000 levels", (*PLACE, *nested(2, 100_000))),
     ("a sex behind a sex", (*PERSON, Line(1, "sex", "M"))),
     ("a line of carried lines that has a text", (*PERSON, Line(1, "carried", "x"))),
     ("a field that a person has not", (*PERSON, Line(1, "birth", ""))),

@@ -35,6 +35,9 @@ def record_cases():
         yield read("record", name, lines, "record", kept(lines))
         yield read("copy", name, lines, "copy", kept(lines))
         yield read("fields", name, lines, "fields", fields)
+    for name, lines in refused.DEEPEST:
+        yield read("99 levels", name, lines, "record", kept(lines))
+        yield read("99 levels, copied", name, lines, "copy", kept(lines))
     for name, lines in refused.TAKEN:
         yield read("record", name, lines, "record", kept(lines))
     for name, lines in refused.REFUSED:

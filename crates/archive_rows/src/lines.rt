@@ -61,12 +61,22 @@ fn say_same(lines: &[StoredLine], from: usize, out: &mut Answer) {
 /// Says what stands below the first line of a branch, as carried lines; as carried lines that were made branches
 /// and read again; and their copies.
 fn say_below(alloc: Global, found: Option<Branch>, out: &mut Answer) -> Result<(), AllocError> {
-    match &found {
-        Some(branch) => say_three_times(alloc, carried_of(alloc, &branch.children)?, out),
+    match carried_below(alloc, &found)? {
+        Some(carried) => say_three_times(alloc, carried, out),
         None => {
             out.say_line("none");
             Ok(())
         }
+    }
+}
+
+fn carried_below(
+    alloc: Global,
+    found: &Option<Branch>,
+) -> Result<Option<Vec<Carried>>, AllocError> {
+    match found {
+        Some(branch) => carried_of(alloc, &branch.children),
+        None => Ok(None),
     }
 }
 
@@ -76,7 +86,10 @@ fn say_three_times(
     out: &mut Answer,
 ) -> Result<(), AllocError> {
     say_carried("first", &carried, out);
-    say_carried("again", &read_again(alloc, &carried)?, out);
+    match &read_again(alloc, &carried)? {
+        Some(again) => say_carried("again", again, out),
+        None => out.say_line("none"),
+    }
     out.say_line("copies");
     for line in &carried {
         say_carried_line(&line.copy(alloc)?, 0, out);
@@ -84,7 +97,7 @@ fn say_three_times(
     Ok(())
 }
 
-fn read_again(alloc: Global, carried: &[Carried]) -> Result<Vec<Carried>, AllocError> {
+fn read_again(alloc: Global, carried: &[Carried]) -> Result<Option<Vec<Carried>>, AllocError> {
     let branches = branches_of(alloc, carried)?;
     carried_of(alloc, &branches)
 }

@@ -185,7 +185,7 @@ found-one : (ls : List (ℕ × Label)) (t : Tree Label) (r : Record) → ls ≡ 
 found-one ls t r e f k = ap (record_from shallow_lines) (flat_one t (record_tree r) (sym e ∙ f)) ∙ read_back r k
 
 abbrev IsTree : List (ℕ × Label) → Option (Tree Label) → Type 0
-IsTree ls found = MatchOption found ((u : Tree Label) → IsLow u → ls ≢ flat 0 u) (λ u. ls ≡ flat 0 u)
+IsTree ls found = MatchOption found ((u : Tree Label) → IsLow u → ls ≢ flat 0 u) (λ u. IsLow u × (ls ≡ flat 0 u))
 
 pub no_tree : (ls : List (ℕ × Label)) (found : Option (Tree Label)) → IsTree ls found → found ≡ None → (r : Record) → IsShallow r → ls ≢ stored r
 no_tree ls None e is = λ r k f. e (record_tree r) (low r k) f
@@ -195,7 +195,7 @@ pub no_record : (ls : List (ℕ × Label)) (found : Option (Tree Label)) (t : Tr
 no_record ls None t o e is h n = absurd cc
 no_record ls (Some u) t o e is h n = λ r k f.
     let same_tree : u ≡ t = cc in
-    let lines_of_t : ls ≡ flat 0 t = e ∙ ap (flat 0) same_tree in
+    let lines_of_t : ls ≡ flat 0 t = e.1 ∙ ap (flat 0) same_tree in
     let same : None ≡ Some r = sym n ∙ h ∙ found-one ls t r lines_of_t f k in
     absurd cc
 
@@ -203,7 +203,7 @@ not_same : (ls : List (ℕ × Label)) (found : Option (Tree Label)) (t : Tree La
 not_same ls None t kept x e is h k differs = absurd cc
 not_same ls (Some u) t kept x e is h k differs = λ r shallow f.
     let same_tree : u ≡ t = cc in
-    let lines_of_t : ls ≡ flat 0 t = e ∙ ap (flat 0) same_tree in
+    let lines_of_t : ls ≡ flat 0 t = e.1 ∙ ap (flat 0) same_tree in
     let same : Some x ≡ Some r = sym k ∙ h ∙ found-one ls t r lines_of_t f shallow in
     let one : r ≡ x = cc in
     differs (f ∙ ap stored one)

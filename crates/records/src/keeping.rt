@@ -21,7 +21,7 @@ pub fn lines_of(alloc: Global, record: &Record) -> Result<Vec<StoredLine>, Alloc
     lines_of_branch(alloc, &branch)
 }
 
-/// The record that is kept as these lines. 40: no record is.
+/// The record that is kept as these lines. 40: no record is, as where lines are nested too deep.
 pub fn record_of(alloc: Global, lines: &[StoredLine]) -> Result<Record, RefusalKind>
     ensures read { IfOk result (λ r. lines.now ≡ stored r) }
     ensures refused { IfErr result (λ kind. (kind ≡ kinds.OutOfMemory)

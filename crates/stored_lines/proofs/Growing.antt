@@ -1,11 +1,13 @@
 -- A tree's lines grow into that tree, and what lines grow into has those lines.
-use Rattle.std.specs.Prelude.{ℕ, ◌+◌, ◌≡◌, ◌≢◌, ◌≤◌, List, [], ◌∷◌, ◌++◌, refl, true, false, length, ◌==◌, cond, Option, Some, None, MatchOption}
+use Rattle.std.specs.Prelude.{ℕ, nat_le, ◌+◌, ◌≡◌, ◌≢◌, ◌≤◌, List, [], ◌∷◌, ◌++◌, refl, true, false, length, ◌==◌, cond, Option, Some, None, MatchOption}
+use Rattle.std.specs.List.{list_any}
 use Rattle.std.proofs.Common.{ap, sym, subst, arith, append_assoc, append-nil, ◌∙◌, ◌<◌, take, get_or, eqb}
 use Rattle.std.proofs.lemmas.List.{take_more}
 use Rattle.std.proofs.lemmas.Bool.{eqb-true}
 use Rattle.std.proofs.lemmas.Bool.Decides.{nat_tests}
 use Rattle.stored_lines.specs.Tree.{Tree, Forest, node, none, more, forest_of, flat, flat_all}
 use Rattle.stored_lines.specs.Levels.{IsLow}
+use Rattle.stored_lines.proofs.Levels.{low_tree}
 use Rattle.stored_lines.specs.Growing.{fronts, backs, graft, grown, sole}
 
 at_self : {X : Type 0} (d : ℕ) (x y : X) → cond (d == d) x y ≡ x
@@ -102,6 +104,6 @@ module _ {A : Type 0} where
   sole_exact ls None e = λ t h. let found : sole (grown ls) ≡ Some t = ap (λ (x : List (ℕ × A)). sole (grown x)) h ∙ ap sole (grown_tree t) in absurd cc
   sole_exact ls (Some t) e = sym (flats-grown ls) ∙ sole-flat (grown ls) t e
 
-  pub sole_low : (ls : List (ℕ × A)) (r : Option (Tree A)) → r ≡ sole (grown ls) → MatchOption r ((t : Tree A) → IsLow t → ls ≢ flat 0 t) (λ t. ls ≡ flat 0 t)
-  sole_low ls None e = λ t low. sole_exact ls None e t
-  sole_low ls (Some t) e = sole_exact ls (Some t) e
+  pub sole_low : (ls : List (ℕ × A)) (r : Option (Tree A)) → list_any (λ l. nat_le 128 l.0) ls ≡ false → r ≡ sole (grown ls) → MatchOption r ((t : Tree A) → IsLow t → ls ≢ flat 0 t) (λ t. IsLow t × (ls ≡ flat 0 t))
+  sole_low ls None h e = λ t low. sole_exact ls None e t
+  sole_low ls (Some t) h e = (low_tree ls t h (sole_exact ls (Some t) e), sole_exact ls (Some t) e)

@@ -1,5 +1,5 @@
 -- Levels of trees side by side, and of trees with their labels changed; lines that are no deeper than their tree has levels.
-use Rattle.std.specs.Prelude.{ℕ, ◌+◌, ◌-◌, ◌≡◌, Bool, IsTrue, ◌≢◌, ◌≤◌, max, nat_le, List, [], ◌∷◌, ◌++◌, map, refl, length, true, false}
+use Rattle.std.specs.Prelude.{ℕ, ◌+◌, ◌-◌, ◌≡◌, Bool, IsTrue, ◌≢◌, ◌≤◌, max, nat_le, List, [], ◌∷◌, ◌++◌, map, refl, length, true, false, ◌||◌}
 use Rattle.std.specs.List.{list_any}
 use Rattle.std.proofs.Common.{ap, sym, ◌∙◌, ◌<◌, take, get_or, arith, zero, suc}
 use Rattle.std.proofs.lemmas.List.{take_more}
@@ -65,6 +65,13 @@ module _ {A B : Type 0} (f : A → B) where
   levels-kept t a cs us n whole same few =
       omega (arith, ap levels whole, ap (λ vs. forest_levels (forest_of vs)) same, levels-map cs)
 
+neither : (a b : Bool) → (a || b) ≡ false → (a ≡ false) × (b ≡ false)
+neither true b h = absurd cc
+neither false b h = (refl, h)
+
+below_limit : (d n : ℕ) → nat_le n d ≡ false → d < n
+below_limit d n h = grind (arith, nat_tests)
+
 module _ {A : Type 0} where
   mutual
     -- no line of a tree stands deeper than it has levels
@@ -80,3 +87,21 @@ module _ {A : Type 0} where
   -- lines of which one is deep are those of no low tree
   pub none_low : (ls : List (ℕ × A)) → list_any (λ l. nat_le 128 l.0) ls ≡ true → (t : Tree A) → IsLow t → ls ≢ flat 0 t
   none_low ls deep t low e = let one : true ≡ false = sym deep ∙ ap (list_any (λ l. nat_le 128 l.0)) e ∙ above 0 128 t (let few : levels t ≤ 128 = low in omega arith) in absurd cc
+
+  mutual
+    -- lines of which none is deep are those of a tree of few levels
+    shallower : (d n : ℕ) (t : Tree A) → list_any (λ l. nat_le n l.0) (flat d t) ≡ false → d + levels t ≤ n
+    shallower d n (node a f) h =
+        let parts : (nat_le n d ≡ false) × (list_any (λ (l : ℕ × A). nat_le n l.0) (flat_all (d + 1) f) ≡ false) = neither (nat_le n d) (list_any (λ (l : ℕ × A). nat_le n l.0) (flat_all (d + 1) f)) h in
+        let less : d < n = below_limit d n parts.0 in
+        omega (arith, shallower_all (d + 1) n f (omega arith) parts.1)
+
+    shallower_all : (d n : ℕ) (f : Forest A) → d ≤ n → list_any (λ l. nat_le n l.0) (flat_all d f) ≡ false → d + forest_levels f ≤ n
+    shallower_all d n none less h = omega arith
+    shallower_all d n (more t f) less h =
+        let parts : (list_any (λ (l : ℕ × A). nat_le n l.0) (flat d t) ≡ false) × (list_any (λ (l : ℕ × A). nat_le n l.0) (flat_all d f) ≡ false) = neither (list_any (λ (l : ℕ × A). nat_le n l.0) (flat d t)) (list_any (λ (l : ℕ × A). nat_le n l.0) (flat_all d f)) (sym (list_any-append (λ (l : ℕ × A). nat_le n l.0) (flat d t) (flat_all d f)) ∙ h) in
+        omega (arith, shallower d n t parts.0, shallower_all d n f less parts.1)
+
+  -- of lines of which none is deep, those of a low tree
+  pub low_tree : (ls : List (ℕ × A)) (t : Tree A) → list_any (λ l. nat_le 128 l.0) ls ≡ false → ls ≡ flat 0 t → IsLow t
+  low_tree ls t h e = omega (arith, shallower 0 128 t (ap (list_any (λ (l : ℕ × A). nat_le 128 l.0)) (sym e) ∙ h))

@@ -4,8 +4,8 @@
 //! It stands on `record_text`, whose texts and tags stand on the lines. What the words on lines mean is for
 //! `records` to say.
 //!
-//! Callers may rely on: lines are those of one branch at the most, and `branch_of_lines` finds it; carried
-//! lines that are made branches are read from them again.
+//! Callers may rely on: lines are those of one branch at the most, and `branch_of_lines` finds it where it has at most
+//! 128 levels; carried lines, which have at most 99, are read again from the branches that they are made.
 #![tactic(auto)]
 
 mod branch;

@@ -98,7 +98,7 @@ fn push_branch(
 #[tactic(auto, using(crate::proofs::Growing::sole_low, crate::proofs::Levels::none_low))]
 pub fn branch_of_lines(alloc: Global, lines: &[StoredLine]) -> Result<Option<Branch>, AllocError>
     ensures { IfOk result (λ found. MatchOption found
-        ((t : Tree Label) → IsLow t → lines.now ≢ flat 0 t) (λ t. lines.now ≡ flat 0 t)) }
+        ((t : Tree Label) → IsLow t → lines.now ≢ flat 0 t) (λ t. IsLow t × (lines.now ≡ flat 0 t))) }
 {
     if are_deep(lines) {
         return Ok(None);
