@@ -67,27 +67,28 @@ pub one_is_exact : (c : Content) (n next : ℕ) (r : Record) (a : Answer) (chang
     → changes ≡ record { puts = record { number = n; «record» = r } ∷ []; removals = []; next = next; answer = a; kept = None; slip = None }
     → get c.records n ≢ Some r → IsExact c changes
 one_is_exact c n next r a changes e other =
-    subst (IsExact c) (sym e) (record { puts = (tt, tt); removals = tt; apart = tt; new = (other, tt); there = tt; slip = tt })
+    subst (IsExact c) (sym e) (record { puts = (tt, tt); removals = tt; apart = tt; new = λ _. (other, tt); there = tt; slip = tt })
 
 -- a new record, where a sound archive has none
 pub new_is_exact : (c : Content) (r : Record) (changes : Changes)
     → changes ≡ record { puts = record { number = c.next; «record» = r } ∷ []; removals = []; next = c.next + 1; answer = record { first = c.next; count = 1 }; kept = None; slip = None }
-    → IsSound c → IsExact c changes
-new_is_exact c r changes e sound = one_is_exact c c.next (c.next + 1) r (record { first = c.next; count = 1 }) changes e (λ at. none_at_next c sound r at)
+    → IsExact c changes
+new_is_exact c r changes e =
+    subst (IsExact c) (sym e) (record { puts = (tt, tt); removals = tt; apart = tt; new = λ sound. ((λ at. none_at_next c sound r at), tt); there = tt; slip = tt })
 
 -- nothing is put
 pub none_is_exact : (c : Content) (next : ℕ) (a : Answer) (changes : Changes)
     → changes ≡ record { puts = []; removals = []; next = next; answer = a; kept = None; slip = None } → IsExact c changes
 none_is_exact c next a changes e =
-    subst (IsExact c) (sym e) (record { puts = tt; removals = tt; apart = tt; new = tt; there = tt; slip = tt })
+    subst (IsExact c) (sym e) (record { puts = tt; removals = tt; apart = tt; new = λ _. tt; there = tt; slip = tt })
 
 -- what is kept does not matter
 pub kept_is_exact : (c : Content) (changes : Changes) (kept : Option Kept) → IsExact c changes → IsExact c (record changes { kept = kept })
 kept_is_exact c changes kept h = record { puts = h.puts; removals = h.removals; apart = h.apart; new = h.new; there = h.there; slip = h.slip }
 
 -- what is answered where another record is put
-pub exact_if : {E : Type 0} (r : Result Changes E) (c x : Content) (n : ℕ) (v : Record) → x ≡ c → IfOk r (λ changes. get x.records n ≢ Some v → IsExact x changes) → get c.records n ≢ Some v → IfOk r (λ changes. IsSound c → IsExact c changes)
-exact_if (Ok a) c x n v e h other = λ sound. subst (λ (y : Content). IsExact y a) e (h (λ f. other (ap (λ (y : Content). get y.records n) (sym e) ∙ f)))
+pub exact_if : {E : Type 0} (r : Result Changes E) (c x : Content) (n : ℕ) (v : Record) → x ≡ c → IfOk r (λ changes. get x.records n ≢ Some v → IsExact x changes) → get c.records n ≢ Some v → IfOk r (IsExact c)
+exact_if (Ok a) c x n v e h other = subst (λ (y : Content). IsExact y a) e (h (λ f. other (ap (λ (y : Content). get y.records n) (sym e) ∙ f)))
 exact_if (Err k) c x n v e h other = tt
 
 -- ---- dates: they are the same where their texts are

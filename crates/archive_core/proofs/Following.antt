@@ -19,7 +19,7 @@ use Rattle.archive_core.specs.Checks.{text_in, date_in, person_at, family_at, ev
 use Rattle.archive_core.specs.Steps.{RowStep, placed, row_step, step, creates, replaces, plain_person, plain_partners, plain_place, with_name, with_child, with_fields, with_participant, is_same, is_partner, is_child}
 use Rattle.archive_core.specs.Machine.{Draws, UsesNoneAgain}
 use Rattle.archive_core.specs.declared.looks.Owner.{Owner}
-use Rattle.archive_core.proofs.Putting.{put_elsewhere, put_here}
+use Rattle.archive_state.proofs.Putting.{put_elsewhere, put_here}
 use Rattle.archive_core.proofs.Keeping.{IsFit, put_keeps}
 use Rattle.archive_core.proofs.Found.{person_found, family_found, event_found, owner_found, person_stands, place_stands, passes}
 use Rattle.archive_core.proofs.SaidPaths.{said_has_part}

@@ -14,7 +14,7 @@ use Rattle.archive_state.specs.Entries.{event_tags, is_event_tag}
 use Rattle.archive_state.specs.Paths.{IsPlaceAt, Climbs, HasPath, has_part}
 use Rattle.archive_state.specs.Slips.{Slip}
 use Rattle.archive_state.specs.Sound.{EachIn, EachOf, IsNumber, HasSmallerParent, HasNormalName, HasMembersOnce, HasSaidPlace, HasEventTag, HasSoundMentions, IsNoTrailer, own_tags, IsOfRecords, HasSoundRecords, Stands, IsSoundSlip, IsSound, place_of, change_names, old_records}
-use Rattle.archive_core.proofs.Putting.{put_cases}
+use Rattle.archive_state.proofs.Putting.{put_cases}
 
 -- ---- lists
 pub each_more : {A : Type 0} (P Q : A → Type 0) → ((a : A) → P a → Q a) → (xs : List A) → EachOf P xs → EachOf Q xs

@@ -3,7 +3,6 @@ mod Fitting
 mod Following
 mod Found
 mod Keeping
-mod Putting
 mod Room
 mod Said
 mod SaidPaths

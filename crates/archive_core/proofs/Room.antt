@@ -8,10 +8,10 @@ use Rattle.record_kinds.specs.declared.record.Record.{Record}
 use Rattle.archive_state.specs.Content.{Content, Records}
 use Rattle.archive_state.specs.Sound.{EachOf}
 use Rattle.archive_state.specs.declared.changes.Numbered.{Numbered}
-use Rattle.archive_core.specs.Applied.{with_puts, without}
+use Rattle.archive_state.specs.Applied.{with_puts, without}
 use Rattle.archive_core.specs.Room.{blank, with_blank, with_room}
 use Rattle.archive_core.proofs.Keeping.{each_more}
-use Rattle.archive_core.proofs.Putting.{put_cases, put_here, put_elsewhere}
+use Rattle.archive_state.proofs.Putting.{put_cases, put_here, put_elsewhere}
 use Rattle.archive_core.proofs.Undo.{taken_out}
 
 -- a record is there

@@ -29,8 +29,8 @@ pub record IsExact (c : Content) (changes : Changes) : Type 0 where
   pub removals : Ascends changes.removals
   -- none gets a record and loses it
   pub apart : EachOf (λ n. list_any (λ m. m == n) (put_numbers changes) ≡ false) changes.removals
-  -- no record is put where it is already
-  pub new : EachOf (λ (p : Numbered). get c.records p.number ≢ Some p.«record») changes.puts
+  -- no record is put where it is already; a new one is put where a sound archive has none
+  pub new : IsSound c → EachOf (λ (p : Numbered). get c.records p.number ≢ Some p.«record») changes.puts
   -- a record is taken out where one is
   pub there : EachOf (λ n. get c.records n ≢ None) changes.removals
   pub slip : IsExactSlip c.slips changes.slip
@@ -49,6 +49,6 @@ KeepsOnce c r changes = MatchOption (get c.receipts r.token)
     (changes.kept ≡ Some (record { token = r.token; receipt = record { digest = digest_of r.command; answer = changes.answer } }))
     (λ receipt. ChangesNothing c changes)
 
--- what a request changes is no more than it has to be, in a sound archive
+-- what a request changes is no more than it has to be
 abbrev pub IsExactFor : Content → Request → Changes → Type 0
-IsExactFor c r changes = KeepsOnce c r changes × (IsSound c → IsExact c changes)
+IsExactFor c r changes = KeepsOnce c r changes × IsExact c changes

@@ -6,7 +6,7 @@ ghost use Rattle.archive_state.specs.Content.{Records, Slips};
 ghost use Rattle.archive_state.specs.Slips.{Slip};
 ghost use Rattle.archive_state.specs.Sound.{EachOf};
 ghost use Rattle.archive_state.specs.declared.changes.Numbered.{Numbered};
-ghost use Rattle.archive_core.specs.Applied as specs;
+ghost use Rattle.archive_state.specs.Applied as specs;
 ghost use Rattle.archive_core.specs.Room as room;
 
 use archive_state::{Answer, Changes, Kept, Numbered, Slip, SlipChange, State};

@@ -6,7 +6,6 @@ ghost use Rattle.std.specs.Str.{bytes_eq};
 ghost use Rattle.archive_state.specs.Entries.{person_tags, family_tags};
 ghost use Rattle.archive_view.specs.Looks.{Agrees, CountsFailures, OnView, is_failure, is_stop};
 ghost use Rattle.record_kinds.specs.Model as model;
-ghost use Rattle.archive_state.specs.Sound.{IsSound};
 ghost use Rattle.archive_core.specs.Applied.{Plans};
 ghost use Rattle.archive_core.specs.Checks as checks;
 ghost use Rattle.archive_core.specs.Exact.{IsExact};
@@ -48,7 +47,7 @@ pub(crate) fn new_event<V: View>(
     ensures decides { OnView V.is_honest V.content view.old view.new
         (λ c. Plans c result (steps.new_event c owner tag.now value.now date.now place)) }
     ensures exact { OnView V.is_honest V.content view.old view.new
-        (λ c. IfOk result (λ changes. IsSound c → IsExact c changes)) }
+        (λ c. IfOk result (IsExact c)) }
     ensures counts { CountsFailures (V.failed view.old) (V.failed view.new) result }
 {
     let tag = text_in(alloc, tag)?;
@@ -72,7 +71,7 @@ pub(crate) fn amend_event<V: View>(
     ensures decides { OnView V.is_honest V.content view.old view.new
         (λ c. Plans c result (steps.amend_event c number value.now date.now place)) }
     ensures exact { OnView V.is_honest V.content view.old view.new
-        (λ c. IfOk result (λ changes. IsSound c → IsExact c changes)) }
+        (λ c. IfOk result (IsExact c)) }
     ensures counts { CountsFailures (V.failed view.old) (V.failed view.new) result }
 {
     let value = text_in(alloc, value)?;
@@ -99,7 +98,7 @@ pub(crate) fn add_participant<V: View>(
     ensures decides { OnView V.is_honest V.content view.old view.new
         (λ c. Plans c result (steps.add_participant c number person role.now)) }
     ensures exact { OnView V.is_honest V.content view.old view.new
-        (λ c. IfOk result (λ changes. IsSound c → IsExact c changes)) }
+        (λ c. IfOk result (IsExact c)) }
     ensures counts { CountsFailures (V.failed view.old) (V.failed view.new) result }
 {
     let role = text_in(alloc, role)?;

@@ -4,7 +4,6 @@ ghost use Rattle.std.specs.Prelude.{◌≡◌, ◌++◌, ◌==◌, ◌||◌, [],
 ghost use Rattle.std.specs.List.{list_any};
 ghost use Rattle.archive_view.specs.Looks.{Agrees, CountsFailures, OnView, is_stop};
 ghost use Rattle.record_kinds.specs.Model as model;
-ghost use Rattle.archive_state.specs.Sound.{IsSound};
 ghost use Rattle.archive_core.specs.Applied.{Plans};
 ghost use Rattle.archive_core.specs.Checks as checks;
 ghost use Rattle.archive_core.specs.Exact.{IsExact};
@@ -27,7 +26,7 @@ pub(crate) fn new_family<V: View>(
     ensures decides { OnView V.is_honest V.content view.old view.new
         (λ c. Plans c result (steps.new_family c husband wife)) }
     ensures exact { OnView V.is_honest V.content view.old view.new
-        (λ c. IfOk result (λ changes. IsSound c → IsExact c changes)) }
+        (λ c. IfOk result (IsExact c)) }
     ensures counts { CountsFailures (V.failed view.old) (V.failed view.new) result }
 {
     check_partner(alloc, view, husband)?;
@@ -50,7 +49,7 @@ pub(crate) fn add_child<V: View>(
     ensures decides { OnView V.is_honest V.content view.old view.new
         (λ c. Plans c result (steps.add_child c number person)) }
     ensures exact { OnView V.is_honest V.content view.old view.new
-        (λ c. IfOk result (λ changes. IsSound c → IsExact c changes)) }
+        (λ c. IfOk result (IsExact c)) }
     ensures counts { CountsFailures (V.failed view.old) (V.failed view.new) result }
 {
     let family = family_at(alloc, view, number)?;

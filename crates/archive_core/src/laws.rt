@@ -11,7 +11,8 @@ ghost use Rattle.receipts.specs.declared.answer.Receipt.{Receipt};
 ghost use Rattle.commands.specs.declared.command.Command.{Command};
 ghost use Rattle.archive_state.specs.Changes.{Changes};
 ghost use Rattle.archive_state.specs.Sound.{IsSound};
-ghost use Rattle.archive_core.specs.Applied.{Decides, applied};
+ghost use Rattle.archive_core.specs.Applied.{Decides};
+ghost use Rattle.archive_state.specs.Applied.{applied};
 ghost use Rattle.archive_core.specs.Checks.{need, said_place_at};
 ghost use Rattle.archive_core.specs.Machine.{Does, Done, Draws, Runs, UsesNoneAgain, outcome};
 ghost use Rattle.archive_core.specs.Steps.{step};
@@ -42,7 +43,7 @@ pub fn an_answer_has_the_numbers_drawn()
 /// No number is used twice: over a run the next number does not fall, no slip is at a number below it where none was, and a
 /// number that is used up stays so.
 pub fn no_number_is_used_twice()
-    ensures { (dones : List Done) (c after : Content) → IsSound c → Runs c dones after → UsesNoneAgain c after }
+    ensures { (dones : List Done) (c after : Content) → Runs c dones after → UsesNoneAgain c after }
 {}
 
 /// A request leaves a sound archive sound, accepted or refused.

@@ -3,7 +3,6 @@
 ghost use Rattle.std.specs.Prelude.{◌≡◌, Some, IfOk, IfErr, None, false};
 ghost use Rattle.std.specs.FinMap as map;
 ghost use Rattle.archive_view.specs.Looks.{CountsFailures, CountsStops, OnView, is_failure};
-ghost use Rattle.archive_state.specs.Sound.{IsSound};
 ghost use Rattle.archive_core.specs.Applied.{Decides, Plans};
 ghost use Rattle.archive_core.specs.Exact.{ChangesNothing, IsExact, IsExactFor};
 ghost use Rattle.archive_core.specs.Machine.{Does, answered_again, kept_under, outcome, served};
@@ -85,7 +84,6 @@ fn answer_again<V: View>(
 }
 
 /// What a command changes, with its answer to keep.
-#[tactic(auto, using(crate::proofs::Exactness::kept_is_exact))]
 fn decide_anew<V: View>(
     alloc: Global,
     view: &mut V,
@@ -95,7 +93,7 @@ fn decide_anew<V: View>(
     ensures decides { OnView V.is_honest V.content view.old view.new
         (λ c. Decides c result (kept_under «request».now.token digest (step c «request».now.command))) }
     ensures exact { OnView V.is_honest V.content view.old view.new
-        (λ c. IfOk result (λ changes. IsSound c → IsExact c changes)) }
+        (λ c. IfOk result (IsExact c)) }
     ensures keeps { IfOk result (λ changes. changes.kept ≡ Some (record {
       token = «request».now.token;
       receipt = record { digest = digest; answer = changes.answer };
@@ -132,7 +130,7 @@ fn decide_row<V: View>(
     ensures decides { OnView V.is_honest V.content view.old view.new
         (λ c. Plans c result (row_step c row.now)) }
     ensures exact { OnView V.is_honest V.content view.old view.new
-        (λ c. IfOk result (λ changes. IsSound c → IsExact c changes)) }
+        (λ c. IfOk result (IsExact c)) }
     ensures counts { CountsFailures (V.failed view.old) (V.failed view.new) result }
 {
     match row {

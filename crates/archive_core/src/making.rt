@@ -2,7 +2,6 @@
 
 ghost use Rattle.std.specs.Prelude.{◌≡◌, ◌≢◌, ◌+◌, ◌∷◌, [], IfErr, IfOk, None, Some, Err, Ok};
 ghost use Rattle.std.specs.FinMap as map;
-ghost use Rattle.archive_state.specs.Sound.{IsSound};
 ghost use Rattle.archive_view.specs.Looks.{Agrees, CountsFailures, OnView, is_stop};
 ghost use Rattle.archive_core.specs.Applied.{Plans};
 ghost use Rattle.archive_core.specs.Checks as checks;
@@ -40,7 +39,7 @@ pub(crate) fn creates<V: View>(
     ensures decides { OnView V.is_honest V.content view.old view.new
         (λ c. Plans c result (steps.creates c value)) }
     ensures exact { OnView V.is_honest V.content view.old view.new
-        (λ c. IfOk result (λ changes. IsSound c → IsExact c changes)) }
+        (λ c. IfOk result (IsExact c)) }
     ensures counts { CountsFailures (V.failed view.old) (V.failed view.new) result }
 {
     match next_free(alloc, view) {

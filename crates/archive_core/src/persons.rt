@@ -2,7 +2,6 @@
 
 ghost use Rattle.std.specs.Prelude.{◌≡◌, ◌↔◌, IfOk, IsTrue, Some};
 ghost use Rattle.archive_view.specs.Looks.{CountsFailures, OnView};
-ghost use Rattle.archive_state.specs.Sound.{IsSound};
 ghost use Rattle.archive_core.specs.Applied.{Plans};
 ghost use Rattle.archive_core.specs.Exact.{IsExact};
 ghost use Rattle.archive_core.specs.Steps as steps;
@@ -25,7 +24,7 @@ pub(crate) fn new_person<V: View>(
     ensures decides { OnView V.is_honest V.content view.old view.new
         (λ c. Plans c result (steps.new_person c name.now sex)) }
     ensures exact { OnView V.is_honest V.content view.old view.new
-        (λ c. IfOk result (λ changes. IsSound c → IsExact c changes)) }
+        (λ c. IfOk result (IsExact c)) }
     ensures counts { CountsFailures (V.failed view.old) (V.failed view.new) result }
 {
     let name = text_in(alloc, name)?;
@@ -44,7 +43,7 @@ pub(crate) fn add_name<V: View>(
     ensures decides { OnView V.is_honest V.content view.old view.new
         (λ c. Plans c result (steps.add_name c number name.now)) }
     ensures exact { OnView V.is_honest V.content view.old view.new
-        (λ c. IfOk result (λ changes. IsSound c → IsExact c changes)) }
+        (λ c. IfOk result (IsExact c)) }
     ensures counts { CountsFailures (V.failed view.old) (V.failed view.new) result }
 {
     let name = text_in(alloc, name)?;
@@ -64,7 +63,7 @@ pub(crate) fn set_sex<V: View>(
     ensures decides { OnView V.is_honest V.content view.old view.new
         (λ c. Plans c result (steps.set_sex c number sex)) }
     ensures exact { OnView V.is_honest V.content view.old view.new
-        (λ c. IfOk result (λ changes. IsSound c → IsExact c changes)) }
+        (λ c. IfOk result (IsExact c)) }
     ensures counts { CountsFailures (V.failed view.old) (V.failed view.new) result }
 {
     let mut person = person_at(alloc, view, number)?;

@@ -2,5 +2,6 @@ mod Entries
 mod Keyed
 mod Lowest
 mod Maps
+pub mod Putting
 mod Climbing
 mod Soundness

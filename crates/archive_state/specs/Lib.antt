@@ -1,3 +1,4 @@
+pub mod Applied
 pub mod Changes
 pub mod Content
 pub mod Entries

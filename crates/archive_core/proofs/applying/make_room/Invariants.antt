@@ -1,5 +1,5 @@
 use Rattle.std.proofs.Common.{◌≡◌, take}
-use Rattle.archive_core.specs.Applied.{without}
+use Rattle.archive_state.specs.Applied.{without}
 use Rattle.archive_core.specs.Room.{with_room}
 use Rattle.archive_core.proofs.applying.make_room.Given as goal
 

@@ -1,5 +1,5 @@
 use Rattle.std.proofs.Common.{◌≡◌, drop}
-use Rattle.archive_core.specs.Applied.{without}
+use Rattle.archive_state.specs.Applied.{without}
 use Rattle.archive_core.proofs.applying.remove_all.Given as goal
 
 abbrev pub invariant-numbers : goal.invariant-numbers

@@ -2,4 +2,4 @@ use Rattle.archive_core.proofs.Serving.{run_again}
 use Rattle.archive_core.proofs.laws.no_number_is_used_twice.Goals as goal
 
 pub returns : goal.returns
-returns _ dones c after sound h = run_again dones c after h
+returns _ dones c after h = run_again dones c after h
