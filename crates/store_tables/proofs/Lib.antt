@@ -1,0 +1,15 @@
+pub mod Calls
+mod Changing
+mod Coded
+mod Created
+mod Failing
+mod Finding
+pub mod Loops
+mod Queries
+mod ReadingRows
+mod Reopening
+mod Statements
+mod Texts
+mod Typed
+mod Updates
+mod Writing

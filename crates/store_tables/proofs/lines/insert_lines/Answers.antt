@@ -1,0 +1,15 @@
+-- One line more.
+use Rattle.std.proofs.Common.{◌+◌, drop, ap, ◌∙◌}
+use Rattle.store_tables.specs.Rows.{with_line, with_lines}
+use Rattle.store_tables.proofs.Loops.{goes_on, item_left}
+use Rattle.store_tables.proofs.lines.insert_lines.Goals as goal
+
+pub lines-preserved : goal.lines-preserved
+lines-preserved g c =
+    let lines = c.args.lines.now in
+    let line = c.line-item.result in
+    let left = item_left lines c.lines.line-index line line c.lines-test.true c.line-item.is in (
+      c.insert_line.ensures.same_reference ∙ c.lines.invariant.0,
+      rw c.in_ok-at.ensures (goes_on _ _ _ _ _ (with_line c.args.number c.lines.at line) (with_lines c.args.number (c.lines.at + 1) (drop (c.lines.line-index + 1) lines)) c.lines.invariant.1
+          c.in_ok-insert_line.ensures.ok c.insert_line.ensures.survives (λ rows. ap (λ ls. with_lines c.args.number c.lines.at ls rows) left)),
+    )

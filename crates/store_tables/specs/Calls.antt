@@ -1,0 +1,68 @@
+-- What a call does to the tables, and what a crash may leave of them.
+use Rattle.std.specs.Prelude.{◌≡◌, false, IsTrue, []}
+use Rattle.std.specs.List.{AllByRecursion}
+use Rattle.sqlite.specs.Schema.{Schema}
+use Rattle.sqlite.specs.Table.{Table}
+use Rattle.sqlite.specs.Tree.{Trees}
+use Rattle.sqlite_catalog.specs.Listing.{IsSound}
+use Rattle.sqlite.specs.State.{State}
+use Rattle.store_tables.specs.Schema.{archive_schema, no_schema}
+use Rattle.store_tables.specs.Reading.{AreTyped}
+use Rattle.store_tables.specs.Rows.{Rows, Holds}
+
+-- the trees list the archive's schema and obey it, and hold these rows, whose values are those of the program's types
+pub record Good (rows : Rows) (t : Trees) : Type 0 where
+  pub sound : IsSound archive_schema t
+  pub holds : Holds rows t
+  pub typed : AreTyped rows
+
+-- no transaction is open, and the tables hold these rows, on the disk too
+pub record Settled (s : State) (rows : Rows) : Type 0 where
+  pub is_open : IsTrue s.is_open
+  pub autocommit : s.in_transaction ≡ false
+  pub settled : s.committed ≡ s.now
+  pub schema : s.now.schema ≡ archive_schema
+  pub good : Good rows s.now.trees
+
+-- a transaction is open, in which the tables hold these rows
+pub record Inside (s : State) (rows : Rows) : Type 0 where
+  pub is_open : IsTrue s.is_open
+  pub inside : IsTrue s.in_transaction
+  pub schema : s.now.schema ≡ archive_schema
+  pub good : Good rows s.now.trees
+
+-- calls in a transaction, or none: they make this of the rows, and commit nothing
+abbrev pub Follows : State → State → (Rows → Rows) → Type 0
+Follows old new f = (rows : Rows) → Inside old rows → Inside new (f rows) × (new.committed ≡ old.committed)
+
+-- what a call commits, where it makes this of the rows
+abbrev pub MayBecome : State → (Rows → Rows) → Trees → Type 0
+MayBecome old f t = (rows : Rows) → Settled old rows → Good (f rows) t
+
+-- whatever a crash may leave is good, and holds these rows
+abbrev pub LeavesOnly : State → Rows → Type 0
+LeavesOnly s rows = (t : Trees) → s.may_leave t → Good rows t
+
+-- ---- a new archive
+-- a store in which nothing was made
+pub record IsBlank (t : Trees) : Type 0 where
+  pub sound : IsSound no_schema t
+
+pub record SettledBlank (s : State) : Type 0 where
+  pub is_open : IsTrue s.is_open
+  pub autocommit : s.in_transaction ≡ false
+  pub settled : s.committed ≡ s.now
+  pub schema : s.now.schema ≡ no_schema
+  pub blank : IsBlank s.now.trees
+
+-- a transaction is open, which sees these tables without rows
+pub record Built (s : State) (at : Schema) : Type 0 where
+  pub is_open : IsTrue s.is_open
+  pub inside : IsTrue s.in_transaction
+  pub schema : s.now.schema ≡ at
+  pub sound : IsSound at s.now.trees
+  pub empty : AllByRecursion (λ (t : Table). s.now.trees t.tree ≡ []) at.tables
+
+-- calls in a transaction that make one schema of another, and commit nothing
+abbrev pub Builds : State → State → Schema → Schema → Type 0
+Builds old new schema after = Built old schema → Built new after × (new.committed ≡ old.committed)

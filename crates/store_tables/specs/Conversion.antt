@@ -1,0 +1,43 @@
+-- What a row that a query shows is read as, and why one is refused.
+use Rattle.std.specs.Prelude.{◌≡◌, ◌⊎◌, ◌+◌, ◌<◌, ℕ, pos, List, [], ◌∷◌, length, ⊤}
+use Rattle.sqlite.specs.declared.types.Value.TheVariants.{Int, Text as Words}
+use Rattle.sqlite.specs.Order.{Row, column}
+use Rattle.stored_lines.specs.Line.{Label}
+use Rattle.record_text.specs.declared.refusal.RefusalKind.{RefusalKind}
+use Rattle.record_text.specs.declared.refusal.RefusalKind.TheVariants.{OutOfMemory, BadStored}
+use Rattle.store_tables.specs.Reading.{IsTypedLine}
+use Rattle.store_tables.specs.Rows.{Rows, words_or_null, number_or_null}
+
+-- memory was refused, or this is not so
+abbrev pub FailsUnless : Type 0 → RefusalKind → Type 0
+FailsUnless Fact kind = (kind ≡ OutOfMemory) ⊎ ((kind ≡ BadStored) × ¬ Fact)
+
+-- the next number and the society
+abbrev pub read_meta : Rows → ℕ × List ℕ
+read_meta rows = (rows.next, rows.society)
+
+-- whatever the row shows, it is read as that
+abbrev pub IsReadBy : {X Y : Type 0} → (X → Row) → (X → Y) → Row → Y → Type 0
+IsReadBy {X} shown read row item = (x : X) → row ≡ shown x → item ≡ read x
+
+-- the row shows something whose values are those of the program's types
+abbrev pub ShowsTyped : {X : Type 0} → (X → Row) → (X → Type 0) → Row → Type 0
+ShowsTyped {X} shown IsTyped row = (x : X) × (row ≡ shown x) × IsTyped x
+
+-- each row with the item at its place
+abbrev pub EachWith : {X Y : Type 0} → (X → Y → Type 0) → List X → List Y → Type 0
+EachWith R [] [] = ⊤
+EachWith R [] (y ∷ ys) = ⊥
+EachWith R (x ∷ xs) [] = ⊥
+EachWith R (x ∷ xs) (y ∷ ys) = R x y × EachWith R xs ys
+
+-- the four columns of a stored line, from a place on
+pub record IsLineAt (row : Row) (at : ℕ) (line : ℕ × Label) : Type 0 where
+  pub depth : column row at ≡ Int (pos line.0)
+  pub tag : column row (at + 1) ≡ Words line.1.tag
+  pub text : column row (at + 2) ≡ words_or_null line.1.text
+  pub target : column row (at + 3) ≡ number_or_null line.1.target
+
+-- they are there, and are those of a line whose values are of the program's types
+abbrev pub HasLineAt : Row → ℕ → Type 0
+HasLineAt row at = (at + 3 < length row) × (line : ℕ × Label) × IsLineAt row at line × IsTypedLine line

@@ -1,0 +1,9 @@
+pub mod Calls
+pub mod Conversion
+pub mod Creating
+pub mod Looking
+pub mod Reading
+pub mod Rows
+pub mod Schema
+pub mod Shown
+pub mod Telling

@@ -1,0 +1,37 @@
+-- What a call that only reads answers of settled tables, and what it leaves.
+use Rattle.std.specs.Prelude.{◌≡◌, ◌⊎◌, ◌<◌, ℕ, pos, List, [], ◌∷◌, codes, Result, IfOk, IfErr}
+use Rattle.sqlite.specs.declared.types.Value.TheVariants.{Int}
+use Rattle.sqlite.specs.Order.{Row}
+use Rattle.sqlite.specs.State.{State, HasCleanDisk, Shown}
+use Rattle.record_text.specs.declared.refusal.RefusalKind.{RefusalKind}
+use Rattle.record_text.specs.declared.refusal.RefusalKind.TheVariants.{OutOfMemory, Storage}
+use Rattle.store_tables.specs.Calls.{Settled, LeavesOnly}
+use Rattle.store_tables.specs.Rows.{Rows}
+
+-- memory was refused, or the database failed
+abbrev pub IsFailure : RefusalKind → Type 0
+IsFailure kind = (kind ≡ OutOfMemory) ⊎ (kind ≡ Storage)
+
+-- the tables stay settled, now and after a crash; what is read of them is that, and is refused only for a failure
+pub record Looks {A : Type 0} (Is : Rows → A → Type 0) (old new : State) (result : Result A RefusalKind) : Type 0 where
+  pub read : HasCleanDisk new → IfOk result (λ (a : A). (rows : Rows) → Settled old rows → Is rows a)
+  pub same : HasCleanDisk new → IfOk result (λ (_ : A). (rows : Rows) → Settled old rows → Settled new rows)
+  pub refused : HasCleanDisk new → IfErr result (λ kind. (rows : Rows) → Settled old rows → IsFailure kind)
+  pub crash : HasCleanDisk new → (rows : Rows) → Settled old rows → LeavesOnly new rows
+  pub clean : HasCleanDisk new → HasCleanDisk old
+
+-- ---- the version of a store
+-- the query of the table `meta`
+abbrev pub meta_query : List ℕ
+meta_query = codes "SELECT version, next, society FROM meta"
+
+-- one row, which begins with a number
+abbrev pub HasVersion : ℕ → List Row → Type 0
+HasVersion version rows = (more : Row) × (rows ≡ (Int (pos version) ∷ more) ∷ [])
+
+-- the query shows a row of that version
+abbrev pub ShowsVersion : ℕ → State → State → Type 0
+ShowsVersion version old new = (rows : List Row) × Shown meta_query [] old new rows × HasVersion version rows
+
+abbrev pub IsLater : (ℕ → Type 0) → Type 0
+IsLater Is = (version : ℕ) × (1 < version) × Is version

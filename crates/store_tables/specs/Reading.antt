@@ -1,0 +1,68 @@
+-- What the queries show of the rows: all but the keys that say nothing, the kinds, and the places of lines, which are in order.
+use Rattle.std.specs.Prelude.{ℕ, Bool, List, map, length, ◌≡◌, ◌<◌, ◌^◌, IfSome}
+use Rattle.std.specs.List.{AllByRecursion}
+use Rattle.stored_lines.specs.Line.{Label}
+use Rattle.record_text.specs.Text.{IsTag, IsText}
+use Rattle.receipts.specs.Tokens.{IsToken}
+use Rattle.receipts.specs.declared.answer.Receipt.{Receipt}
+use Rattle.store_tables.specs.Rows.{Rows, BatchRow, RecordRow, LineRow, ReceiptRow, SlipRow, SlipLineRow, slip_line_of}
+
+pub record ReadRows : Type 0 where
+  pub next : ℕ
+  pub batches : List BatchRow
+  -- numbers, each with its batch
+  pub records : List (ℕ × ℕ)
+  -- stored lines, each with the number of its record
+  pub lines : List (ℕ × (ℕ × Label))
+  -- receipts, each with its token
+  pub receipts : List (List ℕ × Receipt)
+  pub slips : List SlipRow
+  -- stored lines, each with its slip, its side and the number of its record
+  pub slip_lines : List (ℕ × (Bool × (ℕ × (ℕ × Label))))
+
+abbrev pub read_record : RecordRow → ℕ × ℕ
+read_record r = (r.no, r.batch)
+
+abbrev pub read_line : LineRow → ℕ × (ℕ × Label)
+read_line l = (l.no, l.line)
+
+abbrev pub read_receipt : ReceiptRow → List ℕ × Receipt
+read_receipt r = (r.token, r.receipt)
+
+abbrev pub read_slip_line : SlipLineRow → ℕ × (Bool × (ℕ × (ℕ × Label)))
+read_slip_line s = (s.slip, slip_line_of s)
+
+abbrev pub read_of : Rows → ReadRows
+read_of rows = record {
+  next = rows.next;
+  batches = rows.batches;
+  records = map read_record rows.records;
+  lines = map read_line rows.lines;
+  receipts = map read_receipt rows.receipts;
+  slips = rows.slips;
+  slip_lines = map read_slip_line rows.slip_lines;
+}
+
+-- ---- values that the program's types have
+-- a number of 32 bits
+abbrev pub IsU32 : ℕ → Type 0
+IsU32 n = n < 2 ^ 32
+
+abbrev pub IsTypedLine : ℕ × Label → Type 0
+IsTypedLine l = IsU32 l.0 × IsTag l.1.tag × IfSome l.1.text IsText × IfSome l.1.target IsU32
+
+abbrev pub IsTypedReceipt : Receipt → Type 0
+IsTypedReceipt r = (length r.digest ≡ 32) × IsU32 r.answer.first × IsU32 r.answer.count
+
+abbrev pub IsTypedSlip : SlipRow → Type 0
+IsTypedSlip s = IsU32 s.no × IsU32 s.keep × IsU32 s.gone
+
+-- each value of the rows is one of its type: numbers of 32 bits, texts, tags, tokens, digests of 32 bytes
+pub record AreTyped (rows : Rows) : Type 0 where
+  pub society : IsText rows.society
+  pub batches : AllByRecursion (λ (b : BatchRow). IsU32 b.no) rows.batches
+  pub records : AllByRecursion (λ (r : RecordRow). IsU32 r.no × IsU32 r.batch) rows.records
+  pub lines : AllByRecursion (λ (l : LineRow). IsU32 l.no × IsTypedLine l.line) rows.lines
+  pub receipts : AllByRecursion (λ (r : ReceiptRow). IsToken r.token × IsTypedReceipt r.receipt) rows.receipts
+  pub slips : AllByRecursion IsTypedSlip rows.slips
+  pub slip_lines : AllByRecursion (λ (s : SlipLineRow). IsU32 s.slip × IsU32 s.no × IsTypedLine s.line) rows.slip_lines

@@ -1,0 +1,198 @@
+-- What the tables of an archive hold, as plain lists: one record for each row. The tables are those of our own schema.
+use Rattle.std.specs.Prelude.{◌<◌, ◌==◌, ◌+◌, not, true, false, Bool, [], ◌∷◌, ◌++◌, ◌≡◌, map, filter, fold, cond, Some, None, Option, List, ℕ, pos}
+use Rattle.std.specs.Ordering.{match_ordering, nat_cmp}
+use Rattle.sqlite.specs.declared.types.Value.{Value}
+use Rattle.sqlite.specs.declared.types.Value.TheVariants.{Null, Int, Text as Words, Blob}
+use Rattle.sqlite.specs.Order.{Row}
+use Rattle.sqlite.specs.Tree.{Trees, IsAscending}
+use Rattle.stored_lines.specs.Line.{Label}
+use Rattle.receipts.specs.declared.answer.Receipt.{Receipt}
+
+pub record BatchRow : Type 0 where
+  pub no : ℕ
+  pub is_open : Bool
+
+-- the kind is a word
+pub record RecordRow : Type 0 where
+  pub no : ℕ
+  pub kind : List ℕ
+  pub batch : ℕ
+
+-- a stored line of a record, at its place among the record's lines
+pub record LineRow : Type 0 where
+  pub id : ℕ
+  pub no : ℕ
+  pub at : ℕ
+  pub line : ℕ × Label
+
+pub record ReceiptRow : Type 0 where
+  pub id : ℕ
+  pub token : List ℕ
+  pub receipt : Receipt
+
+pub record SlipRow : Type 0 where
+  pub no : ℕ
+  pub keep : ℕ
+  pub gone : ℕ
+  pub is_undone : Bool
+
+-- a stored line of the record that a number had before a merge (the old side), or has after it
+pub record SlipLineRow : Type 0 where
+  pub id : ℕ
+  pub slip : ℕ
+  pub is_new : Bool
+  pub no : ℕ
+  pub at : ℕ
+  pub line : ℕ × Label
+
+-- the next number, the society, and the rows of each table in the order of their keys
+pub record Rows : Type 0 where
+  pub next : ℕ
+  pub society : List ℕ
+  pub batches : List BatchRow
+  pub records : List RecordRow
+  pub lines : List LineRow
+  pub receipts : List ReceiptRow
+  pub slips : List SlipRow
+  pub slip_lines : List SlipLineRow
+
+-- ---- the values of a row: first its key, and again nothing in the key's own column
+abbrev pub number_or_null : Option ℕ → Value
+number_or_null None = Null
+number_or_null (Some n) = Int (pos n)
+
+abbrev pub words_or_null : Option (List ℕ) → Value
+words_or_null None = Null
+words_or_null (Some t) = Words t
+
+abbrev pub flag : Bool → ℕ
+flag false = 0
+flag true = 1
+
+abbrev pub meta_values : Rows → Row
+meta_values rows = Int (pos 1) ∷ Null ∷ Int (pos 1) ∷ Int (pos rows.next) ∷ Words rows.society ∷ []
+
+abbrev pub batch_values : BatchRow → Row
+batch_values b = Int (pos b.no) ∷ Null ∷ Int (pos (flag b.is_open)) ∷ []
+
+abbrev pub record_values : RecordRow → Row
+record_values r = Int (pos r.no) ∷ Null ∷ Words r.kind ∷ Int (pos r.batch) ∷ []
+
+-- what a stored line has: its depth, its tag, its text and the number of the record that it names
+abbrev pub line_fields : ℕ × Label → Row
+line_fields l = Int (pos l.0) ∷ Words l.1.tag ∷ words_or_null l.1.text ∷ number_or_null l.1.target ∷ []
+
+abbrev pub line_values : LineRow → Row
+line_values l = Int (pos l.id) ∷ Null ∷ Int (pos l.no) ∷ Int (pos l.at) ∷ line_fields l.line
+
+abbrev pub receipt_fields : Receipt → Row
+receipt_fields r = Blob r.digest ∷ Int (pos r.answer.first) ∷ Int (pos r.answer.count) ∷ []
+
+abbrev pub receipt_values : ReceiptRow → Row
+receipt_values r = Int (pos r.id) ∷ Null ∷ Words r.token ∷ receipt_fields r.receipt
+
+abbrev pub slip_values : SlipRow → Row
+slip_values s = Int (pos s.no) ∷ Null ∷ Int (pos s.keep) ∷ Int (pos s.gone) ∷ Int (pos (flag s.is_undone)) ∷ []
+
+abbrev pub slip_line_values : SlipLineRow → Row
+slip_line_values s = Int (pos s.id) ∷ Null ∷ Int (pos s.slip) ∷ Int (pos (flag s.is_new)) ∷ Int (pos s.no) ∷ Int (pos s.at) ∷ line_fields s.line
+
+-- ---- that trees hold the rows
+-- the rows of a tree are those of the items, whose keys ascend
+pub record Keeps {X : Type 0} (values : X → Row) (key : X → ℕ) (xs : List X) (tree : List Row) : Type 0 where
+  pub is : tree ≡ map values xs
+  pub rise : IsAscending (λ a b. key a < key b) xs
+
+pub record Holds (rows : Rows) (t : Trees) : Type 0 where
+  pub meta : t 0 ≡ meta_values rows ∷ []
+  pub batches : Keeps batch_values (λ (b : BatchRow). b.no) rows.batches (t 1)
+  pub records : Keeps record_values (λ (r : RecordRow). r.no) rows.records (t 2)
+  pub lines : Keeps line_values (λ (l : LineRow). l.id) rows.lines (t 3)
+  pub receipts : Keeps receipt_values (λ (r : ReceiptRow). r.id) rows.receipts (t 4)
+  pub slips : Keeps slip_values (λ (s : SlipRow). s.no) rows.slips (t 5)
+  pub slip_lines : Keeps slip_line_values (λ (s : SlipLineRow). s.id) rows.slip_lines (t 6)
+
+-- ---- what one call makes of the rows
+-- the key of a row that gets the next one: one above the last
+abbrev pub next_key : {X : Type 0} → (X → ℕ) → List X → ℕ
+next_key key = fold (λ _ x. key x + 1) 1
+
+-- an item in the order of the keys, in place of one with its key
+abbrev pub put_by : {X : Type 0} → (X → ℕ) → X → List X → List X
+put_by key p [] = p ∷ []
+put_by key p (q ∷ qs) = match_ordering (nat_cmp (key q) (key p)) (q ∷ put_by key p qs) (p ∷ qs) (p ∷ q ∷ qs)
+
+abbrev pub with_next : ℕ → Rows → Rows
+with_next n rows = record rows { next = n }
+
+abbrev pub with_batch : ℕ → Bool → Rows → Rows
+with_batch n is_open rows = record rows { batches = put_by (λ (b : BatchRow). b.no) (record { no = n; is_open = is_open }) rows.batches }
+
+abbrev pub with_record_row : ℕ → List ℕ → ℕ → Rows → Rows
+with_record_row n kind batch rows = record rows { records = put_by (λ (r : RecordRow). r.no) (record { no = n; kind = kind; batch = batch }) rows.records }
+
+-- the row of a number in `record`, changed, where it is there
+abbrev pub record_at : ℕ → List ℕ → ℕ → Rows → Rows
+record_at n kind batch rows = record rows { records = map (λ (r : RecordRow). cond (r.no == n) (record r { kind = kind; batch = batch }) r) rows.records }
+
+abbrev pub without_record_row : ℕ → Rows → Rows
+without_record_row n rows = record rows { records = filter (λ (r : RecordRow). not (r.no == n)) rows.records }
+
+abbrev pub with_line : ℕ → ℕ → ℕ × Label → Rows → Rows
+with_line n at line rows = record rows { lines = rows.lines ++ record { id = next_key (λ (l : LineRow). l.id) rows.lines; no = n; at = at; line = line } ∷ [] }
+
+abbrev pub without_lines : ℕ → Rows → Rows
+without_lines n rows = record rows { lines = filter (λ (l : LineRow). not (l.no == n)) rows.lines }
+
+abbrev pub with_receipt : List ℕ → Receipt → Rows → Rows
+with_receipt token receipt rows = record rows { receipts = rows.receipts ++ record { id = next_key (λ (r : ReceiptRow). r.id) rows.receipts; token = token; receipt = receipt } ∷ [] }
+
+abbrev pub with_slip_row : ℕ → ℕ → ℕ → Bool → Rows → Rows
+with_slip_row n keep gone is_undone rows = record rows { slips = put_by (λ (s : SlipRow). s.no) (record { no = n; keep = keep; gone = gone; is_undone = is_undone }) rows.slips }
+
+-- the slip of a number is undone, where there is one
+abbrev pub undone_at : ℕ → SlipRow → SlipRow
+undone_at n s = cond (s.no == n) (record s { is_undone = true }) s
+
+abbrev pub with_undone : ℕ → Rows → Rows
+with_undone n rows = record rows { slips = map (undone_at n) rows.slips }
+
+abbrev pub with_slip_line : ℕ → Bool → ℕ → ℕ → ℕ × Label → Rows → Rows
+with_slip_line slip is_new n at line rows = record rows {
+  slip_lines = rows.slip_lines
+      ++ record { id = next_key (λ (s : SlipLineRow). s.id) rows.slip_lines; slip = slip; is_new = is_new; no = n; at = at; line = line } ∷ [];
+}
+
+abbrev pub without_slip_lines : ℕ → Rows → Rows
+without_slip_lines n rows = record rows { slip_lines = filter (λ (s : SlipLineRow). not (s.slip == n)) rows.slip_lines }
+
+-- lines of a record from a place on
+abbrev pub with_lines : ℕ → ℕ → List (ℕ × Label) → Rows → Rows
+with_lines n at [] rows = rows
+with_lines n at (l ∷ ls) rows = with_lines n (at + 1) ls (with_line n at l rows)
+
+-- the lines of a record, in place of those that it had
+abbrev pub with_changed_lines : ℕ → List (ℕ × Label) → Rows → Rows
+with_changed_lines n ls rows = with_lines n 0 ls (without_lines n rows)
+
+-- lines of one side of a number in a slip, from a place on
+abbrev pub with_slip_lines : ℕ → Bool → ℕ → ℕ → List (ℕ × Label) → Rows → Rows
+with_slip_lines slip is_new n at [] rows = rows
+with_slip_lines slip is_new n at (l ∷ ls) rows = with_slip_lines slip is_new n (at + 1) ls (with_slip_line slip is_new n at l rows)
+
+-- what a new archive holds: its meta row alone, and then batch 0, which is closed
+abbrev pub bare : List ℕ → Rows
+bare society = record { next = 1; society = society; batches = []; records = []; lines = []; receipts = []; slips = []; slip_lines = [] }
+
+abbrev pub nothing_yet : List ℕ → Rows
+nothing_yet society = with_batch 0 false (bare society)
+
+-- ---- what is read of the rows: the stored lines of a number, and those of a slip, each with its side and its number
+abbrev pub lines_of : ℕ → Rows → List (ℕ × Label)
+lines_of n rows = map (λ (l : LineRow). l.line) (filter (λ (l : LineRow). l.no == n) rows.lines)
+
+abbrev pub slip_line_of : SlipLineRow → Bool × (ℕ × (ℕ × Label))
+slip_line_of s = (s.is_new, (s.no, s.line))
+
+abbrev pub slip_lines_of : ℕ → Rows → List (Bool × (ℕ × (ℕ × Label)))
+slip_lines_of n rows = map slip_line_of (filter (λ (s : SlipLineRow). s.slip == n) rows.slip_lines)

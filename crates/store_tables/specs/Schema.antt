@@ -1,0 +1,121 @@
+-- The tables of an archive, schema 1, and the schemas that come before it while they are made. Our own; the numbers of trees are those
+-- that SQLite gives, one to each CREATE, from 0.
+use Rattle.sqlite.specs.Collation.TheVariants.{Binary}
+use Rattle.std.specs.Prelude.{true, false, Bool, [], ◌∷◌, Some, codes, List, ℕ}
+use Rattle.sqlite.specs.declared.types.Value.TheVariants.{Null}
+use Rattle.sqlite.specs.Table.{Table}
+use Rattle.sqlite.specs.Schema.{Schema}
+use Rattle.sqlite.specs.Kind.{Kind}
+use Rattle.sqlite.specs.Kind.TheVariants.{Integer, Text, Blob}
+use Rattle.sqlite_schema.specs.declared.schema.Column.{Column}
+use Rattle.sqlite_schema.specs.declared.schema.Index.{Index}
+use Rattle.sqlite_schema.specs.declared.schema.Reference.{Reference}
+use Rattle.sqlite_schema.specs.declared.schema.Action.TheVariants.{NoAction, Restrict}
+
+abbrev pub a_column : List ℕ → Kind → Bool → Column
+a_column name kind not_null = record { name = name; kind = kind; is_strict = true; not_null = not_null; default = Null; collation = Binary }
+
+abbrev pub number : List ℕ → Column
+number name = a_column name Integer true
+
+-- a table whose first column is its INTEGER PRIMARY KEY
+abbrev pub a_table : List ℕ → ℕ → List ℕ → List Column → List Reference → Table
+a_table name tree key columns references = record {
+  name = name;
+  tree = tree;
+  columns = a_column key Integer false ∷ columns;
+  key = Some 0;
+  primary = 0 ∷ [];
+  uniques = [];
+  orders = [];
+  checks = [];
+  references = references;
+  computed = [];
+  stamps = record { places = []; terms = []; formats = [] };
+  is_counted = false;
+}
+
+-- a column that refers to a table's number, deletion restricted
+abbrev pub to_number_of : List ℕ → ℕ → Reference
+to_number_of parent place = record { columns = place ∷ []; parent = parent; parent_columns = codes "no" ∷ []; on_delete = Restrict; on_update = NoAction; is_deferred = false }
+
+-- a plain index on one column
+abbrev pub an_index : List ℕ → ℕ → ℕ → ℕ → Index
+an_index name tree table place = record { name = name; tree = tree; table = table; columns = place ∷ []; order = record { digits = 0 }; is_unique = false }
+
+abbrev pub meta : Table
+meta = a_table (codes "meta") 0 (codes "one") (number (codes "version") ∷ number (codes "next") ∷ a_column (codes "society") Text true ∷ []) []
+
+abbrev pub batches : Table
+batches = a_table (codes "batch") 1 (codes "no") (number (codes "is_open") ∷ []) []
+
+abbrev pub records : Table
+records = a_table (codes "record") 2 (codes "no") (a_column (codes "kind") Text true ∷ number (codes "batch") ∷ []) (to_number_of (codes "batch") 3 ∷ [])
+
+abbrev pub line_columns : List Column
+line_columns = number (codes "no") ∷ number (codes "pos") ∷ number (codes "depth") ∷ a_column (codes "tag") Text true ∷ a_column (codes "text") Text false ∷ a_column (codes "dst") Integer false ∷ []
+
+abbrev pub lines : Table
+lines = a_table (codes "line") 3 (codes "id") line_columns (to_number_of (codes "record") 2 ∷ to_number_of (codes "record") 7 ∷ [])
+
+abbrev pub receipts : Table
+receipts = a_table (codes "receipt") 4 (codes "id") (a_column (codes "token") Text true ∷ a_column (codes "digest") Blob true ∷ number (codes "first") ∷ number (codes "count") ∷ []) []
+
+abbrev pub slips : Table
+slips = a_table (codes "slip") 5 (codes "no") (number (codes "keep") ∷ number (codes "gone") ∷ number (codes "undone") ∷ []) []
+
+abbrev pub slip_lines : Table
+slip_lines = a_table (codes "slip_line") 6 (codes "id") (number (codes "slip") ∷ number (codes "side") ∷ line_columns) (to_number_of (codes "slip") 2 ∷ [])
+
+abbrev pub line_by_record : Index
+line_by_record = an_index (codes "line_by_record") 7 3 2
+
+abbrev pub line_by_target : Index
+line_by_target = an_index (codes "line_by_target") 8 3 7
+
+abbrev pub receipt_by_token : Index
+receipt_by_token = an_index (codes "receipt_by_token") 9 4 2
+
+abbrev pub slip_line_by_slip : Index
+slip_line_by_slip = an_index (codes "slip_line_by_slip") 10 6 2
+
+abbrev pub all_tables : List Table
+all_tables = meta ∷ batches ∷ records ∷ lines ∷ receipts ∷ slips ∷ slip_lines ∷ []
+
+abbrev pub archive_schema : Schema
+archive_schema = record { tables = all_tables; indexes = line_by_record ∷ line_by_target ∷ receipt_by_token ∷ slip_line_by_slip ∷ []; views = [] }
+
+abbrev pub no_schema : Schema
+no_schema = record { tables = []; indexes = []; views = [] }
+
+-- as they are made, one after the other
+
+abbrev pub schema_1 : Schema
+schema_1 = record { tables = meta ∷ []; indexes = []; views = [] }
+
+abbrev pub schema_2 : Schema
+schema_2 = record { tables = meta ∷ batches ∷ []; indexes = []; views = [] }
+
+abbrev pub schema_3 : Schema
+schema_3 = record { tables = meta ∷ batches ∷ records ∷ []; indexes = []; views = [] }
+
+abbrev pub schema_4 : Schema
+schema_4 = record { tables = meta ∷ batches ∷ records ∷ lines ∷ []; indexes = []; views = [] }
+
+abbrev pub schema_5 : Schema
+schema_5 = record { tables = meta ∷ batches ∷ records ∷ lines ∷ receipts ∷ []; indexes = []; views = [] }
+
+abbrev pub schema_6 : Schema
+schema_6 = record { tables = meta ∷ batches ∷ records ∷ lines ∷ receipts ∷ slips ∷ []; indexes = []; views = [] }
+
+abbrev pub schema_7 : Schema
+schema_7 = record { tables = meta ∷ batches ∷ records ∷ lines ∷ receipts ∷ slips ∷ slip_lines ∷ []; indexes = []; views = [] }
+
+abbrev pub schema_8 : Schema
+schema_8 = record { tables = all_tables; indexes = line_by_record ∷ []; views = [] }
+
+abbrev pub schema_9 : Schema
+schema_9 = record { tables = all_tables; indexes = line_by_record ∷ line_by_target ∷ []; views = [] }
+
+abbrev pub schema_10 : Schema
+schema_10 = record { tables = all_tables; indexes = line_by_record ∷ line_by_target ∷ receipt_by_token ∷ []; views = [] }

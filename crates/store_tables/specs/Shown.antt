@@ -1,0 +1,26 @@
+-- What each query shows of a row.
+use Rattle.std.specs.Prelude.{[], ◌∷◌, pos}
+use Rattle.sqlite.specs.declared.types.Value.TheVariants.{Int, Text as Words}
+use Rattle.sqlite.specs.Order.{Row}
+use Rattle.store_tables.specs.Rows.{Rows, BatchRow, RecordRow, LineRow, ReceiptRow, SlipRow, SlipLineRow, flag, line_fields, receipt_fields}
+
+abbrev pub shown_meta : Rows → Row
+shown_meta rows = Int (pos 1) ∷ Int (pos rows.next) ∷ Words rows.society ∷ []
+
+abbrev pub shown_batch : BatchRow → Row
+shown_batch b = Int (pos b.no) ∷ Int (pos (flag b.is_open)) ∷ []
+
+abbrev pub shown_record : RecordRow → Row
+shown_record r = Int (pos r.no) ∷ Int (pos r.batch) ∷ []
+
+abbrev pub shown_line : LineRow → Row
+shown_line l = Int (pos l.no) ∷ line_fields l.line
+
+abbrev pub shown_receipt : ReceiptRow → Row
+shown_receipt r = Words r.token ∷ receipt_fields r.receipt
+
+abbrev pub shown_slip : SlipRow → Row
+shown_slip s = Int (pos s.no) ∷ Int (pos s.keep) ∷ Int (pos s.gone) ∷ Int (pos (flag s.is_undone)) ∷ []
+
+abbrev pub shown_slip_line : SlipLineRow → Row
+shown_slip_line s = Int (pos s.slip) ∷ Int (pos (flag s.is_new)) ∷ Int (pos s.no) ∷ line_fields s.line

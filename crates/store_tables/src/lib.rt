@@ -1,0 +1,17 @@
+//! The tables of an archive in one SQLite file: made, written a row at a time inside a transaction, and read.
+#![tactic(auto)]
+
+mod creating;
+pub mod laws;
+pub mod lines;
+mod reading;
+pub mod records;
+pub mod rows;
+mod stored;
+mod typing;
+mod version;
+
+pub use creating::create;
+pub use reading::{read_rows, society};
+pub use stored::{BatchRow, LineRow, ReceiptRow, RecordRow, SlipLineRow, SlipRow, StoredRows};
+pub use version::check_version;

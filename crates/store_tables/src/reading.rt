@@ -1,0 +1,229 @@
+//! All rows of an archive, read from its tables.
+
+ghost use Rattle.std.specs.Prelude.{◌≡◌, ◌⊎◌, List, [], ◌∷◌, false, map, IfOk, IfErr};
+ghost use Rattle.std.specs.List.{AllByRecursion};
+ghost use Rattle.sqlite.specs.declared.types.Value.{Value};
+ghost use Rattle.sqlite.specs.Held.{state};
+ghost use Rattle.sqlite.specs.Listing.{understood};
+ghost use Rattle.sqlite.specs.State.{HasCleanDisk, Shown};
+ghost use Rattle.sqlite.proofs.Callers.{IsPlain};
+ghost use Rattle.store_tables.specs.Calls.{Settled, LeavesOnly};
+ghost use Rattle.store_tables.specs.Conversion.{EachWith, read_meta};
+ghost use Rattle.store_tables.specs.Looking.{IsFailure, Looks};
+ghost use Rattle.store_tables.specs.Reading.{read_of, read_record, read_line, read_receipt, read_slip_line};
+ghost use Rattle.store_tables.specs.Rows.{Rows};
+ghost use Rattle.store_tables.specs.Schema.{archive_schema};
+ghost use Rattle.store_tables.specs.Telling.{tells_no_archive};
+
+use crate::stored::{BatchRow, LineRow, ReceiptRow, RecordRow, SlipLineRow, SlipRow, StoredRows};
+use crate::typing::{FromRow, Meta, from_rows, only};
+use record_text::{RefusalKind, Text};
+use sqlite::{Alter, Connection, Error, Row};
+use std::alloc::Global;
+
+/// The query of the one row of `meta`.
+pub(crate) const SELECT_META: &str = "SELECT version, next, society FROM meta";
+
+/// All rows of an archive. `OutOfMemory`: memory was refused. `Storage`: the database failed. `BadStored`: somebody
+/// else wrote the tables.
+pub fn read_rows<S: Alter>(
+    alloc: Global,
+    conn: &mut Connection<S>,
+) -> Result<StoredRows, RefusalKind>
+    requires autocommit { conn.old.in_transaction ≡ false }
+    ensures looks { Looks (λ rows read. read ≡ read_of rows) (state S.Store conn.old) (state S.Store conn.new) result }
+    ensures ended { conn.new.in_transaction ≡ false }
+{
+    let meta = read_meta(alloc, conn)?;
+    let (batches, records, lines) = read_records_by_batch(alloc, conn)?;
+    let (receipts, slips, slip_lines) = read_history(alloc, conn)?;
+    Ok(StoredRows {
+        next: meta.next,
+        batches,
+        records,
+        lines,
+        receipts,
+        slips,
+        slip_lines,
+    })
+}
+
+/// The society of an archive. Errors as of `read_rows`.
+pub fn society<S: Alter>(alloc: Global, conn: &mut Connection<S>) -> Result<Text, RefusalKind>
+    requires autocommit { conn.old.in_transaction ≡ false }
+    ensures looks { Looks (λ rows text. text ≡ rows.society) (state S.Store conn.old) (state S.Store conn.new) result }
+    ensures ended { conn.new.in_transaction ≡ false }
+{
+    Ok(read_meta(alloc, conn)?.society)
+}
+
+/// What the one row of `meta` says.
+fn read_meta<S: Alter>(alloc: Global, conn: &mut Connection<S>) -> Result<Meta, RefusalKind>
+    requires autocommit { conn.old.in_transaction ≡ false }
+    ensures looks { Looks (λ rows meta. meta ≡ read_meta rows) (state S.Store conn.old) (state S.Store conn.new) result }
+    ensures ended { conn.new.in_transaction ≡ false }
+{
+    only(read_meta_rows(alloc, conn)?)
+}
+
+/// The batches, the records and their lines.
+fn read_records_by_batch<S: Alter>(
+    alloc: Global,
+    conn: &mut Connection<S>,
+) -> Result<(Vec<BatchRow>, Vec<RecordRow>, Vec<LineRow>), RefusalKind>
+    requires autocommit { conn.old.in_transaction ≡ false }
+    ensures looks { Looks (λ rows all. (all.0.items ≡ rows.batches) × (all.1.items ≡ map read_record rows.records) × (all.2.items ≡ map read_line rows.lines))
+        (state S.Store conn.old) (state S.Store conn.new) result }
+    ensures ended { conn.new.in_transaction ≡ false }
+{
+    let batches = read_batches(alloc, conn)?;
+    let records = read_records(alloc, conn)?;
+    let lines = read_lines(alloc, conn)?;
+    Ok((batches, records, lines))
+}
+
+/// The receipts, the slips and their lines.
+fn read_history<S: Alter>(
+    alloc: Global,
+    conn: &mut Connection<S>,
+) -> Result<(Vec<ReceiptRow>, Vec<SlipRow>, Vec<SlipLineRow>), RefusalKind>
+    requires autocommit { conn.old.in_transaction ≡ false }
+    ensures looks { Looks (λ rows all. (all.0.items ≡ map read_receipt rows.receipts) × (all.1.items ≡ rows.slips) × (all.2.items ≡ map read_slip_line rows.slip_lines))
+        (state S.Store conn.old) (state S.Store conn.new) result }
+    ensures ended { conn.new.in_transaction ≡ false }
+{
+    let receipts = read_receipts(alloc, conn)?;
+    let slips = read_slips(alloc, conn)?;
+    let slip_lines = read_slip_lines(alloc, conn)?;
+    Ok((receipts, slips, slip_lines))
+}
+
+fn read_meta_rows<S: Alter>(
+    alloc: Global,
+    conn: &mut Connection<S>,
+) -> Result<Vec<Meta>, RefusalKind>
+    requires autocommit { conn.old.in_transaction ≡ false }
+    ensures looks { Looks (λ rows items. items.items ≡ read_meta rows ∷ []) (state S.Store conn.old) (state S.Store conn.new) result }
+    ensures ended { conn.new.in_transaction ≡ false }
+{
+    read_all(alloc, conn, SELECT_META)
+}
+
+fn read_batches<S: Alter>(
+    alloc: Global,
+    conn: &mut Connection<S>,
+) -> Result<Vec<BatchRow>, RefusalKind>
+    requires autocommit { conn.old.in_transaction ≡ false }
+    ensures looks { Looks (λ rows items. items.items ≡ rows.batches) (state S.Store conn.old) (state S.Store conn.new) result }
+    ensures ended { conn.new.in_transaction ≡ false }
+{
+    read_all(alloc, conn, "SELECT no, is_open FROM batch ORDER BY no")
+}
+
+fn read_records<S: Alter>(
+    alloc: Global,
+    conn: &mut Connection<S>,
+) -> Result<Vec<RecordRow>, RefusalKind>
+    requires autocommit { conn.old.in_transaction ≡ false }
+    ensures looks { Looks (λ rows items. items.items ≡ map read_record rows.records) (state S.Store conn.old) (state S.Store conn.new) result }
+    ensures ended { conn.new.in_transaction ≡ false }
+{
+    read_all(alloc, conn, "SELECT no, batch FROM record ORDER BY no")
+}
+
+fn read_lines<S: Alter>(
+    alloc: Global,
+    conn: &mut Connection<S>,
+) -> Result<Vec<LineRow>, RefusalKind>
+    requires autocommit { conn.old.in_transaction ≡ false }
+    ensures looks { Looks (λ rows items. items.items ≡ map read_line rows.lines) (state S.Store conn.old) (state S.Store conn.new) result }
+    ensures ended { conn.new.in_transaction ≡ false }
+{
+    read_all(
+        alloc,
+        conn,
+        "SELECT no, depth, tag, text, dst FROM line ORDER BY id",
+    )
+}
+
+fn read_receipts<S: Alter>(
+    alloc: Global,
+    conn: &mut Connection<S>,
+) -> Result<Vec<ReceiptRow>, RefusalKind>
+    requires autocommit { conn.old.in_transaction ≡ false }
+    ensures looks { Looks (λ rows items. items.items ≡ map read_receipt rows.receipts) (state S.Store conn.old) (state S.Store conn.new) result }
+    ensures ended { conn.new.in_transaction ≡ false }
+{
+    read_all(
+        alloc,
+        conn,
+        "SELECT token, digest, first, count FROM receipt ORDER BY id",
+    )
+}
+
+fn read_slips<S: Alter>(
+    alloc: Global,
+    conn: &mut Connection<S>,
+) -> Result<Vec<SlipRow>, RefusalKind>
+    requires autocommit { conn.old.in_transaction ≡ false }
+    ensures looks { Looks (λ rows items. items.items ≡ rows.slips) (state S.Store conn.old) (state S.Store conn.new) result }
+    ensures ended { conn.new.in_transaction ≡ false }
+{
+    read_all(
+        alloc,
+        conn,
+        "SELECT no, keep, gone, undone FROM slip ORDER BY no",
+    )
+}
+
+fn read_slip_lines<S: Alter>(
+    alloc: Global,
+    conn: &mut Connection<S>,
+) -> Result<Vec<SlipLineRow>, RefusalKind>
+    requires autocommit { conn.old.in_transaction ≡ false }
+    ensures looks { Looks (λ rows items. items.items ≡ map read_slip_line rows.slip_lines) (state S.Store conn.old) (state S.Store conn.new) result }
+    ensures ended { conn.new.in_transaction ≡ false }
+{
+    read_all(
+        alloc,
+        conn,
+        "SELECT slip, side, no, depth, tag, text, dst FROM slip_line ORDER BY id",
+    )
+}
+
+/// All that a plain query shows, with the program's types.
+fn read_all<T: FromRow, S: Alter>(
+    alloc: Global,
+    conn: &mut Connection<S>,
+    sql: &str,
+) -> Result<Vec<T>, RefusalKind>
+    requires autocommit { conn.old.in_transaction ≡ false }
+    requires plain { IsPlain (understood archive_schema sql.now) }
+    ensures read { HasCleanDisk (state S.Store conn.new) → IfOk result (λ items.
+        (shown : List (List Value)) × Shown sql.now [] (state S.Store conn.old) (state S.Store conn.new) shown × EachWith T.reads_as shown items.items) }
+    ensures refused { HasCleanDisk (state S.Store conn.new) → IfErr result (λ kind. IsFailure kind ⊎
+        ((shown : List (List Value)) × Shown sql.now [] (state S.Store conn.old) (state S.Store conn.new) shown × ¬ (AllByRecursion T.is_readable shown))) }
+    ensures same { HasCleanDisk (state S.Store conn.new) → IfOk result (λ _. (rows : Rows) → Settled (state S.Store conn.old) rows → Settled (state S.Store conn.new) rows) }
+    ensures crash { HasCleanDisk (state S.Store conn.new) → (rows : Rows) → Settled (state S.Store conn.old) rows → LeavesOnly (state S.Store conn.new) rows }
+    ensures clean { HasCleanDisk (state S.Store conn.new) → HasCleanDisk (state S.Store conn.old) }
+    ensures ended { conn.new.in_transaction ≡ false }
+{
+    match ask(conn, sql) {
+        Ok(rows) => from_rows(alloc, rows),
+        Err(_) => Err(RefusalKind::Storage),
+    }
+}
+
+/// All rows that a plain query shows: one that reads no clock and writes nothing.
+pub(crate) fn ask<S: Alter>(conn: &mut Connection<S>, sql: &str) -> Result<Vec<Row>, Error>
+    requires autocommit { conn.old.in_transaction ≡ false }
+    requires plain { IsPlain (understood archive_schema sql.now) }
+    ensures shown { HasCleanDisk (state S.Store conn.new) → IfOk result (λ rows. Shown sql.now [] (state S.Store conn.old) (state S.Store conn.new) rows.items) }
+    ensures same { HasCleanDisk (state S.Store conn.new) → IfOk result (λ _. (rows : Rows) → Settled (state S.Store conn.old) rows → Settled (state S.Store conn.new) rows) }
+    ensures known { HasCleanDisk (state S.Store conn.new) → IfErr result (λ e. (rows : Rows) → Settled (state S.Store conn.old) rows → tells_no_archive e ≡ false) }
+    ensures crash { HasCleanDisk (state S.Store conn.new) → (rows : Rows) → Settled (state S.Store conn.old) rows → LeavesOnly (state S.Store conn.new) rows }
+    ensures clean { HasCleanDisk (state S.Store conn.new) → HasCleanDisk (state S.Store conn.old) }
+    ensures ended { conn.new.in_transaction ≡ false }
+{
+    conn.query_all(sql, &[])
+}

@@ -1,0 +1,223 @@
+//! Single rows, each written by a call of its own inside a transaction.
+
+ghost use Rattle.std.specs.Prelude.{◌≡◌, OnOk, IfSome, option_copied};
+ghost use Rattle.sqlite.specs.State.{HasCleanDisk, Survives};
+ghost use Rattle.sqlite.specs.Held.{state};
+ghost use Rattle.record_text.specs.Text.{IsText};
+ghost use Rattle.store_tables.specs.Calls.{Follows};
+ghost use Rattle.store_tables.specs.Reading.{IsU32};
+ghost use Rattle.store_tables.specs.Rows.{flag, with_next, with_batch, with_record_row, without_record_row, with_line, without_lines, with_receipt, with_slip_row, with_slip_line, without_slip_lines};
+
+use receipts::{Receipt, Token};
+use record_text::Text;
+use sqlite::{Alter, Error, Transaction, params};
+use stored_lines::StoredLine;
+
+/// A batch under its number.
+pub fn insert_batch<S: Alter>(
+    tx: &mut Transaction<'_, S>,
+    number: u32,
+    is_open: bool,
+) -> Result<(), Error>
+    ensures same_reference { tx.new.conn.ghost_name ≡ tx.old.conn.ghost_name }
+    ensures ok { HasCleanDisk (state S.Store tx.new.conn.now)
+        → OnOk result (Follows (state S.Store tx.old.conn.now) (state S.Store tx.new.conn.now) (with_batch number is_open)) }
+    ensures survives { Survives (state S.Store tx.old.conn.now) (state S.Store tx.new.conn.now) (λ _. ⊥) }
+{
+    let flag = flag(is_open);
+    tx.execute(
+        "INSERT INTO batch (no, is_open) VALUES (?1, ?2)",
+        params![number, flag],
+    )?;
+    Ok(())
+}
+
+/// A flag as a number.
+fn flag(is_set: bool) -> u32
+    ensures { result ≡ flag is_set }
+{
+    if is_set { 1 } else { 0 }
+}
+
+/// Sets the next number.
+pub fn set_next<S: Alter>(tx: &mut Transaction<'_, S>, next: u64) -> Result<(), Error>
+    ensures same_reference { tx.new.conn.ghost_name ≡ tx.old.conn.ghost_name }
+    ensures ok { HasCleanDisk (state S.Store tx.new.conn.now)
+        → OnOk result (Follows (state S.Store tx.old.conn.now) (state S.Store tx.new.conn.now) (with_next next)) }
+    ensures survives { Survives (state S.Store tx.old.conn.now) (state S.Store tx.new.conn.now) (λ _. ⊥) }
+{
+    // A column of integers has no room for more.
+    let Ok(next) = i64::try_from(next) else {
+        return Err(Error::IntegralValueOutOfRange(0));
+    };
+    tx.execute("UPDATE meta SET next = ?1", params![next])?;
+    Ok(())
+}
+
+/// A new row of `record`.
+pub(crate) fn insert_record<S: Alter>(
+    tx: &mut Transaction<'_, S>,
+    number: u32,
+    kind: &str,
+    batch: u32,
+) -> Result<(), Error>
+    ensures same_reference { tx.new.conn.ghost_name ≡ tx.old.conn.ghost_name }
+    ensures ok { HasCleanDisk (state S.Store tx.new.conn.now)
+        → OnOk result (Follows (state S.Store tx.old.conn.now) (state S.Store tx.new.conn.now) (with_record_row number kind.now batch)) }
+    ensures survives { Survives (state S.Store tx.old.conn.now) (state S.Store tx.new.conn.now) (λ _. ⊥) }
+{
+    tx.execute(
+        "INSERT INTO record (no, kind, batch) VALUES (?1, ?2, ?3)",
+        params![number, kind, batch],
+    )?;
+    Ok(())
+}
+
+/// Takes the row of a number out of `record`. Its lines go first.
+pub fn delete_record<S: Alter>(tx: &mut Transaction<'_, S>, number: u32) -> Result<(), Error>
+    ensures same_reference { tx.new.conn.ghost_name ≡ tx.old.conn.ghost_name }
+    ensures ok { HasCleanDisk (state S.Store tx.new.conn.now)
+        → OnOk result (Follows (state S.Store tx.old.conn.now) (state S.Store tx.new.conn.now) (without_record_row number)) }
+    ensures survives { Survives (state S.Store tx.old.conn.now) (state S.Store tx.new.conn.now) (λ _. ⊥) }
+{
+    tx.execute("DELETE FROM record WHERE no = ?1", params![number])?;
+    Ok(())
+}
+
+/// The stored line of a record at a place.
+pub(crate) fn insert_line<S: Alter>(
+    tx: &mut Transaction<'_, S>,
+    number: u32,
+    at: u32,
+    line: &StoredLine,
+) -> Result<(), Error>
+    ensures same_reference { tx.new.conn.ghost_name ≡ tx.old.conn.ghost_name }
+    ensures ok { HasCleanDisk (state S.Store tx.new.conn.now)
+        → OnOk result (Follows (state S.Store tx.old.conn.now) (state S.Store tx.new.conn.now) (with_line number at line.now)) }
+    ensures survives { Survives (state S.Store tx.old.conn.now) (state S.Store tx.new.conn.now) (λ _. ⊥) }
+{
+    let (depth, tag, text, target) = (
+        line.depth,
+        line.tag.as_str(),
+        words(&line.text),
+        named(line.target),
+    );
+    tx.execute(
+        "INSERT INTO line (no, pos, depth, tag, text, dst) VALUES (?1, ?2, ?3, ?4, ?5, ?6)",
+        params![number, at, depth, tag, text, target],
+    )?;
+    Ok(())
+}
+
+/// The text of a line as words, where it has one.
+fn words(text: &Option<Text>) -> Option<&str>
+    ensures same { option_copied result ≡ text.now }
+    ensures text { IfSome text.now IsText }
+{
+    match text {
+        Some(text) => Some(text.as_str()),
+        None => None,
+    }
+}
+
+/// The number that a line names, where it names one.
+fn named(target: Option<u32>) -> Option<u32>
+    ensures same { result ≡ target }
+    ensures number { IfSome target IsU32 }
+{
+    match target {
+        Some(number) => Some(number),
+        None => None,
+    }
+}
+
+/// Takes the lines of a number out.
+pub fn delete_lines<S: Alter>(tx: &mut Transaction<'_, S>, number: u32) -> Result<(), Error>
+    ensures same_reference { tx.new.conn.ghost_name ≡ tx.old.conn.ghost_name }
+    ensures ok { HasCleanDisk (state S.Store tx.new.conn.now)
+        → OnOk result (Follows (state S.Store tx.old.conn.now) (state S.Store tx.new.conn.now) (without_lines number)) }
+    ensures survives { Survives (state S.Store tx.old.conn.now) (state S.Store tx.new.conn.now) (λ _. ⊥) }
+{
+    tx.execute("DELETE FROM line WHERE no = ?1", params![number])?;
+    Ok(())
+}
+
+/// What is kept under a token.
+pub fn insert_receipt<S: Alter>(
+    tx: &mut Transaction<'_, S>,
+    token: &Token,
+    receipt: &Receipt,
+) -> Result<(), Error>
+    ensures same_reference { tx.new.conn.ghost_name ≡ tx.old.conn.ghost_name }
+    ensures ok { HasCleanDisk (state S.Store tx.new.conn.now)
+        → OnOk result (Follows (state S.Store tx.old.conn.now) (state S.Store tx.new.conn.now) (with_receipt token.now receipt.now)) }
+    ensures survives { Survives (state S.Store tx.old.conn.now) (state S.Store tx.new.conn.now) (λ _. ⊥) }
+{
+    let (words, digest) = (token.as_str(), receipt.digest.as_slice());
+    let (first, count) = (receipt.answer.first, receipt.answer.count);
+    tx.execute(
+        "INSERT INTO receipt (token, digest, first, count) VALUES (?1, ?2, ?3, ?4)",
+        params![words, digest, first, count],
+    )?;
+    Ok(())
+}
+
+/// The row of a slip.
+pub fn insert_slip<S: Alter>(
+    tx: &mut Transaction<'_, S>,
+    number: u32,
+    keep: u32,
+    gone: u32,
+    is_undone: bool,
+) -> Result<(), Error>
+    ensures same_reference { tx.new.conn.ghost_name ≡ tx.old.conn.ghost_name }
+    ensures ok { HasCleanDisk (state S.Store tx.new.conn.now)
+        → OnOk result (Follows (state S.Store tx.old.conn.now) (state S.Store tx.new.conn.now) (with_slip_row number keep gone is_undone)) }
+    ensures survives { Survives (state S.Store tx.old.conn.now) (state S.Store tx.new.conn.now) (λ _. ⊥) }
+{
+    let undone = flag(is_undone);
+    tx.execute(
+        "INSERT INTO slip (no, keep, gone, undone) VALUES (?1, ?2, ?3, ?4)",
+        params![number, keep, gone, undone],
+    )?;
+    Ok(())
+}
+
+/// The stored line of one side of a number in a slip, at a place.
+pub(crate) fn insert_slip_line<S: Alter>(
+    tx: &mut Transaction<'_, S>,
+    slip: u32,
+    is_new: bool,
+    number: u32,
+    at: u32,
+    line: &StoredLine,
+) -> Result<(), Error>
+    ensures same_reference { tx.new.conn.ghost_name ≡ tx.old.conn.ghost_name }
+    ensures ok { HasCleanDisk (state S.Store tx.new.conn.now)
+        → OnOk result (Follows (state S.Store tx.old.conn.now) (state S.Store tx.new.conn.now) (with_slip_line slip is_new number at line.now)) }
+    ensures survives { Survives (state S.Store tx.old.conn.now) (state S.Store tx.new.conn.now) (λ _. ⊥) }
+{
+    let side = flag(is_new);
+    let (depth, tag, text, target) = (
+        line.depth,
+        line.tag.as_str(),
+        words(&line.text),
+        named(line.target),
+    );
+    tx.execute(
+        "INSERT INTO slip_line (slip, side, no, pos, depth, tag, text, dst) VALUES (?1, ?2, ?3, ?4, ?5, ?6, ?7, ?8)",
+        params![slip, side, number, at, depth, tag, text, target],
+    )?;
+    Ok(())
+}
+
+/// Takes the lines of a slip out.
+pub fn delete_slip_lines<S: Alter>(tx: &mut Transaction<'_, S>, slip: u32) -> Result<(), Error>
+    ensures same_reference { tx.new.conn.ghost_name ≡ tx.old.conn.ghost_name }
+    ensures ok { HasCleanDisk (state S.Store tx.new.conn.now)
+        → OnOk result (Follows (state S.Store tx.old.conn.now) (state S.Store tx.new.conn.now) (without_slip_lines slip)) }
+    ensures survives { Survives (state S.Store tx.old.conn.now) (state S.Store tx.new.conn.now) (λ _. ⊥) }
+{
+    tx.execute("DELETE FROM slip_line WHERE slip = ?1", params![slip])?;
+    Ok(())
+}

@@ -1,0 +1,131 @@
+//! Rows as they are read, with the types of the program.
+
+use receipts::{Receipt, Token};
+use std::marker::Model;
+use stored_lines::StoredLine;
+
+/// A batch, and whether it is open: an import that was not finished.
+#[derive(Drop)]
+pub struct BatchRow {
+    pub number: u32,
+    pub is_open: bool,
+}
+
+impl Model for BatchRow {
+    ghost use Rattle.store_tables.specs.Rows as rows;
+
+    ghost Value = { rows.BatchRow };
+
+    ghost view = { λ a. record { no = a.number; is_open = a.is_open } };
+}
+
+/// The number of a record, and its batch.
+#[derive(Drop)]
+pub struct RecordRow {
+    pub number: u32,
+    pub batch: u32,
+}
+
+impl Model for RecordRow {
+    ghost use Rattle.std.specs.Prelude.{ℕ};
+    ghost use Rattle.std.specs.Coded.{coded×, coded_ℕ};
+
+    ghost Value = { ℕ × ℕ };
+
+    ghost coded = { coded× coded_ℕ coded_ℕ };
+
+    ghost view = { λ a. (a.number, a.batch) };
+}
+
+/// A stored line with the number of its record.
+#[derive(Drop)]
+pub struct LineRow {
+    pub number: u32,
+    pub line: StoredLine,
+}
+
+impl Model for LineRow {
+    ghost use Rattle.std.specs.Prelude.{ℕ};
+    ghost use Rattle.std.specs.Coded.{coded×, coded_ℕ};
+    ghost use Rattle.stored_lines.specs.Line.{Label, label_code};
+
+    ghost Value = { ℕ × (ℕ × Label) };
+
+    ghost coded = { coded× coded_ℕ (coded× coded_ℕ label_code) };
+
+    ghost view = { λ a. (a.number, a.line) };
+}
+
+/// What is kept under a token.
+#[derive(Drop)]
+pub struct ReceiptRow {
+    pub token: Token,
+    pub receipt: Receipt,
+}
+
+impl Model for ReceiptRow {
+    ghost use Rattle.std.specs.Prelude.{ℕ, List};
+    ghost use Rattle.receipts.specs.declared.answer.Receipt as kept;
+
+    ghost Value = { List ℕ × kept.Receipt };
+
+    ghost view = { λ a. (a.token, a.receipt) };
+}
+
+/// A slip, its lines apart.
+#[derive(Drop)]
+pub struct SlipRow {
+    pub number: u32,
+    pub keep: u32,
+    pub gone: u32,
+    pub is_undone: bool,
+}
+
+impl Model for SlipRow {
+    ghost use Rattle.store_tables.specs.Rows as rows;
+
+    ghost Value = { rows.SlipRow };
+
+    ghost view = { λ a. record { no = a.number; keep = a.keep; gone = a.gone; is_undone = a.is_undone } };
+}
+
+/// A stored line of the old or the new record of a number in a slip.
+#[derive(Drop)]
+pub struct SlipLineRow {
+    pub slip: u32,
+    pub is_new: bool,
+    pub number: u32,
+    pub line: StoredLine,
+}
+
+impl Model for SlipLineRow {
+    ghost use Rattle.std.specs.Prelude.{ℕ, Bool};
+    ghost use Rattle.std.specs.Coded.{coded×, coded_ℕ, coded_bool};
+    ghost use Rattle.stored_lines.specs.Line.{Label, label_code};
+
+    ghost Value = { ℕ × (Bool × (ℕ × (ℕ × Label))) };
+
+    ghost coded = { coded× coded_ℕ (coded× coded_bool (coded× coded_ℕ (coded× coded_ℕ label_code))) };
+
+    ghost view = { λ a. (a.slip, (a.is_new, (a.number, a.line))) };
+}
+
+/// All rows of an archive, in the order of their keys.
+#[derive(Drop)]
+pub struct StoredRows {
+    pub next: u64,
+    pub batches: Vec<BatchRow>,
+    pub records: Vec<RecordRow>,
+    pub lines: Vec<LineRow>,
+    pub receipts: Vec<ReceiptRow>,
+    pub slips: Vec<SlipRow>,
+    pub slip_lines: Vec<SlipLineRow>,
+}
+
+impl Model for StoredRows {
+    ghost use Rattle.store_tables.specs.Reading as reading;
+
+    ghost Value = { reading.ReadRows };
+
+    ghost view = { λ a. record { next = a.next; batches = a.batches.items; records = a.records.items; lines = a.lines.items; receipts = a.receipts.items; slips = a.slips.items; slip_lines = a.slip_lines.items } };
+}

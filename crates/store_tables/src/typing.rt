@@ -1,0 +1,275 @@
+//! Rows that a query shows, as values of the program's types.
+
+ghost use Rattle.std.specs.Prelude.{◌≡◌, [], ◌∷◌, ◌++◌, OnOk, ℕ, ◌+◌, ◌<◌, List, length, IfOk, IfErr, IfSome, Option};
+ghost use Rattle.std.specs.List.{AllByRecursion};
+ghost use Rattle.sqlite.specs.declared.types.Value.{Value};
+ghost use Rattle.sqlite.specs.declared.types.Value.TheVariants.{Text as Words, Blob};
+ghost use Rattle.sqlite.specs.Order.{column};
+ghost use Rattle.record_text.specs.Text.{IsTag, IsText};
+ghost use Rattle.receipts.specs.Tokens.{IsToken};
+ghost use Rattle.store_tables.specs.Conversion.{FailsUnless, read_meta, IsReadBy, ShowsTyped, EachWith, IsLineAt, HasLineAt};
+ghost use Rattle.store_tables.specs.Reading.{IsU32, IsTypedLine, IsTypedReceipt, IsTypedSlip, read_record, read_line, read_receipt, read_slip_line};
+ghost use Rattle.store_tables.specs.Rows as rows;
+ghost use Rattle.store_tables.specs.Rows.{words_or_null};
+ghost use Rattle.store_tables.specs.Shown.{shown_meta, shown_batch, shown_record, shown_line, shown_receipt, shown_slip, shown_slip_line};
+
+use crate::stored::{BatchRow, LineRow, ReceiptRow, RecordRow, SlipLineRow, SlipRow};
+use receipts::{Answer, Receipt, Token};
+use record_text::{RefusalKind, Tag, Text};
+use sqlite::types::FromSql;
+use sqlite::{Error, ErrorCode, Row};
+use std::alloc::{AllocError, Global};
+use std::marker::Model;
+use stored_lines::StoredLine;
+
+/// What the rows of a table are read as.
+pub(crate) trait FromRow: Drop {
+    ghost reads_as: { List Value → Self → Type 0 };
+
+    ghost is_readable: { List Value → Type 0 };
+
+    /// The values of the row. `BadStored`: one is not of its type.
+    fn from_row(row: &Row) -> Result<Self, RefusalKind>
+        ensures ok { IfOk result (reads_as row.now) }
+        ensures err { IfErr result (FailsUnless (is_readable row.now)) };
+}
+
+/// What all rows are read as, in their order.
+pub(crate) fn from_rows<T: FromRow>(alloc: Global, rows: Vec<Row>) -> Result<Vec<T>, RefusalKind>
+    ensures ok { IfOk result (λ items. EachWith T.reads_as rows.items items.items) }
+    ensures err { IfErr result (FailsUnless (AllByRecursion T.is_readable rows.items)) }
+{
+    let mut items = Vec::new(alloc);
+    let mut rows = rows.into_iter();
+    'rows: while let Some(row) = rows.next() {
+        push(&mut items, T::from_row(&row)?)?;
+    }
+    Ok(items)
+}
+
+/// Adds an item behind the others.
+fn push<T: Drop>(items: &mut Vec<T>, item: T) -> Result<(), AllocError>
+    ensures { OnOk result (items.new.items ≡ items.old.items ++ (item ∷ [])) }
+{
+    items.push(item)?;
+    Ok(())
+}
+
+/// The item of a list of one.
+pub(crate) fn only<T: Drop>(mut items: Vec<T>) -> Result<T, RefusalKind>
+    ensures ok { IfOk result (λ item. items.items ≡ item ∷ []) }
+    ensures err { IfErr result (FailsUnless (length items.items ≡ 1)) }
+{
+    match items.pop() {
+        Some(item) if items.is_empty() => Ok(item),
+        _ => Err(RefusalKind::BadStored),
+    }
+}
+
+/// The value of a column.
+fn value<T: FromSql>(row: &Row, at: usize) -> Result<T, RefusalKind>
+    ensures ok { IfOk result (T.FromSql.reads_as (column row.now at)) }
+    ensures err { IfErr result (FailsUnless ((at < length row.now) × T.FromSql.is_readable (column row.now at))) }
+{
+    match row.get(at) {
+        Ok(value) => Ok(value),
+        Err(Error::SqliteFailure(ErrorCode::OutOfMemory)) => Err(RefusalKind::OutOfMemory),
+        Err(_) => Err(RefusalKind::BadStored),
+    }
+}
+
+/// The text of a column.
+pub(crate) fn text_at(row: &Row, at: usize) -> Result<Text, RefusalKind>
+    ensures ok { IfOk result (λ t. column row.now at ≡ Words t) }
+    ensures err { IfErr result (FailsUnless ((at < length row.now) × (t : List ℕ) × (column row.now at ≡ Words t) × IsText t)) }
+{
+    let string: String = value(row, at)?;
+    match Text::try_new(string) {
+        Some(text) => Ok(text),
+        None => Err(RefusalKind::BadStored),
+    }
+}
+
+/// The text of a column, where it has one.
+fn text_if_any(row: &Row, at: usize) -> Result<Option<Text>, RefusalKind>
+    ensures ok { IfOk result (λ t. column row.now at ≡ words_or_null t) }
+    ensures err { IfErr result (FailsUnless ((at < length row.now) × (t : Option (List ℕ)) × (column row.now at ≡ words_or_null t) × IfSome t IsText)) }
+{
+    let string: Option<String> = value(row, at)?;
+    let Some(string) = string else {
+        return Ok(None);
+    };
+    match Text::try_new(string) {
+        Some(text) => Ok(Some(text)),
+        None => Err(RefusalKind::BadStored),
+    }
+}
+
+/// The tag of a column.
+#[tactic(auto, using(crate::proofs::ReadingRows::tag_utf8))]
+fn tag_at(row: &Row, at: usize) -> Result<Tag, RefusalKind>
+    ensures ok { IfOk result (λ t. column row.now at ≡ Words t) }
+    ensures err { IfErr result (FailsUnless ((at < length row.now) × (t : List ℕ) × (column row.now at ≡ Words t) × IsTag t)) }
+{
+    let string: String = value(row, at)?;
+    match Tag::try_new(string) {
+        Some(tag) => Ok(tag),
+        None => Err(RefusalKind::BadStored),
+    }
+}
+
+/// The token of a column.
+#[tactic(auto, using(crate::proofs::ReadingRows::token_utf8))]
+fn token_at(row: &Row, at: usize) -> Result<Token, RefusalKind>
+    ensures ok { IfOk result (λ t. column row.now at ≡ Words t) }
+    ensures err { IfErr result (FailsUnless ((at < length row.now) × (t : List ℕ) × (column row.now at ≡ Words t) × IsToken t)) }
+{
+    let string: String = value(row, at)?;
+    match Token::try_new(string) {
+        Some(token) => Ok(token),
+        None => Err(RefusalKind::BadStored),
+    }
+}
+
+/// The digest of a column.
+fn digest_at(row: &Row, at: usize) -> Result<[u8; 32], RefusalKind>
+    ensures ok { IfOk result (λ d. column row.now at ≡ Blob d) }
+    ensures err { IfErr result (FailsUnless ((at < length row.now) × (d : List ℕ) × (column row.now at ≡ Blob d) × (length d ≡ 32))) }
+{
+    let bytes: Vec<u8> = value(row, at)?;
+    match <[u8; 32]>::try_from(bytes) {
+        Ok(digest) => Ok(digest),
+        Err(_) => Err(RefusalKind::BadStored),
+    }
+}
+
+/// The stored line of four columns from a place on.
+fn line_at(row: &Row, at: usize) -> Result<StoredLine, RefusalKind>
+    requires { at < 8 }
+    ensures ok { IfOk result (λ line. IsLineAt row.now at line) }
+    ensures err { IfErr result (FailsUnless (HasLineAt row.now at)) }
+{
+    Ok(StoredLine {
+        depth: value(row, at)?,
+        tag: tag_at(row, at + 1)?,
+        text: text_if_any(row, at + 2)?,
+        target: value(row, at + 3)?,
+    })
+}
+
+impl FromRow for BatchRow {
+    ghost reads_as = { IsReadBy shown_batch (λ (b : rows.BatchRow). b) };
+
+    ghost is_readable = { ShowsTyped shown_batch (λ (b : rows.BatchRow). IsU32 b.no) };
+
+    fn from_row(row: &Row) -> Result<BatchRow, RefusalKind> {
+        Ok(BatchRow {
+            number: value(row, 0)?,
+            is_open: value(row, 1)?,
+        })
+    }
+}
+
+impl FromRow for RecordRow {
+    ghost reads_as = { IsReadBy shown_record read_record };
+
+    ghost is_readable = { ShowsTyped shown_record (λ (r : rows.RecordRow). IsU32 r.no × IsU32 r.batch) };
+
+    fn from_row(row: &Row) -> Result<RecordRow, RefusalKind> {
+        Ok(RecordRow {
+            number: value(row, 0)?,
+            batch: value(row, 1)?,
+        })
+    }
+}
+
+impl FromRow for LineRow {
+    ghost reads_as = { IsReadBy shown_line read_line };
+
+    ghost is_readable = { ShowsTyped shown_line (λ (l : rows.LineRow). IsU32 l.no × IsTypedLine l.line) };
+
+    fn from_row(row: &Row) -> Result<LineRow, RefusalKind> {
+        Ok(LineRow {
+            number: value(row, 0)?,
+            line: line_at(row, 1)?,
+        })
+    }
+}
+
+impl FromRow for ReceiptRow {
+    ghost reads_as = { IsReadBy shown_receipt read_receipt };
+
+    ghost is_readable = { ShowsTyped shown_receipt (λ (r : rows.ReceiptRow). IsToken r.token × IsTypedReceipt r.receipt) };
+
+    fn from_row(row: &Row) -> Result<ReceiptRow, RefusalKind> {
+        let token = token_at(row, 0)?;
+        let digest = digest_at(row, 1)?;
+        let answer = Answer {
+            first: value(row, 2)?,
+            count: value(row, 3)?,
+        };
+        let receipt = Receipt { digest, answer };
+        Ok(ReceiptRow { token, receipt })
+    }
+}
+
+impl FromRow for SlipRow {
+    ghost reads_as = { IsReadBy shown_slip (λ (s : rows.SlipRow). s) };
+
+    ghost is_readable = { ShowsTyped shown_slip IsTypedSlip };
+
+    fn from_row(row: &Row) -> Result<SlipRow, RefusalKind> {
+        Ok(SlipRow {
+            number: value(row, 0)?,
+            keep: value(row, 1)?,
+            gone: value(row, 2)?,
+            is_undone: value(row, 3)?,
+        })
+    }
+}
+
+impl FromRow for SlipLineRow {
+    ghost reads_as = { IsReadBy shown_slip_line read_slip_line };
+
+    ghost is_readable = { ShowsTyped shown_slip_line (λ (s : rows.SlipLineRow). IsU32 s.slip × IsU32 s.no × IsTypedLine s.line) };
+
+    fn from_row(row: &Row) -> Result<SlipLineRow, RefusalKind> {
+        Ok(SlipLineRow {
+            slip: value(row, 0)?,
+            is_new: value(row, 1)?,
+            number: value(row, 2)?,
+            line: line_at(row, 3)?,
+        })
+    }
+}
+
+/// What the one row of `meta` says.
+#[derive(Drop)]
+pub(crate) struct Meta {
+    pub(crate) next: u64,
+    pub(crate) society: Text,
+}
+
+impl Model for Meta {
+    ghost use Rattle.std.specs.Prelude.{List, ℕ};
+    ghost use Rattle.std.specs.Coded.{coded×, coded_ℕ, coded_list};
+
+    ghost Value = { ℕ × List ℕ };
+
+    ghost coded = { coded× coded_ℕ (coded_list coded_ℕ) };
+
+    ghost view = { λ a. (a.next, a.society) };
+}
+
+impl FromRow for Meta {
+    ghost reads_as = { IsReadBy shown_meta read_meta };
+
+    ghost is_readable = { ShowsTyped shown_meta (λ (r : rows.Rows). IsText r.society) };
+
+    fn from_row(row: &Row) -> Result<Meta, RefusalKind> {
+        Ok(Meta {
+            next: value(row, 1)?,
+            society: text_at(row, 2)?,
+        })
+    }
+}

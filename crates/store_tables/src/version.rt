@@ -1,0 +1,64 @@
+//! Whether a store is an archive of this program.
+
+ghost use Rattle.std.specs.Prelude.{◌≡◌, ◌≢◌, [], ◌∷◌, ⊤, false, IfErr, OnOk};
+ghost use Rattle.sqlite.specs.Held.{state};
+ghost use Rattle.sqlite.specs.State.{HasCleanDisk};
+ghost use Rattle.record_text.specs.declared.refusal.RefusalKind.TheVariants as refusal;
+ghost use Rattle.store_tables.specs.Looking.{Looks, HasVersion, ShowsVersion, IsLater};
+ghost use Rattle.store_tables.specs.Rows.{Rows};
+ghost use Rattle.store_tables.specs.Shown.{shown_meta};
+ghost use Rattle.store_tables.specs.Telling.{tells_no_archive};
+
+use crate::reading::{SELECT_META, ask};
+use record_text::RefusalKind;
+use sqlite::{Alter, Connection, Error, ErrorCode, Row};
+use sqlite_resolve::CompileError;
+
+/// The version of the tables that this program writes.
+const VERSION: u64 = 1;
+
+/// Whether the store is an archive of the version that this program writes. `NotAnArchive`: its table `meta` is
+/// missing, or is another. `NewerSchema`: a later program wrote it. `OutOfMemory`: memory was refused. `Storage`:
+/// the database failed.
+pub fn check_version<S: Alter>(conn: &mut Connection<S>) -> Result<(), RefusalKind>
+    requires autocommit { conn.old.in_transaction ≡ false }
+    ensures looks { Looks (λ _ _. ⊤) (state S.Store conn.old) (state S.Store conn.new) result }
+    ensures version { HasCleanDisk (state S.Store conn.new) → OnOk result (ShowsVersion 1 (state S.Store conn.old) (state S.Store conn.new)) }
+    ensures newer { HasCleanDisk (state S.Store conn.new) → IfErr result (λ kind. kind ≡ refusal.NewerSchema → IsLater (λ v. ShowsVersion v (state S.Store conn.old) (state S.Store conn.new))) }
+    ensures ended { conn.new.in_transaction ≡ false }
+{
+    match ask(conn, SELECT_META) {
+        Ok(rows) => version_of(&rows),
+        Err(error) => Err(refusal_of(&error)),
+    }
+}
+
+/// Whether the rows of `meta` are one, and that of this version.
+fn version_of(rows: &[Row]) -> Result<(), RefusalKind>
+    ensures version { OnOk result (HasVersion 1 rows.now) }
+    ensures newer { IfErr result (λ kind. kind ≡ refusal.NewerSchema → IsLater (λ v. HasVersion v rows.now)) }
+    ensures known { IfErr result (λ kind. (r : Rows) → rows.now ≡ shown_meta r ∷ [] → kind ≡ refusal.OutOfMemory) }
+{
+    let [row] = rows else {
+        return Err(RefusalKind::NotAnArchive);
+    };
+    match row.get(0) {
+        Ok(VERSION) => Ok(()),
+        Ok(version) if version > VERSION => Err(RefusalKind::NewerSchema),
+        Err(Error::SqliteFailure(ErrorCode::OutOfMemory)) => Err(RefusalKind::OutOfMemory),
+        _ => Err(RefusalKind::NotAnArchive),
+    }
+}
+
+/// What an error of the query says of the store.
+fn refusal_of(error: &Error) -> RefusalKind
+    ensures known { tells_no_archive error.now ≡ false → result ≡ refusal.Storage }
+    ensures named { result ≢ refusal.NewerSchema }
+{
+    match error {
+        Error::SqlInputError(CompileError::NoSuchTable | CompileError::NoSuchColumn) => {
+            RefusalKind::NotAnArchive
+        }
+        _ => RefusalKind::Storage,
+    }
+}
