@@ -1,0 +1,11 @@
+-- At each turn, what is left leads from here to where all leads.
+use Rattle.std.proofs.Common.{◌≡◌, drop}
+use Rattle.sqlite.specs.Held.{state}
+use Rattle.store_tables.proofs.Loops.{IsOnTheWay}
+use Rattle.store_rows.specs.Writing.{without_record_rows}
+use Rattle.store_rows.proofs.writing.record_rows.remove_rows.Given as goal
+
+abbrev pub invariant-numbers : goal.invariant-numbers
+invariant-numbers g l =
+    (l.tx.conn.ghost_name ≡ l.fn.tx.conn.ghost_name)
+    × IsOnTheWay (state g.S.Store l.fn.tx.conn.now) (state g.S.Store l.tx.conn.now) (without_record_rows l.numbers) (without_record_rows (drop l.number-index l.numbers))

@@ -1,0 +1,5 @@
+pub mod Grouped
+pub mod Meaning
+pub mod Shallow
+pub mod Sides
+pub mod Writing

@@ -1,0 +1,12 @@
+//! An archive as rows of tables: what the rows mean, the changes of a request written as rows, and the state read of them.
+#![tactic(auto)]
+
+mod grouping;
+pub mod laws;
+mod reading;
+mod sides;
+mod state;
+mod writing;
+
+pub use reading::read_state;
+pub use writing::write_changes;

@@ -1,0 +1,111 @@
+//! The changes of a request, written as rows inside a transaction.
+
+mod record_rows;
+mod slip_rows;
+
+ghost use Rattle.std.specs.Prelude.{◌≡◌, ◌⊎◌, OnOk, IfErr};
+ghost use Rattle.sqlite.specs.State.{HasCleanDisk, Survives};
+ghost use Rattle.sqlite.specs.Held.{state};
+ghost use Rattle.store_tables.specs.Calls.{Follows, Inside};
+ghost use Rattle.store_tables.specs.Rows.{Rows};
+ghost use Rattle.record_text.specs.declared.refusal.RefusalKind.TheVariants.{OutOfMemory, Storage};
+ghost use Rattle.archive_state.specs.Applied.{applied};
+ghost use Rattle.archive_state.specs.Content.{Content};
+ghost use Rattle.store_rows.specs.Meaning.{Means, AllShallow};
+ghost use Rattle.store_rows.specs.Shallow.{AreShallowChanges};
+ghost use Rattle.store_rows.specs.Writing.{with_changes, with_kept_written};
+
+use archive_state::{Changes, Kept};
+use record_text::RefusalKind;
+use sqlite::{Alter, Error, Transaction};
+use std::alloc::{AllocError, Global};
+use store_tables::rows;
+
+/// Writes the changes of a request. What the rows meant, they then mean with the changes made; and where all records
+/// could be read, all can be read afterwards.
+///
+/// 80: the database answered an error. 1: memory for the lines of a record was refused. After either the transaction is
+/// to be given up, since a part may be written.
+pub fn write_changes<S: Alter>(
+    alloc: Global,
+    tx: &mut Transaction<'_, S>,
+    changes: &Changes,
+) -> Result<(), RefusalKind>
+    ensures same_reference { tx.new.conn.ghost_name ≡ tx.old.conn.ghost_name }
+    ensures ok { HasCleanDisk (state S.Store tx.new.conn.now)
+        → OnOk result (Follows (state S.Store tx.old.conn.now) (state S.Store tx.new.conn.now) (with_changes changes.now)) }
+    ensures survives { Survives (state S.Store tx.old.conn.now) (state S.Store tx.new.conn.now) (λ _. ⊥) }
+    ensures shallow { OnOk result ((c : Content) → AllShallow c → AllShallow (applied c changes.now)) }
+    ensures means { HasCleanDisk (state S.Store tx.new.conn.now)
+        → OnOk result ((rows : Rows) (c : Content) → Inside (state S.Store tx.old.conn.now) rows → Means rows c
+        → Inside (state S.Store tx.new.conn.now) (with_changes changes.now rows) × Means (with_changes changes.now rows) (applied c changes.now)) }
+    ensures refused { IfErr result (λ kind. (kind ≡ OutOfMemory) ⊎ (kind ≡ Storage)) }
+{
+    match write_all(alloc, tx, changes) {
+        Ok(()) => Ok(()),
+        Err(Unwritten::Memory) => Err(RefusalKind::OutOfMemory),
+        Err(Unwritten::Database) => Err(RefusalKind::Storage),
+    }
+}
+
+/// Why rows were not written.
+#[derive(Drop)]
+enum Unwritten {
+    /// Memory for the lines of a record was refused.
+    Memory,
+    /// The database answered an error.
+    Database,
+}
+
+impl From<AllocError> for Unwritten {
+    ghost use Rattle.std.specs.Prelude.{◌≡◌};
+    ghost use Rattle.store_rows.specs.declared.writing.Unwritten.TheVariants.{Memory};
+
+    ghost from_gives = { λ _ e. e ≡ Memory };
+
+    fn from(_error: AllocError) -> Unwritten {
+        Unwritten::Memory
+    }
+}
+
+impl From<Error> for Unwritten {
+    ghost use Rattle.std.specs.Prelude.{◌≡◌};
+    ghost use Rattle.store_rows.specs.declared.writing.Unwritten.TheVariants.{Database};
+
+    ghost from_gives = { λ _ e. e ≡ Database };
+
+    fn from(_error: Error) -> Unwritten {
+        Unwritten::Database
+    }
+}
+
+/// The same, but for the refusals.
+fn write_all<S: Alter>(
+    alloc: Global,
+    tx: &mut Transaction<'_, S>,
+    changes: &Changes,
+) -> Result<(), Unwritten>
+    ensures same_reference { tx.new.conn.ghost_name ≡ tx.old.conn.ghost_name }
+    ensures ok { HasCleanDisk (state S.Store tx.new.conn.now)
+        → OnOk result (Follows (state S.Store tx.old.conn.now) (state S.Store tx.new.conn.now) (with_changes changes.now)) }
+    ensures survives { Survives (state S.Store tx.old.conn.now) (state S.Store tx.new.conn.now) (λ _. ⊥) }
+    ensures shallow { OnOk result (AreShallowChanges changes.now) }
+{
+    record_rows::write_records(alloc, tx, &changes.puts, &changes.removals)?;
+    rows::set_next(tx, changes.next)?;
+    write_kept(tx, &changes.kept)?;
+    slip_rows::write_slip(alloc, tx, &changes.slip)
+}
+
+/// What is kept of the request under its token, where something is.
+fn write_kept<S: Alter>(tx: &mut Transaction<'_, S>, kept: &Option<Kept>) -> Result<(), Error>
+    ensures same_reference { tx.new.conn.ghost_name ≡ tx.old.conn.ghost_name }
+    ensures ok { HasCleanDisk (state S.Store tx.new.conn.now)
+        → OnOk result (Follows (state S.Store tx.old.conn.now) (state S.Store tx.new.conn.now) (with_kept_written kept.now)) }
+    ensures survives { Survives (state S.Store tx.old.conn.now) (state S.Store tx.new.conn.now) (λ _. ⊥) }
+{
+    match kept {
+        Some(kept) => rows::insert_receipt(tx, &kept.token, &kept.receipt),
+        None => Ok(()),
+    }
+}
