@@ -27,11 +27,11 @@ def answered(program, data, env=None):
     return run.stdout.decode("utf-8").split(".\n")[:-1], run.returncode
 
 
-def told(plain, got, status):
-    """Whether the run told that a growth was refused. False: its answers are those of before, as where std asks for
+def told(plain, got, status, refusals=(REFUSED,)):
+    """Whether the run told that a growth was refused, by one of these answers. False: its answers are those of before, as where std asks for
     less instead. ValueError: an answer is another one."""
     for wanted, found in zip(plain, got):
-        if found == REFUSED:
+        if found in refusals:
             return True
         if found != wanted:
             raise ValueError(f"{found[-200:]!r} in place of {wanted[-200:]!r}")
@@ -40,10 +40,10 @@ def told(plain, got, status):
     return status != 0
 
 
-def fault(program, data):
+def fault(program, data, refusals=(REFUSED,)):
     """What is wrong with the runs in which each growth in turn is refused. None: nothing."""
     plain, _ = answered(program, data)
-    number, refusals = 0, 0
+    number, count = 0, 0
     with tempfile.TemporaryDirectory() as folder:
         library = built(folder)
         while True:
@@ -51,8 +51,8 @@ def fault(program, data):
             mark = os.path.join(folder, str(number))
             env = {**os.environ, "LD_PRELOAD": library, "REFUSE": str(number), "REFUSED": mark}
             try:
-                refusals += told(plain, *answered(program, data, env))
+                count += told(plain, *answered(program, data, env), refusals)
             except ValueError as wrong:
                 return f"growth {number} refused: {wrong}"
             if not os.path.exists(mark):
-                return None if refusals >= LEAST else f"only {refusals} refusals were told"
+                return None if count >= LEAST else f"only {count} refusals were told"

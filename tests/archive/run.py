@@ -6,7 +6,6 @@ One line a failed case, and last `N passed, M failed`; status 0 only if none fai
 from __future__ import annotations
 
 import pathlib
-import subprocess
 import sys
 
 sys.dont_write_bytecode = True
@@ -19,6 +18,7 @@ import records  # noqa: E402
 import refused  # noqa: E402
 import states  # noqa: E402
 import words  # noqa: E402
+from asking import differences, given_to  # noqa: E402
 from rows import Ask, Case, given, kept, row  # noqa: E402
 
 HERE = pathlib.Path(__file__).resolve().parent
@@ -53,39 +53,6 @@ def runs():
         yield list(states.cases(scene))
 
 
-def given_to(cases):
-    """The rows of the cases, as the program reads them."""
-    return "".join(ask.row + "\n" for case in cases for ask in case.asks).encode("utf-8")
-
-
-def answers(cases):
-    """The answer to each row, without the line that ends it."""
-    rows = given_to(cases)
-    out = subprocess.run([str(PROGRAM)], input=rows, stdout=subprocess.PIPE, check=True, timeout=50).stdout
-    found, lines = [], []
-    for line in out.decode("utf-8").split("\n")[:-1]:
-        if line == ".":
-            found.append("".join(lines))
-            lines = []
-        else:
-            lines.append(line + "\n")
-    return found
-
-
-def differences(cases):
-    """What is told of each case whose answers are not those that are wanted."""
-    got = answers(cases)
-    if len(got) != sum(len(case.asks) for case in cases):
-        yield f"{cases[0].name} and on: {len(got)} answers"
-        return
-    following = iter(got)
-    for case in cases:
-        wrong = [(ask, found) for ask, found in zip(case.asks, following) if found != ask.wanted]
-        if wrong:
-            ask, found = wrong[0]
-            yield f"{case.name}: {ask.row[:100]!r} gives {found[-300:]!r}, and {ask.wanted[-300:]!r} was wanted"
-
-
 def memory_faults():
     """Of a scene and of some twenty records: what goes wrong where memory is refused. None: nothing."""
     slips = next(scene for scene in states.SCENES if scene.name.startswith("a slip"))
@@ -99,7 +66,7 @@ def main():
     count, failures = 0, list(printed.faults())
     for cases in runs():
         count += len(cases)
-        failures += differences(cases)
+        failures += differences(PROGRAM, cases)
     refused_runs = list(memory_faults())
     count += len(refused_runs)
     failures += [wrong for wrong in refused_runs if wrong]

@@ -1,15 +1,14 @@
 //! The answer to a row: lines, and one with a full stop.
 
-use crate::answer::Answer;
 use crate::asking::{ask, ask_state, question_of};
 use crate::changing::change;
-use crate::lines::{line_of, say_of_lines};
+use crate::lines::say_of_lines;
 use crate::printed::{say_refusal, say_refusals, say_report};
 use crate::reading::say_read;
-use crate::rows::{word, words_of};
 use crate::session::Session;
 use crate::values::{say_copied, say_value};
 use records::RefusalKind;
+use row_words::{Answer, line_of, word, words_of};
 use std::alloc::{AllocError, Global};
 
 /// The answer to a row. A row that is refused is answered with its refusal alone.

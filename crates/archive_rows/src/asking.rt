@@ -1,11 +1,10 @@
 //! Rows that ask what a state holds: of the state itself, and through a view.
 
-use crate::answer::Answer;
-use crate::reading::{say_found, say_gone};
-use crate::rows::{number, text, word};
-use archive_state::{Change, Receipt, Slip, State, Token};
+use crate::reading::say_gone;
+use archive_state::{Slip, State, Token};
 use archive_view::View;
 use records::{EntryKind, Item, Record, RefusalKind, Text};
+use row_words::{Answer, number, say_found, say_receipt, say_slip, text, token_of, word};
 use std::alloc::{AllocError, Global};
 
 /// What is asked.
@@ -62,11 +61,6 @@ fn key_of(alloc: Global, words: &[String]) -> Result<Key, RefusalKind> {
         page,
         item,
     })
-}
-
-/// The token that a word is. 93: it is none.
-pub(crate) fn token_of(alloc: Global, word: &str) -> Result<Token, RefusalKind> {
-    Token::try_new(String::from_str(alloc, word)?).ok_or(RefusalKind::BadToken)
 }
 
 /// Says what the state itself answers.
@@ -169,17 +163,6 @@ fn say_number_of(
     Ok(())
 }
 
-/// Says a receipt: its digest, the first number and how many.
-pub(crate) fn say_receipt(found: Option<&Receipt>, out: &mut Answer) {
-    match found {
-        Some(receipt) => {
-            out.say_bytes(&receipt.digest);
-            out.say_numbers("", &[receipt.answer.first, receipt.answer.count]);
-        }
-        None => out.say_line("none"),
-    }
-}
-
 /// Says a slip that is given away.
 pub(crate) fn say_gone_slip(
     alloc: Global,
@@ -189,26 +172,4 @@ pub(crate) fn say_gone_slip(
     let said = say_slip(alloc, gone.as_ref(), out);
     drop(gone);
     said
-}
-
-/// Says a slip, with the lines of each record before and after.
-fn say_slip(alloc: Global, found: Option<&Slip>, out: &mut Answer) -> Result<(), AllocError> {
-    let Some(slip) = found else {
-        out.say_line("none");
-        return Ok(());
-    };
-    out.say_number("keep ", Some(slip.keep));
-    out.say_number("gone ", Some(slip.gone));
-    out.say_line(if slip.is_undone { "undone" } else { "done" });
-    for change in &slip.changes {
-        say_change(alloc, change, out)?;
-    }
-    Ok(())
-}
-
-fn say_change(alloc: Global, change: &Change, out: &mut Answer) -> Result<(), AllocError> {
-    out.say_number("change ", Some(change.number));
-    say_found(alloc, Some(&change.old), out)?;
-    out.say_line("to");
-    say_found(alloc, change.new.as_ref(), out)
 }

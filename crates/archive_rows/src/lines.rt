@@ -1,27 +1,11 @@
 //! Stored lines and the branches that they are.
 
-use crate::answer::Answer;
-use crate::rows::{number, optional_number, optional_text, word};
-use records::{RefusalKind, StoredLine, Tag};
+use records::StoredLine;
+use row_words::{Answer, number, word};
 use std::alloc::{AllocError, Global};
 use stored_lines::{
     Branch, Carried, Value, are_same, branch_of_lines, branches_of, carried_of, lines_of_branch,
 };
-
-/// The line of a row: depth, tag, text and number. 58: a word is none of them.
-pub(crate) fn line_of(alloc: Global, words: &[String]) -> Result<StoredLine, RefusalKind> {
-    let text = optional_text(alloc, word(words, 3))?;
-    Ok(StoredLine {
-        depth: number(words, 1),
-        tag: tag(alloc, word(words, 2))?,
-        text,
-        target: optional_number(words, 4),
-    })
-}
-
-fn tag(alloc: Global, word: &str) -> Result<Tag, RefusalKind> {
-    Tag::try_new(String::from_str(alloc, word)?).ok_or(RefusalKind::BadText)
-}
 
 /// Says what is asked of the lines.
 pub(crate) fn say_of_lines(

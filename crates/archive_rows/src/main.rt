@@ -2,7 +2,6 @@
 //! changed and asked. A tool of the tests, no part of the product.
 #![tactic(auto)]
 
-mod answer;
 mod answering;
 mod asking;
 mod changing;
@@ -10,7 +9,6 @@ mod fields;
 mod lines;
 mod printed;
 mod reading;
-mod rows;
 mod session;
 mod values;
 

@@ -1,9 +1,8 @@
 //! Refusals and reports as they are printed.
 
-use crate::answer::Answer;
-use crate::rows::{number, optional_number, word};
 use receipts::ReportWord;
 use records::{Refusal, RefusalKind, Unit};
+use row_words::{Answer, number, optional_number, word};
 
 /// Every refusal.
 const KINDS: [RefusalKind; 47] = [

@@ -1,9 +1,9 @@
 //! Records read from lines.
 
-use crate::answer::Answer;
 use crate::fields::say_record;
 use record_links::is_naming;
 use records::{Record, RefusalKind, StoredLine, copy_record, lines_of, record_of};
+use row_words::{Answer, say_found};
 use std::alloc::{AllocError, Global};
 
 /// Says what is asked of the record that is kept as the lines. 40: no record is.
@@ -55,21 +55,6 @@ fn say_names(record: &Record, out: &mut Answer) {
 fn say_kept(alloc: Global, record: &Record, out: &mut Answer) -> Result<(), AllocError> {
     out.say_lines(&lines_of(alloc, record)?);
     Ok(())
-}
-
-/// Says the lines of a record that was found.
-pub(crate) fn say_found(
-    alloc: Global,
-    found: Option<&Record>,
-    out: &mut Answer,
-) -> Result<(), AllocError> {
-    match found {
-        Some(record) => say_kept(alloc, record, out),
-        None => {
-            out.say_line("none");
-            Ok(())
-        }
-    }
 }
 
 /// Says the lines of a record that is given away.

@@ -1,12 +1,11 @@
 //! Values made of words, and written again.
 
-use crate::answer::Answer;
-use crate::rows::optional_text;
 use receipts::Token;
 use records::{
     Date, EntryKind, Item, Partnership, Quality, RefusalKind, Role, Sex, Tag, Text, display,
     surname, surname_key,
 };
+use row_words::{Answer, optional_text};
 use std::alloc::{AllocError, Global};
 use stored_lines::copied;
 

@@ -1,3 +1,5 @@
+//! What is answered to a row.
+
 use records::{RefusalKind, StoredLine, Text};
 use std::alloc::Global;
 use std::fmt;
@@ -5,20 +7,20 @@ use std::fmt;
 /// What is answered to a row. Where memory is refused the answer is that refusal alone, so that those who write
 /// need not look whether they could.
 #[derive(Drop)]
-pub(crate) struct Answer {
+pub struct Answer {
     text: String,
     is_short: bool,
 }
 
 impl Answer {
-    pub(crate) fn new(alloc: Global) -> Answer {
+    pub fn new(alloc: Global) -> Answer {
         Answer {
             text: String::new(alloc),
             is_short: false,
         }
     }
 
-    pub(crate) fn as_str(&self) -> &str {
+    pub fn as_str(&self) -> &str {
         if self.is_short {
             "1 OutOfMemory\n.\n"
         } else {
@@ -27,41 +29,41 @@ impl Answer {
     }
 
     /// The refusal in place of what was said so far.
-    pub(crate) fn refuse(&mut self, kind: RefusalKind) {
+    pub fn refuse(&mut self, kind: RefusalKind) {
         self.text.clear();
         self.say_printed(&kind);
         self.say("\n");
     }
 
     /// Says words as they are.
-    pub(crate) fn say(&mut self, words: &str) {
+    pub fn say(&mut self, words: &str) {
         if self.text.push_str(words).is_err() {
             self.is_short = true;
         }
     }
 
     /// Says a line.
-    pub(crate) fn say_line(&mut self, words: &str) {
+    pub fn say_line(&mut self, words: &str) {
         self.say(words);
         self.say("\n");
     }
 
     /// Says a line with the name of a field and its words.
-    pub(crate) fn say_words(&mut self, name: &str, words: &str) {
+    pub fn say_words(&mut self, name: &str, words: &str) {
         self.say(name);
         self.say_escaped(words);
         self.say("\n");
     }
 
     /// Says a line with the name of a field and its text.
-    pub(crate) fn say_text(&mut self, name: &str, text: &Option<Text>) {
+    pub fn say_text(&mut self, name: &str, text: &Option<Text>) {
         self.say(name);
         self.say_optional(text);
         self.say("\n");
     }
 
     /// Says a line with the name of a field and its number.
-    pub(crate) fn say_number(&mut self, name: &str, number: Option<u32>) {
+    pub fn say_number(&mut self, name: &str, number: Option<u32>) {
         self.say(name);
         match number {
             Some(number) => self.say_printed(&number),
@@ -71,7 +73,7 @@ impl Answer {
     }
 
     /// Says a line with numbers behind a word.
-    pub(crate) fn say_numbers(&mut self, word: &str, numbers: &[u32]) {
+    pub fn say_numbers(&mut self, word: &str, numbers: &[u32]) {
         self.say(word);
         for number in numbers {
             self.say(" ");
@@ -81,13 +83,13 @@ impl Answer {
     }
 
     /// Says a line with a number.
-    pub(crate) fn say_count(&mut self, number: u64) {
+    pub fn say_count(&mut self, number: u64) {
         self.say_printed(&number);
         self.say("\n");
     }
 
     /// Says bytes in hexadecimal.
-    pub(crate) fn say_bytes(&mut self, bytes: &[u8]) {
+    pub fn say_bytes(&mut self, bytes: &[u8]) {
         for byte in bytes {
             if write!(self.text, "{byte:02x}").is_err() {
                 self.is_short = true;
@@ -96,7 +98,7 @@ impl Answer {
     }
 
     /// Says stored lines, each with its depth, its tag, its text and its number.
-    pub(crate) fn say_lines(&mut self, lines: &[StoredLine]) {
+    pub fn say_lines(&mut self, lines: &[StoredLine]) {
         for line in lines {
             self.say_printed(&line.depth);
             self.say("\t");
@@ -108,14 +110,14 @@ impl Answer {
     }
 
     /// Says a line with the name of a value and its word.
-    pub(crate) fn say_named<T: fmt::Debug>(&mut self, value: &T, word: &str) {
+    pub fn say_named<T: fmt::Debug>(&mut self, value: &T, word: &str) {
         if write!(self.text, "{value:?} {word}\n").is_err() {
             self.is_short = true;
         }
     }
 
     /// Says a value as it is printed.
-    pub(crate) fn say_printed<T: fmt::Display>(&mut self, value: &T) {
+    pub fn say_printed<T: fmt::Display>(&mut self, value: &T) {
         if write!(self.text, "{value}").is_err() {
             self.is_short = true;
         }
@@ -129,7 +131,7 @@ impl Answer {
     }
 
     /// Says a sign `=` and words, with a backslash for what would end a word or a line.
-    fn say_escaped(&mut self, words: &str) {
+    pub fn say_escaped(&mut self, words: &str) {
         self.say("=");
         for c in words.chars() {
             self.say_character(c);

@@ -4,7 +4,7 @@ use records::{RefusalKind, Text};
 use std::alloc::{AllocError, Global};
 
 /// The words of a row.
-pub(crate) fn words_of(alloc: Global, row: &str) -> Result<Vec<String>, AllocError> {
+pub fn words_of(alloc: Global, row: &str) -> Result<Vec<String>, AllocError> {
     row.split('\t')
         .map(|word| unescaped(alloc, word))
         .try_collect(alloc)
@@ -39,7 +39,7 @@ fn escaped_as(c: char) -> char {
 }
 
 /// A word of a row, counted from 0; empty where there is none.
-pub(crate) fn word(words: &[String], at: usize) -> &str {
+pub fn word(words: &[String], at: usize) -> &str {
     match words.get(at) {
         Some(found) => found.as_str(),
         None => "",
@@ -47,22 +47,22 @@ pub(crate) fn word(words: &[String], at: usize) -> &str {
 }
 
 /// The number that a word is. `None`: it is none.
-pub(crate) fn optional_number(words: &[String], at: usize) -> Option<u32> {
+pub fn optional_number(words: &[String], at: usize) -> Option<u32> {
     word(words, at).parse::<u32>().ok()
 }
 
 /// The number that a word is, and 0 where it is none.
-pub(crate) fn number(words: &[String], at: usize) -> u32 {
+pub fn number(words: &[String], at: usize) -> u32 {
     optional_number(words, at).unwrap_or(0)
 }
 
 /// The text that a word is. 58: it is none.
-pub(crate) fn text(alloc: Global, words: &str) -> Result<Text, RefusalKind> {
+pub fn text(alloc: Global, words: &str) -> Result<Text, RefusalKind> {
     Text::try_new(String::from_str(alloc, words)?).ok_or(RefusalKind::BadText)
 }
 
 /// The text behind the sign `=`, or none where another word stands.
-pub(crate) fn optional_text(alloc: Global, word: &str) -> Result<Option<Text>, RefusalKind> {
+pub fn optional_text(alloc: Global, word: &str) -> Result<Option<Text>, RefusalKind> {
     match word.strip_prefix("=") {
         Some(words) => Ok(Some(text(alloc, words)?)),
         None => Ok(None),

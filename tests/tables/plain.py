@@ -1,0 +1,88 @@
+"""The tables of an archive as plain lists, and what each change makes of them: written from docs/FORMATS.md, beside
+which the program's own tables are compared, row by row and key by key."""
+
+from __future__ import annotations
+
+from rows import Line, written
+
+# what `query` is asked of each table, and the columns that it shows
+QUERIES = {
+    "record": "SELECT no, kind, batch FROM record ORDER BY no",
+    "line": "SELECT id, no, pos, depth, tag, text, dst FROM line ORDER BY id",
+    "receipt": "SELECT id, token, digest, first, count FROM receipt ORDER BY id",
+    "slip": "SELECT no, keep, gone, undone FROM slip ORDER BY no",
+    "slip_line": "SELECT id, slip, side, no, pos, depth, tag, text, dst FROM slip_line ORDER BY id",
+    "batch": "SELECT no, is_open FROM batch ORDER BY no",
+    "meta": "SELECT version, next, society FROM meta",
+}
+
+
+def fields(line: Line) -> tuple[object, ...]:
+    """The last columns of a row that is a stored line."""
+    return (line.depth, line.tag, line.text, line.number)
+
+
+class Tables:
+    """Rows of each table as tuples, in the order of their keys."""
+
+    def __init__(self, society: str) -> None:
+        self.next = 1
+        self.society = society
+        self.records: dict[int, tuple[str, int]] = {}
+        self.lines: list[tuple[object, ...]] = []
+        self.receipts: list[tuple[object, ...]] = []
+        self.slips: dict[int, tuple[int, int, int]] = {}
+        self.slip_lines: list[tuple[object, ...]] = []
+
+    def put(self, number: int, lines: tuple[Line, ...]) -> None:
+        self.records[number] = (lines[0].tag, 0)
+        self.lines = [row for row in self.lines if row[1] != number]
+        for place, line in enumerate(lines):
+            self.lines.append((following(self.lines), number, place, *fields(line)))
+
+    def take(self, number: int) -> None:
+        self.lines = [row for row in self.lines if row[1] != number]
+        self.records.pop(number, None)
+
+    def keep(self, token: str, byte: int, first: int, count: int) -> None:
+        self.receipts.append((following(self.receipts), token, bytes([byte]) * 32, first, count))
+
+    def merge(self, number: int, keep: int, gone: int, changed: int, old, new) -> None:
+        self.slips[number] = (keep, gone, 0)
+        self.slip_lines = [row for row in self.slip_lines if row[1] != number]
+        for side, lines in ((0, old), (1, new or ())):
+            for place, line in enumerate(lines):
+                key = following(self.slip_lines)
+                self.slip_lines.append((key, number, side, changed, place, *fields(line)))
+
+    def undo(self, number: int) -> None:
+        keep, gone, _ = self.slips[number]
+        self.slips[number] = (keep, gone, 1)
+
+    def rows(self, table: str) -> list[tuple[object, ...]]:
+        return {
+            "record": [(number, *row) for number, row in sorted(self.records.items())],
+            "line": self.lines,
+            "receipt": self.receipts,
+            "slip": [(number, *row) for number, row in sorted(self.slips.items())],
+            "slip_line": self.slip_lines,
+            "batch": [(0, 0)],
+            "meta": [(1, self.next, self.society)],
+        }[table]
+
+    def shown(self, table: str) -> str:
+        return "".join("".join(value(part) + "\t" for part in row) + "\n" for row in self.rows(table))
+
+
+def following(rows: list[tuple[object, ...]]) -> int:
+    """The key of a row that gets the next one."""
+    return rows[-1][0] + 1 if rows else 1
+
+
+def value(part: object) -> str:
+    """A value as it is answered."""
+    if part is None:
+        return "-"
+    if isinstance(part, bytes):
+        return part.hex()
+    return str(part) if isinstance(part, int) else written(part)

@@ -1,0 +1,275 @@
+"""What is written to new tables, and what is read of them: each scene with the rows that all tables have at its end."""
+
+from __future__ import annotations
+
+from typing import NamedTuple
+
+from plain import QUERIES, Tables
+from records import RECORDS
+from rows import Ask, Case, Line, given, kept, row
+
+SOCIETY = "Ashby family history society"
+LONGEST = 1_048_576  # bytes of a text
+LAST = 4_294_967_295
+
+
+class Scene(NamedTuple):
+    name: str
+    asks: tuple[Ask, ...]
+
+
+def person(name: str) -> tuple[Line, ...]:
+    return (Line(0, "person"), Line(1, "name", name))
+
+
+class Filling:
+    """Rows for the program, and beside them what they make of plain lists."""
+
+    def __init__(self, society: str = SOCIETY) -> None:
+        self.tables = Tables(society)
+        self.asks: list[Ask] = [Ask(row("create", society), "")]
+
+    def ask(self, *words: object, wanted: str = "") -> None:
+        self.asks.append(Ask(row(*words), wanted))
+
+    def put(self, number: int, lines: tuple[Line, ...]) -> None:
+        self.asks.extend(given(lines))
+        self.ask("change", "put", number)
+        self.tables.put(number, lines)
+
+    def take(self, number: int) -> None:
+        self.ask("change", "take", number)
+        self.tables.take(number)
+
+    def receipt(self, token: str, byte: int, first: int, count: int) -> None:
+        self.ask("change", "put-receipt", token, byte, first, count)
+        self.tables.keep(token, byte, first, count)
+
+    def slip(self, number: int, keep: int, gone: int, changed: int, old, new=None) -> None:
+        """A slip of one changed number; the new record is what the state that was read last has there."""
+        self.asks.extend(given(old))
+        self.ask("change", "put-slip", number, keep, gone, changed)
+        self.tables.merge(number, keep, gone, changed, old, new)
+
+    def undo(self, number: int) -> None:
+        self.ask("change", "undo-slip", number)
+        self.tables.undo(number)
+
+    def write(self, after: int) -> None:
+        self.ask("change", "write", after)
+        self.tables.next = after
+
+    def read(self) -> None:
+        self.ask("read")
+        self.ask("state", "next", wanted=f"{self.tables.next}\n")
+
+    def see(self, number: int, lines: tuple[Line, ...] | None) -> None:
+        self.ask("state", "record", number, wanted=kept(lines) if lines else "none\n")
+
+    def compare(self) -> None:
+        """All tables, row by row."""
+        for table, query in QUERIES.items():
+            self.ask("query", query, wanted=self.tables.shown(table))
+
+    def scene(self, name: str) -> Scene:
+        self.compare()
+        return Scene(name, tuple(self.asks))
+
+
+def named(lines: tuple[Line, ...]) -> set[int]:
+    return {line.number for line in lines if line.number is not None}
+
+
+def all_records() -> Scene:
+    """Each record of the table of records, the persons that they name, and itself in an Other."""
+    filling = Filling()
+    others = sorted(set().union(*(named(lines) for _, lines, _ in RECORDS)) - {0})
+    for number in others:
+        filling.put(number, person(f"Ann /Lee {number}/"))
+    filling.write(LAST)
+    put = {}
+    for at, (_, lines, _) in enumerate(RECORDS):
+        if 0 not in named(lines):
+            put[1000 + at] = lines
+    put[3000] = (Line(0, "other"), Line(1, "_SELF", None, 3000), Line(2, "NOTE", "x"))
+    put[3001] = (Line(0, "person"), Line(1, "name", "it's \"Ann\" /O'Lee/\nof Ashby"))
+    put[3002] = (Line(0, "person"), Line(1, "name", "x" * LONGEST))
+    # a family is put before the persons that it names
+    put[3003] = (Line(0, "family"), Line(1, "partner", "husband", 3004))
+    put[3004] = person("Tom /Parry/")
+    for number, lines in put.items():
+        filling.put(number, lines)
+    filling.write(LAST)
+    filling.read()
+    for number, lines in put.items():
+        filling.see(number, lines)
+    filling.see(999, None)
+    return filling.scene("each kind of record, written and read")
+
+
+def one_changed() -> Scene:
+    filling = Filling()
+    for number in (1, 2, 3):
+        filling.put(number, person(f"Ann /Lee {number}/"))
+    filling.write(4)
+    filling.put(2, (*person("Ann /Parry/"), Line(1, "sex", "F")))
+    filling.write(4)
+    filling.read()
+    filling.see(2, (*person("Ann /Parry/"), Line(1, "sex", "F")))
+    filling.see(1, person("Ann /Lee 1/"))
+    return filling.scene("one record changed; the rows of the others stay")
+
+
+def taken() -> Scene:
+    filling = Filling()
+    filling.put(1, person("Ann /Lee/"))
+    filling.put(2, (Line(0, "family"), Line(1, "partner", "wife", 1)))
+    filling.put(3, person("Tom /Lee/"))
+    filling.write(4)
+    filling.take(2)
+    filling.take(1)
+    filling.write(4)
+    filling.read()
+    filling.see(1, None)
+    filling.see(2, None)
+    filling.see(3, person("Tom /Lee/"))
+    return filling.scene("a family and the person that it named, taken out together")
+
+
+def receipts() -> Scene:
+    filling = Filling("x")
+    filling.put(1, person("Ann /Lee/"))
+    filling.receipt("a~!", 7, 1, 1)
+    filling.write(2)
+    filling.receipt("b", 255, LAST, 0)
+    filling.write(LAST + 1)
+    filling.read()
+    filling.ask("state", "receipt", "a~!", wanted="07" * 32 + " 1 1\n")
+    filling.ask("state", "receipt", "b", wanted="ff" * 32 + f" {LAST} 0\n")
+    filling.ask("state", "receipt", "c", wanted="none\n")
+    filling.ask("society", wanted="=x\n")
+    filling.ask("version")
+    return filling.scene("receipts, and the greatest next number")
+
+
+def slips() -> Scene:
+    filling = Filling()
+    filling.put(1, person("Ann /Lee/"))
+    filling.put(2, person("Anne /Lee/"))
+    filling.write(3)
+    filling.read()
+    # 1 is kept and changed, 2 is gone
+    filling.slip(3, 1, 2, 1, person("Ann /Before/"), person("Ann /Lee/"))
+    filling.write(4)
+    filling.slip(4, 2, 9, 9, person("Gone /Before/"))
+    filling.write(5)
+    filling.read()
+    done = "change 1\n" + kept(person("Ann /Before/")) + "to\n" + kept(person("Ann /Lee/"))
+    filling.ask("state", "slip", 3, wanted="keep 1\ngone 2\ndone\n" + done)
+    filling.undo(3)
+    filling.write(5)
+    filling.read()
+    filling.ask("state", "slip", 3, wanted="keep 1\ngone 2\nundone\n" + done)
+    gone = "change 9\n" + kept(person("Gone /Before/")) + "to\nnone\n"
+    filling.ask("state", "slip", 4, wanted="keep 2\ngone 9\ndone\n" + gone)
+    filling.ask("state", "slip", 5, wanted="none\n")
+    return filling.scene("slips, done and undone")
+
+
+def dangling() -> Scene:
+    """A line that names no record is refused by the database, and nothing of its commit is there."""
+    filling = Filling()
+    filling.asks.extend(given((Line(0, "family"), Line(1, "partner", "husband", 7))))
+    filling.ask("change", "put", 1)
+    filling.ask("change", "write", 2, wanted="80 Storage\n")
+    filling.read()
+    filling.see(1, None)
+    return filling.scene("a line that names no record")
+
+
+MADE = Ask(row("create", SOCIETY), "")
+UNREADABLE = "40 BadStored\n"
+LINE = "INSERT INTO line (no, pos, depth, tag, text, dst) VALUES "
+ONE = "INSERT INTO record VALUES (1, 'person', 0)"
+SLIP = "INSERT INTO slip VALUES (3, 1, 2, 0)"
+SLIP_LINE = "INSERT INTO slip_line (slip, side, no, pos, depth, tag) VALUES "
+RECEIPT = "INSERT INTO receipt (token, digest, first, count) VALUES "
+DIGEST = "x'" + "07" * 32 + "'"
+
+# statements by somebody else, and what `read` answers then
+FOREIGN = (
+    ("a record without lines", (ONE,), UNREADABLE),
+    ("a first line that is deeper", (ONE, LINE + "(1, 0, 1, 'person', NULL, NULL)"), UNREADABLE),
+    ("a line of no kind", (ONE, LINE + "(1, 0, 0, 'nobody', NULL, NULL)"), UNREADABLE),
+    ("a line too deep", (ONE, LINE + "(1, 0, 0, 'person', NULL, NULL), (1, 1, 2, 'name', 'x', NULL)"), UNREADABLE),
+    ("a tag that is none", (ONE, LINE + "(1, 0, 0, 'person', NULL, NULL), (1, 1, 1, 'a b', 'x', NULL)"), UNREADABLE),
+    ("a text that is none", (ONE, LINE + "(1, 0, 0, 'person', NULL, NULL), (1, 1, 1, 'name', 'x\r', NULL)"), UNREADABLE),
+    ("a depth below 0", (ONE, LINE + "(1, 0, -1, 'person', NULL, NULL)"), UNREADABLE),
+    ("a number above the greatest", ("INSERT INTO record VALUES (4294967296, 'person', 0)",), UNREADABLE),
+    ("a number below 0", ("INSERT INTO record VALUES (-1, 'person', 0)",), UNREADABLE),
+    ("a batch number above the greatest", ("INSERT INTO batch VALUES (4294967296, 0)",), UNREADABLE),
+    ("no batch of commands", ("DELETE FROM batch",), UNREADABLE),
+    ("an open batch of commands", ("UPDATE batch SET is_open = 1",), UNREADABLE),
+    ("a next number below 0", ("UPDATE meta SET next = -1",), UNREADABLE),
+    ("no row of meta", ("DELETE FROM meta",), UNREADABLE),
+    ("two rows of meta", ("INSERT INTO meta VALUES (2, 1, 1, 'x')",), UNREADABLE),
+    ("a token that is none", (RECEIPT + f"('a b', {DIGEST}, 1, 1)",), UNREADABLE),
+    ("an empty token", (RECEIPT + f"('', {DIGEST}, 1, 1)",), UNREADABLE),
+    ("a digest of 31 bytes", (RECEIPT + "('a', x'" + "07" * 31 + "', 1, 1)",), UNREADABLE),
+    ("a first number below 0", (RECEIPT + f"('a', {DIGEST}, -1, 1)",), UNREADABLE),
+    ("a slip's new side first", (SLIP, SLIP_LINE + "(3, 1, 1, 0, 0, 'person')"), UNREADABLE),
+    ("a slip's new side of another number", (SLIP, SLIP_LINE + "(3, 0, 1, 0, 0, 'person'), (3, 1, 2, 0, 0, 'person')"), UNREADABLE),
+    ("a slip's lines of two numbers in one record", (SLIP, SLIP_LINE + "(3, 0, 1, 0, 0, 'person'), (3, 0, 2, 1, 1, 'name')"), UNREADABLE),
+    ("a slip's first line that is deeper", (SLIP, SLIP_LINE + "(3, 0, 1, 0, 1, 'person')"), UNREADABLE),
+    ("a slip's side that is neither", (SLIP, SLIP_LINE + "(3, 2, 1, 0, 0, 'person')"), UNREADABLE),
+    ("a record of an open batch", ("INSERT INTO batch VALUES (1, 1)", "INSERT INTO record VALUES (1, 'person', 1)"), ""),
+    ("a flag of 2, which is set as every number but 0 is", ("INSERT INTO batch VALUES (1, 2)", "INSERT INTO slip VALUES (3, 1, 2, 2)"), ""),
+    ("a slip of no changes", (SLIP,), ""),
+    ("two changes of one number", (SLIP, SLIP_LINE + "(3, 0, 1, 0, 0, 'person'), (3, 0, 1, 0, 0, 'repo'), (3, 1, 1, 0, 0, 'repo')"), ""),
+)
+
+# what `version` answers of a store
+VERSIONS = (
+    ("a new archive", (), MADE, ""),
+    ("a later version", ("UPDATE meta SET version = 2",), MADE, "83 NewerSchema\n"),
+    ("the greatest version", ("UPDATE meta SET version = 9223372036854775807",), MADE, "83 NewerSchema\n"),
+    ("version 0", ("UPDATE meta SET version = 0",), MADE, "82 NotAnArchive\n"),
+    ("a version below 0", ("UPDATE meta SET version = -1",), MADE, "82 NotAnArchive\n"),
+    ("no row of meta", ("DELETE FROM meta",), MADE, "82 NotAnArchive\n"),
+    ("two rows of meta", ("INSERT INTO meta VALUES (2, 1, 1, 'x')",), MADE, "82 NotAnArchive\n"),
+    ("nothing made", (), None, "82 NotAnArchive\n"),
+    ("another table", ("CREATE TABLE note (id INTEGER PRIMARY KEY)",), None, "82 NotAnArchive\n"),
+    ("a meta of other columns", ("CREATE TABLE meta (id INTEGER PRIMARY KEY)",), None, "82 NotAnArchive\n"),
+    ("a version in words", ("CREATE TABLE meta (version, next, society)", "INSERT INTO meta VALUES ('x', 1, 'a')"), None, "82 NotAnArchive\n"),
+)
+
+
+def foreign():
+    for name, statements, wanted in FOREIGN:
+        asks = (MADE, *(Ask(row("sql", s), "") for s in statements), Ask(row("read"), wanted))
+        yield Scene(f"read: {name}", asks)
+    for name, statements, made, wanted in VERSIONS:
+        asks = (*([made] if made else []), *(Ask(row("sql", s), "") for s in statements))
+        yield Scene(f"version: {name}", (*asks, Ask(row("version"), wanted)))
+
+
+def again():
+    """A second archive over the first is refused, and changes nothing."""
+    filling = Filling()
+    filling.put(1, person("Ann /Lee/"))
+    filling.write(2)
+    filling.ask("create", "Another", wanted="80 Storage\n")
+    filling.read()
+    filling.see(1, person("Ann /Lee/"))
+    return filling.scene("a second archive in the same tables")
+
+
+def scenes():
+    yield from (all_records(), one_changed(), taken(), receipts(), slips(), dangling(), again())
+    yield from foreign()
+
+
+def cases(scene: Scene):
+    """Each row of a scene as a case."""
+    for at, ask in enumerate(scene.asks):
+        yield Case(f"{scene.name}, row {at + 1}", (ask,))
