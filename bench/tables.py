@@ -1,7 +1,7 @@
 """Times rows written in one commit and read back, beside sqlite3 (C): python3 bench/tables.py [COUNT..].
 
 Of COUNT persons with a name each (10,000 and 100,000): a row of `record` and two of `line` for each, in memory, in one
-commit, and all of them read back. table_rows is timed by differences: a run that makes the records, one that writes them
+commit, and all of them read back. archive_rows is timed by differences: a run that makes the records, one that writes them
 too, and one that reads them too. The peer is the C library through Python's module `sqlite3`, with the same tables and the
 same statements, each prepared once, over a database in memory. Five runs of each in turn, of which the fastest counts.
 """
@@ -13,7 +13,7 @@ import sys
 import time
 
 ROOT = pathlib.Path(__file__).resolve().parents[1]
-PROGRAM = ROOT / "crates/table_rows/out/table_rows"
+PROGRAM = ROOT / "crates/archive_rows/out/archive_rows"
 SCHEMA = (
     "CREATE TABLE batch (no INTEGER PRIMARY KEY, is_open INTEGER NOT NULL) STRICT",
     "CREATE TABLE record (no INTEGER PRIMARY KEY, kind TEXT NOT NULL,"
@@ -29,7 +29,7 @@ SCHEMA = (
 
 def ours(count, steps):
     """Seconds of a run with so many of the steps."""
-    rows = ["create\tx", f"change\tmany\t{count}", f"change\twrite\t{count + 1}", "read"][: 2 + steps]
+    rows = ["create\tx", f"plan\tmany\t{count}", f"write\t{count + 1}", "load"][: 2 + steps]
     data = "".join(row + "\n" for row in rows).encode()
     start = time.perf_counter()
     out = subprocess.run([str(PROGRAM)], input=data, stdout=subprocess.PIPE, check=True).stdout

@@ -1,4 +1,4 @@
-"""Runs table_rows on the scenes beside this file: python3 tests/tables/run.py.
+"""Runs archive_rows on the scenes beside this file: python3 tests/tables/run.py.
 
 Each scene is a run of the program, over tables in memory that are new. One line a scene that fails, and last
 `N passed, M failed`, which counts rows; status 0 only if none failed and one passed.
@@ -17,7 +17,7 @@ import memory  # noqa: E402
 import scenes  # noqa: E402
 from asking import differences, given_to  # noqa: E402
 
-PROGRAM = HERE.parents[1] / "crates/table_rows/out/table_rows"
+PROGRAM = HERE.parents[1] / "crates/archive_rows/out/archive_rows"
 
 
 def main():

@@ -34,33 +34,33 @@ class Filling:
 
     def put(self, number: int, lines: tuple[Line, ...]) -> None:
         self.asks.extend(given(lines))
-        self.ask("change", "put", number)
+        self.ask("plan", "put", number)
         self.tables.put(number, lines)
 
     def take(self, number: int) -> None:
-        self.ask("change", "take", number)
+        self.ask("plan", "take", number)
         self.tables.take(number)
 
     def receipt(self, token: str, byte: int, first: int, count: int) -> None:
-        self.ask("change", "put-receipt", token, byte, first, count)
+        self.ask("plan", "put-receipt", token, byte, first, count)
         self.tables.keep(token, byte, first, count)
 
     def slip(self, number: int, keep: int, gone: int, changed: int, old, new=None) -> None:
         """A slip of one changed number; the new record is what the state that was read last has there."""
         self.asks.extend(given(old))
-        self.ask("change", "put-slip", number, keep, gone, changed)
+        self.ask("plan", "put-slip", number, keep, gone, changed)
         self.tables.merge(number, keep, gone, changed, old, new)
 
     def undo(self, number: int) -> None:
-        self.ask("change", "undo-slip", number)
+        self.ask("plan", "undo-slip", number)
         self.tables.undo(number)
 
     def write(self, after: int) -> None:
-        self.ask("change", "write", after)
+        self.ask("write", after)
         self.tables.next = after
 
     def read(self) -> None:
-        self.ask("read")
+        self.ask("load")
         self.ask("state", "next", wanted=f"{self.tables.next}\n")
 
     def see(self, number: int, lines: tuple[Line, ...] | None) -> None:
@@ -180,8 +180,8 @@ def dangling() -> Scene:
     """A line that names no record is refused by the database, and nothing of its commit is there."""
     filling = Filling()
     filling.asks.extend(given((Line(0, "family"), Line(1, "partner", "husband", 7))))
-    filling.ask("change", "put", 1)
-    filling.ask("change", "write", 2, wanted="80 Storage\n")
+    filling.ask("plan", "put", 1)
+    filling.ask("write", 2, wanted="80 Storage\n")
     filling.read()
     filling.see(1, None)
     return filling.scene("a line that names no record")
@@ -196,7 +196,7 @@ SLIP_LINE = "INSERT INTO slip_line (slip, side, no, pos, depth, tag) VALUES "
 RECEIPT = "INSERT INTO receipt (token, digest, first, count) VALUES "
 DIGEST = "x'" + "07" * 32 + "'"
 
-# statements by somebody else, and what `read` answers then
+# statements by somebody else, and what `load` answers then
 FOREIGN = (
     ("a record without lines", (ONE,), UNREADABLE),
     ("a first line that is deeper", (ONE, LINE + "(1, 0, 1, 'person', NULL, NULL)"), UNREADABLE),
@@ -246,7 +246,7 @@ VERSIONS = (
 
 def foreign():
     for name, statements, wanted in FOREIGN:
-        asks = (MADE, *(Ask(row("sql", s), "") for s in statements), Ask(row("read"), wanted))
+        asks = (MADE, *(Ask(row("sql", s), "") for s in statements), Ask(row("load"), wanted))
         yield Scene(f"read: {name}", asks)
     for name, statements, made, wanted in VERSIONS:
         asks = (*([made] if made else []), *(Ask(row("sql", s), "") for s in statements))

@@ -6,5 +6,5 @@ mod Keeping
 mod Room
 mod Said
 mod SaidPaths
-mod Serving
+pub mod Serving
 mod Undo

@@ -252,7 +252,8 @@ fn with_fields(
     if let Some(date) = date {
         event.date = Some(date);
     }
-    event.place = or_kept_place(alloc, place, event.place);
+    let old = event.place.take();
+    event.place = or_kept_place(alloc, place, old);
     event
 }
 
@@ -263,11 +264,17 @@ fn or_kept_place(alloc: Global, place: Option<u32>, old: Option<EventPlace>) -> 
     match (place, old) {
         (None, old) => old,
         (Some(place), None) => plain_place(alloc, Some(place)),
-        (Some(place), Some(old)) => Some(EventPlace {
-            place,
-            carried: old.carried,
-        }),
+        (Some(place), Some(old)) => Some(at_place(old, place)),
     }
+}
+
+/// Another place, with the same carried lines.
+fn at_place(old: EventPlace, place: u32) -> EventPlace
+    ensures { result ≡ record old { place = place } }
+{
+    let mut at = old;
+    at.place = place;
+    at
 }
 
 /// Adds a participant behind the others.

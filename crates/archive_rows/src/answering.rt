@@ -3,13 +3,17 @@
 use crate::asking::{ask, ask_state, question_of};
 use crate::changing::change;
 use crate::lines::say_of_lines;
+use crate::planning::{plan, write_planned};
 use crate::printed::{say_refusal, say_refusals, say_report};
 use crate::reading::say_read;
-use crate::session::Session;
+use crate::session::{Session, push};
+use crate::tables::{run, show};
 use crate::values::{say_copied, say_value};
-use records::RefusalKind;
-use row_words::{Answer, line_of, word, words_of};
-use std::alloc::{AllocError, Global};
+use records::{RefusalKind, Text};
+use row_words::{Answer, line_of, text, word, words_of};
+use std::alloc::Global;
+use store_rows::read_state;
+use store_tables::{check_version, create, society};
 
 /// The answer to a row. A row that is refused is answered with its refusal alone.
 pub(crate) fn answer_to(alloc: Global, session: &mut Session, row: &str) -> Answer {
@@ -47,11 +51,6 @@ fn answer(
     answered
 }
 
-/// Adds an item.
-fn push<T: Drop>(items: &mut Vec<T>, item: T) -> Result<(), AllocError> {
-    Ok(items.push(item)?)
-}
-
 fn answer_asked(
     alloc: Global,
     session: &mut Session,
@@ -62,6 +61,9 @@ fn answer_asked(
         "state" | "view" | "shown" => answer_question(alloc, session, words, out),
         "change" => change(alloc, session, words, out),
         "read" => say_read(alloc, &session.lines, word(words, 1), out),
+        "plan" => plan(alloc, session, words),
+        "write" => write_planned(alloc, session, words),
+        "create" | "load" | "society" | "version" => answer_tables(alloc, session, words, out),
         _ => answer_plain(alloc, session, words, out),
     }
 }
@@ -84,7 +86,7 @@ fn answer_question(
 /// Answers what is asked of no record.
 fn answer_plain(
     alloc: Global,
-    session: &Session,
+    session: &mut Session,
     words: &[String],
     out: &mut Answer,
 ) -> Result<(), RefusalKind> {
@@ -103,6 +105,52 @@ fn answer_plain(
             say_report(words, out);
             Ok(())
         }
+        "sql" => {
+            run(&mut session.conn, word(words, 1), out);
+            Ok(())
+        }
+        "query" => {
+            show(&mut session.conn, word(words, 1), out);
+            Ok(())
+        }
         kind => Ok(say_value(alloc, kind, word(words, 1), out)?),
+    }
+}
+
+/// Answers what is asked of the tables as an archive. 80: a row `sql` has begun a transaction.
+fn answer_tables(
+    alloc: Global,
+    session: &mut Session,
+    words: &[String],
+    out: &mut Answer,
+) -> Result<(), RefusalKind> {
+    if !session.conn.is_autocommit() {
+        return Err(RefusalKind::Storage);
+    }
+    match word(words, 0) {
+        "create" => make(alloc, session, word(words, 1)),
+        "load" => {
+            session.state = read_state(alloc, &mut session.conn)?;
+            Ok(())
+        }
+        "society" => say_society(society(alloc, &mut session.conn), out),
+        _ => check_version(&mut session.conn),
+    }
+}
+
+fn say_society(found: Result<Text, RefusalKind>, out: &mut Answer) -> Result<(), RefusalKind> {
+    out.say_words("", found?.as_str());
+    Ok(())
+}
+
+/// Makes the tables of a new archive of a society.
+fn make(alloc: Global, session: &mut Session, name: &str) -> Result<(), RefusalKind> {
+    let name = text(alloc, name)?;
+    if !session.conn.is_autocommit() {
+        return Err(RefusalKind::Storage);
+    }
+    match create(&mut session.conn, &name) {
+        Ok(()) => Ok(()),
+        Err(_) => Err(RefusalKind::Storage),
     }
 }

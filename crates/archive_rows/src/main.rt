@@ -1,5 +1,5 @@
-//! Answers each row of standard input: values made of words, stored lines read as records, and a state that is
-//! changed and asked. A tool of the tests, no part of the product.
+//! Answers each row of standard input: values made of words, stored lines read as records, a state that is changed and
+//! asked, and the tables of an archive in memory. A tool of the tests, no part of the product.
 #![tactic(auto)]
 
 mod answering;
@@ -7,9 +7,11 @@ mod asking;
 mod changing;
 mod fields;
 mod lines;
+mod planning;
 mod printed;
 mod reading;
 mod session;
+mod tables;
 mod values;
 
 use crate::answering::answer_to;
@@ -17,7 +19,7 @@ use crate::session::Session;
 use std::io::{self, BufRead, BufReader, BufWriter, Write};
 
 fn main(rt: HostRuntime) -> io::Result<()> {
-    let mut session = Session::new(rt.alloc());
+    let mut session = Session::new(rt.alloc())?;
     let served = serve(&rt, &mut session);
     drop(session);
     served

@@ -1,26 +1,36 @@
-use archive_state::State;
+//! What the rows before have left.
+
+use archive_state::{Answer, Changes, State};
 use archive_view::Shown;
 use records::StoredLine;
-use std::alloc::Global;
+use sqlite::{Connection, MemStore};
+use std::alloc::{AllocError, Global};
 use std::mem;
 
 /// What rows change.
 #[derive(Drop)]
 pub(crate) struct Session {
+    /// The tables of an archive.
+    pub(crate) conn: Connection<MemStore>,
     /// The lines that were given since the last row that is no line.
     pub(crate) lines: Vec<StoredLine>,
+    /// What rows change one by one, or what was read last of the tables.
     pub(crate) state: State,
     /// The state that was shown last.
     pub(crate) shown: Shown,
+    /// What the next row `write` writes to the tables.
+    pub(crate) planned: Changes,
 }
 
 impl Session {
-    pub(crate) fn new(alloc: Global) -> Session {
-        Session {
+    pub(crate) fn new(alloc: Global) -> Result<Session, AllocError> {
+        Ok(Session {
+            conn: Connection::open_in_memory(alloc)?,
             lines: Vec::new(alloc),
             state: State::new(alloc),
             shown: Shown::of_masked(alloc, State::new(alloc)),
-        }
+            planned: nothing(alloc),
+        })
     }
 
     /// Shows the state; a new one takes its place.
@@ -28,4 +38,21 @@ impl Session {
         let state = mem::replace(&mut self.state, State::new(alloc));
         self.shown = Shown::of_masked(alloc, state);
     }
+}
+
+/// No changes.
+pub(crate) fn nothing(alloc: Global) -> Changes {
+    Changes {
+        puts: Vec::new(alloc),
+        removals: Vec::new(alloc),
+        next: 0,
+        answer: Answer { first: 0, count: 0 },
+        kept: None,
+        slip: None,
+    }
+}
+
+/// Adds an item.
+pub(crate) fn push<T: Drop>(items: &mut Vec<T>, item: T) -> Result<(), AllocError> {
+    Ok(items.push(item)?)
 }

@@ -6,7 +6,6 @@ use std::marker::Model;
 use stored_lines::Carried;
 
 /// Where in a source something stands.
-#[derive(Drop)]
 pub struct Citation {
     /// The number of the person, family or event that it speaks of.
     pub owner: u32,
@@ -15,6 +14,19 @@ pub struct Citation {
     pub page: Option<Text>,
     pub quality: Option<Quality>,
     pub carried: Vec<Carried>,
+}
+
+// It is written out, so that no crate above proves again how each part is dropped.
+impl Drop for Citation {
+    fn drop(self) {
+        let Citation {
+            owner: _,
+            source: _,
+            page: _,
+            quality: _,
+            carried: _,
+        } = self;
+    }
 }
 
 impl Model for Citation {

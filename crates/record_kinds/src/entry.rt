@@ -5,11 +5,20 @@ use record_text::Text;
 use std::marker::Model;
 
 /// Which person a mention is of, and why.
-#[derive(Drop)]
 pub struct Link {
     /// The number of the person.
     pub person: u32,
     pub reason: Text,
+}
+
+// It is written out, so that no crate above proves again how each part is dropped.
+impl Drop for Link {
+    fn drop(self) {
+        let Link {
+            person: _,
+            reason: _,
+        } = self;
+    }
 }
 
 impl Model for Link {
@@ -24,12 +33,22 @@ impl Model for Link {
 }
 
 /// Who is named in an entry, and as what.
-#[derive(Drop)]
 pub struct Mention {
     pub role: Role,
     /// The name as it stands in the entry.
     pub name: Text,
     pub link: Option<Link>,
+}
+
+// It is written out, so that no crate above proves again how each part is dropped.
+impl Drop for Mention {
+    fn drop(self) {
+        let Mention {
+            role: _,
+            name: _,
+            link: _,
+        } = self;
+    }
 }
 
 impl Model for Mention {
@@ -44,7 +63,6 @@ impl Model for Mention {
 }
 
 /// An entry of a register of baptisms, marriages or burials.
-#[derive(Drop)]
 pub struct Entry {
     /// The number of the source, which is the register.
     pub source: u32,
@@ -58,6 +76,22 @@ pub struct Entry {
     pub text: Text,
     /// In the order in which they are named.
     pub mentions: Vec<Mention>,
+}
+
+// It is written out, so that no crate above proves again how each part is dropped.
+impl Drop for Entry {
+    fn drop(self) {
+        let Entry {
+            source: _,
+            kind: _,
+            page: _,
+            item: _,
+            date: _,
+            place: _,
+            text: _,
+            mentions: _,
+        } = self;
+    }
 }
 
 impl Model for Entry {

@@ -6,12 +6,21 @@ use std::marker::Model;
 use stored_lines::Carried;
 
 /// The place of an event.
-#[derive(Drop)]
 pub struct EventPlace {
     /// The number of the place.
     pub place: u32,
     /// The carried lines of the line that names the place.
     pub carried: Vec<Carried>,
+}
+
+// It is written out, so that no crate above proves again how each part is dropped.
+impl Drop for EventPlace {
+    fn drop(self) {
+        let EventPlace {
+            place: _,
+            carried: _,
+        } = self;
+    }
 }
 
 impl Model for EventPlace {
@@ -27,13 +36,23 @@ impl Model for EventPlace {
 }
 
 /// Who took part in an event, beside its owner.
-#[derive(Drop)]
 pub struct Participant {
     /// The number of the person.
     pub person: u32,
     /// As what; empty where it is not said.
     pub role: Text,
     pub carried: Vec<Carried>,
+}
+
+// It is written out, so that no crate above proves again how each part is dropped.
+impl Drop for Participant {
+    fn drop(self) {
+        let Participant {
+            person: _,
+            role: _,
+            carried: _,
+        } = self;
+    }
 }
 
 impl Model for Participant {
@@ -49,7 +68,6 @@ impl Model for Participant {
 }
 
 /// An event of a person or a family.
-#[derive(Drop)]
 pub struct Event {
     /// The number of the person or family.
     pub owner: u32,
@@ -61,6 +79,21 @@ pub struct Event {
     pub place: Option<EventPlace>,
     pub participants: Vec<Participant>,
     pub carried: Vec<Carried>,
+}
+
+// It is written out, so that no crate above proves again how each part is dropped.
+impl Drop for Event {
+    fn drop(self) {
+        let Event {
+            owner: _,
+            tag: _,
+            value: _,
+            date: _,
+            place: _,
+            participants: _,
+            carried: _,
+        } = self;
+    }
 }
 
 impl Model for Event {

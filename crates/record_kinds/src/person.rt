@@ -6,11 +6,20 @@ use std::marker::Model;
 use stored_lines::Carried;
 
 /// A name of a person.
-#[derive(Drop)]
 pub struct Name {
     /// The name, its surname between slashes.
     pub text: Text,
     pub carried: Vec<Carried>,
+}
+
+// It is written out, so that no crate above proves again how each part is dropped.
+impl Drop for Name {
+    fn drop(self) {
+        let Name {
+            text: _,
+            carried: _,
+        } = self;
+    }
 }
 
 impl Model for Name {
@@ -26,11 +35,21 @@ impl Model for Name {
 }
 
 /// A person. The families of a person stand in these families.
-#[derive(Drop)]
 pub struct Person {
     pub names: Vec<Name>,
     pub sex: Option<Sex>,
     pub carried: Vec<Carried>,
+}
+
+// It is written out, so that no crate above proves again how each part is dropped.
+impl Drop for Person {
+    fn drop(self) {
+        let Person {
+            names: _,
+            sex: _,
+            carried: _,
+        } = self;
+    }
 }
 
 impl Model for Person {

@@ -5,10 +5,19 @@ use std::marker::Model;
 use stored_lines::Carried;
 
 /// A repository.
-#[derive(Drop)]
 pub struct Repo {
     pub name: Option<Text>,
     pub carried: Vec<Carried>,
+}
+
+// It is written out, so that no crate above proves again how each part is dropped.
+impl Drop for Repo {
+    fn drop(self) {
+        let Repo {
+            name: _,
+            carried: _,
+        } = self;
+    }
 }
 
 impl Model for Repo {
@@ -24,12 +33,22 @@ impl Model for Repo {
 }
 
 /// Where a source is kept.
-#[derive(Drop)]
 pub struct Holding {
     /// The number of the repository.
     pub repo: u32,
     pub call_number: Option<Text>,
     pub carried: Vec<Carried>,
+}
+
+// It is written out, so that no crate above proves again how each part is dropped.
+impl Drop for Holding {
+    fn drop(self) {
+        let Holding {
+            repo: _,
+            call_number: _,
+            carried: _,
+        } = self;
+    }
 }
 
 impl Model for Holding {
@@ -45,13 +64,25 @@ impl Model for Holding {
 }
 
 /// A source.
-#[derive(Drop)]
 pub struct Source {
     pub title: Option<Text>,
     pub author: Option<Text>,
     pub publisher: Option<Text>,
     pub holdings: Vec<Holding>,
     pub carried: Vec<Carried>,
+}
+
+// It is written out, so that no crate above proves again how each part is dropped.
+impl Drop for Source {
+    fn drop(self) {
+        let Source {
+            title: _,
+            author: _,
+            publisher: _,
+            holdings: _,
+            carried: _,
+        } = self;
+    }
 }
 
 impl Model for Source {

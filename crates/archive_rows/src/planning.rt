@@ -1,42 +1,44 @@
-//! Rows that ask for changes, and the one that writes them.
+//! Rows that take note of changes of the tables, and the one that writes them.
 
-use crate::session::{Planned, Session, push};
+use crate::session::{Session, nothing, push};
 use crate::tables::write;
-use archive_state::{Answer as Made, Changes, Kept, Numbered, SlipChange};
+use archive_state::{Changes, Kept, Numbered, SlipChange};
 use records::{Name, Person, Record, RefusalKind, Text, record_of};
 use row_words::{number, receipt_of, slip_of, text, token_of, word};
-use std::alloc::Global;
+use std::alloc::{AllocError, Global};
 use std::mem;
 
-/// Takes note of the change that the row asks for, or writes those that were noted.
-pub(crate) fn change(
+/// Takes note of the change that the row asks for.
+pub(crate) fn plan(
     alloc: Global,
     session: &mut Session,
     words: &[String],
 ) -> Result<(), RefusalKind> {
     let at = number(words, 2);
     match word(words, 1) {
-        "put" => put(alloc, session, at),
+        "put" => plan_put(alloc, session, at),
         "take" => Ok(push(&mut session.planned.removals, at)?),
-        "put-receipt" => put_receipt(alloc, &mut session.planned, words),
-        "put-slip" => put_slip(alloc, session, words),
+        "put-receipt" => plan_receipt(alloc, &mut session.planned, words),
+        "put-slip" => plan_slip(alloc, session, words),
         "undo-slip" => {
             session.planned.slip = Some(SlipChange::Undone(at));
             Ok(())
         }
-        "many" => put_many(alloc, &mut session.planned, at),
-        _ => write_planned(alloc, session, word(words, 2).parse::<u64>().unwrap_or(0)),
+        _ => plan_many(alloc, &mut session.planned, at),
     }
 }
 
 /// The record that is kept as the lines.
-fn put(alloc: Global, session: &mut Session, at: u32) -> Result<(), RefusalKind> {
+fn plan_put(alloc: Global, session: &mut Session, at: u32) -> Result<(), RefusalKind> {
     let record = record_of(alloc, &session.lines)?;
-    let put = Numbered { number: at, record };
-    Ok(push(&mut session.planned.puts, put)?)
+    Ok(push_put(&mut session.planned, at, record)?)
 }
 
-fn put_receipt(alloc: Global, planned: &mut Planned, words: &[String]) -> Result<(), RefusalKind> {
+fn push_put(planned: &mut Changes, number: u32, record: Record) -> Result<(), AllocError> {
+    push(&mut planned.puts, Numbered { number, record })
+}
+
+fn plan_receipt(alloc: Global, planned: &mut Changes, words: &[String]) -> Result<(), RefusalKind> {
     let token = token_of(alloc, word(words, 2))?;
     let receipt = receipt_of(words);
     planned.kept = Some(Kept { token, receipt });
@@ -44,24 +46,25 @@ fn put_receipt(alloc: Global, planned: &mut Planned, words: &[String]) -> Result
 }
 
 /// A slip of one changed record: from the lines to what the state that was read last has at its number.
-fn put_slip(alloc: Global, session: &mut Session, words: &[String]) -> Result<(), RefusalKind> {
+fn plan_slip(alloc: Global, session: &mut Session, words: &[String]) -> Result<(), RefusalKind> {
     let slip = slip_of(alloc, &session.state, &session.lines, words)?;
     session.planned.slip = Some(SlipChange::Made(number(words, 2), slip));
     Ok(())
 }
 
 /// Persons with the numbers from 1 to that one, each with a name.
-fn put_many(alloc: Global, planned: &mut Planned, last: u32) -> Result<(), RefusalKind> {
+fn plan_many(alloc: Global, planned: &mut Changes, last: u32) -> Result<(), RefusalKind> {
     for number in 1..=last {
-        let record = Record::Person(person(alloc, number)?);
-        push(&mut planned.puts, Numbered { number, record })?;
+        let person = person(alloc, named(alloc, number)?)?;
+        push_put(planned, number, Record::Person(person))?;
     }
     Ok(())
 }
 
-fn person(alloc: Global, number: u32) -> Result<Person, RefusalKind> {
+/// A person of one name.
+fn person(alloc: Global, text: Text) -> Result<Person, AllocError> {
     let name = Name {
-        text: named(alloc, number)?,
+        text,
         carried: Vec::new(alloc),
     };
     let mut names = Vec::new(alloc);
@@ -83,16 +86,13 @@ fn named(alloc: Global, number: u32) -> Result<Text, RefusalKind> {
 }
 
 /// Writes what was noted, with the next number, in one commit. What was noted is gone then, written or not.
-fn write_planned(alloc: Global, session: &mut Session, next: u64) -> Result<(), RefusalKind> {
-    let planned = mem::replace(&mut session.planned, Planned::nothing(alloc));
-    let changes = Changes {
-        puts: planned.puts,
-        removals: planned.removals,
-        next,
-        answer: Made { first: 0, count: 0 },
-        kept: planned.kept,
-        slip: planned.slip,
-    };
+pub(crate) fn write_planned(
+    alloc: Global,
+    session: &mut Session,
+    words: &[String],
+) -> Result<(), RefusalKind> {
+    let mut changes = mem::replace(&mut session.planned, nothing(alloc));
+    changes.next = word(words, 1).parse::<u64>().unwrap_or(0);
     let written = write(alloc, &mut session.conn, &changes);
     drop(changes);
     written
