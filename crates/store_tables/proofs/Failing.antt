@@ -16,7 +16,7 @@ use Rattle.sqlite.proofs.Callers.{IsPlain}
 use Rattle.store_tables.specs.Telling.{tells_no_archive}
 use Rattle.store_tables.specs.Schema.{archive_schema}
 
-by_store : (cause : StoreError) (e : Error) → e ≡ store_error cause → tells_no_archive e ≡ false
+pub by_store : (cause : StoreError) (e : Error) → e ≡ store_error cause → tells_no_archive e ≡ false
 by_store OutOfMemory e is = ap tells_no_archive is
 by_store Io e is = ap tells_no_archive is
 by_store Corrupt e is = ap tells_no_archive is

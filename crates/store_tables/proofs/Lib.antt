@@ -5,9 +5,10 @@ mod Created
 mod Failing
 mod Finding
 pub mod Loops
-mod Queries
+mod Preparing
+pub mod Queries
 mod ReadingRows
-mod Reopening
+pub mod Reopening
 mod Statements
 mod Texts
 mod Typed

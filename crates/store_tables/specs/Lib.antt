@@ -2,6 +2,7 @@ pub mod Calls
 pub mod Conversion
 pub mod Creating
 pub mod Looking
+pub mod Prepared
 pub mod Reading
 pub mod Rows
 pub mod Schema

@@ -1,12 +1,14 @@
 -- What a call that only reads answers of settled tables, and what it leaves.
-use Rattle.std.specs.Prelude.{◌≡◌, ◌⊎◌, ◌<◌, ℕ, pos, List, [], ◌∷◌, codes, Result, IfOk, IfErr}
+use Rattle.std.specs.Prelude.{◌≡◌, ◌⊎◌, ◌<◌, ℕ, pos, Bool, true, false, List, [], ◌∷◌, codes, Result, IfOk, IfErr, ⊤}
+use Rattle.sqlite.specs.declared.error.Error.{Error}
 use Rattle.sqlite.specs.declared.types.Value.TheVariants.{Int}
 use Rattle.sqlite.specs.Order.{Row}
-use Rattle.sqlite.specs.State.{State, HasCleanDisk, Shown}
+use Rattle.sqlite.specs.State.{State, HasCleanDisk, Shown, FailsToQuery}
 use Rattle.record_text.specs.declared.refusal.RefusalKind.{RefusalKind}
-use Rattle.record_text.specs.declared.refusal.RefusalKind.TheVariants.{OutOfMemory, Storage}
+use Rattle.record_text.specs.declared.refusal.RefusalKind.TheVariants.{OutOfMemory, Storage, NewerSchema, NotAnArchive}
 use Rattle.store_tables.specs.Calls.{Settled, LeavesOnly}
 use Rattle.store_tables.specs.Rows.{Rows}
+use Rattle.store_tables.specs.Telling.{tells_no_archive}
 
 -- memory was refused, or the database failed
 abbrev pub IsFailure : RefusalKind → Type 0
@@ -35,3 +37,26 @@ ShowsVersion version old new = (rows : List Row) × Shown meta_query [] old new 
 
 abbrev pub IsLater : (ℕ → Type 0) → Type 0
 IsLater Is = (version : ℕ) × (1 < version) × Is version
+
+-- neither this version nor a later one
+abbrev pub HasNoVersion : List Row → Type 0
+HasNoVersion rows = ¬ HasVersion 1 rows × ¬ IsLater (λ version. HasVersion version rows)
+
+-- why the rows of `meta` are refused
+abbrev pub IsRefusedRows : List Row → RefusalKind → Type 0
+IsRefusedRows rows OutOfMemory = ⊤
+IsRefusedRows rows NewerSchema = IsLater (λ version. HasVersion version rows)
+IsRefusedRows rows NotAnArchive = HasNoVersion rows
+IsRefusedRows rows _ = ⊥
+
+-- the query fails, and whether a table or a column is missing
+abbrev pub FailsLacking : Bool → State → State → Type 0
+FailsLacking lacking old new = (e : Error) × FailsToQuery meta_query [] old new e × (tells_no_archive e ≡ lacking)
+
+-- why a store is refused
+abbrev pub IsRefusedStore : State → State → RefusalKind → Type 0
+IsRefusedStore old new OutOfMemory = ⊤
+IsRefusedStore old new Storage = FailsLacking false old new
+IsRefusedStore old new NewerSchema = IsLater (λ version. ShowsVersion version old new)
+IsRefusedStore old new NotAnArchive = FailsLacking true old new ⊎ ((rows : List Row) × Shown meta_query [] old new rows × HasNoVersion rows)
+IsRefusedStore old new _ = ⊥

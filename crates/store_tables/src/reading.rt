@@ -5,7 +5,7 @@ ghost use Rattle.std.specs.List.{AllByRecursion};
 ghost use Rattle.sqlite.specs.declared.types.Value.{Value};
 ghost use Rattle.sqlite.specs.Held.{state};
 ghost use Rattle.sqlite.specs.Listing.{understood};
-ghost use Rattle.sqlite.specs.State.{HasCleanDisk, Shown};
+ghost use Rattle.sqlite.specs.State.{HasCleanDisk, Shown, FailsToQuery};
 ghost use Rattle.sqlite.proofs.Callers.{IsPlain};
 ghost use Rattle.store_tables.specs.Calls.{Settled, LeavesOnly};
 ghost use Rattle.store_tables.specs.Conversion.{EachWith, read_meta};
@@ -23,6 +23,21 @@ use std::alloc::Global;
 
 /// The query of the one row of `meta`.
 pub(crate) const SELECT_META: &str = "SELECT version, next, society FROM meta";
+
+// The queries of the other tables, in the order of their keys.
+pub(crate) const SELECT_BATCHES: &str = "SELECT no, is_open FROM batch ORDER BY no";
+
+pub(crate) const SELECT_RECORDS: &str = "SELECT no, batch FROM record ORDER BY no";
+
+pub(crate) const SELECT_LINES: &str = "SELECT no, depth, tag, text, dst FROM line ORDER BY id";
+
+pub(crate) const SELECT_RECEIPTS: &str =
+    "SELECT token, digest, first, count FROM receipt ORDER BY id";
+
+pub(crate) const SELECT_SLIPS: &str = "SELECT no, keep, gone, undone FROM slip ORDER BY no";
+
+pub(crate) const SELECT_SLIP_LINES: &str =
+    "SELECT slip, side, no, depth, tag, text, dst FROM slip_line ORDER BY id";
 
 /// All rows of an archive. `OutOfMemory`: memory was refused. `Storage`: the database failed. `BadStored`: somebody
 /// else wrote the tables.
@@ -117,7 +132,7 @@ fn read_batches<S: Alter>(
     ensures looks { Looks (λ rows items. items.items ≡ rows.batches) (state S.Store conn.old) (state S.Store conn.new) result }
     ensures ended { conn.new.in_transaction ≡ false }
 {
-    read_all(alloc, conn, "SELECT no, is_open FROM batch ORDER BY no")
+    read_all(alloc, conn, SELECT_BATCHES)
 }
 
 fn read_records<S: Alter>(
@@ -128,7 +143,7 @@ fn read_records<S: Alter>(
     ensures looks { Looks (λ rows items. items.items ≡ map read_record rows.records) (state S.Store conn.old) (state S.Store conn.new) result }
     ensures ended { conn.new.in_transaction ≡ false }
 {
-    read_all(alloc, conn, "SELECT no, batch FROM record ORDER BY no")
+    read_all(alloc, conn, SELECT_RECORDS)
 }
 
 fn read_lines<S: Alter>(
@@ -139,11 +154,7 @@ fn read_lines<S: Alter>(
     ensures looks { Looks (λ rows items. items.items ≡ map read_line rows.lines) (state S.Store conn.old) (state S.Store conn.new) result }
     ensures ended { conn.new.in_transaction ≡ false }
 {
-    read_all(
-        alloc,
-        conn,
-        "SELECT no, depth, tag, text, dst FROM line ORDER BY id",
-    )
+    read_all(alloc, conn, SELECT_LINES)
 }
 
 fn read_receipts<S: Alter>(
@@ -154,11 +165,7 @@ fn read_receipts<S: Alter>(
     ensures looks { Looks (λ rows items. items.items ≡ map read_receipt rows.receipts) (state S.Store conn.old) (state S.Store conn.new) result }
     ensures ended { conn.new.in_transaction ≡ false }
 {
-    read_all(
-        alloc,
-        conn,
-        "SELECT token, digest, first, count FROM receipt ORDER BY id",
-    )
+    read_all(alloc, conn, SELECT_RECEIPTS)
 }
 
 fn read_slips<S: Alter>(
@@ -169,11 +176,7 @@ fn read_slips<S: Alter>(
     ensures looks { Looks (λ rows items. items.items ≡ rows.slips) (state S.Store conn.old) (state S.Store conn.new) result }
     ensures ended { conn.new.in_transaction ≡ false }
 {
-    read_all(
-        alloc,
-        conn,
-        "SELECT no, keep, gone, undone FROM slip ORDER BY no",
-    )
+    read_all(alloc, conn, SELECT_SLIPS)
 }
 
 fn read_slip_lines<S: Alter>(
@@ -184,11 +187,7 @@ fn read_slip_lines<S: Alter>(
     ensures looks { Looks (λ rows items. items.items ≡ map read_slip_line rows.slip_lines) (state S.Store conn.old) (state S.Store conn.new) result }
     ensures ended { conn.new.in_transaction ≡ false }
 {
-    read_all(
-        alloc,
-        conn,
-        "SELECT slip, side, no, depth, tag, text, dst FROM slip_line ORDER BY id",
-    )
+    read_all(alloc, conn, SELECT_SLIP_LINES)
 }
 
 /// All that a plain query shows, with the program's types.
@@ -220,6 +219,7 @@ pub(crate) fn ask<S: Alter>(conn: &mut Connection<S>, sql: &str) -> Result<Vec<R
     requires plain { IsPlain (understood archive_schema sql.now) }
     ensures shown { HasCleanDisk (state S.Store conn.new) → IfOk result (λ rows. Shown sql.now [] (state S.Store conn.old) (state S.Store conn.new) rows.items) }
     ensures same { HasCleanDisk (state S.Store conn.new) → IfOk result (λ _. (rows : Rows) → Settled (state S.Store conn.old) rows → Settled (state S.Store conn.new) rows) }
+    ensures failed { HasCleanDisk (state S.Store conn.new) → IfErr result (λ e. FailsToQuery sql.now [] (state S.Store conn.old) (state S.Store conn.new) e) }
     ensures known { HasCleanDisk (state S.Store conn.new) → IfErr result (λ e. (rows : Rows) → Settled (state S.Store conn.old) rows → tells_no_archive e ≡ false) }
     ensures crash { HasCleanDisk (state S.Store conn.new) → (rows : Rows) → Settled (state S.Store conn.old) rows → LeavesOnly (state S.Store conn.new) rows }
     ensures clean { HasCleanDisk (state S.Store conn.new) → HasCleanDisk (state S.Store conn.old) }

@@ -1,15 +1,19 @@
 //! Whether a store is an archive of this program.
 
-ghost use Rattle.std.specs.Prelude.{◌≡◌, ◌≢◌, [], ◌∷◌, ⊤, false, IfErr, OnOk};
+ghost use Rattle.std.specs.Prelude.{◌≡◌, ◌≢◌, [], ◌∷◌, ⊤, true, false, IfErr, OnOk};
 ghost use Rattle.sqlite.specs.Held.{state};
 ghost use Rattle.sqlite.specs.State.{HasCleanDisk};
 ghost use Rattle.record_text.specs.declared.refusal.RefusalKind.TheVariants as refusal;
-ghost use Rattle.store_tables.specs.Looking.{Looks, HasVersion, ShowsVersion, IsLater};
+ghost use Rattle.store_tables.specs.Looking.{Looks, HasVersion, ShowsVersion, IsLater, IsRefusedRows, IsRefusedStore};
+ghost use Rattle.store_tables.specs.Prepared.{PreparesAll, all_queries, history_queries, record_queries};
 ghost use Rattle.store_tables.specs.Rows.{Rows};
 ghost use Rattle.store_tables.specs.Shown.{shown_meta};
 ghost use Rattle.store_tables.specs.Telling.{tells_no_archive};
 
-use crate::reading::{SELECT_META, ask};
+use crate::reading::{
+    SELECT_BATCHES, SELECT_LINES, SELECT_META, SELECT_RECEIPTS, SELECT_RECORDS, SELECT_SLIP_LINES,
+    SELECT_SLIPS, ask,
+};
 use record_text::RefusalKind;
 use sqlite::{Alter, Connection, Error, ErrorCode, Row};
 use sqlite_resolve::CompileError;
@@ -17,14 +21,15 @@ use sqlite_resolve::CompileError;
 /// The version of the tables that this program writes.
 const VERSION: u64 = 1;
 
-/// Whether the store is an archive of the version that this program writes. `NotAnArchive`: its table `meta` is
-/// missing, or is another. `NewerSchema`: a later program wrote it. `OutOfMemory`: memory was refused. `Storage`:
-/// the database failed.
+/// Whether the store is an archive of the version that this program writes. `NotAnArchive`: its table `meta` or a
+/// column of it is missing, or it shows neither this version nor a later one. `NewerSchema`: a later program wrote
+/// it. `OutOfMemory`: memory was refused. `Storage`: the database failed.
 pub fn check_version<S: Alter>(conn: &mut Connection<S>) -> Result<(), RefusalKind>
     requires autocommit { conn.old.in_transaction ≡ false }
     ensures looks { Looks (λ _ _. ⊤) (state S.Store conn.old) (state S.Store conn.new) result }
     ensures version { HasCleanDisk (state S.Store conn.new) → OnOk result (ShowsVersion 1 (state S.Store conn.old) (state S.Store conn.new)) }
     ensures newer { HasCleanDisk (state S.Store conn.new) → IfErr result (λ kind. kind ≡ refusal.NewerSchema → IsLater (λ v. ShowsVersion v (state S.Store conn.old) (state S.Store conn.new))) }
+    ensures told { HasCleanDisk (state S.Store conn.new) → IfErr result (IsRefusedStore (state S.Store conn.old) (state S.Store conn.new)) }
     ensures ended { conn.new.in_transaction ≡ false }
 {
     match ask(conn, SELECT_META) {
@@ -37,6 +42,7 @@ pub fn check_version<S: Alter>(conn: &mut Connection<S>) -> Result<(), RefusalKi
 fn version_of(rows: &[Row]) -> Result<(), RefusalKind>
     ensures version { OnOk result (HasVersion 1 rows.now) }
     ensures newer { IfErr result (λ kind. kind ≡ refusal.NewerSchema → IsLater (λ v. HasVersion v rows.now)) }
+    ensures told { IfErr result (IsRefusedRows rows.now) }
     ensures known { IfErr result (λ kind. (r : Rows) → rows.now ≡ shown_meta r ∷ [] → kind ≡ refusal.OutOfMemory) }
 {
     let [row] = rows else {
@@ -50,9 +56,63 @@ fn version_of(rows: &[Row]) -> Result<(), RefusalKind>
     }
 }
 
-/// What an error of the query says of the store.
+/// Whether the store has the tables of an archive, each with the columns that are read. `NotAnArchive`: one is
+/// missing. `Storage`: the database failed.
+pub fn check_tables<S: Alter>(conn: &mut Connection<S>) -> Result<(), RefusalKind>
+    requires autocommit { conn.old.in_transaction ≡ false }
+    ensures looks { Looks (λ _ _. ⊤) (state S.Store conn.old) (state S.Store conn.new) result }
+    ensures told { PreparesAll all_queries (state S.Store conn.old) (state S.Store conn.new) result }
+    ensures ended { conn.new.in_transaction ≡ false }
+{
+    prepare_all(conn)
+}
+
+fn prepare_all<S: Alter>(conn: &mut Connection<S>) -> Result<(), RefusalKind>
+    requires autocommit { conn.old.in_transaction ≡ false }
+    ensures told { PreparesAll all_queries (state S.Store conn.old) (state S.Store conn.new) result }
+    ensures ended { conn.new.in_transaction ≡ false }
+{
+    prepare(conn, SELECT_META)?;
+    prepare_records(conn)?;
+    prepare_history(conn)
+}
+
+fn prepare_records<S: Alter>(conn: &mut Connection<S>) -> Result<(), RefusalKind>
+    requires autocommit { conn.old.in_transaction ≡ false }
+    ensures told { PreparesAll record_queries (state S.Store conn.old) (state S.Store conn.new) result }
+    ensures ended { conn.new.in_transaction ≡ false }
+{
+    prepare(conn, SELECT_BATCHES)?;
+    prepare(conn, SELECT_RECORDS)?;
+    prepare(conn, SELECT_LINES)
+}
+
+fn prepare_history<S: Alter>(conn: &mut Connection<S>) -> Result<(), RefusalKind>
+    requires autocommit { conn.old.in_transaction ≡ false }
+    ensures told { PreparesAll history_queries (state S.Store conn.old) (state S.Store conn.new) result }
+    ensures ended { conn.new.in_transaction ≡ false }
+{
+    prepare(conn, SELECT_RECEIPTS)?;
+    prepare(conn, SELECT_SLIPS)?;
+    prepare(conn, SELECT_SLIP_LINES)
+}
+
+/// Whether a query can be prepared.
+fn prepare<S: Alter>(conn: &mut Connection<S>, sql: &str) -> Result<(), RefusalKind>
+    requires autocommit { conn.old.in_transaction ≡ false }
+    ensures told { PreparesAll (sql.now ∷ []) (state S.Store conn.old) (state S.Store conn.new) result }
+    ensures ended { conn.new.in_transaction ≡ false }
+{
+    match conn.prepare(sql) {
+        Ok(_) => Ok(()),
+        Err(error) => Err(refusal_of(&error)),
+    }
+}
+
+/// What an error of a query says of the store.
 fn refusal_of(error: &Error) -> RefusalKind
     ensures known { tells_no_archive error.now ≡ false → result ≡ refusal.Storage }
+    ensures told { tells_no_archive error.now ≡ true → result ≡ refusal.NotAnArchive }
     ensures named { result ≢ refusal.NewerSchema }
 {
     match error {

@@ -1,7 +1,12 @@
-use Rattle.std.proofs.Common.{◌≡◌, inl, List, [], ◌∷◌, Result, Ok, Err, IfOk, sym, ◌∙◌}
+use Rattle.std.proofs.Common.{◌≡◌, inl, inr, List, [], ◌∷◌, Result, Ok, Err, IfOk, sym, subst, ◌∙◌}
+use Rattle.std.proofs.lemmas.Bool.{cases_Bool}
+use Rattle.sqlite.specs.State.{State, Shown}
+use Rattle.record_text.specs.declared.refusal.RefusalKind.{RefusalKind}
+use Rattle.record_text.specs.declared.refusal.RefusalKind.TheVariants.{OutOfMemory, NewerSchema, NotAnArchive}
+use Rattle.store_tables.specs.Telling.{tells_no_archive}
 use Rattle.sqlite.specs.Held.{state}
 use Rattle.sqlite.specs.Order.{Row}
-use Rattle.store_tables.specs.Looking.{Looks}
+use Rattle.store_tables.specs.Looking.{Looks, meta_query, IsRefusedRows, IsRefusedStore}
 use Rattle.store_tables.specs.Shown.{shown_meta}
 use Rattle.store_tables.proofs.Calls.{if_err, on_ok}
 use Rattle.store_tables.proofs.Queries.{reads_meta}
@@ -38,3 +43,26 @@ pub returns-in-Ok-clause-newer : goal.returns-in-Ok-clause-newer
 returns-in-Ok-clause-newer g c clean =
     if_err c.version_of.result
     (λ kind later is. let v = later is in (v.0, v.1, (c.in-Ok.rows.items, c.in-Ok.ensures.shown clean, (v.2.0, sym c.deref.ensures.value ∙ v.2.1)))) c.version_of.ensures.newer
+
+-- a store is refused for what its rows are refused for
+refused_rows : (old new : State) (rows : List Row) (kind : RefusalKind) → Shown meta_query [] old new rows → IsRefusedRows rows kind → IsRefusedStore old new kind
+refused_rows old new rows OutOfMemory shown why = tt
+refused_rows old new rows NewerSchema shown why = (why.0, why.1, (rows, shown, why.2))
+refused_rows old new rows NotAnArchive shown why = inr (rows, shown, why)
+refused_rows old new rows _ shown why = absurd why
+
+pub returns-in-Ok-clause-told : goal.returns-in-Ok-clause-told
+returns-in-Ok-clause-told g c clean =
+    let old = state g.S.Store c.args.conn.now in
+    let new = state g.S.Store c.ask.new.conn in
+    if_err c.version_of.result (λ kind why. refused_rows old new c.in-Ok.rows.items kind (c.in-Ok.ensures.shown clean) (subst (λ rows. IsRefusedRows rows kind) c.deref.ensures.value why)) c.version_of.ensures.told
+
+pub returns-in-Err-clause-told : goal.returns-in-Err-clause-told
+returns-in-Err-clause-told g c clean =
+    let old = state g.S.Store c.args.conn.now in
+    let new = state g.S.Store c.ask.new.conn in
+    let fails = c.in-Err.ensures.failed clean in
+    elim (cases_Bool (tells_no_archive c.in-Err.error)) [
+      | inl lacks ↦ subst (IsRefusedStore old new) (sym (c.refusal_of.ensures.told lacks)) (inl (c.in-Err.error, fails, lacks))
+      | inr has ↦ subst (IsRefusedStore old new) (sym (c.refusal_of.ensures.known has)) (c.in-Err.error, fails, has)
+    ]

@@ -1,0 +1,50 @@
+-- Whether a store has the tables of an archive: the queries that read them are prepared, one after the other.
+use Rattle.std.specs.Prelude.{◌≡◌, true, false, List, [], ◌∷◌, ◌++◌, ℕ, codes, Ok, Err, Result, OnOk, IfErr}
+use Rattle.std.specs.List.{AllByRecursion}
+use Rattle.sqlite.specs.declared.error.Error.{Error}
+use Rattle.sqlite.specs.Listing.{understood}
+use Rattle.sqlite.specs.Schema.{Schema}
+use Rattle.sqlite.specs.State.{State, HasCleanDisk, IsNotRun, IsUnchanged, Survives}
+use Rattle.sqlite_resolve.specs.declared.compiled.Compiled.{Compiled}
+use Rattle.sqlite_resolve.specs.declared.error.CompileError.{CompileError}
+use Rattle.sqlite_rules.specs.Lists.{Has}
+use Rattle.record_text.specs.declared.refusal.RefusalKind.{RefusalKind}
+use Rattle.record_text.specs.declared.refusal.RefusalKind.TheVariants.{Storage, NotAnArchive}
+use Rattle.store_tables.specs.Looking.{meta_query}
+use Rattle.store_tables.specs.Telling.{lacks, tells_no_archive}
+
+abbrev pub record_queries : List (List ℕ)
+record_queries = codes "SELECT no, is_open FROM batch ORDER BY no" ∷ codes "SELECT no, batch FROM record ORDER BY no" ∷ codes "SELECT no, depth, tag, text, dst FROM line ORDER BY id" ∷ []
+
+abbrev pub history_queries : List (List ℕ)
+history_queries =
+    codes "SELECT token, digest, first, count FROM receipt ORDER BY id" ∷ codes "SELECT no, keep, gone, undone FROM slip ORDER BY no" ∷ codes "SELECT slip, side, no, depth, tag, text, dst FROM slip_line ORDER BY id" ∷ []
+
+-- the queries that read the tables
+abbrev pub all_queries : List (List ℕ)
+all_queries = meta_query ∷ record_queries ++ history_queries
+
+-- the schema has all that the text names
+abbrev pub IsUnderstood : Schema → List ℕ → Type 0
+IsUnderstood schema sql = (c : Compiled) × (understood schema sql ≡ Ok c)
+
+-- it has not: a table or a column is missing
+abbrev pub NamesMissing : Schema → List ℕ → Type 0
+NamesMissing schema sql = (fault : CompileError) × (understood schema sql ≡ Err fault) × (lacks fault ≡ true)
+
+-- the text cannot be prepared for another reason
+abbrev pub FailsOtherwise : State → State → List ℕ → Type 0
+FailsOtherwise old new sql = (e : Error) × IsNotRun old new sql [] e × (tells_no_archive e ≡ false)
+
+-- why the tables of a store are refused
+abbrev pub IsRefusedTables : List (List ℕ) → State → State → RefusalKind → Type 0
+IsRefusedTables queries old new Storage = (sql : List ℕ) × Has queries sql × FailsOtherwise old new sql
+IsRefusedTables queries old new NotAnArchive = (sql : List ℕ) × Has queries sql × NamesMissing old.now.schema sql
+IsRefusedTables queries old new _ = ⊥
+
+-- each query is understood, or the tables are refused; nothing is changed
+pub record PreparesAll {A : Type 0} (queries : List (List ℕ)) (old new : State) (result : Result A RefusalKind) : Type 0 where
+  pub same : HasCleanDisk new → OnOk result (IsUnchanged old new)
+  pub told : HasCleanDisk new → OnOk result (AllByRecursion (IsUnderstood old.now.schema) queries)
+  pub refused : HasCleanDisk new → IfErr result (IsRefusedTables queries old new)
+  pub survives : Survives old new (λ _. ⊥)
