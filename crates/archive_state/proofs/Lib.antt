@@ -4,4 +4,4 @@ mod Lowest
 mod Maps
 pub mod Putting
 mod Climbing
-mod Soundness
+pub mod Soundness

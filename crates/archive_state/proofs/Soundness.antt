@@ -9,7 +9,7 @@ use Rattle.archive_state.specs.Sound.{IsSound, HasSoundRecords}
 use Rattle.archive_state.proofs.Climbing.{stands_there}
 
 -- nothing stands in an empty map
-none_there : {X : Type 0} (n : ℕ) (x : X) → get (empty {X = X} {R = nat_cmp}) n ≡ Some x → ⊥
+pub none_there : {X : Type 0} (n : ℕ) (x : X) → get (empty {X = X} {R = nat_cmp}) n ≡ Some x → ⊥
 none_there {X} n x e = let no : get (empty {X = X} {R = nat_cmp}) n ≡ None = get-empty nat_cmp n in cc
 
 pub no_records_are_sound : (next : ℕ) → HasSoundRecords next empty

@@ -1,13 +1,13 @@
-mod Got
+pub mod Got
 pub mod Meaning
 pub mod OneContent
 mod Own
 mod Puts
 pub mod SidesParted
 pub mod SidesRead
-mod Slips
+pub mod Slips
 pub mod StateMeant
 pub mod StateRecords
 pub mod StateSlips
-mod Staying
+pub mod Staying
 mod Written

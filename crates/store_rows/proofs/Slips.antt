@@ -115,7 +115,7 @@ changes_elsewhere : (m slip : ℕ) (cs : List Change) (rows : Rows) → slip ≢
 changes_elsewhere m slip [] rows off = refl
 changes_elsewhere m slip (c ∷ cs) rows off = changes_elsewhere m slip cs (with_change slip c rows) off ∙ change_elsewhere m slip c rows off
 
-changes_only : (slip : ℕ) (cs : List Change) (rows : Rows) → with_slip_changes slip cs rows ≡ record rows { slip_lines = (with_slip_changes slip cs rows).slip_lines }
+pub changes_only : (slip : ℕ) (cs : List Change) (rows : Rows) → with_slip_changes slip cs rows ≡ record rows { slip_lines = (with_slip_changes slip cs rows).slip_lines }
 changes_only slip [] rows = refl
 changes_only slip (c ∷ cs) rows =
     let after : Rows = with_change slip c rows in

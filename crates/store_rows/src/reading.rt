@@ -30,6 +30,7 @@ pub fn read_state<S: Alter>(alloc: Global, conn: &mut Connection<S>) -> Result<S
         → IsFailure kind ⊎ ((kind ≡ BadStored) × ¬ (AreReadable rows))) }
     ensures crash { HasCleanDisk (state S.Store conn.new)
         → (rows : Rows) → Settled (state S.Store conn.old) rows → LeavesOnly (state S.Store conn.new) rows }
+    ensures clean { HasCleanDisk (state S.Store conn.new) → HasCleanDisk (state S.Store conn.old) }
     ensures ended { conn.new.in_transaction ≡ false }
 {
     let read = read_rows(alloc, conn)?;

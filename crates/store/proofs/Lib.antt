@@ -1,0 +1,6 @@
+mod Committed
+pub mod Histories
+mod Looked
+mod Opened
+mod Running
+mod Unchanged

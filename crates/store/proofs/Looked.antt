@@ -1,0 +1,63 @@
+-- Calls that read, from what the layers below say of rows.
+use Rattle.std.proofs.Common.{◌≡◌, ◌⊎◌, inl, inr, ℕ, Bool, true, false, List, Result, Ok, Err, refl, sym, ap, ◌∙◌, subst, true≢false}
+use Rattle.std.specs.FinMap.{get-empty}
+use Rattle.std.specs.Ordering.{nat_cmp}
+use Rattle.sqlite.specs.State.{HasCleanDisk, State}
+use Rattle.sqlite.specs.Tree.{Trees}
+use Rattle.record_text.specs.declared.refusal.RefusalKind.{RefusalKind}
+use Rattle.record_text.specs.declared.refusal.RefusalKind.TheVariants.{Storage}
+use Rattle.archive_state.specs.Content.{Content, nothing}
+use Rattle.archive_state.proofs.Soundness.{none_there, nothing_is_sound}
+use Rattle.store_tables.specs.Calls.{LeavesOnly, Settled}
+use Rattle.store_tables.specs.Looking.{IsFailure}
+use Rattle.store_tables.specs.Rows.{Rows, nothing_yet}
+use Rattle.store_rows.specs.Meaning.{AllShallow, IsRecordAt, IsSlipAt, Means}
+use Rattle.store.specs.Archives.{HasArchive, Keeps}
+use Rattle.store.specs.Calls.{Reads}
+use Rattle.store.specs.Histories.{has_broken, is_storage}
+
+storage_is : (k : RefusalKind) → is_storage k ≡ true → k ≡ Storage
+storage_is Storage e = refl
+storage_is _ e = absurd (true≢false (sym e))
+
+pub ok_reads : {A : Type 0} (Is : List ℕ → Content → A → Type 0) (old new : State) (a : A) → ((rows : Rows) (society : List ℕ) (c : Content) → Settled old rows → Keeps society c rows → Is society c a)
+    → ((rows : Rows) → Settled old rows → Settled new rows) → ((rows : Rows) → Settled old rows → LeavesOnly new rows) → HasCleanDisk old → Reads Is old (Ok a) new
+ok_reads Is old new a is same leaves clean = record {
+  read = λ society c has. is has.0 society c has.1 has.2;
+  refused = tt;
+  same = λ sure society c has. (has.0, same has.0 has.1, has.2);
+  crash = λ society c has t l. (c, refl, (has.0, leaves has.0 has.1 t l, has.2));
+  clean = clean;
+}
+
+fails_as : (b : Bool) (kind result : RefusalKind) → is_storage result ≡ b → (b ≡ false → result ≡ kind) → IsFailure kind → IsFailure result
+fails_as true kind result e same failure = inr (storage_is result e)
+fails_as false kind result e same failure = subst IsFailure (sym (same refl)) failure
+
+-- where the connection was asked afterwards whether it answers still
+pub err_reads : {A : Type 0} (Is : List ℕ → Content → A → Type 0) (old mid new : State) (kind result : RefusalKind) → ((society : List ℕ) (c : Content) → HasArchive society c old → IsFailure kind)
+    → ((rows : Rows) → Settled old rows → LeavesOnly mid rows) → HasCleanDisk old → (is_storage result ≡ false → (rows : Rows) → LeavesOnly mid rows → Settled new rows)
+    → (is_storage result ≡ false → result ≡ kind) → ((t : Trees) → new.may_leave t → mid.may_leave t) → Reads Is old (Err result) new
+err_reads Is old mid new kind result failure leaves clean settled same left = record {
+  read = tt;
+  refused = λ society c has. fails_as (is_storage result) kind result refl same (failure society c has);
+  same = λ sure society c has. (has.0, settled sure has.0 (leaves has.0 has.1), has.2);
+  crash = λ society c has t l. (c, refl, (has.0, leaves has.0 has.1 t (left t l), has.2));
+  clean = clean;
+}
+
+-- ---- a new archive
+new_means : (society : List ℕ) → Means (nothing_yet society) nothing
+new_means society = record {
+  batch = refl;
+  records = λ n. subst (IsRecordAt (nothing_yet society) n) (sym (get-empty nat_cmp n)) refl;
+  next = refl;
+  receipts = refl;
+  slips = λ n. subst (IsSlipAt (nothing_yet society) n) (sym (get-empty nat_cmp n)) refl;
+}
+
+new_shallow : AllShallow nothing
+new_shallow = record { records = λ n x e. absurd (none_there n x e); slips = λ n x e. absurd (none_there n x e) }
+
+pub new_keeps : (society : List ℕ) → Keeps society nothing (nothing_yet society)
+new_keeps society = record { means = new_means society; shallow = new_shallow; sound = nothing_is_sound; society_is = refl }

@@ -1,0 +1,126 @@
+-- What exact changes leave: the rows of every number at which the same is found before and after, and the society.
+use Rattle.std.proofs.Common.{◌≡◌, ◌≢◌, ℕ, Bool, true, false, List, [], ◌∷◌, map, cond, Option, None, Some, refl, sym, ap, ◌∙◌, subst, ◌<◌, arith}
+use Rattle.std.specs.Prelude.{◌==◌, ◌||◌}
+use Rattle.std.specs.List.{list_any}
+use Rattle.std.specs.FinMap.{get, insert, remove}
+use Rattle.archive_state.specs.Applied.{applied, with_puts, without}
+use Rattle.archive_state.specs.Changes.{Changes}
+use Rattle.archive_state.specs.Content.{Content, Records}
+use Rattle.archive_state.specs.Sound.{Ascends, EachOf, IsSound}
+use Rattle.archive_state.specs.declared.changes.Kept.{Kept}
+use Rattle.archive_state.specs.declared.changes.Numbered.{Numbered}
+use Rattle.archive_state.specs.declared.changes.SlipChange.{SlipChange}
+use Rattle.archive_state.specs.declared.changes.SlipChange.TheVariants as change
+use Rattle.archive_core.specs.Exact.{ChangesNothing, IsExact, put_numbers}
+use Rattle.store_tables.specs.Rows.{Rows}
+use Rattle.store_rows.specs.Writing.{with_changes, with_kept_written, with_puts_written, with_slip_written, without_records}
+use Rattle.store_rows.proofs.Got.{got_put, got_removed}
+use Rattle.store_rows.proofs.Meaning.{puts_only, removed_only}
+use Rattle.store_rows.proofs.Slips.{changes_only}
+use Rattle.store_rows.proofs.Staying.{others_stay}
+use Rattle.store.specs.Calls.{KeepsRows}
+
+each_both : {A : Type 0} (P Q R : A → Type 0) → ((x : A) → P x → Q x → R x) → (xs : List A) → EachOf P xs → EachOf Q xs → EachOf R xs
+each_both P Q R f [] p q = tt
+each_both P Q R f (x ∷ xs) p q = (f x p.0 q.0, each_both P Q R f xs p.1 q.1)
+
+each_true : {A : Type 0} (P : A → Type 0) → ((x : A) → P x) → (xs : List A) → EachOf P xs
+each_true P f [] = tt
+each_true P f (x ∷ xs) = (f x, each_true P f xs)
+
+-- ---- equal numbers
+same_number : (a b : ℕ) → a ≡ b → (a == b) ≡ true
+same_number a b e = grind (arith, e)
+
+other_number : (a b : ℕ) → (a == b) ≡ false → a ≢ b
+other_number a b e same = grind (arith, e, same)
+
+number_differs : (a b : ℕ) → a ≢ b → (a == b) ≡ false
+number_differs a b h = grind (arith, h)
+
+-- ---- what a map has after removals
+left_at : (ns : List ℕ) (m : Records) (n : ℕ) → EachOf (λ k. k ≢ n) ns → get (without m ns) n ≡ get m n
+left_at [] m n others = refl
+left_at (k ∷ ns) m n others =
+    left_at ns (remove m k) n others.1 ∙ got_removed m k n ∙ ap (λ b. cond b None (get m n)) (number_differs k n others.0)
+
+none_stays : (ns : List ℕ) (m : Records) (n : ℕ) → get m n ≡ None → get (without m ns) n ≡ None
+none_stays [] m n none = none
+none_stays (k ∷ ns) m n none =
+    none_stays ns (remove m k) n (got_removed m k n ∙ (elim (k == n) as (λ b. cond b None (get m n) ≡ None) [ true ↦ refl | false ↦ none ]))
+
+gone : (ns : List ℕ) (m : Records) → EachOf (λ n. get (without m ns) n ≡ None) ns
+gone [] m = tt
+gone (n ∷ ns) m = (none_stays ns (remove m n) n (got_removed m n n ∙ ap (λ b. cond b None (get m n)) (same_number n n refl)), gone ns (remove m n))
+
+-- ---- what a map has after puts of ascending numbers
+put_elsewhere : (ps : List Numbered) (m : Records) (n : ℕ) → EachOf (λ k. n < k) (map (λ (p : Numbered). p.number) ps) → get (with_puts m ps) n ≡ get m n
+put_elsewhere [] m n above = refl
+put_elsewhere (p ∷ ps) m n above =
+    let differs : p.number ≢ n = λ e. omega (arith, above.0, e) in
+    put_elsewhere ps (insert m p.number p.«record») n above.1
+    ∙ got_put m p.number p.«record» n ∙ ap (λ b. cond b (Some p.«record») (get m n)) (number_differs p.number n differs)
+
+each_put : (ps : List Numbered) (m : Records) → Ascends (map (λ (p : Numbered). p.number) ps) → EachOf (λ (p : Numbered). get (with_puts m ps) p.number ≡ Some p.«record») ps
+each_put [] m ascends = tt
+each_put (p ∷ ps) m ascends = (
+  put_elsewhere ps (insert m p.number p.«record») p.number ascends.0 ∙ got_put m p.number p.«record» p.number
+      ∙ ap (λ b. cond b (Some p.«record») (get m p.number)) (same_number p.number p.number refl),
+  each_put ps (insert m p.number p.«record») ascends.1,
+)
+
+-- ---- numbers that are put and numbers that are taken out
+or_parts : (a b : Bool) → (a || b) ≡ false → (a ≡ false) × (b ≡ false)
+or_parts false b e = (refl, e)
+or_parts true b e = absurd cc
+
+apart_one : (k : ℕ) (ps : List Numbered) → list_any (λ m. m == k) (map (λ (p : Numbered). p.number) ps) ≡ false → EachOf (λ (p : Numbered). k ≢ p.number) ps
+apart_one k [] e = tt
+apart_one k (p ∷ ps) e =
+    let parts = or_parts (p.number == k) (list_any (λ m. m == k) (map (λ (q : Numbered). q.number) ps)) e in
+    ((λ same. other_number p.number k parts.0 (sym same)), apart_one k ps parts.1)
+
+apart_all : (ks : List ℕ) (ps : List Numbered) → EachOf (λ k. list_any (λ m. m == k) (map (λ (p : Numbered). p.number) ps) ≡ false) ks
+    → EachOf (λ (p : Numbered). EachOf (λ k. k ≢ p.number) ks) ps
+apart_all [] ps apart = each_true (λ (p : Numbered). EachOf (λ k. k ≢ p.number) []) (λ p. tt) ps
+apart_all (k ∷ ks) ps apart =
+    each_both (λ (p : Numbered). k ≢ p.number) (λ (p : Numbered). EachOf (λ j. j ≢ p.number) ks) (λ (p : Numbered). EachOf (λ j. j ≢ p.number) (k ∷ ks))
+    (λ p here there. (here, there)) ps (apart_one k ps apart.0) (apart_all ks ps apart.1)
+
+-- ---- the rows of numbers at which nothing changes
+module _ (c : Content) (changes : Changes) (exact : IsExact c changes) where
+  put_there : EachOf (λ (p : Numbered). get (applied c changes).records p.number ≡ Some p.«record») changes.puts
+  put_there =
+      each_both (λ (p : Numbered). get (with_puts c.records changes.puts) p.number ≡ Some p.«record») (λ (p : Numbered). EachOf (λ k. k ≢ p.number) changes.removals)
+      (λ (p : Numbered). get (applied c changes).records p.number ≡ Some p.«record»)
+      (λ p here others. left_at changes.removals (with_puts c.records changes.puts) p.number others ∙ here)
+      changes.puts (each_put changes.puts c.records exact.puts) (apart_all changes.removals changes.puts exact.apart)
+
+  pub rows_stay : (rows : Rows) → IsSound c → KeepsRows c (applied c changes) rows (with_changes changes rows)
+  rows_stay rows sound m same =
+      others_stay changes rows m
+      (each_both (λ (p : Numbered). get c.records p.number ≢ Some p.«record») (λ (p : Numbered). get (applied c changes).records p.number ≡ Some p.«record») (λ (p : Numbered). p.number ≢ m)
+      (λ p new there e. new (ap (get c.records) e ∙ same ∙ ap (get (applied c changes).records) (sym e) ∙ there)) changes.puts (exact.new sound) put_there)
+      (each_both (λ n. get c.records n ≢ None) (λ n. get (applied c changes).records n ≡ None) (λ n. n ≢ m)
+      (λ n there none e. there (ap (get c.records) e ∙ same ∙ ap (get (applied c changes).records) (sym e) ∙ none)) changes.removals exact.there
+      (gone changes.removals (with_puts c.records changes.puts)))
+
+-- nothing changes
+pub applies_nothing : (c : Content) (changes : Changes) → ChangesNothing c changes → applied c changes ≡ c
+applies_nothing c changes h = rw (h.puts, h.removals, h.next, h.kept, h.slip) refl
+
+-- ---- the society
+kept_society : (kept : Option Kept) (rows : Rows) → (with_kept_written kept rows).society ≡ rows.society
+kept_society None rows = refl
+kept_society (Some kept) rows = refl
+
+slip_society : (slip : Option SlipChange) (rows : Rows) → (with_slip_written slip rows).society ≡ rows.society
+slip_society None rows = refl
+slip_society (Some (change.Made n slip)) rows = ap (λ (r : Rows). r.society) (changes_only n slip.changes _)
+slip_society (Some (change.Undone n)) rows = refl
+
+pub society_stays : (changes : Changes) (rows : Rows) → (with_changes changes rows).society ≡ rows.society
+society_stays changes rows =
+    let put = with_puts_written changes.puts rows in
+    slip_society changes.slip _ ∙ kept_society changes.kept _
+    ∙ ap (λ (r : Rows). r.society) (removed_only changes.removals put) ∙ ap (λ (r : Rows). r.society) (puts_only changes.puts rows)

@@ -1,0 +1,4 @@
+use Rattle.store.proofs.committing.commit_changes.Goals as goal
+
+pub returns-in-Err-clause-undone : goal.returns-in-Err-clause-undone
+returns-in-Err-clause-undone g c clean sure rows was = c.in-Err.ensures.undone clean rows was

@@ -1,0 +1,5 @@
+pub mod Archives
+pub mod Calls
+pub mod Creating
+pub mod Histories
+pub mod Lives

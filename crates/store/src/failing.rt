@@ -1,0 +1,34 @@
+//! Which refusals say that the database failed.
+
+ghost use Rattle.std.specs.Prelude.{◌≡◌};
+ghost use Rattle.store.specs.Histories as history;
+
+use archive_state::Answer;
+use record_text::{Refusal, RefusalKind};
+
+/// Whether a refusal says that the database failed.
+pub(crate) fn is_storage(kind: RefusalKind) -> bool
+    ensures { result ≡ history.is_storage kind }
+{
+    matches!(kind, RefusalKind::Storage)
+}
+
+/// Whether a request was refused because the database failed.
+pub(crate) fn has_failed(outcome: &Result<Answer, Refusal>) -> bool
+    ensures { result ≡ history.has_failed outcome.now }
+{
+    match outcome {
+        Ok(_) => false,
+        Err(refusal) => is_storage(refusal.kind),
+    }
+}
+
+/// Whether a call that reads was refused because the database failed.
+pub(crate) fn has_broken<T>(read: &Result<T, RefusalKind>) -> bool
+    ensures { result ≡ history.has_broken read.now }
+{
+    match read {
+        Ok(_) => false,
+        Err(kind) => is_storage(*kind),
+    }
+}

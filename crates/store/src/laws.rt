@@ -1,0 +1,31 @@
+//! What holds of an archive over all runs and all stops.
+
+ghost use Rattle.std.specs.Prelude.{◌≡◌, ◌⊎◌, ℕ, List, ◌++◌, None, Some, Ok};
+ghost use Rattle.std.specs.List.{Any};
+ghost use Rattle.sqlite.specs.Held.{Held, state};
+ghost use Rattle.sqlite.specs.Tree.{Trees};
+ghost use Rattle.archive_state.specs.Content.{Content};
+ghost use Rattle.archive_core.specs.Machine.{Does, Done, Runs};
+ghost use Rattle.archive_core.specs.declared.request.Request.{Request};
+ghost use Rattle.receipts.specs.declared.answer.Answer.{Answer};
+ghost use Rattle.store.specs.Archives.{IsArchive};
+ghost use Rattle.store.specs.Calls.{Performs};
+ghost use Rattle.store.specs.Histories.{in_doubt};
+ghost use Rattle.store.specs.Lives.{CountInAll, Life};
+
+use sqlite::Alter;
+
+/// However often an archive is opened, used and stopped, within a call or between two: what is found in the end is a good archive
+/// of the same society, and it holds what a run of the machine makes of the first archive by all requests that were answered, in
+/// their order, and of each session perhaps the one request that was in doubt when it was stopped.
+pub fn a_stop_loses_nothing<S: Alter>()
+    ensures { (before after : Trees) (calls : List Done) (more : List (List Done)) (society : List ℕ) (c : Content)
+        → Life S.Store before calls more after → IsArchive society c before
+        → (found : Content) × (dones : List Done) × IsArchive society found after × CountInAll calls more dones × Runs c dones found }
+{}
+
+/// Calls that follow each other do what one call of all their requests does.
+pub fn calls_follow_each_other<S: Alter>()
+    ensures { (old between new : Held S) (first rest : List Done) → Performs (state S.Store old) first (state S.Store between) → in_doubt first ≡ None
+        → Performs (state S.Store between) rest (state S.Store new) → Performs (state S.Store old) (first ++ rest) (state S.Store new) }
+{}

@@ -1,0 +1,13 @@
+//! A society's archive in one SQLite file: made, opened, asked and changed by requests, each in one commit before it is answered.
+#![tactic(auto)]
+
+mod archive;
+mod committing;
+mod deciding;
+mod failing;
+pub mod laws;
+mod opening;
+mod performing;
+mod reading;
+
+pub use archive::Archive;

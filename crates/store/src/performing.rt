@@ -1,0 +1,118 @@
+//! One request, done in one commit before it is answered.
+
+ghost use Rattle.std.specs.Prelude.{◌≡◌, ◌≢◌, ◌⊎◌, [], ◌∷◌, false, None, Err, IfOk, IfErr, OnOk};
+ghost use Rattle.std.specs.FinMap.{get};
+ghost use Rattle.sqlite.specs.State.{HasCleanDisk, Survives};
+ghost use Rattle.sqlite.specs.Held.{state};
+ghost use Rattle.record_text.specs.declared.refusal.RefusalKind.TheVariants.{OutOfMemory, Storage};
+ghost use Rattle.archive_state.specs.Applied.{applied};
+ghost use Rattle.archive_state.specs.Content.{Content};
+ghost use Rattle.archive_core.specs.Machine.{Does};
+ghost use Rattle.store_tables.specs.Calls.{LeavesOnly, Settled};
+ghost use Rattle.store_tables.specs.Rows.{Rows};
+ghost use Rattle.store_rows.specs.Meaning.{AllShallow};
+ghost use Rattle.store_rows.specs.Writing.{with_changes};
+ghost use Rattle.store.specs.Histories.{is_storage};
+ghost use Rattle.store.specs.Calls.{Acknowledges, LeavesDoneOrNot, LeavesEither, OnArchive, Performs};
+
+use crate::committing::commit_changes;
+use crate::deciding::decide_on;
+use crate::failing::is_storage;
+use archive_core::Request;
+use archive_state::{Answer, Changes};
+use record_text::{Refusal, RefusalKind};
+use sqlite::{Alter, Connection};
+use std::alloc::Global;
+use store_tables::connection::still_answers;
+
+/// Does a request on an archive. After any refusal but 80 the archive is as it was.
+pub(crate) fn perform_on<S: Alter>(
+    alloc: Global,
+    conn: &mut Connection<S>,
+    request: &Request,
+) -> Result<Answer, Refusal>
+    requires autocommit { conn.old.in_transaction ≡ false }
+    ensures performs { HasCleanDisk (state S.Store conn.new)
+        → Performs (state S.Store conn.old) ((«request».now, result) ∷ []) (state S.Store conn.new) }
+    ensures acknowledged { HasCleanDisk (state S.Store conn.new)
+        → IfOk result (λ answer. Acknowledges (state S.Store conn.old) «request».now answer (state S.Store conn.new)) }
+    ensures repeated { HasCleanDisk (state S.Store conn.new) → OnArchive (state S.Store conn.old) (λ society c rows.
+        get c.receipts «request».now.token ≢ None → LeavesOnly (state S.Store conn.new) rows) }
+    ensures ended { conn.new.in_transaction ≡ false }
+{
+    match try_request(alloc, conn, request) {
+        Ok(answer) => Ok(answer),
+        Err(refusal) => Err(refusal_after(conn, refusal)),
+    }
+}
+
+/// The refusal of a request: 80 where the connection answers no more.
+fn refusal_after<S: Alter>(conn: &mut Connection<S>, refusal: Refusal) -> Refusal
+    requires autocommit { conn.old.in_transaction ≡ false }
+    ensures settled { HasCleanDisk (state S.Store conn.new) → is_storage result.kind ≡ false → (rows : Rows) → LeavesOnly (state S.Store conn.old) rows → Settled (state S.Store conn.new) rows }
+    ensures same { is_storage result.kind ≡ false → result ≡ refusal }
+    ensures survives { Survives (state S.Store conn.old) (state S.Store conn.new) (λ _. ⊥) }
+    ensures ended { conn.new.in_transaction ≡ false }
+{
+    if !is_storage(refusal.kind) && still_answers(conn) {
+        refusal
+    } else {
+        RefusalKind::Storage.into()
+    }
+}
+
+/// The same, before it is known whether the connection still answers.
+fn try_request<S: Alter>(
+    alloc: Global,
+    conn: &mut Connection<S>,
+    request: &Request,
+) -> Result<Answer, Refusal>
+    requires autocommit { conn.old.in_transaction ≡ false }
+    ensures acknowledged { HasCleanDisk (state S.Store conn.new)
+        → IfOk result (λ answer. Acknowledges (state S.Store conn.old) «request».now answer (state S.Store conn.new)) }
+    ensures refused { HasCleanDisk (state S.Store conn.new) → IfErr result (λ e. is_storage e.kind ≡ false → OnArchive (state S.Store conn.old) (λ society c rows.
+        Does c «request».now (Err e) c × LeavesOnly (state S.Store conn.new) rows)) }
+    ensures crash { HasCleanDisk (state S.Store conn.new) → IfErr result (λ e. OnArchive (state S.Store conn.old) (λ society c rows.
+        LeavesDoneOrNot (state S.Store conn.new) society c rows «request».now)) }
+    ensures repeated { HasCleanDisk (state S.Store conn.new) → OnArchive (state S.Store conn.old) (λ society c rows.
+        get c.receipts «request».now.token ≢ None → LeavesOnly (state S.Store conn.new) rows) }
+    ensures clean { HasCleanDisk (state S.Store conn.new) → HasCleanDisk (state S.Store conn.old) }
+    ensures ended { conn.new.in_transaction ≡ false }
+{
+    match decide_on(alloc, conn, request) {
+        Ok(changes) => {
+            let answer = changes.answer;
+            match make_changes(alloc, conn, changes) {
+                Ok(()) => Ok(answer),
+                Err(kind) => Err(Refusal { kind, at: None }),
+            }
+        }
+        Err(refusal) => Err(refusal),
+    }
+}
+
+/// Makes the changes that were decided. Where the answer was kept before there are none, and nothing is written.
+fn make_changes<S: Alter>(
+    alloc: Global,
+    conn: &mut Connection<S>,
+    changes: Changes,
+) -> Result<(), RefusalKind>
+    requires autocommit { conn.old.in_transaction ≡ false }
+    ensures again { changes.kept ≡ None → conn.new ≡ conn.old }
+    ensures kept { IfErr result (λ _. changes.kept ≢ None) }
+    ensures made { changes.kept ≢ None → HasCleanDisk (state S.Store conn.new)
+        → OnOk result ((rows : Rows) → Settled (state S.Store conn.old) rows → Settled (state S.Store conn.new) (with_changes changes rows)) }
+    ensures shallow { changes.kept ≢ None → OnOk result ((c : Content) → AllShallow c → AllShallow (applied c changes)) }
+    ensures crash { changes.kept ≢ None → HasCleanDisk (state S.Store conn.new)
+        → (rows : Rows) → Settled (state S.Store conn.old) rows → LeavesEither (state S.Store conn.new) rows changes }
+    ensures undone { HasCleanDisk (state S.Store conn.new)
+        → IfErr result (λ kind. is_storage kind ≡ false → (rows : Rows) → Settled (state S.Store conn.old) rows → LeavesOnly (state S.Store conn.new) rows) }
+    ensures refused { IfErr result (λ kind. (kind ≡ OutOfMemory) ⊎ (kind ≡ Storage)) }
+    ensures clean { HasCleanDisk (state S.Store conn.new) → HasCleanDisk (state S.Store conn.old) }
+    ensures ended { conn.new.in_transaction ≡ false }
+{
+    match &changes.kept {
+        None => Ok(()),
+        Some(_) => commit_changes(alloc, conn, &changes),
+    }
+}

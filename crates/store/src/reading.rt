@@ -1,0 +1,87 @@
+//! What an archive holds, read of its tables.
+
+ghost use Rattle.std.specs.Prelude.{◌≡◌, ⊤, false};
+ghost use Rattle.sqlite.specs.State.{HasCleanDisk, Survives};
+ghost use Rattle.sqlite.specs.Held.{state};
+ghost use Rattle.store_tables.specs.Calls.{LeavesOnly, Settled};
+ghost use Rattle.store_tables.specs.Looking.{Looks};
+ghost use Rattle.store_tables.specs.Rows.{Rows};
+ghost use Rattle.store.specs.Calls.{Reads};
+ghost use Rattle.store.specs.Histories.{is_storage};
+
+use crate::failing::is_storage;
+use archive_state::State;
+use record_text::{RefusalKind, Text};
+use sqlite::{Alter, Connection};
+use std::alloc::Global;
+use store_rows::read_state;
+use store_tables::connection::still_answers;
+use store_tables::{check_tables, check_version};
+
+/// All that the archive holds. After any refusal but 80 the connection still answers.
+pub(crate) fn state_on<S: Alter>(
+    alloc: Global,
+    conn: &mut Connection<S>,
+) -> Result<State, RefusalKind>
+    requires autocommit { conn.old.in_transaction ≡ false }
+    ensures reads { HasCleanDisk (state S.Store conn.new) → Reads (λ _ c held. held ≡ c) (state S.Store conn.old) result (state S.Store conn.new) }
+    ensures ended { conn.new.in_transaction ≡ false }
+{
+    match read_state(alloc, conn) {
+        Err(kind) => Err(refusal_after(conn, kind)),
+        Ok(held) => Ok(held),
+    }
+}
+
+/// The society of the archive. After any refusal but 80 the connection still answers.
+pub(crate) fn society_on<S: Alter>(
+    alloc: Global,
+    conn: &mut Connection<S>,
+) -> Result<Text, RefusalKind>
+    requires autocommit { conn.old.in_transaction ≡ false }
+    ensures reads { HasCleanDisk (state S.Store conn.new) → Reads (λ society _ text. text ≡ society) (state S.Store conn.old) result (state S.Store conn.new) }
+    ensures ended { conn.new.in_transaction ≡ false }
+{
+    match store_tables::society(alloc, conn) {
+        Err(kind) => Err(refusal_after(conn, kind)),
+        Ok(text) => Ok(text),
+    }
+}
+
+/// Whether the store has an archive of the version that this program writes. After any refusal but 80 the connection
+/// still answers.
+pub(crate) fn recognise<S: Alter>(conn: &mut Connection<S>) -> Result<(), RefusalKind>
+    requires autocommit { conn.old.in_transaction ≡ false }
+    ensures reads { HasCleanDisk (state S.Store conn.new) → Reads (λ _ _ _. ⊤) (state S.Store conn.old) result (state S.Store conn.new) }
+    ensures ended { conn.new.in_transaction ≡ false }
+{
+    match look_at_tables(conn) {
+        Err(kind) => Err(refusal_after(conn, kind)),
+        Ok(()) => Ok(()),
+    }
+}
+
+/// The same, before it is known whether the connection still answers.
+fn look_at_tables<S: Alter>(conn: &mut Connection<S>) -> Result<(), RefusalKind>
+    requires autocommit { conn.old.in_transaction ≡ false }
+    ensures looks { Looks (λ _ _. ⊤) (state S.Store conn.old) (state S.Store conn.new) result }
+    ensures ended { conn.new.in_transaction ≡ false }
+{
+    check_version(conn)?;
+    check_tables(conn)
+}
+
+/// The refusal of a call: 80 where the connection answers no more.
+fn refusal_after<S: Alter>(conn: &mut Connection<S>, kind: RefusalKind) -> RefusalKind
+    requires autocommit { conn.old.in_transaction ≡ false }
+    ensures settled { HasCleanDisk (state S.Store conn.new) → is_storage result ≡ false → (rows : Rows) → LeavesOnly (state S.Store conn.old) rows → Settled (state S.Store conn.new) rows }
+    ensures same { is_storage result ≡ false → result ≡ kind }
+    ensures survives { Survives (state S.Store conn.old) (state S.Store conn.new) (λ _. ⊥) }
+    ensures ended { conn.new.in_transaction ≡ false }
+{
+    if !is_storage(kind) && still_answers(conn) {
+        kind
+    } else {
+        RefusalKind::Storage
+    }
+}
