@@ -244,14 +244,16 @@ def all_tests(copy):
     demand(copy.calls("run") == 0, "./parish made again what ./test had left")
 
 
-def all_tests_with(copy, crate, folder):
+def all_tests_with(copy, crate, *folders):
     copy.write("crates.txt", f"low:\n{crate}: low\nparish: low\n")
-    got = copy.run("test")
-    demand(got.status == 1, f"without tests/{folder}: wanted 1, got {got.status}")
-    copy.write(f"tests/{folder}/run.py", "print('4 passed, 0 failed')\n")
+    for folder in folders:
+        got = copy.run("test")
+        demand(got.status == 1, f"without tests/{folder}: wanted 1, got {got.status}")
+        copy.write(f"tests/{folder}/run.py", "print('4 passed, 0 failed')\n")
     got = copy.run("test")
     demand(got.status == 0, f"status: wanted 0, got {got.status}, {shown(got.out)}")
-    demand(last_line(got) == [b"9 passed, 0 failed"], f"the last line: {last_line(got)}")
+    end = f"{5 + 4 * len(folders)} passed, 0 failed".encode()
+    demand(last_line(got) == [end], f"the last line: {last_line(got)}")
 
 
 def all_tests_with_dates(copy):
@@ -259,7 +261,7 @@ def all_tests_with_dates(copy):
 
 
 def all_tests_with_archive(copy):
-    all_tests_with(copy, "archive_rows", "archive")
+    all_tests_with(copy, "archive_rows", "archive", "tables")
 
 
 def all_tests_with_requests(copy):

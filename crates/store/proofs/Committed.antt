@@ -15,11 +15,10 @@ use Rattle.receipts.specs.declared.answer.Receipt.{Receipt}
 use Rattle.archive_state.specs.Applied.{applied}
 use Rattle.archive_state.specs.Changes.{Changes}
 use Rattle.archive_state.specs.Content.{Content}
-use Rattle.archive_state.specs.Sound.{IsSound}
 use Rattle.archive_state.specs.declared.changes.Kept.{Kept}
 use Rattle.archive_core.specs.Applied.{Decides}
 use Rattle.archive_core.specs.Exact.{ChangesNothing, IsExactFor}
-use Rattle.archive_core.specs.Machine.{Does, Done, Runs, outcome}
+use Rattle.archive_core.specs.Machine.{Does, outcome}
 use Rattle.archive_core.specs.declared.request.Request.{Request}
 use Rattle.archive_core.proofs.Serving.{request_sound}
 use Rattle.store_tables.specs.Calls.{Follows, Good, LeavesOnly, Settled}
@@ -28,9 +27,9 @@ use Rattle.store_rows.specs.Meaning.{AllShallow, Means}
 use Rattle.store_rows.specs.Writing.{with_changes}
 use Rattle.store_rows.proofs.Meaning.{changes_mean}
 use Rattle.store_rows.proofs.OneContent.{one_content}
-use Rattle.store.specs.Archives.{HasArchive, IsArchive, Keeps, LeavesArchive}
+use Rattle.store.specs.Archives.{HasArchive, IsArchive, Keeps}
 use Rattle.store.specs.Calls.{AcknowledgedBy, Acknowledges, LeavesDoneOrNot, LeavesEither, OnArchive, Performs}
-use Rattle.store.specs.Histories.{Accepts, Allows, MayBeFound, answered, has_failed, in_doubt, is_storage}
+use Rattle.store.specs.Histories.{Accepts, Allows, MayBeFound, has_failed, in_doubt, is_storage}
 use Rattle.store.proofs.Unchanged.{applies_nothing, rows_stay, society_stays}
 
 -- what is decided of one reading of rows is decided of any

@@ -1,16 +1,15 @@
 -- Histories one after the other, and what counts of them.
-use Rattle.std.proofs.Common.{◌≡◌, ◌⊎◌, inl, inr, ℕ, Bool, true, false, List, [], ◌∷◌, ◌++◌, cond, Option, None, Some, Result, Ok, Err, refl, sym, ap, ◌∙◌, subst}
+use Rattle.std.proofs.Common.{◌≡◌, inl, inr, ℕ, Bool, true, false, List, [], ◌∷◌, ◌++◌, cond, Option, None, Some, Ok, refl, sym, ap, ◌∙◌, subst}
 use Rattle.sqlite.specs.State.{State}
 use Rattle.sqlite.specs.Tree.{Trees}
 use Rattle.sqlite_trees.specs.declared.store.Store.{Ghosts}
 use Rattle.archive_state.specs.Content.{Content}
-use Rattle.archive_core.specs.Machine.{Done, Runs, outcome}
+use Rattle.archive_core.specs.Machine.{Done, Runs}
 use Rattle.archive_core.specs.declared.request.Request.{Request}
 use Rattle.archive_core.proofs.Serving.{joined}
-use Rattle.receipts.specs.declared.answer.Answer.{Answer}
-use Rattle.store.specs.Archives.{HasArchive, IsArchive, LeavesArchive}
+use Rattle.store.specs.Archives.{IsArchive}
 use Rattle.store.specs.Calls.{Performs}
-use Rattle.store.specs.Histories.{Accepts, Allows, MayBeFound, answered, has_failed, in_doubt}
+use Rattle.store.specs.Histories.{Allows, MayBeFound, answered, has_failed, in_doubt}
 use Rattle.store.specs.Lives.{CountInAll, Counts, Life, Session}
 
 -- ---- calls after calls of which none is in doubt

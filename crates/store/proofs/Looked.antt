@@ -1,5 +1,5 @@
 -- Calls that read, from what the layers below say of rows.
-use Rattle.std.proofs.Common.{◌≡◌, ◌⊎◌, inl, inr, ℕ, Bool, true, false, List, Result, Ok, Err, refl, sym, ap, ◌∙◌, subst, true≢false}
+use Rattle.std.proofs.Common.{◌≡◌, inr, ℕ, Bool, true, false, List, Ok, Err, refl, sym, subst, true≢false}
 use Rattle.std.specs.FinMap.{get-empty}
 use Rattle.std.specs.Ordering.{nat_cmp}
 use Rattle.sqlite.specs.State.{HasCleanDisk, State}
@@ -14,7 +14,7 @@ use Rattle.store_tables.specs.Rows.{Rows, nothing_yet}
 use Rattle.store_rows.specs.Meaning.{AllShallow, IsRecordAt, IsSlipAt, Means}
 use Rattle.store.specs.Archives.{HasArchive, Keeps}
 use Rattle.store.specs.Calls.{Reads}
-use Rattle.store.specs.Histories.{has_broken, is_storage}
+use Rattle.store.specs.Histories.{is_storage}
 
 storage_is : (k : RefusalKind) → is_storage k ≡ true → k ≡ Storage
 storage_is Storage e = refl

@@ -3,7 +3,6 @@ use Rattle.std.proofs.Common.{◌≡◌, ℕ, List, sym, ap, ◌∙◌, subst}
 use Rattle.sqlite.specs.Effect.{Database}
 use Rattle.sqlite.specs.State.{IsLive, Opens, State}
 use Rattle.sqlite.specs.Tree.{Trees}
-use Rattle.sqlite_catalog.specs.Listing.{IsSound}
 use Rattle.archive_state.specs.Content.{Content}
 use Rattle.store_tables.specs.Calls.{Good, Settled}
 use Rattle.store_tables.specs.Schema.{archive_schema}

@@ -1,5 +1,5 @@
 -- What exact changes leave: the rows of every number at which the same is found before and after, and the society.
-use Rattle.std.proofs.Common.{◌≡◌, ◌≢◌, ℕ, Bool, true, false, List, [], ◌∷◌, map, cond, Option, None, Some, refl, sym, ap, ◌∙◌, subst, ◌<◌, arith}
+use Rattle.std.proofs.Common.{◌≡◌, ◌≢◌, ℕ, Bool, true, false, List, [], ◌∷◌, map, cond, Option, None, Some, refl, sym, ap, ◌∙◌, ◌<◌, arith}
 use Rattle.std.specs.Prelude.{◌==◌, ◌||◌}
 use Rattle.std.specs.List.{list_any}
 use Rattle.std.specs.FinMap.{get, insert, remove}
@@ -11,9 +11,9 @@ use Rattle.archive_state.specs.declared.changes.Kept.{Kept}
 use Rattle.archive_state.specs.declared.changes.Numbered.{Numbered}
 use Rattle.archive_state.specs.declared.changes.SlipChange.{SlipChange}
 use Rattle.archive_state.specs.declared.changes.SlipChange.TheVariants as change
-use Rattle.archive_core.specs.Exact.{ChangesNothing, IsExact, put_numbers}
+use Rattle.archive_core.specs.Exact.{ChangesNothing, IsExact}
 use Rattle.store_tables.specs.Rows.{Rows}
-use Rattle.store_rows.specs.Writing.{with_changes, with_kept_written, with_puts_written, with_slip_written, without_records}
+use Rattle.store_rows.specs.Writing.{with_changes, with_kept_written, with_puts_written, with_slip_written}
 use Rattle.store_rows.proofs.Got.{got_put, got_removed}
 use Rattle.store_rows.proofs.Meaning.{puts_only, removed_only}
 use Rattle.store_rows.proofs.Slips.{changes_only}

@@ -7,7 +7,6 @@ ghost use Rattle.store_tables.specs.Calls.{LeavesOnly, Settled};
 ghost use Rattle.store_tables.specs.Rows.{Rows};
 ghost use Rattle.store_tables.specs.Schema.{no_schema};
 
-use crate::reading::SELECT_META;
 use sqlite::{Alter, Connection};
 
 /// Whether nothing was made in the store yet: it has no table, index or view.
@@ -39,7 +38,7 @@ fn take_back<S: Alter>(conn: &mut Connection<S>)
     conn.transaction().rollback();
 }
 
-/// Whether a query can be prepared, which changes nothing.
+/// Whether a query can be prepared, which changes nothing. It names no table, since the store may have none of ours.
 fn is_open<S: Alter>(conn: &mut Connection<S>) -> bool
     requires autocommit { conn.old.in_transaction ≡ false }
     ensures same { HasCleanDisk (state S.Store conn.new) → IsTrue result → IsUnchanged (state S.Store conn.old) (state S.Store conn.new) }
@@ -47,7 +46,7 @@ fn is_open<S: Alter>(conn: &mut Connection<S>) -> bool
     ensures survives { Survives (state S.Store conn.old) (state S.Store conn.new) (λ _. ⊥) }
     ensures ended { conn.new.in_transaction ≡ false }
 {
-    let is_prepared = conn.prepare(SELECT_META).is_ok();
+    let is_prepared = conn.prepare("SELECT 1").is_ok();
     // For what it ensures: the trees obey the schema.
     conn.schema();
     is_prepared

@@ -1,4 +1,4 @@
-use Rattle.std.proofs.Common.{◌≡◌, ap, Err, None, sym, subst, refl}
+use Rattle.std.proofs.Common.{ap, sym, subst, refl}
 use Rattle.sqlite.specs.Held.{state}
 use Rattle.store_tables.specs.Calls.{LeavesOnly, Settled}
 use Rattle.store.proofs.Committed.{acknowledged_again, acknowledged_anew, by_kept, done_or_not, no_stop, stays_same, want_refused, writes_nothing}

@@ -3,7 +3,6 @@ use Rattle.std.proofs.Common.{rules, ◌≡◌, ◌≤◌, ◌+◌, ◌++◌, �
 use Rattle.std.proofs.lemmas.List.{length_push}
 use Rattle.std.specs.List.{zip}
 use Rattle.sqlite.specs.Held.{state}
-use Rattle.sqlite.specs.State.{HasCleanDisk}
 use Rattle.store_tables.proofs.Loops.{item_left}
 use Rattle.store_tables.proofs.Queries.{only_committed}
 use Rattle.store.specs.Calls.{Performs}
