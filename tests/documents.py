@@ -2,7 +2,8 @@
 
 A line that begins with `$ ` is a command, run by sh at the top of the repository with both its
 outputs; the lines below it, up to the next command or the end of the block, are what it prints. Its
-status is looked at only where a command prints it.
+status is looked at only where a command prints it. The commands of a block that names `ashby.db` are run one
+after the other on one archive, in a folder of its own.
 """
 
 from __future__ import annotations
@@ -10,6 +11,7 @@ from __future__ import annotations
 import os
 import re
 import shlex
+import tempfile
 
 from harness import REFUSALS, ROOT, Case, Outcome, Tools, demand, expect, run, written
 
@@ -24,10 +26,12 @@ def text_of(document):
         return file.read()
 
 
-def shown_in(document):
-    """Each command of a document with the text that it is to print."""
-    blocks = BLOCK.findall(text_of(document))
-    return [found for block in blocks for found in COMMAND.findall(block)]
+ARCHIVE = "ashby.db"
+
+
+def blocks_of(document):
+    """The blocks of a document: of each its commands with the texts that they are to print."""
+    return [COMMAND.findall(block) for block in BLOCK.findall(text_of(document))]
 
 
 def prints(tools, command, text):
@@ -35,6 +39,13 @@ def prints(tools, command, text):
     words = ("sh", "-c", f"exec 2>&1; {command.replace('./parish', program)}")
     got = run(words, cwd=ROOT)
     expect(Outcome(got.out, got.err, 0), written(text.encode()))
+
+
+def prints_in_turn(tools, block):
+    with tempfile.TemporaryDirectory() as folder:
+        file = os.path.join(folder, ARCHIVE)
+        for command, text in block:
+            prints(tools, command.replace(ARCHIVE, shlex.quote(file)), text)
 
 
 def refusals_are_listed():
@@ -46,8 +57,13 @@ def refusals_are_listed():
 def cases(tools: Tools):
     yield Case("documents: the refusals are listed", refusals_are_listed)
     for document in DOCUMENTS:
-        for command, text in shown_in(document):
-            yield Case(
-                f"documents: {document}: {command}",
-                lambda command=command, text=text: prints(tools, command, text),
-            )
+        for block in blocks_of(document):
+            if any(ARCHIVE in command for command, _ in block):
+                name = f"documents: {document}: {block[0][0]} and what follows"
+                yield Case(name, lambda block=block: prints_in_turn(tools, block))
+                continue
+            for command, text in block:
+                yield Case(
+                    f"documents: {document}: {command}",
+                    lambda command=command, text=text: prints(tools, command, text),
+                )

@@ -32,6 +32,11 @@ REFUSALS = {
     28: "TextTooLong",
     29: "Charset",
     30: "Version",
+    40: "BadStored",
+    58: "BadText",
+    80: "Storage",
+    82: "NotAnArchive",
+    83: "NewerSchema",
     94: "ReadFailed",
     95: "WriteFailed",
 }

@@ -20,6 +20,7 @@ from concurrent.futures import ThreadPoolExecutor
 
 sys.dont_write_bytecode = True
 
+import archives  # noqa: E402
 import documents  # noqa: E402
 import files  # noqa: E402
 import memory  # noqa: E402
@@ -31,7 +32,7 @@ import streams  # noqa: E402
 from harness import ROOT, Case, Failed, Tools  # noqa: E402
 
 # The longest ones first, since they run side by side.
-PARTS = (sizes, memory, properties, streams, scripts, documents, refusals, files)
+PARTS = (sizes, archives, memory, properties, streams, scripts, documents, refusals, files)
 PIECES = "tree_pieces"
 
 

@@ -3,7 +3,7 @@
     python3 tests/requests/run.py [--program COMMAND] [--only WORD]
 
 Each scenario is a run of the program, in new archives; a row with its answer is a case, and a last one that
-both archives of the program hold the same at the end. One line a scenario that fails, and last
+the archives of the program hold the same at the end. Then come the cases of stops.py. One line a scenario that fails, and last
 `N passed, M failed`; status 0 only if none failed and one passed. COMMAND is a program, or a command in
 quotes; without it, the executable that `rt ci` or `rt run` left under crates/.
 """
@@ -16,13 +16,14 @@ import sys
 
 sys.dont_write_bytecode = True
 
-from table import again, failing, many, order, reading, worked  # noqa: E402
+import stops  # noqa: E402
+from table import again, failing, many, order, reading, stored, worked  # noqa: E402
 from table.making import LAST  # noqa: E402
 
 ROOT = pathlib.Path(__file__).resolve().parents[2]
 PROGRAM = ROOT / "crates/request_rows/out/request_rows"
 SCENARIOS = [
-    scenario for part in (worked, reading, order, again, failing, many) for scenario in part.SCENARIOS
+    scenario for part in (worked, reading, order, again, failing, many, stored) for scenario in part.SCENARIOS
 ]
 LIMIT = 50  # seconds for one scenario
 SHOWN = 100  # bytes of a text in a message
@@ -70,6 +71,9 @@ def main():
             failed += len(scenario.steps) + 1 - well
             if why is not None:
                 print(f"failed: {scenario.name}, row {well + 1} and what follows: {why}")
+    well, bad = stops.run(shlex.split(told.program), told.only)
+    passed += well
+    failed += bad
     print(f"{passed} passed, {failed} failed")
     return 1 if failed or not passed else 0
 

@@ -1,9 +1,10 @@
 -- The commands of the program, and which of them a command line names, by the grammar of `clap`.
-use Rattle.std.specs.Prelude.{◌≡◌, List, [], Option, Some, None, IfSome, IsSome, MatchResult, Result, true, codes, option_map}
-use Rattle.clap.specs.Words.{App, Text, fault_of, subcommand_of, with_subcommand}
+use Rattle.std.specs.Prelude.{◌≡◌, ⊤, List, [], ◌∷◌, Option, Some, None, IfSome, IsSome, MatchResult, Result, true, codes, option_and_then, option_map, unwrap_or}
+use Rattle.clap.specs.Words.{App, Row, Rule, Shape, Text, fault_of, first_of, new_rule, subcommand_of, with_subcommand}
 use Rattle.clap.specs.Simple.{new_shape}
+use Rattle.clap.specs.declared.builder.action.ArgAction.TheVariants.{Set}
 use Rattle.command_line.specs.declared.reading.Asked.{Asked}
-use Rattle.command_line.specs.declared.reading.Asked.TheVariants.{Norm, Check}
+use Rattle.command_line.specs.declared.reading.Asked.TheVariants.{Apply, Check, Init, Norm}
 use Rattle.command_line.specs.declared.reading.Refused.{Refused}
 use Rattle.command_line.specs.declared.reading.Refused.TheVariants.{OutOfMemory}
 
@@ -18,9 +19,27 @@ bare = record {
   subs = [];
 }
 
--- the program with its commands, none of which takes a word
+-- FILE: a word that has to be there
+abbrev pub file_rule : Rule
+file_rule = record (new_rule (codes "FILE")) { action = Some Set; required = true }
+
+-- `--society NAME`, which has to be there
+abbrev pub society_rule : Rule
+society_rule = record (new_rule (codes "society")) { long = Some (codes "society"); action = Some Set; value_names = 1; required = true }
+
+abbrev pub init_shape : Shape
+init_shape = record (new_shape (codes "init")) { rules = file_rule ∷ society_rule ∷ [] }
+
+abbrev pub apply_shape : Shape
+apply_shape = record (new_shape (codes "apply")) { rules = file_rule ∷ [] }
+
+-- the commands that take no word
+abbrev pub with_streams_alone : App
+with_streams_alone = with_subcommand (with_subcommand bare (new_shape (codes "norm"))) (new_shape (codes "check"))
+
+-- the program with its commands
 abbrev pub program : App
-program = with_subcommand (with_subcommand bare (new_shape (codes "norm"))) (new_shape (codes "check"))
+program = with_subcommand (with_subcommand with_streams_alone init_shape) apply_shape
 
 -- the command that words name, the program's name being the first
 abbrev pub command_named : List Text → Option Text
@@ -30,15 +49,27 @@ command_named words = option_map (λ found. found.0) (subcommand_of program word
 abbrev pub name_of : Asked → Option Text
 name_of Norm = Some (codes "norm")
 name_of Check = Some (codes "check")
+name_of (Init file society) = Some (codes "init")
+name_of (Apply file) = Some (codes "apply")
 name_of _ = None
+
+-- the word that a command is given for its FILE or for an option; the grammar takes no words that lack one
+abbrev pub word_in : Option (Text × List Row) → Text → Text
+word_in found id = unwrap_or (option_and_then (λ f. first_of id f.1) found) []
+
+-- what is asked for has the words that the command is given
+abbrev pub HasWords : Option (Text × List Row) → Asked → Type 0
+HasWords found (Init file society) = (file.now ≡ word_in found (codes "FILE")) × (society.now ≡ word_in found (codes "society"))
+HasWords found (Apply file) = file.now ≡ word_in found (codes "FILE")
+HasWords found _ = ⊤
 
 -- the words are those of a command, with nothing that it does not take: the grammar has no fault to find in them
 abbrev pub IsTaken : List Text → Type 0
 IsTaken words = fault_of program words ≡ []
 
--- work is asked for only by words that are taken, and that name its command
+-- work is asked for only by words that are taken, that name its command, and that it has
 abbrev pub Asks : List Text → Asked → Type 0
-Asks words asked = IfSome (name_of asked) (λ name. IsTaken words × (command_named words ≡ Some name))
+Asks words asked = IfSome (name_of asked) (λ name. IsTaken words × (command_named words ≡ Some name)) × HasWords (subcommand_of program words) asked
 
 -- work is asked for, unless memory is wanting
 abbrev pub AsksForWork : Result Asked Refused → Type 0

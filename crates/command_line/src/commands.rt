@@ -1,21 +1,24 @@
 //! The commands as `clap` is told of them, with the texts of their help.
 
 ghost use Rattle.std.specs.Prelude.{◌≡◌, IfOk, codes, false};
-ghost use Rattle.clap.specs.Words.{app_of, new_app};
+ghost use Rattle.clap.specs.Words.{app_of, new_app, rule_of, shape_of};
 ghost use Rattle.clap.specs.declared.builder.command.Command.TheViews.{out-Command};
-ghost use Rattle.command_line.specs.Commands.{bare, program};
+ghost use Rattle.command_line.specs.Commands.{apply_shape, bare, file_rule, init_shape, program, society_rule, with_streams_alone};
 
-use clap::Command;
+use clap::{Arg, ArgAction, Command};
 use std::alloc::{AllocError, Global};
 
 /// The version that `--version` prints.
 const VERSION: &str = "0.1.0";
 
-const ABOUT: &str = "Read and write the GEDCOM 5.5.1 files of a family history society";
+const ABOUT: &str =
+    "Keep the archive of a family history society, and read and write its GEDCOM 5.5.1 files";
 
 const STREAMS: &str = "\
-Standard input is the GEDCOM file. Standard output gets the result. Standard
-error gets a refusal, as one line: parish: <no.> <Name> at line <n>
+FILE is the archive; a log may lie beside it. The GEDCOM file or the rows of
+requests come from standard input. Standard output gets the result. Standard
+error gets a refusal, as one line: parish: <no.> <Name>, with `at line <n>`
+behind it where a line of a GEDCOM file is at fault.
 
 Exit status:
   0  done
@@ -40,6 +43,31 @@ The header and the trailer are no records.
 Example:
   parish check < family.ged";
 
+const INIT_ABOUT: &str = "Make a new archive for a family history society";
+
+const INIT_EXAMPLE: &str = "\
+FILE is made. Where it is there already and has an archive, it stays as it is
+and the refusal is 82.
+
+Example:
+  parish init ashby.db --society 'Ashby Family History Society'";
+
+const APPLY_ABOUT: &str = "Do the requests of the rows of standard input";
+
+const APPLY_EXAMPLE: &str = "\
+Each row is a request: token, verb and fields, as CSV without a header row. Its
+answer is a row of standard output, written once the request is kept in FILE:
+token,ok,first,count or token,refused,no.,Name. A refused row changes nothing,
+and the next is done. Who sends a row again under its token gets the same
+answer, and nothing is done twice.
+
+Example:
+  parish apply ashby.db < rows.csv > answers.csv";
+
+const FILE_HELP: &str = "The file of the archive";
+
+const SOCIETY_HELP: &str = "The name of the society";
+
 fn norm_command<'a>(alloc: Global) -> Command<'a>
     ensures shape { app_of result ≡ new_app (codes "norm") }
     ensures local { (out-Command result).has_globals ≡ false }
@@ -58,6 +86,51 @@ fn check_command<'a>(alloc: Global) -> Command<'a>
         .after_help(CHECK_EXAMPLE)
 }
 
+/// The file of an archive, which has to be named.
+fn file_arg<'a>(alloc: Global) -> Arg<'a>
+    ensures rule { rule_of result ≡ file_rule }
+    ensures local { result.global ≡ false }
+{
+    Arg::new(alloc, "FILE")
+        .help(FILE_HELP)
+        .required(true)
+        .action(ArgAction::Set)
+}
+
+/// The name of a society, which has to be given.
+fn society_arg<'a>(alloc: Global) -> Arg<'a>
+    ensures rule { rule_of result ≡ society_rule }
+    ensures local { result.global ≡ false }
+{
+    Arg::new(alloc, "society")
+        .long("society")
+        .value_name("NAME")
+        .help(SOCIETY_HELP)
+        .required(true)
+        .action(ArgAction::Set)
+}
+
+fn init_command<'a>(alloc: Global) -> Result<Command<'a>, AllocError>
+    ensures shape { IfOk result (λ c. shape_of c ≡ init_shape) }
+    ensures local { IfOk result (λ c. (out-Command c).has_globals ≡ false) }
+{
+    Command::new(alloc, "init")
+        .about(INIT_ABOUT)
+        .after_help(INIT_EXAMPLE)
+        .arg(file_arg(alloc))?
+        .arg(society_arg(alloc))
+}
+
+fn apply_command<'a>(alloc: Global) -> Result<Command<'a>, AllocError>
+    ensures shape { IfOk result (λ c. shape_of c ≡ apply_shape) }
+    ensures local { IfOk result (λ c. (out-Command c).has_globals ≡ false) }
+{
+    Command::new(alloc, "apply")
+        .about(APPLY_ABOUT)
+        .after_help(APPLY_EXAMPLE)
+        .arg(file_arg(alloc))
+}
+
 /// `parish` without its commands.
 fn bare_command<'a>(alloc: Global) -> Result<Command<'a>, AllocError>
     ensures { IfOk result (λ c. app_of c ≡ bare) }
@@ -73,11 +146,20 @@ fn bare_command<'a>(alloc: Global) -> Result<Command<'a>, AllocError>
     )
 }
 
-/// `parish` and its commands.
-pub(crate) fn parish_command<'a>(alloc: Global) -> Result<Command<'a>, AllocError>
-    ensures { IfOk result (λ c. app_of c ≡ program) }
+/// `parish` and its commands that take no word.
+fn streams_alone<'a>(alloc: Global) -> Result<Command<'a>, AllocError>
+    ensures { IfOk result (λ c. app_of c ≡ with_streams_alone) }
 {
     bare_command(alloc)?
         .subcommand(norm_command(alloc))?
         .subcommand(check_command(alloc))
+}
+
+/// `parish` and its commands.
+pub(crate) fn parish_command<'a>(alloc: Global) -> Result<Command<'a>, AllocError>
+    ensures { IfOk result (λ c. app_of c ≡ program) }
+{
+    let init = init_command(alloc)?;
+    let apply = apply_command(alloc)?;
+    streams_alone(alloc)?.subcommand(init)?.subcommand(apply)
 }

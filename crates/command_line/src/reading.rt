@@ -1,8 +1,8 @@
 //! What a command line asks for.
 
-ghost use Rattle.std.specs.Prelude.{◌≡◌, Err, IfOk, IfSome, None, Some, codes, map, string_bytes};
-ghost use Rattle.clap.specs.Words.{kind_of, subcommand_name_of};
-ghost use Rattle.command_line.specs.Commands.{AsksForWork, Asks, IsTaken, name_of};
+ghost use Rattle.std.specs.Prelude.{◌≡◌, Err, IfOk, IfSome, None, OnOk, Some, [], codes, map, string_bytes, unwrap_or};
+ghost use Rattle.clap.specs.Words.{first_of, found_of, kind_of, rows_of, subcommand_name_of, subcommand_rows_of};
+ghost use Rattle.command_line.specs.Commands.{AsksForWork, Asks, HasWords, IsTaken, name_of};
 
 use crate::commands::parish_command;
 use clap::error::ErrorKind;
@@ -11,11 +11,15 @@ use std::alloc::{AllocError, Global};
 
 /// What a command line asks for.
 #[derive(Debug, Drop)]
-pub enum Asked {
+pub enum Asked<'a> {
     /// `norm`: the forest of standard input, canonical, on standard output.
     Norm,
     /// `check`: the number of records of standard input's forest, on standard output.
     Check,
+    /// `init`: a new archive of a society in a file.
+    Init { file: &'a str, society: &'a str },
+    /// `apply`: the requests of the rows of standard input on the archive in a file, their answers on standard output.
+    Apply { file: &'a str },
     /// `--help` or `--version`, of the program or of a command: the text for standard output.
     Show { text: String },
 }
@@ -44,7 +48,7 @@ impl From<AllocError> for Refused {
 ///
 /// `Words` comes where they are no command or one with words that it does not take, and `OutOfMemory` where
 /// memory is refused.
-pub fn read_words(alloc: Global, words: &[String]) -> Result<Asked, Refused>
+pub fn read_words<'a>(alloc: Global, words: &'a [String]) -> Result<Asked<'a>, Refused>
     ensures asked { IfOk result (Asks (map string_bytes words.now)) }
     ensures taken { IsTaken (map string_bytes words.now) → AsksForWork result }
 {
@@ -56,24 +60,69 @@ pub fn read_words(alloc: Global, words: &[String]) -> Result<Asked, Refused>
 }
 
 /// The command that was found, by its name. `clap` lets no other name through.
-fn command_found(alloc: Global, found: &ArgMatches<'_>) -> Result<Asked, Refused>
+fn command_found<'a>(alloc: Global, found: &ArgMatches<'a>) -> Result<Asked<'a>, Refused>
     ensures asked { IfOk result (λ a. IfSome (name_of a)
         (λ name. subcommand_name_of found.now ≡ Some name)) }
+    ensures words { IfOk result (HasWords (subcommand_rows_of found.now)) }
     ensures norm { subcommand_name_of found.now ≡ Some (codes "norm") → AsksForWork result }
     ensures check { subcommand_name_of found.now ≡ Some (codes "check") → AsksForWork result }
+    ensures init { subcommand_name_of found.now ≡ Some (codes "init") → AsksForWork result }
+    ensures apply { subcommand_name_of found.now ≡ Some (codes "apply") → AsksForWork result }
 {
-    match found.subcommand_name() {
-        Some("norm") => Ok(Asked::Norm),
-        Some("check") => Ok(Asked::Check),
-        _ => Err(Refused::Words {
-            text: "error: no such command\n".to_string(alloc)?,
-        }),
+    match found.subcommand() {
+        Some((name, given)) => command_named(alloc, name, given),
+        None => no_such_command(alloc),
     }
 }
 
+/// The command of a name, with the words that it was given.
+fn command_named<'a>(
+    alloc: Global,
+    name: &str,
+    given: &ArgMatches<'a>,
+) -> Result<Asked<'a>, Refused>
+    ensures asked { IfOk result (λ a. IfSome (name_of a) (λ n. name.now ≡ n)) }
+    ensures words { IfOk result (HasWords (Some (name.now, rows_of (found_of given.now)))) }
+    ensures norm { name.now ≡ codes "norm" → AsksForWork result }
+    ensures check { name.now ≡ codes "check" → AsksForWork result }
+    ensures init { name.now ≡ codes "init" → AsksForWork result }
+    ensures apply { name.now ≡ codes "apply" → AsksForWork result }
+{
+    match name {
+        "norm" => Ok(Asked::Norm),
+        "check" => Ok(Asked::Check),
+        "init" => Ok(Asked::Init {
+            file: word_of(given, "FILE"),
+            society: word_of(given, "society"),
+        }),
+        "apply" => Ok(Asked::Apply {
+            file: word_of(given, "FILE"),
+        }),
+        _ => no_such_command(alloc),
+    }
+}
+
+/// The word that a command is given for its FILE or for an option. `clap` takes no words that lack one.
+fn word_of<'a>(given: &ArgMatches<'a>, id: &str) -> &'a str
+    ensures { result.now ≡ unwrap_or (first_of id.now (rows_of (found_of given.now))) [] }
+{
+    match given.get_str(id) {
+        Some(word) => word,
+        None => "",
+    }
+}
+
+fn no_such_command<'a>(alloc: Global) -> Result<Asked<'a>, Refused>
+    ensures { OnOk result ⊥ }
+{
+    Err(Refused::Words {
+        text: "error: no such command\n".to_string(alloc)?,
+    })
+}
+
 /// The text of what `clap` calls an error: help, a version or refused words.
-fn text_shown(alloc: Global, error: &Error) -> Result<Asked, Refused>
-    ensures asked { IfOk result (λ a. name_of a ≡ None) }
+fn text_shown<'a>(alloc: Global, error: &Error) -> Result<Asked<'a>, Refused>
+    ensures asked { IfOk result (λ a. (name_of a ≡ None) × ((found : _) → HasWords found a)) }
     ensures memory { kind_of error.now ≡ ErrorKind.OutOfMemory → result ≡ Err Refused.OutOfMemory }
 {
     if error.kind() == ErrorKind::OutOfMemory {

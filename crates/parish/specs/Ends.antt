@@ -2,6 +2,7 @@
 use Rattle.std.specs.Prelude.{◌≡◌, ◌⊎◌, ◌++◌, ◌∷◌, ◌≤◌, [], ℕ, List, Option, Some, IfSome, codes}
 use Rattle.std.specs.Fmt.{decimal}
 use Rattle.std.specs.Io.KnownBytes.{Appends, Keeps}
+use Rattle.archive_commands.specs.Applying.{Answered, Unanswered}
 use Rattle.command_line.specs.Commands.{IsTaken, command_named}
 use Rattle.devices.specs.Devices.{AppendsBeginning}
 use Rattle.gedcom_rules.specs.Faults.{Fault}
@@ -9,6 +10,7 @@ use Rattle.gedcom_tree.specs.File.{ReadsFile}
 use Rattle.gedcom_tree.specs.Forest.{Item}
 use Rattle.gedcom_tree.specs.Streams.{Begun, Normalised, NotRead, NotWritten}
 use Rattle.gedcom_tree.specs.Text.{record_count, text}
+use Rattle.record_text.specs.declared.refusal.RefusalKind.{RefusalKind}
 
 -- the words are those of this command, with nothing that it does not take
 abbrev pub AreOf : List (List ℕ) → List ℕ → Type 0
@@ -55,3 +57,11 @@ pub record CheckEnds (status : ℕ) (known old new : Option (List ℕ)) (ReaderF
   pub bound : status ≤ 1
   pub done : status ≡ 0 → Told known old new
   pub refused : status ≡ 1 → (f : Fault) × Untold known old new ReaderFailed WriterFailed f
+
+-- ---- apply
+-- 0 where all rows of the input were served and answered. 1 where no archive was opened, and nothing is written, or where there is a
+-- reason why not all rows were
+pub record ApplyEnds (status : ℕ) (input old new : Option (List ℕ)) (ReaderFailed WriterFailed : Type 0) : Type 0 where
+  pub bound : status ≤ 1
+  pub done : status ≡ 0 → Answered input old new
+  pub refused : status ≡ 1 → (kind : RefusalKind) × Unanswered kind input old new ReaderFailed WriterFailed

@@ -1,33 +1,25 @@
 //! What a command line does, over any streams, and its exit status.
 
-ghost use Rattle.std.specs.Prelude.{◌≡◌, ◌≢◌, ◌≤◌, if◌then◌else◌, is_ok, codes, map, string_bytes, IfErr, OnOk, OnErr};
+ghost use Rattle.std.specs.Prelude.{◌≡◌, ◌≢◌, ◌≤◌, codes, map, string_bytes, IfErr, None, OnOk, OnErr, Some};
 ghost use Rattle.std.specs.Io.KnownBytes.{Appends};
 ghost use Rattle.std.specs.IoError.{error_kind};
-ghost use Rattle.command_line.specs.Commands.{IsTaken};
+ghost use Rattle.command_line.specs.Commands.{IsTaken, name_of};
 ghost use Rattle.devices.specs.Devices.{AppendsBeginning, Rose};
 ghost use Rattle.gedcom_rules.specs.Views.{fault_view};
 ghost use Rattle.gedcom_tree.specs.Streams.{NotWritten};
-ghost use Rattle.parish.specs.Ends.{AreOf, CheckEnds, NormEnds, Told, Untold};
+ghost use Rattle.parish.specs.Ends.{ApplyEnds, AreOf, CheckEnds, NormEnds, Told, Untold};
+ghost use Rattle.tables.specs.Input.{row_bytes};
 
+use crate::telling::{refuse, refuse_words, status_of};
+use archive_commands::{apply, init};
 use command_line::{Asked, Refused, read_words};
 use gedcom_tree::{
     Device, TransferError, TreeFault, TreeKind, normalise, read_forest, write_bytes,
 };
 use std::alloc::Global;
 use std::io;
-use std::io::{Cursor, ErrorKind, Read, Write};
-
-/// The work is done.
-const DONE: u8 = 0;
-
-/// A refusal, told on the stream of faults.
-const REFUSED: u8 = 1;
-
-/// The words were refused.
-const WORDS_REFUSED: u8 = 2;
-
-/// More bytes than the longest line of a refusal has: that of 25 at line 4,294,967,295 has 54.
-const LINE: usize = 64;
+use std::io::{ErrorKind, Read, Write};
+use std::rt::HostRuntime;
 
 const OUT_OF_MEMORY: TreeFault = TreeFault {
     kind: TreeKind::OutOfMemory,
@@ -45,7 +37,7 @@ const WRITE_FAILED: TreeFault = TreeFault {
 /// status tells alone. Where the words are refused nothing is read, and nothing written elsewhere.
 /// Words that are taken are never refused: what they name is done, with 0, or 1 and a reason.
 pub fn command<R: Read + Device, W: Write + Device, F: Write + Device>(
-    alloc: Global,
+    rt: &HostRuntime,
     words: &[String],
     input: &mut R,
     output: &mut W,
@@ -60,14 +52,47 @@ pub fn command<R: Read + Device, W: Write + Device, F: Write + Device>(
     ensures check { AreOf (map string_bytes words.now) (codes "check") → CheckEnds result (R.remaining input.old)
         (W.contents output.old) (W.contents output.new)
         (Rose (R.failed input.old) (R.failed input.new)) (Rose (W.failed output.old) (W.failed output.new)) }
+    ensures init { AreOf (map string_bytes words.now) (codes "init") → (input.new ≡ input.old) × (output.new ≡ output.old) }
+    ensures apply { AreOf (map string_bytes words.now) (codes "apply") → ApplyEnds result (row_bytes (R.remaining input.old))
+        (W.contents output.old) (W.contents output.new)
+        (Rose (R.failed input.old) (R.failed input.new)) (Rose (W.failed output.old) (W.failed output.new)) }
     ensures others { ¬ (IsTaken (map string_bytes words.now)) → input.new ≡ input.old }
 {
-    match read_words(alloc, words) {
-        Ok(Asked::Norm) => norm(alloc, input, output, faults),
-        Ok(Asked::Check) => check(alloc, input, output, faults),
-        Ok(Asked::Show { text }) => status_of(show(output, &text), faults),
+    match read_words(rt.alloc(), words) {
+        Ok(asked) => work(rt, asked, input, output, faults),
         Err(Refused::Words { text }) => refuse_words(faults, &text),
-        Err(Refused::OutOfMemory) => refuse(faults, OUT_OF_MEMORY),
+        Err(Refused::OutOfMemory) => refuse(faults, &OUT_OF_MEMORY),
+    }
+}
+
+/// Does what was asked for, and gives the exit status.
+fn work<R: Read + Device, W: Write + Device, F: Write + Device>(
+    rt: &HostRuntime,
+    asked: Asked<'_>,
+    input: &mut R,
+    output: &mut W,
+    faults: &mut F,
+) -> u8
+    ensures status { result ≤ 1 }
+    ensures done { result ≡ 0 → faults.new ≡ faults.old }
+    ensures norm { name_of asked.entry ≡ Some (codes "norm") → NormEnds result (R.remaining input.old)
+        (W.contents output.old) (W.contents output.new)
+        (Rose (R.failed input.old) (R.failed input.new)) (Rose (W.failed output.old) (W.failed output.new)) }
+    ensures check { name_of asked.entry ≡ Some (codes "check") → CheckEnds result (R.remaining input.old)
+        (W.contents output.old) (W.contents output.new)
+        (Rose (R.failed input.old) (R.failed input.new)) (Rose (W.failed output.old) (W.failed output.new)) }
+    ensures init { name_of asked.entry ≡ Some (codes "init") → (input.new ≡ input.old) × (output.new ≡ output.old) }
+    ensures apply { name_of asked.entry ≡ Some (codes "apply") → ApplyEnds result (row_bytes (R.remaining input.old))
+        (W.contents output.old) (W.contents output.new)
+        (Rose (R.failed input.old) (R.failed input.new)) (Rose (W.failed output.old) (W.failed output.new)) }
+    ensures text { name_of asked.entry ≡ None → input.new ≡ input.old }
+{
+    match asked {
+        Asked::Norm => norm(rt.alloc(), input, output, faults),
+        Asked::Check => check(rt.alloc(), input, output, faults),
+        Asked::Init { file, society } => status_of(init(rt, file, society), faults),
+        Asked::Apply { file } => status_of(apply(rt, file, input, output), faults),
+        Asked::Show { text } => status_of(show(output, &text), faults),
     }
 }
 
@@ -133,7 +158,7 @@ pub fn refuse_command_line<F: Write + Device>(error: &io::Error, faults: &mut F)
     ensures words { error_kind error.now ≢ ErrorKind.OutOfMemory → result ≡ 2 }
 {
     if error.kind() == ErrorKind::OutOfMemory {
-        refuse(faults, OUT_OF_MEMORY)
+        refuse(faults, &OUT_OF_MEMORY)
     } else {
         refuse_words(faults, NOT_UTF8)
     }
@@ -159,38 +184,4 @@ fn show<W: Write + Device>(output: &mut W, text: &str) -> Result<(), TreeFault>
         Err(TransferError::OutOfMemory) => Err(OUT_OF_MEMORY),
         Err(TransferError::Failed) => Err(WRITE_FAILED),
     }
-}
-
-/// The status of what was done, and the line of its refusal.
-fn status_of<F: Write + Device>(outcome: Result<(), TreeFault>, faults: &mut F) -> u8
-    ensures status { result ≡ (if is_ok outcome then 0 else 1) }
-    ensures done { OnOk outcome (faults.new ≡ faults.old) }
-{
-    match outcome {
-        Ok(()) => DONE,
-        Err(fault) => refuse(faults, fault),
-    }
-}
-
-/// Tells a refusal: `parish: <no.> <Name>`, with ` at line <n>` where it has one. It takes no
-/// memory, and the line is given to the writer whole.
-fn refuse<F: Write + Device>(faults: &mut F, fault: TreeFault) -> u8
-    ensures { result ≡ 1 }
-{
-    let mut line = Cursor::new([0u8; LINE]);
-    let _ = writeln!(line, "parish: {fault}");
-    let bytes = line.get_ref().as_slice();
-    let length = bytes.len().min(line.position() as usize);
-    let before = faults.failures();
-    let _ = write_bytes(faults, before, &bytes[..length]);
-    REFUSED
-}
-
-/// Tells that the words were refused.
-fn refuse_words<F: Write + Device>(faults: &mut F, text: &str) -> u8
-    ensures { result ≡ 2 }
-{
-    let before = faults.failures();
-    let _ = write_bytes(faults, before, text.as_bytes());
-    WORDS_REFUSED
 }

@@ -1,9 +1,10 @@
 //! The program `parish`: the words of its command line, on the standard streams.
 //!
-//! It stands on `command_line` and `gedcom_tree`. What it does is in `command`, over any streams.
+//! It uses `command_line`, `gedcom_tree` and `archive_commands`. What it does is in `command`, over any streams.
 #![tactic(auto)]
 
 mod command;
+mod telling;
 
 use gedcom_tree::Counted;
 use std::process::ExitCode;
@@ -24,7 +25,7 @@ fn main(rt: HostRuntime) -> ExitCode {
     let mut output = Counted::new(rt.stdout());
     let mut faults = Counted::new(rt.stderr());
     let status = match words_of(&rt) {
-        Ok(words) => command::command(rt.alloc(), &words, &mut input, &mut output, &mut faults),
+        Ok(words) => command::command(&rt, &words, &mut input, &mut output, &mut faults),
         Err(error) => command::refuse_command_line(&error, &mut faults),
     };
     ExitCode::from(status)

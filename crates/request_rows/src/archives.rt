@@ -1,16 +1,20 @@
-//! Two archives that are asked the same: in one a request is done at once, in the other it is decided and then made.
+//! Two archives that are asked the same: in one a request is done at once, in the other it is decided and then made. A
+//! third in files may stand beside them.
 
+use crate::kept::{Kept, is_equal};
 use crate::rows::{outcome_row, word};
 use crate::seeing::see;
 use archive_core::{Request, apply, decide, step};
 use archive_state::{Answer, Changes, Numbered, State};
+use failing_archives::{Asked, Outcome};
 use records::{Place, Record, Refusal, Text};
 use std::alloc::{AllocError, Global};
 
 #[derive(Drop)]
 pub(crate) struct Archives {
     stepped: State,
-    decided: State,
+    pub(crate) decided: State,
+    pub(crate) kept: Option<Kept>,
 }
 
 impl Archives {
@@ -18,17 +22,75 @@ impl Archives {
         Archives {
             stepped: State::new(alloc),
             decided: State::new(alloc),
+            kept: None,
         }
     }
 
     /// The answer of a request, or `differs`.
     pub(crate) fn ask(&mut self, alloc: Global, request: &Request) -> Result<Vec<u8>, AllocError> {
-        let stepped = step(alloc, &mut self.stepped, request);
-        let decided = decide_and_make(alloc, &mut self.decided, request);
-        if stepped.ok() == decided.ok() && stepped.err() == decided.err() {
-            outcome_row(alloc, request.token.as_str(), decided)
+        self.note(alloc, request)?;
+        match self.outcome(alloc, request) {
+            Some(outcome) if self.agrees(alloc, Asked::Perform(request, 1), &[outcome])? => {
+                outcome_row(alloc, request.token.as_str(), outcome)
+            }
+            _ => word(alloc, "differs"),
+        }
+    }
+
+    /// The answers of requests, which the archive in files does in one call, or `differs`.
+    pub(crate) fn run(
+        &mut self,
+        alloc: Global,
+        requests: &[Request],
+    ) -> Result<Vec<u8>, AllocError> {
+        let mut outcomes = Vec::new(alloc);
+        let mut rows = Vec::new(alloc);
+        for request in requests {
+            self.note(alloc, request)?;
+            let Some(outcome) = self.outcome(alloc, request) else {
+                return word(alloc, "differs");
+            };
+            let row = outcome_row(alloc, request.token.as_str(), outcome)?;
+            rows.extend_from_slice(row.as_slice())?;
+            outcomes.push(outcome)?;
+        }
+        if self.agrees(alloc, Asked::Run(requests), &outcomes)? {
+            Ok(rows)
         } else {
             word(alloc, "differs")
+        }
+    }
+
+    /// The outcome of a request in both archives in memory. `None`: they differ.
+    fn outcome(&mut self, alloc: Global, request: &Request) -> Option<Outcome> {
+        let stepped = step(alloc, &mut self.stepped, request);
+        let decided = decide_and_make(alloc, &mut self.decided, request);
+        if is_equal(stepped, decided) {
+            Some(decided)
+        } else {
+            None
+        }
+    }
+
+    /// Remembers the token of a request, where an archive in files is kept.
+    pub(crate) fn note(&mut self, alloc: Global, request: &Request) -> Result<(), AllocError> {
+        match &mut self.kept {
+            Some(kept) => kept.note(alloc, &request.token),
+            None => Ok(()),
+        }
+    }
+
+    /// Asks the archive in files. Whether its outcomes are these and it then holds what the others hold; so is one that is not
+    /// kept.
+    pub(crate) fn agrees(
+        &mut self,
+        alloc: Global,
+        asked: Asked<'_>,
+        wanted: &[Outcome],
+    ) -> Result<bool, AllocError> {
+        match &mut self.kept {
+            Some(kept) => kept.agrees(alloc, asked, wanted, &self.decided),
+            None => Ok(true),
         }
     }
 

@@ -3,6 +3,7 @@
 use crate::archives::Archives;
 use crate::reading::{command_of, fields_of};
 use crate::rows::refused;
+use crate::storing::answer_stored;
 use crate::wordings::{batch_row, bytes_rows, import_row};
 use archive_core::{Command, Request};
 use archive_state::Token;
@@ -75,7 +76,7 @@ fn answer_question(
         "! bytes" => bytes_rows(alloc, fields),
         "! batch" => batch_row(alloc, fields),
         "! import" => import_row(alloc, fields),
-        _ => archives.see(alloc, asked, fields),
+        _ => answer_stored(alloc, archives, asked, fields),
     }
 }
 

@@ -1,11 +1,11 @@
 //! A request over a view of which each look fails in turn: it has to be refused as that look was.
 
-use crate::failing::{Failing, Failure};
 use crate::reading::command_of;
 use crate::rows::{refused, said, word};
 use archive_core::{Command, Request, decide};
 use archive_state::{Changes, Numbered, State, Token};
 use archive_view::View;
+use failing_archives::{Failing, Failure};
 use records::{Refusal, RefusalKind};
 use std::alloc::{AllocError, Global};
 

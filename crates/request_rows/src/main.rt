@@ -1,13 +1,16 @@
-//! Answers rows of requests, over archives in memory. A tool of the tests, no part of the product.
+//! Answers rows of requests, over archives in memory and in files in memory. A tool of the tests, no part of the product.
 #![tactic(auto)]
 
 mod archives;
 mod asking;
-mod failing;
+mod kept;
 mod looks;
+mod pictures;
 mod reading;
 mod rows;
 mod seeing;
+mod stops;
+mod storing;
 mod wordings;
 
 use crate::archives::Archives;

@@ -1,9 +1,9 @@
 //! What is seen of one archive.
 
-use crate::failing::Failure;
 use crate::looks::looks_row;
 use crate::rows::{refused, row_of_four, said, word};
 use archive_state::{Receipt, State, Token};
+use failing_archives::Failure;
 use records::{Record, RefusalKind, StoredLine, lines_of};
 use std::alloc::{AllocError, Global};
 

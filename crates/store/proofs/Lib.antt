@@ -1,6 +1,6 @@
 mod Committed
 pub mod Histories
 mod Looked
-mod Opened
+mod Recognised
 mod Running
 mod Unchanged

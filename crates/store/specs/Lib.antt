@@ -1,3 +1,4 @@
+pub mod Adopting
 pub mod Archives
 pub mod Calls
 pub mod Creating

@@ -11,6 +11,7 @@ ghost use Rattle.archive_core.specs.Steps.{refused_at};
 ghost use Rattle.archive_state.specs.Content.{nothing};
 ghost use Rattle.store_tables.specs.Calls.{SettledBlank, LeavesOnly};
 ghost use Rattle.store_tables.specs.Schema.{no_schema};
+ghost use Rattle.store.specs.Adopting.{RefusesToAdopt};
 ghost use Rattle.store.specs.Archives.{HasArchive, LeavesArchive};
 ghost use Rattle.store.specs.Calls.{Acknowledges, OnArchive, Performs, Reads};
 ghost use Rattle.store.specs.Creating.{IsSociety, RefusesToCreate, RefusesToMake};
@@ -49,9 +50,10 @@ impl<S: Alter> Archive<S> {
         ensures named { IfOk result (λ made. (made.is_lost ≡ false) × IsSociety (string_bytes society) × ((state S.Store conn).now.schema ≡ no_schema)) }
         ensures refused { IfErr result (λ e. RefusesToCreate (string_bytes society) (state S.Store conn) (state S.Store e.1) e.0) }
         ensures back { IfErr result (λ e. is_storage e.0 ≡ false → e.1 ≡ conn) }
+        ensures clean { IfOk result (λ made. HasCleanDisk (state S.Store made.conn) → HasCleanDisk (state S.Store conn)) }
         ensures ended { IfErr result (λ e. e.1.in_transaction ≡ false) }
     {
-        match named(society) {
+        match society_named(society) {
             Some(society) => create_named(conn, &society),
             None => Err((RefusalKind::BadText, conn)),
         }
@@ -65,6 +67,7 @@ impl<S: Alter> Archive<S> {
         ensures adopted { IfOk result (λ made. (made.is_lost ≡ false)
             × (HasCleanDisk (state S.Store made.conn) → Reads {A = Unit {0}} (λ _ _ _. ⊤) (state S.Store conn) (Ok tt) (state S.Store made.conn))) }
         ensures refused { IfErr result (λ e. HasCleanDisk (state S.Store e.1) → Reads {A = Unit {0}} (λ _ _ _. ⊤) (state S.Store conn) (Err e.0) (state S.Store e.1)) }
+        ensures told { IfErr result (λ e. HasCleanDisk (state S.Store e.1) → RefusesToAdopt S.Store (state S.Store conn) e.0) }
         ensures ended { IfErr result (λ e. e.1.in_transaction ≡ false) }
     {
         match recognise(&mut conn) {
@@ -162,8 +165,8 @@ impl<S: Alter> Archive<S> {
     }
 }
 
-/// The text as the name of a society. `None`: it is empty or no text.
-fn named(society: String) -> Option<Text>
+/// The string as the name of a society. `None`: it is empty or no text.
+pub fn society_named(society: String) -> Option<Text>
     ensures { MatchOption result (¬ (IsSociety (string_bytes society))) (λ text. (text ≡ string_bytes society) × IsSociety text) }
 {
     let text = Text::try_new(society)?;
@@ -184,6 +187,7 @@ fn create_named<S: Alter>(
     ensures blank { IfOk result (λ made. (made.is_lost ≡ false) × ((state S.Store conn).now.schema ≡ no_schema)) }
     ensures refused { IfErr result (λ e. RefusesToMake society.now (state S.Store conn) (state S.Store e.1) e.0) }
     ensures back { IfErr result (λ e. is_storage e.0 ≡ false → e.1 ≡ conn) }
+    ensures clean { IfOk result (λ made. HasCleanDisk (state S.Store made.conn) → HasCleanDisk (state S.Store conn)) }
     ensures ended { IfErr result (λ e. e.1.in_transaction ≡ false) }
 {
     if !is_blank(&conn) {

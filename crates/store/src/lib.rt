@@ -6,8 +6,7 @@ mod committing;
 mod deciding;
 mod failing;
 pub mod laws;
-mod opening;
 mod performing;
 mod reading;
 
-pub use archive::Archive;
+pub use archive::{Archive, society_named};

@@ -1,11 +1,12 @@
 //! What an archive holds, read of its tables.
 
-ghost use Rattle.std.specs.Prelude.{◌≡◌, ⊤, false};
+ghost use Rattle.std.specs.Prelude.{◌≡◌, ⊤, false, IfErr};
 ghost use Rattle.sqlite.specs.State.{HasCleanDisk, Survives};
 ghost use Rattle.sqlite.specs.Held.{state};
 ghost use Rattle.store_tables.specs.Calls.{LeavesOnly, Settled};
 ghost use Rattle.store_tables.specs.Looking.{Looks};
 ghost use Rattle.store_tables.specs.Rows.{Rows};
+ghost use Rattle.store.specs.Adopting.{RefusesToAdopt};
 ghost use Rattle.store.specs.Calls.{Reads};
 ghost use Rattle.store.specs.Histories.{is_storage};
 
@@ -53,6 +54,7 @@ pub(crate) fn society_on<S: Alter>(
 pub(crate) fn recognise<S: Alter>(conn: &mut Connection<S>) -> Result<(), RefusalKind>
     requires autocommit { conn.old.in_transaction ≡ false }
     ensures reads { HasCleanDisk (state S.Store conn.new) → Reads (λ _ _ _. ⊤) (state S.Store conn.old) result (state S.Store conn.new) }
+    ensures told { HasCleanDisk (state S.Store conn.new) → IfErr result (RefusesToAdopt S.Store (state S.Store conn.old)) }
     ensures ended { conn.new.in_transaction ≡ false }
 {
     match look_at_tables(conn) {
@@ -65,10 +67,13 @@ pub(crate) fn recognise<S: Alter>(conn: &mut Connection<S>) -> Result<(), Refusa
 fn look_at_tables<S: Alter>(conn: &mut Connection<S>) -> Result<(), RefusalKind>
     requires autocommit { conn.old.in_transaction ≡ false }
     ensures looks { Looks (λ _ _. ⊤) (state S.Store conn.old) (state S.Store conn.new) result }
+    ensures told { HasCleanDisk (state S.Store conn.new) → IfErr result (RefusesToAdopt S.Store (state S.Store conn.old)) }
     ensures ended { conn.new.in_transaction ≡ false }
 {
-    check_version(conn)?;
-    check_tables(conn)
+    match check_version(conn) {
+        Ok(()) => check_tables(conn),
+        Err(kind) => Err(kind),
+    }
 }
 
 /// The refusal of a call: 80 where the connection answers no more.

@@ -136,6 +136,7 @@ pub fn create<S: Alter>(conn: &mut Connection<S>, society: &Text) -> Result<(), 
         → OnOk result (SettledBlank (state S.Store conn.old) → Settled (state S.Store conn.new) (nothing_yet society.now)) }
     ensures crash { HasCleanDisk (state S.Store conn.new) → SettledBlank (state S.Store conn.old)
         → (t : Trees) → (state S.Store conn.new).may_leave t → IsBlank t ⊎ Good (nothing_yet society.now) t }
+    ensures clean { HasCleanDisk (state S.Store conn.new) → HasCleanDisk (state S.Store conn.old) }
     ensures ended { conn.new.in_transaction ≡ false }
 {
     let mut tx = conn.transaction();

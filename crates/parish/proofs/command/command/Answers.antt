@@ -1,17 +1,48 @@
-use Rattle.std.proofs.Common.{◌≡◌, ◌∙◌, sym, codes, rules, map, string_bytes}
-use Rattle.std.specs.Prelude.{Some}
-use Rattle.command_line.specs.Commands.{IsTaken, command_named}
-use Rattle.parish.proofs.Ending.{check_wanting, norm_wanting}
+use Rattle.std.proofs.Common.{◌≡◌, ◌∙◌, refl, sym, codes, map, string_bytes}
+use Rattle.std.specs.Prelude.{List, ℕ, Option, Some, None, IfSome, IsSome}
+use Rattle.command_line.specs.Commands.{IsTaken, command_named, name_of}
+use Rattle.parish.proofs.Ending.{apply_wanting, check_wanting, norm_wanting}
 use Rattle.parish.proofs.command.command.Goals as goal
 
-pub returns-in-Ok-Norm-clause-check : goal.returns-in-Ok-Norm-clause-check
-returns-in-Ok-Norm-clause-check g c = λ words.
-    let asked : IsTaken (map string_bytes c.args.words.now) × (command_named (map string_bytes c.args.words.now) ≡ Some (codes "norm")) = search rules in
-    let both : Some (codes "norm") ≡ Some (codes "check") = sym asked.1 ∙ words.1 in
-    absurd cc
+-- what is asked for by words that are taken has the name of their command
+asked_as : (o : Option (List ℕ)) (words : List (List ℕ)) (name : List ℕ) → IsSome o → IfSome o (λ n. IsTaken words × (command_named words ≡ Some n)) → command_named words ≡ Some name → o ≡ Some name
+asked_as (Some n) words name some is e = sym is.1 ∙ e
+asked_as None words name some is e = absurd cc
+
+-- and of words that are not, nothing is
+asked_for_nothing : (o : Option (List ℕ)) (words : List (List ℕ)) → IfSome o (λ n. IsTaken words × (command_named words ≡ Some n)) → ¬ (IsTaken words) → o ≡ None
+asked_for_nothing (Some n) words is none = absurd (none is.0)
+asked_for_nothing None words is none = refl
+
+pub returns-in-Ok-clause-norm : goal.returns-in-Ok-clause-norm
+returns-in-Ok-clause-norm g c = λ are.
+    let asked = c.in-Ok.ensures in
+    c.work.ensures.norm (asked_as (name_of c.in-Ok.asked) (map string_bytes c.args.words.now) (codes "norm") (asked.taken are.0) asked.asked.0 are.1)
+
+pub returns-in-Ok-clause-check : goal.returns-in-Ok-clause-check
+returns-in-Ok-clause-check g c = λ are.
+    let asked = c.in-Ok.ensures in
+    c.work.ensures.check (asked_as (name_of c.in-Ok.asked) (map string_bytes c.args.words.now) (codes "check") (asked.taken are.0) asked.asked.0 are.1)
+
+pub returns-in-Ok-clause-init : goal.returns-in-Ok-clause-init
+returns-in-Ok-clause-init g c = λ are.
+    let asked = c.in-Ok.ensures in
+    c.work.ensures.init (asked_as (name_of c.in-Ok.asked) (map string_bytes c.args.words.now) (codes "init") (asked.taken are.0) asked.asked.0 are.1)
+
+pub returns-in-Ok-clause-apply : goal.returns-in-Ok-clause-apply
+returns-in-Ok-clause-apply g c = λ are.
+    let asked = c.in-Ok.ensures in
+    c.work.ensures.apply (asked_as (name_of c.in-Ok.asked) (map string_bytes c.args.words.now) (codes "apply") (asked.taken are.0) asked.asked.0 are.1)
+
+pub returns-in-Ok-clause-others : goal.returns-in-Ok-clause-others
+returns-in-Ok-clause-others g c = λ none.
+    c.work.ensures.text (asked_for_nothing (name_of c.in-Ok.asked) (map string_bytes c.args.words.now) c.in-Ok.ensures.asked.0 none)
 
 pub returns-in-Err-OutOfMemory-clause-norm : goal.returns-in-Err-OutOfMemory-clause-norm
 returns-in-Err-OutOfMemory-clause-norm g c = λ words. norm_wanting c.refuse.result _ _ _ _ c.refuse.ensures
 
 pub returns-in-Err-OutOfMemory-clause-check : goal.returns-in-Err-OutOfMemory-clause-check
 returns-in-Err-OutOfMemory-clause-check g c = λ words. check_wanting c.refuse.result _ _ _ _ c.refuse.ensures
+
+pub returns-in-Err-OutOfMemory-clause-apply : goal.returns-in-Err-OutOfMemory-clause-apply
+returns-in-Err-OutOfMemory-clause-apply g c = λ words. apply_wanting c.refuse.result _ _ _ _ c.refuse.ensures

@@ -1,0 +1,7 @@
+use Rattle.command_line.proofs.reading.command_named.Goals as goal
+
+pub returns-in-init-clause-words : goal.returns-in-init-clause-words
+returns-in-init-clause-words c = (c.word_of.ensures, c.word_of-in-init.ensures)
+
+pub returns-in-apply-clause-words : goal.returns-in-apply-clause-words
+returns-in-apply-clause-words c = c.word_of-in-apply.ensures

@@ -1,0 +1,144 @@
+//! Calls of an archive over a connection that is handed back.
+
+ghost use Rattle.std.specs.Prelude.{◌≡◌, false};
+
+use archive_core::Request;
+use archive_state::{Answer, State};
+use records::{Refusal, RefusalKind, Text};
+use sqlite::{Alter, Connection};
+use std::alloc::{AllocError, Global};
+use store::Archive;
+
+pub type Outcome = Result<Answer, Refusal>;
+
+/// What is asked of an archive before its state and its society are read.
+#[derive(Clone, Copy)]
+pub enum Asked<'a> {
+    Nothing,
+    /// A request, so many times.
+    Perform(&'a Request, u32),
+    /// Requests by one call.
+    Run(&'a [Request]),
+}
+
+/// What became of a visit to an archive.
+#[derive(Drop)]
+pub enum Reply {
+    /// Its files could not be opened.
+    Unopened,
+    /// Statements before it failed.
+    Unaltered,
+    /// It was not adopted, or memory for the outcomes was refused.
+    Unadopted(RefusalKind),
+    Told(Told),
+}
+
+/// What an archive answered.
+#[derive(Drop)]
+pub struct Told {
+    pub outcomes: Vec<Outcome>,
+    pub state: Result<State, RefusalKind>,
+    pub society: Result<Text, RefusalKind>,
+}
+
+/// Adopts the archive of a connection and asks it.
+pub fn visit<S: Alter>(
+    alloc: Global,
+    conn: Connection<S>,
+    asked: Asked<'_>,
+) -> (Reply, Connection<S>)
+    requires { conn.in_transaction ≡ false }
+    ensures { result.1.in_transaction ≡ false }
+{
+    match Archive::adopt(conn) {
+        Ok(mut archive) => {
+            let told = tell(alloc, &mut archive, asked);
+            (visited(told), archive.into_connection())
+        }
+        Err((kind, conn)) => (Reply::Unadopted(kind), conn),
+    }
+}
+
+fn visited(told: Result<Told, RefusalKind>) -> Reply {
+    match told {
+        Ok(told) => Reply::Told(told),
+        Err(kind) => Reply::Unadopted(kind),
+    }
+}
+
+/// What an archive answers. 1: memory for the outcomes was refused.
+fn tell<S: Alter>(
+    alloc: Global,
+    archive: &mut Archive<S>,
+    asked: Asked<'_>,
+) -> Result<Told, RefusalKind> {
+    let outcomes = match asked {
+        Asked::Nothing => Vec::new(alloc),
+        Asked::Perform(request, times) => perform(alloc, archive, request, times)?,
+        Asked::Run(requests) => run(alloc, archive, requests)?,
+    };
+    let state = archive.state(alloc);
+    let society = archive.society(alloc);
+    Ok(Told {
+        outcomes,
+        state,
+        society,
+    })
+}
+
+fn perform<S: Alter>(
+    alloc: Global,
+    archive: &mut Archive<S>,
+    request: &Request,
+    times: u32,
+) -> Result<Vec<Outcome>, RefusalKind> {
+    let mut outcomes = Vec::new(alloc);
+    for _ in 0..times {
+        let outcome = archive.perform(alloc, request);
+        push(&mut outcomes, outcome)?;
+    }
+    Ok(outcomes)
+}
+
+fn push(outcomes: &mut Vec<Outcome>, outcome: Outcome) -> Result<(), AllocError> {
+    Ok(outcomes.push(outcome)?)
+}
+
+fn run<S: Alter>(
+    alloc: Global,
+    archive: &mut Archive<S>,
+    requests: &[Request],
+) -> Result<Vec<Outcome>, RefusalKind> {
+    match archive.run(alloc, requests) {
+        Ok(outcomes) => Ok(outcomes),
+        Err(refusal) => Err(refusal.kind),
+    }
+}
+
+/// Makes an archive in the store of a connection.
+pub fn create<S: Alter>(
+    conn: Connection<S>,
+    society: String,
+) -> (Result<(), RefusalKind>, Connection<S>)
+    requires { conn.in_transaction ≡ false }
+    ensures { result.1.in_transaction ≡ false }
+{
+    match Archive::create(conn, society) {
+        Ok(archive) => (Ok(()), archive.into_connection()),
+        Err((kind, conn)) => (Err(kind), conn),
+    }
+}
+
+/// Runs statements, and then visits the archive.
+pub fn alter<S: Alter>(
+    alloc: Global,
+    mut conn: Connection<S>,
+    sql: &str,
+    asked: Asked<'_>,
+) -> (Reply, Connection<S>) {
+    if conn.execute_batch(sql).is_ok() && conn.is_autocommit() {
+        visit(alloc, conn, asked)
+    } else {
+        (Reply::Unaltered, conn)
+    }
+}

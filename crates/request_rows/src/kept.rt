@@ -1,0 +1,118 @@
+//! An archive in files, of which the bytes alone are kept from row to row.
+
+use crate::pictures::picture;
+use archive_state::{State, Token};
+use failing_archives::{
+    Asked, Fuses, Images, Outcome, Reply, Told, Visits, make, visit_once, visit_twice,
+};
+use records::{RefusalKind, Text};
+use std::alloc::{AllocError, Global};
+
+/// The files of an archive, and the tokens under which it was asked.
+#[derive(Drop)]
+pub(crate) struct Kept {
+    pub(crate) images: Images,
+    pub(crate) tokens: Vec<Token>,
+}
+
+impl Kept {
+    /// A new archive of a society in empty files, or the refusal.
+    pub(crate) fn create(
+        alloc: Global,
+        society: &str,
+    ) -> Result<Result<Kept, RefusalKind>, AllocError> {
+        let (made, images) = make(alloc, &Images::empty(alloc), Fuses::none(), society)?;
+        Ok(match made {
+            Some(Ok(())) => Ok(Kept {
+                images,
+                tokens: Vec::new(alloc),
+            }),
+            Some(Err(kind)) => Err(kind),
+            None => Err(RefusalKind::Storage),
+        })
+    }
+
+    /// Remembers a token, so that what is kept under it is looked at.
+    pub(crate) fn note(&mut self, alloc: Global, token: &Token) -> Result<(), AllocError> {
+        Ok(self.tokens.push(token.copy(alloc)?)?)
+    }
+
+    /// Asks the archive. Whether its outcomes are these and it then holds this state, also where it is adopted again.
+    pub(crate) fn agrees(
+        &mut self,
+        alloc: Global,
+        asked: Asked<'_>,
+        wanted: &[Outcome],
+        state: &State,
+    ) -> Result<bool, AllocError> {
+        let Visits {
+            first,
+            second,
+            left,
+        } = visit_twice(alloc, &self.images, asked, Asked::Nothing)?;
+        self.images = left;
+        let shown = picture(alloc, state, &self.tokens)?;
+        let is_first = has_told(alloc, &first, wanted, &shown, &self.tokens)?;
+        Ok(is_first && has_told(alloc, &second, &[], &shown, &self.tokens)?)
+    }
+
+    /// The society that the archive says.
+    pub(crate) fn society(&self, alloc: Global) -> Result<Result<Text, RefusalKind>, AllocError> {
+        let (reply, _) = visit_once(alloc, &self.images, Fuses::none(), Asked::Nothing)?;
+        Ok(society_in(reply))
+    }
+}
+
+fn society_in(reply: Reply) -> Result<Text, RefusalKind> {
+    match reply {
+        Reply::Told(
+            Told {
+                outcomes: _,
+                state: _,
+                society,
+            },
+        ) => society,
+        Reply::Unadopted(kind) => Err(kind),
+        Reply::Unopened | Reply::Unaltered => Err(RefusalKind::Storage),
+    }
+}
+
+/// Whether an archive answered with these outcomes, and showed this.
+fn has_told(
+    alloc: Global,
+    reply: &Reply,
+    wanted: &[Outcome],
+    shown: &[u8],
+    tokens: &[Token],
+) -> Result<bool, AllocError> {
+    match reply {
+        Reply::Told(told) => {
+            Ok(are_equal(&told.outcomes, wanted) && shows(alloc, told, shown, tokens)?)
+        }
+        _ => Ok(false),
+    }
+}
+
+fn shows(alloc: Global, told: &Told, shown: &[u8], tokens: &[Token]) -> Result<bool, AllocError> {
+    match &told.state {
+        Ok(state) => Ok(picture(alloc, state, tokens)?.as_slice() == shown),
+        Err(_) => Ok(false),
+    }
+}
+
+fn are_equal(found: &[Outcome], wanted: &[Outcome]) -> bool {
+    if found.len() != wanted.len() {
+        return false;
+    }
+    for i in 0..found.len() {
+        if !is_equal(found[i], wanted[i]) {
+            return false;
+        }
+    }
+    true
+}
+
+/// Whether two outcomes are the same answer or the same refusal.
+pub(crate) fn is_equal(a: Outcome, b: Outcome) -> bool {
+    a.ok() == b.ok() && a.err() == b.err()
+}

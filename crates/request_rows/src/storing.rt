@@ -1,0 +1,188 @@
+//! The rows about an archive in files.
+
+use crate::archives::Archives;
+use crate::kept::Kept;
+use crate::reading::{request_of, requests_of};
+use crate::rows::{refused, said, word};
+use crate::stops::{say_made, stop_create_row, stop_row};
+use archive_core::Request;
+use failing_archives::{Asked, Fuses, Images, Words, make, visit_altered, visit_once};
+use records::RefusalKind;
+use std::alloc::{AllocError, Global};
+
+/// The answer of a row that makes, asks or stops an archive in files. Another asks what is seen of the states.
+pub(crate) fn answer_stored(
+    alloc: Global,
+    archives: &mut Archives,
+    asked: &str,
+    fields: &[&str],
+) -> Result<Vec<u8>, AllocError> {
+    match (asked, fields) {
+        ("! store", [society]) => store(alloc, archives, society),
+        ("! store over", [society]) => store_over(alloc, archives, society),
+        ("! stored", []) => stored(alloc, archives),
+        ("! society", []) => society_row(alloc, archives),
+        ("! run", rows) => run(alloc, archives, rows),
+        ("! stop", [file, calls, rest @ ..]) => stop(alloc, archives, file, calls, rest),
+        ("! stop create", [file, calls, society]) => stop_create(alloc, file, calls, society),
+        ("! spoil", [sql, rest @ ..]) => spoil(alloc, archives, sql, rest),
+        ("! adopt", [sql]) => adopt(alloc, sql),
+        ("! adopt bytes", [text, count]) => adopt_bytes(alloc, text, count),
+        _ => archives.see(alloc, asked, fields),
+    }
+}
+
+/// Makes an archive for a society, which is kept from then on.
+fn store(alloc: Global, archives: &mut Archives, society: &str) -> Result<Vec<u8>, AllocError> {
+    match Kept::create(alloc, society)? {
+        Ok(kept) => {
+            archives.kept = Some(kept);
+            word(alloc, "ok")
+        }
+        Err(kind) => refused(alloc, "", kind),
+    }
+}
+
+/// Makes an archive over the one that is kept: what is answered, and whether the files are as a session that only reads
+/// leaves them.
+fn store_over(
+    alloc: Global,
+    archives: &mut Archives,
+    society: &str,
+) -> Result<Vec<u8>, AllocError> {
+    let Some(kept) = &archives.kept else {
+        return word(alloc, "none");
+    };
+    let mut words = Words::new(alloc, "over")?;
+    let (_, unchanged) = visit_once(alloc, &kept.images, Fuses::none(), Asked::Nothing)?;
+    let (made, left) = make(alloc, &kept.images, Fuses::none(), society)?;
+    say_made(alloc, made, &mut words)?;
+    words.say(same_or_differs(left.is_same(&unchanged)))?;
+    words.into_row()
+}
+
+fn same_or_differs(is_same: bool) -> &'static str {
+    if is_same { "same" } else { "differs" }
+}
+
+/// Whether the archive in files holds what the others hold.
+fn stored(alloc: Global, archives: &mut Archives) -> Result<Vec<u8>, AllocError> {
+    if archives.kept.is_none() {
+        return word(alloc, "none");
+    }
+    let agrees = archives.agrees(alloc, Asked::Nothing, &[])?;
+    word(alloc, same_or_differs(agrees))
+}
+
+fn society_row(alloc: Global, archives: &Archives) -> Result<Vec<u8>, AllocError> {
+    let Some(kept) = &archives.kept else {
+        return word(alloc, "none");
+    };
+    match kept.society(alloc)? {
+        Ok(society) => said(alloc, "society", society.as_str().as_bytes()),
+        Err(kind) => refused(alloc, "", kind),
+    }
+}
+
+/// The answers of requests that the archive in files does in one call. A row is one field here.
+fn run(alloc: Global, archives: &mut Archives, rows: &[&str]) -> Result<Vec<u8>, AllocError> {
+    match requests_of(alloc, rows)? {
+        Ok(requests) => archives.run(alloc, &requests),
+        Err(kind) => refused(alloc, "", kind),
+    }
+}
+
+/// A request on a copy of the archive of which a file fails.
+fn stop(
+    alloc: Global,
+    archives: &mut Archives,
+    file: &str,
+    calls: &str,
+    fields: &[&str],
+) -> Result<Vec<u8>, AllocError> {
+    let Some(fuses) = Fuses::of(file, calls) else {
+        return refused(alloc, "", RefusalKind::BadRow);
+    };
+    match request_of(alloc, fields)? {
+        Ok(request) => stop_request(alloc, archives, fuses, &request),
+        Err(kind) => refused(alloc, "", kind),
+    }
+}
+
+fn stop_request(
+    alloc: Global,
+    archives: &mut Archives,
+    fuses: Fuses,
+    request: &Request,
+) -> Result<Vec<u8>, AllocError> {
+    archives.note(alloc, request)?;
+    match &archives.kept {
+        Some(kept) => stop_row(alloc, kept, &archives.decided, fuses, request),
+        None => word(alloc, "none"),
+    }
+}
+
+fn stop_create(
+    alloc: Global,
+    file: &str,
+    calls: &str,
+    society: &str,
+) -> Result<Vec<u8>, AllocError> {
+    match Fuses::of(file, calls) {
+        Some(fuses) => stop_create_row(alloc, fuses, society),
+        None => refused(alloc, "", RefusalKind::BadRow),
+    }
+}
+
+/// What an archive answers to a request, twice, after statements changed a copy of its tables.
+fn spoil(
+    alloc: Global,
+    archives: &Archives,
+    sql: &str,
+    fields: &[&str],
+) -> Result<Vec<u8>, AllocError> {
+    let Some(kept) = &archives.kept else {
+        return word(alloc, "none");
+    };
+    match request_of(alloc, fields)? {
+        Ok(request) => {
+            let asked = Asked::Perform(&request, 2);
+            visit_row(alloc, "spoil", &kept.images, sql, asked)
+        }
+        Err(kind) => refused(alloc, "", kind),
+    }
+}
+
+/// What is answered where files are adopted in which statements made tables.
+fn adopt(alloc: Global, sql: &str) -> Result<Vec<u8>, AllocError> {
+    visit_row(alloc, "adopt", &Images::empty(alloc), sql, Asked::Nothing)
+}
+
+fn visit_row(
+    alloc: Global,
+    first: &str,
+    images: &Images,
+    sql: &str,
+    asked: Asked<'_>,
+) -> Result<Vec<u8>, AllocError> {
+    let reply = visit_altered(alloc, images, sql, asked)?;
+    let mut words = Words::new(alloc, first)?;
+    words.say_reply(alloc, &reply)?;
+    words.into_row()
+}
+
+/// What is answered where a file has a text so many times.
+fn adopt_bytes(alloc: Global, text: &str, count: &str) -> Result<Vec<u8>, AllocError> {
+    let Ok(count) = count.parse::<u32>() else {
+        return refused(alloc, "", RefusalKind::BadRow);
+    };
+    let mut bytes = Vec::new(alloc);
+    for _ in 0..count {
+        bytes.extend_from_slice(text.as_bytes())?;
+    }
+    let images = Images::of_database(alloc, bytes);
+    let (reply, _) = visit_once(alloc, &images, Fuses::none(), Asked::Nothing)?;
+    let mut words = Words::new(alloc, "adopt")?;
+    words.say_reply(alloc, &reply)?;
+    words.into_row()
+}

@@ -1,0 +1,4 @@
+mod OnTheWay
+mod One
+mod Outcomes
+mod Served

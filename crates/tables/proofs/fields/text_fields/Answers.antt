@@ -1,0 +1,30 @@
+use Rattle.std.proofs.Common.{◌<◌, ◌≤◌, ◌++◌, ◌∷◌, ◌∙◌, [], ap, sym, length, map, take, Bor, List, ℕ}
+use Rattle.std.proofs.lemmas.List.{map_push, take_all, take_more}
+use Rattle.csv.specs.Records.{AllText, fields_of}
+use Rattle.csv.proofs.RecordFacts.{text-at, text-step}
+use Rattle.tables.proofs.fields.text_fields.Goals as goal
+
+pub fields-init : goal.fields-init
+unfolding AllText
+fields-init c = (tt, ap (map (λ (f : Bor (List ℕ)). f.now)) c.new-fields.ensures.items)
+
+pub returns-in-None : goal.returns-in-None
+returns-in-None c = λ all.
+    let lt : c.fields.i < length (fields_of c.args.row.now) = rw (← c.len-i-end.ensures) c.fields-test.true in
+    c.in-None.ensures (text-at _ _ lt all)
+
+pub fields-preserved : goal.fields-preserved
+fields-preserved c =
+    let row = fields_of c.args.row.now in
+    let lt : c.fields.i < length row = rw (← c.len-i-end.ensures) c.fields-test.true in
+    let v = c.fields.invariant in (
+      text-step _ _ lt v.0 c.in-Some.ensures.1,
+      ap (map (λ (f : Bor (List ℕ)). f.now)) c.in_ok-push-in-Some.ensures.items ∙ map_push (λ (f : Bor (List ℕ)). f.now) c.fields.fields.items c.in-Some.text
+          ∙ ap (λ fs. fs ++ c.in-Some.text.now ∷ []) v.1 ∙ ap (λ (f : List ℕ). take c.fields.i row ++ f ∷ []) c.in-Some.ensures.0 ∙ sym (take_more row c.fields.i [] lt),
+    )
+
+pub returns : goal.returns
+returns c =
+    let row = fields_of c.args.row.now in
+    let ge : length row ≤ c.fields.i = rw (← c.len-i-end.ensures) c.fields-test.false in
+    rw (take_all c.fields.i row ge) at c.fields.invariant

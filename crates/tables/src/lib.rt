@@ -1,0 +1,20 @@
+//! Rows of requests, read and answered as CSV.
+//!
+//! It stands on `store`, whose archive performs the requests, on `commands` and `archive_core` for what a request is, and on `csv` of
+//! the kit.
+//!
+//! Callers may rely on: a row asks for one request, or is refused for one reason; each row is answered by one row, which
+//! is written and flushed before the next row is decided.
+#![tactic(auto)]
+
+mod answers;
+mod applying;
+mod bad_request;
+mod fields;
+pub mod laws;
+mod request;
+mod serving;
+
+pub use applying::apply;
+pub use bad_request::BadRequest;
+pub use request::read_request;

@@ -1,0 +1,166 @@
+//! One row served: its request is performed, and its answer written.
+
+ghost use Rattle.std.specs.Prelude.{◌≡◌, ◌⊎◌, [], false, Ok, Err, IfErr, MatchBool, OnOk};
+ghost use Rattle.std.specs.Io.KnownBytes.{Appends, Keeps};
+ghost use Rattle.commands.specs.Rows.{is_want};
+ghost use Rattle.csv.specs.Records.{fields_of};
+ghost use Rattle.devices.specs.Devices.{Rose};
+ghost use Rattle.record_text.specs.declared.refusal.RefusalKind.TheVariants as refusal;
+ghost use Rattle.store.specs.Histories.{Outcome, has_failed};
+ghost use Rattle.tables.specs.Answers.{Served, answer_text};
+ghost use Rattle.tables.specs.Applying.{IsServed, Steps, WritesPart, is_in_doubt};
+
+use crate::answers::{bad_text, outcome_text};
+use crate::bad_request::BadRequest;
+use crate::request::read_request;
+use archive_core::Request;
+use csv::ByteRecord;
+use devices::{Device, TransferError, has_risen, write_bytes};
+use receipts::Answer;
+use record_text::{Refusal, RefusalKind};
+use sqlite::Alter;
+use std::alloc::Global;
+use std::io::{ErrorKind, Write};
+use store::Archive;
+
+/// Serves a row: performs its request, and writes its answer. `before` is the writer's count of failures at the start of the call
+/// that asks.
+///
+/// 80: the database failed, and nothing is written. 95: the writer failed. 1: no memory was found to read the row, or to
+/// form or write its answer.
+pub(crate) fn serve_row<S: Alter, W: Write + Device>(
+    alloc: Global,
+    archive: &mut Archive<S>,
+    row: &ByteRecord,
+    output: &mut W,
+    before: u64,
+) -> Result<(), RefusalKind>
+    ensures served { OnOk result ((s : Served) × IsServed (fields_of row.now) s × Steps S.Store s archive.old archive.new
+        × (is_in_doubt s ≡ false) × Appends (W.contents output.old) (W.contents output.new) (answer_text s)) }
+    ensures ended { IfErr result (λ kind. ((kind ≡ refusal.OutOfMemory) × (archive.new ≡ archive.old) × (W.contents output.new ≡ W.contents output.old))
+        ⊎ ((s : Served) × IsServed (fields_of row.now) s × Steps S.Store s archive.old archive.new
+        × MatchBool (is_in_doubt s) ((kind ≡ refusal.Storage) × (W.contents output.new ≡ W.contents output.old))
+        (WritesPart kind (W.contents output.old) (W.contents output.new) (answer_text s)))) }
+    ensures failed { result ≡ Err refusal.WriteFailed → Rose before (W.failed output.new) }
+{
+    match read_request(alloc, row) {
+        Ok(request) => serve_request(alloc, archive, request, output, before),
+        Err(bad) => answer_bad(alloc, bad, output, before),
+    }
+}
+
+/// Performs a request, and writes its answer.
+fn serve_request<S: Alter, W: Write + Device>(
+    alloc: Global,
+    archive: &mut Archive<S>,
+    request: Request,
+    output: &mut W,
+    before: u64,
+) -> Result<(), RefusalKind>
+    ensures served { OnOk result ((o : Outcome) × Steps S.Store (Ok (request, o)) archive.old archive.new
+        × (has_failed o ≡ false) × Appends (W.contents output.old) (W.contents output.new) (answer_text (Ok (request, o)))) }
+    ensures ended { IfErr result (λ kind. (o : Outcome) × Steps S.Store (Ok (request, o)) archive.old archive.new
+        × MatchBool (has_failed o) ((kind ≡ refusal.Storage) × (W.contents output.new ≡ W.contents output.old))
+        (WritesPart kind (W.contents output.old) (W.contents output.new) (answer_text (Ok (request, o))))) }
+    ensures failed { result ≡ Err refusal.WriteFailed → Rose before (W.failed output.new) }
+{
+    let outcome = archive.perform(alloc, &request);
+    let answered = answer_outcome(alloc, &request, outcome, output, before);
+    drop(request);
+    answered
+}
+
+/// Writes the answer to a request with its outcome. 80: the outcome is 80, and nothing is written.
+fn answer_outcome<W: Write + Device>(
+    alloc: Global,
+    request: &Request,
+    outcome: Result<Answer, Refusal>,
+    output: &mut W,
+    before: u64,
+) -> Result<(), RefusalKind>
+    ensures served { OnOk result ((has_failed outcome ≡ false) × Appends (W.contents output.old) (W.contents output.new) (answer_text (Ok («request».now, outcome)))) }
+    ensures ended { IfErr result (λ kind. MatchBool (has_failed outcome) ((kind ≡ refusal.Storage) × (W.contents output.new ≡ W.contents output.old))
+        (WritesPart kind (W.contents output.old) (W.contents output.new) (answer_text (Ok («request».now, outcome))))) }
+    ensures failed { result ≡ Err refusal.WriteFailed → Rose before (W.failed output.new) }
+{
+    if has_failed(outcome) {
+        return Err(RefusalKind::Storage);
+    }
+    match outcome_text(alloc, request, outcome) {
+        Ok(text) => write_answer(output, before, text.as_slice()),
+        Err(_) => Err(RefusalKind::OutOfMemory),
+    }
+}
+
+/// Whether the database failed at a request.
+fn has_failed(outcome: Result<Answer, Refusal>) -> bool
+    ensures { result ≡ has_failed outcome }
+{
+    match outcome {
+        Ok(_) => false,
+        Err(refusal) => matches!(refusal.kind, RefusalKind::Storage),
+    }
+}
+
+/// Writes the answer to a row that is no request. 1, with nothing written: no memory was found to read the row.
+fn answer_bad<W: Write + Device>(
+    alloc: Global,
+    bad: BadRequest,
+    output: &mut W,
+    before: u64,
+) -> Result<(), RefusalKind>
+    ensures served { OnOk result ((is_want bad.kind ≡ false) × Appends (W.contents output.old) (W.contents output.new) (answer_text (Err bad))) }
+    ensures ended { IfErr result (λ kind. MatchBool (is_want bad.kind) ((kind ≡ refusal.OutOfMemory) × (W.contents output.new ≡ W.contents output.old))
+        (WritesPart kind (W.contents output.old) (W.contents output.new) (answer_text (Err bad)))) }
+    ensures failed { result ≡ Err refusal.WriteFailed → Rose before (W.failed output.new) }
+{
+    if is_want(bad.kind) {
+        return Err(RefusalKind::OutOfMemory);
+    }
+    match bad_text(alloc, &bad) {
+        Ok(text) => write_answer(output, before, text.as_slice()),
+        Err(_) => Err(RefusalKind::OutOfMemory),
+    }
+}
+
+/// Whether memory was refused.
+fn is_want(kind: RefusalKind) -> bool
+    ensures { result ≡ is_want kind }
+{
+    matches!(kind, RefusalKind::OutOfMemory)
+}
+
+/// Writes and flushes an answer. At an error the writer has taken a beginning of it.
+fn write_answer<W: Write + Device>(
+    output: &mut W,
+    before: u64,
+    text: &[u8],
+) -> Result<(), RefusalKind>
+    ensures written { OnOk result (Appends (W.contents output.old) (W.contents output.new) text.now) }
+    ensures part { IfErr result (λ kind. WritesPart kind (W.contents output.old) (W.contents output.new) text.now) }
+    ensures failed { result ≡ Err refusal.WriteFailed → Rose before (W.failed output.new) }
+{
+    match write_bytes(output, before, text) {
+        Ok(()) => flush(output, before),
+        Err(TransferError::Failed) => Err(RefusalKind::WriteFailed),
+        Err(TransferError::OutOfMemory) => Err(RefusalKind::OutOfMemory),
+    }
+}
+
+/// Flushes a writer. 95: its count of failures has risen. 1: memory was refused, or the writer did not count its error.
+fn flush<W: Write + Device>(output: &mut W, before: u64) -> Result<(), RefusalKind>
+    ensures kept { Keeps (W.contents output.old) (W.contents output.new) }
+    ensures kind { IfErr result (λ kind. (kind ≡ refusal.OutOfMemory) ⊎ (kind ≡ refusal.WriteFailed)) }
+    ensures failed { result ≡ Err refusal.WriteFailed → Rose before (W.failed output.new) }
+{
+    match output.flush() {
+        Ok(()) => Ok(()),
+        Err(e) => {
+            if e.kind() != ErrorKind::OutOfMemory && has_risen(before, output.failures()) {
+                Err(RefusalKind::WriteFailed)
+            } else {
+                Err(RefusalKind::OutOfMemory)
+            }
+        }
+    }
+}

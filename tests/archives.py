@@ -1,0 +1,407 @@
+"""Archives in real files, by `init` and `apply`: what is answered, what is refused, and what a stop leaves."""
+
+from __future__ import annotations
+
+import os
+import random
+import shutil
+import socket
+import sqlite3
+import subprocess
+import tempfile
+
+from harness import ROOT, Case, Outcome, Tools, demand, expect, refused, run, written
+
+NAME = "Ashby Family History Society"
+
+# A family with a wedding: each row with its answer, in a new archive.
+WEDDING = (
+    ("a1,person,John /Smith/,M", "a1,ok,1,1"),
+    ("a2,family,1,", "a2,ok,2,1"),
+    ("a3,child,2,1", "a3,refused,59,AlreadyInFamily"),
+    ("a4,event,2,BIRT,,,", "a4,refused,62,NotOfKind"),
+    ("a5,event,2,MARR,,1 MAY 1800,", "a5,ok,3,1"),
+    ("a6,participant,3,1,witness", "a6,ok,0,0"),
+    ("a7,event,2,MARR,,,1", "a7,refused,51,WrongKind"),
+    ("a8,frob,1", "a8,refused,91,UnknownVerb"),
+    ("a9,person", "a9,refused,92,FieldCount"),
+    (",person,X,", ",refused,93,BadToken"),
+    ("a2,family,1,", "a2,ok,2,1"),
+    ("a2,family,,", "a2,refused,52,TokenReused"),
+)
+
+
+def lines(texts):
+    return "".join(text + "\n" for text in texts).encode()
+
+
+TABLES = ("meta", "batch", "record", "line", "receipt", "slip", "slip_line")
+ROWS = lines(row for row, _ in WEDDING)
+ANSWERS = lines(answer for _, answer in WEDDING)
+
+
+class Folder:
+    """A folder of its own for an archive, which goes when the test is done."""
+
+    def __init__(self, tools):
+        self.parish = tools.parish
+
+    def __enter__(self):
+        self.path = tempfile.mkdtemp()
+        self.file = os.path.join(self.path, "ashby.db")
+        return self
+
+    def __exit__(self, *_):
+        shutil.rmtree(self.path)
+
+    def init(self, name=NAME):
+        return run(self.parish, ("init", self.file, "--society", name))
+
+    def made(self):
+        expect(self.init(), written(b""))
+        return self
+
+    def apply(self, rows=ROWS, **how):
+        return run(self.parish, ("apply", self.file), rows, **how)
+
+    def rows_of(self, text):
+        """The rows of a query, by another reader of the file."""
+        conn = sqlite3.connect(f"file:{self.file}?mode=ro", uri=True)
+        try:
+            return conn.execute(text).fetchall()
+        finally:
+            conn.close()
+
+    def tables(self):
+        """All rows of all tables."""
+        return {name: self.rows_of(f"SELECT * FROM {name}") for name in TABLES}
+
+    def other_database(self, *statements):
+        conn = sqlite3.connect(self.file)
+        for statement in statements:
+            conn.execute(statement)
+        conn.commit()
+        conn.close()
+        return self
+
+
+def a_wedding(tools):
+    with Folder(tools) as at:
+        expect(at.made().apply(), written(ANSWERS))
+
+
+def the_same_rows_again(tools):
+    """What was answered is answered again, by another run too, and nothing is made twice."""
+    with Folder(tools) as at:
+        at.made().apply()
+        expect(at.apply(), written(ANSWERS))
+        expect(at.apply(b"p,person,Eva,F\n"), written(b"p,ok,4,1\n"))
+
+
+def row_by_row(tools):
+    """Each row in a run of its own."""
+    with Folder(tools) as at:
+        at.made()
+        for row, answer in WEDDING:
+            expect(at.apply(lines([row])), written(lines([answer])))
+
+
+def an_answer_before_the_next_row(tools):
+    """Who types rows sees each answer before the next row is there."""
+    with Folder(tools) as at:
+        at.made()
+        process = subprocess.Popen([*at.parish, "apply", at.file], stdin=subprocess.PIPE, stdout=subprocess.PIPE)
+        try:
+            for row, answer in WEDDING:
+                process.stdin.write(lines([row]))
+                process.stdin.flush()
+                got = process.stdout.readline()
+                demand(got == lines([answer]), f"{row} was answered {got!r}")
+            process.stdin.close()
+            demand(process.wait(timeout=20) == 0, f"status {process.returncode}")
+        finally:
+            process.kill()
+            process.stdout.close()
+            process.wait()
+
+
+def nothing_to_do(tools):
+    with Folder(tools) as at:
+        at.made()
+        for rows in (b"", b"\n", b"\n\r\n\n", b"\xef\xbb\xbf"):
+            expect(at.apply(rows), written(b""))
+
+
+def spellings_of_rows(tools):
+    """Byte order mark, CR LF, quotes, a quoted line end, no line end at the last row, blank lines."""
+    rows = b'\xef\xbb\xbfa,person,"two\nlines",M\r\n\r\n"b","person","x, y"," "\r\n\nc,person,"a ""b"" c",F'
+    with Folder(tools) as at:
+        expect(at.made().apply(rows), written(b"a,ok,1,1\nb,refused,90,BadRow\nc,ok,2,1\n"))
+        names = [text for (text,) in at.rows_of("SELECT text FROM line WHERE tag = 'name' ORDER BY id")]
+        demand(names == ["two\nlines", 'a "b" c'], f"the names are {names}")
+
+
+def rows_that_are_no_requests(tools):
+    """What is wrong with a row is told, and the next row is done."""
+    rows = b"x,person,\xff,M\nb c,person,X,M\nd\ne,person,X,M,F\nf,person,a\0b,M\ng,name,0,X\nh,person,Ann,F\n"
+    answers = (
+        b",refused,90,BadRow\n,refused,93,BadToken\nd,refused,92,FieldCount\ne,refused,92,FieldCount\n"
+        b"f,refused,58,BadText\ng,refused,90,BadRow\nh,ok,1,1\n"
+    )
+    with Folder(tools) as at:
+        expect(at.made().apply(rows), written(answers))
+
+
+def a_field_of_ten_million_bytes(tools):
+    with Folder(tools) as at:
+        rows = b"a,person," + b"x" * 10_000_000 + b",M\nb,person,Ann,F\n"
+        expect(at.made().apply(rows), written(b"a,refused,58,BadText\nb,ok,1,1\n"))
+
+
+def init_over_an_archive(tools):
+    with Folder(tools) as at:
+        at.made().apply()
+        before = at.tables()
+        expect(at.init("Another"), refused(82))
+        demand(at.tables() == before, "the tables changed")
+        expect(at.apply(b"p,person,Eva,F\n"), written(b"p,ok,4,1\n"))
+
+
+def init_over_another_database(tools):
+    with Folder(tools) as at:
+        at.other_database("CREATE TABLE kings (name TEXT)", "INSERT INTO kings VALUES ('John')")
+        for got in (at.init(), at.apply()):
+            expect(got, refused(82))
+        demand(at.rows_of("SELECT name FROM kings") == [("John",)], "its table changed")
+
+
+def init_over_an_empty_file(tools):
+    with Folder(tools) as at:
+        with open(at.file, "wb"):
+            pass
+        expect(at.apply(), refused(82))
+        expect(at.made().apply(), written(ANSWERS))
+
+
+def a_society_without_a_name(tools):
+    with Folder(tools) as at:
+        for name in ("", "two\rlines"):
+            expect(at.init(name), refused(58))
+        demand(not os.listdir(at.path), "a file was made")
+
+
+def the_society_is_kept(tools):
+    with Folder(tools) as at:
+        at.made()
+        demand(at.rows_of("SELECT version, next, society FROM meta") == [(1, 1, NAME)], "meta has something else")
+
+
+def apply_without_an_archive(tools):
+    with Folder(tools) as at:
+        expect(at.apply(), refused(82))
+        demand(not os.listdir(at.path), "a file was made")
+
+
+def a_folder_as_file(tools):
+    with Folder(tools) as at:
+        os.mkdir(at.file)
+        for got in (at.init(), at.apply()):
+            expect(got, refused(80))
+
+
+def a_folder_that_is_not_there(tools):
+    with Folder(tools) as at:
+        at.file = os.path.join(at.path, "none", "ashby.db")
+        expect(at.init(), refused(80))
+        expect(at.apply(), refused(82))
+
+
+def a_file_that_is_no_database(tools):
+    with Folder(tools) as at:
+        for size in (10, 5_000, 40_000):
+            with open(at.file, "wb") as file:
+                file.write(b"x" * size)
+            for got in (at.init(), at.apply()):
+                expect(got, refused(80))
+            with open(at.file, "rb") as file:
+                demand(file.read() == b"x" * size, "the file changed")
+
+
+META = "CREATE TABLE meta (version INTEGER NOT NULL, next INTEGER NOT NULL, society TEXT NOT NULL)"
+
+
+def other_versions(tools):
+    for version, number in ((2, 83), (1_000, 83), (0, 82), (1, 82)):  # 1: but no other table
+        with Folder(tools) as at:
+            at.other_database(META, f"INSERT INTO meta VALUES ({version}, 1, 'x')")
+            expect(at.apply(), refused(number))
+
+
+def two_programs_at_once(tools):
+    """The second is refused, and the first goes on."""
+    with Folder(tools) as at:
+        at.made()
+        first = subprocess.Popen([*at.parish, "apply", at.file], stdin=subprocess.PIPE, stdout=subprocess.PIPE)
+        try:
+            first.stdin.write(b"a,person,Ann,F\n")
+            first.stdin.flush()
+            demand(first.stdout.readline() == b"a,ok,1,1\n", "the first is not answered")
+            expect(at.apply(b"b,person,Eva,F\n"), refused(80))
+            first.stdin.write(b"c,person,Eve,F\n")
+            first.stdin.close()
+            demand(first.stdout.read() == b"c,ok,2,1\n", "the first does not go on")
+            demand(first.wait(timeout=20) == 0, f"status {first.returncode}")
+        finally:
+            first.kill()
+            first.stdout.close()
+            first.wait()
+
+
+def an_output_that_is_full(tools):
+    """The row was done and its answer could not be written. Sent again it gets that answer."""
+    with Folder(tools) as at:
+        at.made()
+        with open("/dev/full", "wb") as full:
+            expect(at.apply(stdout=full), refused(95))
+        expect(at.apply(), written(ANSWERS))
+
+
+def a_reader_that_left(tools):
+    with Folder(tools) as at:
+        at.made()
+        reading, writing = os.pipe()
+        os.close(reading)
+        try:
+            expect(at.apply(stdout=writing), refused(95))
+        finally:
+            os.close(writing)
+        expect(at.apply(), written(ANSWERS))
+
+
+def an_input_that_fails(tools):
+    with Folder(tools) as at:
+        at.made()
+        folder = os.open("/", os.O_RDONLY)
+        try:
+            expect(at.apply(stdin=folder), refused(94))
+        finally:
+            os.close(folder)
+        expect(at.apply(), written(ANSWERS))
+
+
+def a_copy_is_an_archive(tools):
+    """A copy of the file with its log, and one by the backup of sqlite3, which are written to as the archive is."""
+    with Folder(tools) as at:
+        at.made().apply()
+        tables = at.tables()
+        first = at.file
+        for name in sorted(os.listdir(at.path)):
+            shutil.copy(os.path.join(at.path, name), os.path.join(at.path, name.replace("ashby", "copy")))
+        source, copy = sqlite3.connect(f"file:{first}?mode=ro", uri=True), sqlite3.connect(os.path.join(at.path, "backup.db"))
+        source.backup(copy)
+        source.close()
+        copy.close()
+        for name in ("copy.db", "backup.db"):
+            at.file = os.path.join(at.path, name)
+            expect(at.apply(), written(ANSWERS))
+            demand(at.tables() == tables, f"the tables of {name} differ")
+            expect(at.apply(b"p,person,Eva,F\n"), written(b"p,ok,4,1\n"))
+
+
+def init_takes_no_input(tools):
+    with Folder(tools) as at:
+        ours, theirs = socket.socketpair()
+        with ours, theirs:
+            expect(run(at.parish, ("init", at.file, "--society", NAME), stdin=theirs), written(b""))
+
+
+def a_full_disk(tools):
+    """Where no more may be written to a file, 80; what was answered is kept, and the rest is done when there is room."""
+    with Folder(tools) as at:
+        at.made()
+        rows = [f"t{n},person,{'x' * 2_000} /{n}/,M" for n in range(1, 101)]
+        limited = ("sh", "-c", 'trap "" XFSZ; ulimit -f 64; exec "$@"', "sh", *at.parish)
+        got = run(limited, ("apply", at.file), lines(rows))
+        answers = [f"t{n},ok,{n},1" for n in range(1, 101)]
+        done = got.out.count(b"\n")
+        expect(got, Outcome(lines(answers[:done]), refused(80).err, 1))
+        demand(done < 100, "nothing was stopped")
+        expect(at.apply(lines(rows)), written(lines(answers)))
+
+
+def generated(seed, count):
+    """Rows of all verbs for a new archive, by the generator of the tests of requests."""
+    words = ("python3", os.path.join(ROOT, "tests/requests/generate.py"), str(seed), str(count))
+    return subprocess.run(words, stdout=subprocess.PIPE, check=True).stdout
+
+
+def killed(at, rows, after):
+    """The answers of a run that is killed once it wrote so many bytes, or right away where that is none."""
+    with tempfile.TemporaryFile() as given:
+        given.write(rows)
+        given.seek(0)
+        process = subprocess.Popen([*at.parish, "apply", at.file], stdin=given, stdout=subprocess.PIPE)
+    got = b""
+    while len(got) < after:
+        piece = os.read(process.stdout.fileno(), min(64, after - len(got)))
+        if not piece:
+            break
+        got += piece
+    process.kill()
+    got += process.stdout.read()
+    process.stdout.close()
+    process.wait()
+    return got
+
+
+def killed_and_run_again(tools, seed=1, count=300, stops=10):
+    """A program that is killed at some moment, and again: the rows sent again get the answers of a run that was not stopped."""
+    rows = generated(seed, count)
+    with Folder(tools) as whole:
+        wanted = whole.made().apply(rows)
+        demand(wanted.status == 0 and wanted.err == b"", f"{wanted.status} {wanted.err!r}")
+        kept = whole.tables()
+    rng = random.Random(seed)
+    with Folder(tools) as at:
+        at.made()
+        for _ in range(stops):
+            got = killed(at, rows, rng.randrange(len(wanted.out)))
+            demand(wanted.out.startswith(got), "an answer is another one")
+        expect(at.apply(rows), wanted)
+        demand(at.tables() == kept, "the tables differ")
+        demand(at.rows_of("PRAGMA integrity_check") == [("ok",)], "integrity_check finds something")
+
+
+TESTS = (
+    killed_and_run_again,
+    a_wedding,
+    the_same_rows_again,
+    row_by_row,
+    an_answer_before_the_next_row,
+    nothing_to_do,
+    spellings_of_rows,
+    rows_that_are_no_requests,
+    a_field_of_ten_million_bytes,
+    init_over_an_archive,
+    init_over_another_database,
+    init_over_an_empty_file,
+    a_society_without_a_name,
+    the_society_is_kept,
+    apply_without_an_archive,
+    a_folder_as_file,
+    a_folder_that_is_not_there,
+    a_file_that_is_no_database,
+    other_versions,
+    two_programs_at_once,
+    an_output_that_is_full,
+    a_reader_that_left,
+    an_input_that_fails,
+    a_copy_is_an_archive,
+    init_takes_no_input,
+    a_full_disk,
+)
+
+
+def cases(tools: Tools):
+    for test in TESTS:
+        yield Case(f"archives: {test.__name__.replace('_', ' ')}", lambda test=test: test(tools))

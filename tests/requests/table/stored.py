@@ -1,0 +1,185 @@
+"""An archive in files: requests that are performed on it, its society, and files that are no archive."""
+
+from __future__ import annotations
+
+from table import again, order, worked
+from table.making import (
+    FAMILY,
+    Scenario,
+    ask,
+    changes,
+    keeps,
+    makes,
+    next_is,
+    refuses,
+    row,
+    scenario,
+    shows,
+)
+
+SAME = ask("! stored", "same")
+STORE = ask("! store,Lee", "ok")
+
+# Persons 1 and 2, family 3 and event 4, in files too.
+STORED = [STORE, *FAMILY]
+
+META = "CREATE TABLE meta (one INTEGER PRIMARY KEY, version INTEGER, next INTEGER, society TEXT)"
+
+
+def society(name: str) -> list:
+    """An archive that is made for a society, and says so."""
+    return [
+        (row("! store", name).encode(), b"ok\n"),
+        (b"! society\n", row("society", name).encode()),
+        SAME,
+    ]
+
+
+def no_society(name: str) -> tuple[bytes, bytes]:
+    return row("! store", name).encode(), b",refused,58,BadText\n"
+
+
+def adopts(statements: str, *told: str | int):
+    """What is told of files in which statements made tables."""
+    return row("! adopt", statements).encode(), row("adopt", *told).encode()
+
+
+def spoils(statements: str, *told: str | int):
+    """What is told of requests after statements changed the tables of an archive."""
+    given = row("! spoil", statements, "z1", "name", 1, "Eva")
+    return given.encode(), row("spoil", *told).encode()
+
+
+def in_files(one: Scenario) -> Scenario:
+    """The same rows, performed in files too."""
+    return scenario(one.name + ", in files", STORE, list(one.steps), SAME)
+
+
+def has_requests_alone(one: Scenario) -> bool:
+    """Whether nothing is put into an archive but by requests."""
+    return not any(given.startswith((b"! place", b"! set next")) for given, _ in one.steps)
+
+
+OTHERS = tuple(
+    in_files(one)
+    for part in (worked, order, again)
+    for one in part.SCENARIOS
+    if has_requests_alone(one)
+)
+
+SCENARIOS = OTHERS + (
+    scenario(
+        "a family with a wedding, asked again in files",
+        ask("! store,Kirchspiel Lee", "ok"),
+        SAME,
+        ask("a1,person,John /Smith/,M", "a1,ok,1,1"),
+        ask("a2,family,1,", "a2,ok,2,1"),
+        ask("a3,child,2,1", "a3,refused,59,AlreadyInFamily"),
+        ask("a4,event,2,BIRT,,,", "a4,refused,62,NotOfKind"),
+        ask("a5,event,2,MARR,,1 MAY 1800,", "a5,ok,3,1"),
+        ask("a6,participant,3,1,witness", "a6,ok,0,0"),
+        ask("a7,event,2,MARR,,,1", "a7,refused,51,WrongKind"),
+        ask("a8,frob,1", "a8,refused,91,UnknownVerb"),
+        ask("a9,person", "a9,refused,92,FieldCount"),
+        ask(",person,X,", ",refused,93,BadToken"),
+        ask("a2,family,1,", "a2,ok,2,1"),
+        ask("a2,family,,", "a2,refused,52,TokenReused"),
+        SAME,
+        ask("! society", "society,Kirchspiel Lee"),
+        ask("a1,person,John /Smith/,M", "a1,ok,1,1"),
+        ask("a5,event,2,MARR,,1 MAY 1800,", "a5,ok,3,1"),
+        ask("a6,participant,3,1,witness", "a6,ok,0,0"),
+        ask("a1,person,John /Smith/,F", "a1,refused,52,TokenReused"),
+        ask("a3,child,2,1", "a3,refused,59,AlreadyInFamily"),
+        ask("a4,person,Eva,F", "a4,ok,4,1"),
+        keeps("a4", 4, 1, "person", "Eva", "F"),
+        next_is(5),
+        SAME,
+    ),
+    scenario(
+        "each command, in files",
+        STORED,
+        changes("x1", "name", 2, "Anna, \"Ann\"\nLee"),
+        changes("x2", "sex", 2, "F"),
+        changes("x3", "amend", 4, "at home", "ABT 1701", ""),
+        changes("x4", "child", 3, 2),
+        changes("x5", "participant", 4, 1, ""),
+        makes(5, "x6", "event", 1, "BIRT", "Köln", "", ""),
+        refuses(50, "x7", "name", 9, "Eva"),
+        refuses(54, "x8", "family", 1, 1),
+        refuses(58, "x9", "person", "\0", ""),
+        shows(
+            2,
+            (0, "person", "-", "-"),
+            (1, "name", "Ann /Lee/", "-"),
+            (1, "name", "Anna, \"Ann\"\nLee", "-"),
+            (1, "sex", "F", "-"),
+        ),
+        SAME,
+    ),
+    scenario(
+        "several requests in one call",
+        STORED,
+        ask(
+            "! run,r1|name|1|Thomas,r2|name|9|Eva,r3|person|Eva|F,r1|name|1|Thomas,r1|name|1|Tim,r4|child|3|5",
+            "r1,ok,0,0",
+            "r2,refused,50,NoSuch",
+            "r3,ok,5,1",
+            "r1,ok,0,0",
+            "r1,refused,52,TokenReused",
+            "r4,ok,0,0",
+        ),
+        ask("! run"),
+        SAME,
+        ask("r3,person,Eva,F", "r3,ok,5,1"),
+        next_is(6),
+    ),
+    scenario(
+        "names of societies",
+        society("L"),
+        society("Verein für Familienkunde, Köln \"1906\"\n(e. V.)"),
+        society("x" * 100_000),
+        no_society(""),
+        no_society("a\0b"),
+        no_society("a\rb"),
+        no_society("x" * 1_048_577),
+        (row("! store over", "Lee").encode(), b"over,82,same\n"),
+    ),
+    scenario(
+        "an archive is not made over another",
+        STORED,
+        ask("! store over,Lee", "over,82,same"),
+        ask("! store over,Other", "over,82,same"),
+        ask("! store over,", "over,58,same"),
+        ask("! society", "society,Lee"),
+        SAME,
+    ),
+    scenario(
+        "files that are no archive",
+        ask("! stored", "none"),
+        ask("! society", "none"),
+        adopts("", "unadopted", 82),
+        adopts("CREATE TABLE note (id INTEGER PRIMARY KEY)", "unadopted", 82),
+        adopts("CREATE TABLE meta (id INTEGER PRIMARY KEY)", "unadopted", 82),
+        adopts(META, "unadopted", 82),
+        adopts(META + "; INSERT INTO meta VALUES (1, 1, 1, 'Lee')", "unadopted", 82),
+        adopts(META + "; INSERT INTO meta VALUES (1, 2, 1, 'Lee')", "unadopted", 83),
+        adopts(META + "; INSERT INTO meta VALUES (1, 0, 1, 'Lee')", "unadopted", 82),
+        adopts(META + "; INSERT INTO meta VALUES (1, 1, 1, 'Lee'), (2, 1, 1, 'Lee')", "unadopted", 82),
+        adopts("CREATE VIEW meta AS SELECT 1 AS version, 1 AS next, 'Lee' AS society", "unadopted", 82),
+        ask("! adopt bytes,x,4096", "adopt,unopened"),
+        ask("! adopt bytes,SQLite format 3,400", "adopt,unopened"),
+        ask("! adopt bytes,x,0", "adopt,unadopted,82"),
+    ),
+    scenario(
+        "an archive whose tables were changed",
+        STORED,
+        spoils("", "ok", "ok", "ok", "ok"),
+        spoils("UPDATE meta SET version = 2", "unadopted", 83),
+        spoils("DELETE FROM meta", "unadopted", 82),
+        spoils("DROP TABLE receipt", "unadopted", 82),
+        spoils("DELETE FROM line", 40, 40, 40, "ok"),
+        spoils("UPDATE line SET depth = 9 WHERE depth = 1", 40, 40, 40, "ok"),
+        SAME,
+    ),
+)
