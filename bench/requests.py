@@ -1,13 +1,16 @@
 """Times requests on an archive in a real file, beside sqlite3 (C): python3 bench/requests.py [PERSONS..].
 
-For archives of PERSONS persons (0, 1,000 and 3,000): how long `parish apply` takes to open and close it, to do a first row of a
-person, each of 20 behind it, and 1,000 in one process, each with its commit. The peer is the C library through Python's module
-`sqlite3`, over a copy of the same file: the same rows inserted in the same tables, a commit for each, with a log
-(WAL) and a sync at each commit (synchronous=FULL). It decides nothing and reads nothing back. Three runs of each in turn, of which
-the fastest counts.
+For archives of PERSONS persons (100, 10,000 and 100,000, written in one transaction of this script's own): how long `parish apply`
+takes to open and close the archive, and for each verb to do one row, with its commit. A row's time is that of a process that does 100 such rows,
+each changing a record that no other changes, less that of one that does 10, over 90. Then 10,000 rows of all verbs in turn on the smallest archive.
+
+The peer is the C library through Python's module `sqlite3`, over a copy of the same file, with a log (WAL) and a sync at each commit
+(synchronous=FULL): for each row it looks up the token, the next number, and the records and lines that the row names, and then writes the same rows as
+parish has written, which the script has read of parish's own archive before. It decides nothing. Three runs of each in turn, of which the fastest counts.
 """
 
-import hashlib
+import csv
+import io
 import pathlib
 import shutil
 import sqlite3
@@ -18,12 +21,38 @@ import time
 
 ROOT = pathlib.Path(__file__).resolve().parents[1]
 PARISH = ROOT / "crates/parish/out/parish"
-MANY = 1_000
-FEW = 20
+FEW, MANY, ROWS, RUNS = 10, 100, 10_000, 3
+LINE = "INSERT INTO line (no, pos, depth, tag, text, dst) VALUES (?1, ?2, ?3, ?4, ?5, ?6)"
+VERBS = ("person", "name", "sex", "family", "child", "event", "amend", "participant")
 
 
-def row(number):
-    return f"t{number},person,Ann /Lee {number}/,F\n"
+def row(verb, k, persons):
+    """The fields of the k-th row of a verb. It changes no record that another row of this verb changes."""
+    husband, wife, child = ((k + n) % persons + 1 for n in range(3))
+    family, event = persons + 1 + k, persons + 1 + MANY + k
+    match verb:
+        case "person":
+            return ("person", f"Ann /Lee {k}/", "F")
+        case "name":
+            return ("name", husband, f"Anna /Leigh {k}/")
+        case "sex":
+            return ("sex", wife, "F")
+        case "family":
+            return ("family", husband, wife)
+        case "child":
+            return ("child", family, child)
+        case "event":
+            return ("event", child, "BIRT", "", "3 MAY 1701", "Ashby, Kent")
+        case "amend":
+            return ("amend", event, "born at Mill Field", "4 MAY 1701", "")
+        case "participant":
+            return ("participant", event, wife, "witness")
+
+
+def text(rows, first=0):
+    out = io.StringIO()
+    csv.writer(out, lineterminator="\n").writerows((f"t{first + n}", *fields) for n, fields in enumerate(rows))
+    return out.getvalue()
 
 
 def apply(file, rows):
@@ -35,74 +64,140 @@ def apply(file, rows):
     return seconds
 
 
-def ours(made, first, count):
-    """Seconds of a process that does no row, one, a few more, and many, each on a copy of the archive."""
-    found = []
-    for rows in (0, 1, 1 + FEW, count):
-        with tempfile.TemporaryDirectory() as folder:
-            file = pathlib.Path(folder) / "a.db"
-            shutil.copy(made, file)
-            found.append(apply(file, "".join(row(first + n) for n in range(rows))))
+def made(file, persons):
+    """An archive of so many persons, and of MANY families and then as many events behind them."""
+    subprocess.run([str(PARISH), "init", str(file), "--society", "Ashby"], check=True)
+    with sqlite3.connect(file) as conn:
+        for number in range(1, persons + 1):
+            conn.execute("INSERT INTO record (no, kind, batch) VALUES (?1, 'person', 0)", (number,))
+            conn.execute(LINE, (number, 0, 0, "person", None, None))
+            conn.execute(LINE, (number, 1, 1, "name", f"Tom /Ray {number}/", None))
+            conn.execute(LINE, (number, 2, 1, "sex", "M", None))
+        conn.execute("UPDATE meta SET next = ?1", (persons + 1,))
+    conn.close()
+    families = [row("family", k, persons) for k in range(MANY)]
+    events = [("event", persons + 1 + k, "MARR", "", "1 MAY 1700", "") for k in range(MANY)]
+    apply(file, text(families + events, 1_000_000))
+
+
+def copied(file, folder):
+    copy = pathlib.Path(folder) / "a.db"
+    shutil.copy(file, copy)
+    return copy
+
+
+def ours(file, rows):
+    with tempfile.TemporaryDirectory() as folder:
+        return apply(copied(file, folder), text(rows))
+
+
+def lines_of(conn, number):
+    return conn.execute("SELECT no, pos, depth, tag, text, dst FROM line WHERE no = ?1 ORDER BY id", (number,)).fetchall()
+
+
+def plan(file, rows):
+    """What parish writes for each row: its token, the numbers that it names, the records that it puts, the next number, its receipt.
+    Each row is one request on records that no other row changes, so the lines that are there at the end are those that it wrote."""
+    with tempfile.TemporaryDirectory() as folder:
+        copy = copied(file, folder)
+        before, after = sqlite3.connect(file), sqlite3.connect(copy)
+        apply(copy, text(rows))
+        found = []
+        for n, fields in enumerate(rows):
+            receipt = after.execute("SELECT token, digest, first, count FROM receipt WHERE token = ?1", (f"t{n}",)).fetchone()
+            named = [word for word in fields[1:] if isinstance(word, int)]
+            put = [number for number in named if lines_of(before, number) != lines_of(after, number)]
+            put += [receipt[2]] * receipt[3]
+            kinds = [after.execute("SELECT no, kind, batch FROM record WHERE no = ?1", (number,)).fetchone() for number in put]
+            found.append((named, [(kind, lines_of(after, kind[0])) for kind in kinds], receipt))
+        before.close()
+        after.close()
     return found
 
 
-def theirs(made, first, count):
-    """Seconds of opening, and of so many persons, each in a commit."""
+def theirs(file, steps):
+    """Seconds of opening, and of the same look-ups and rows, each request in a commit."""
     with tempfile.TemporaryDirectory() as folder:
-        file = pathlib.Path(folder) / "a.db"
-        shutil.copy(made, file)
         start = time.perf_counter()
-        conn = sqlite3.connect(file, isolation_level=None)
+        conn = sqlite3.connect(copied(file, folder), isolation_level=None)
         for pragma in ("journal_mode = WAL", "synchronous = FULL", "foreign_keys = ON"):
             conn.execute(f"PRAGMA {pragma}").fetchall()
         conn.execute("SELECT version, next, society FROM meta").fetchall()
         opened = time.perf_counter() - start
         start = time.perf_counter()
-        for number in range(first, first + count):
-            add_person(conn, number)
+        for named, put, receipt in steps:
+            perform(conn, named, put, receipt)
         seconds = time.perf_counter() - start
         conn.close()
     return opened, seconds
 
 
-def add_person(conn, number):
-    name = f"Ann /Lee {number}/"
-    line = "INSERT INTO line (no, pos, depth, tag, text, dst) VALUES (?1, ?2, ?3, ?4, ?5, ?6)"
+def perform(conn, named, put, receipt):
+    conn.execute("SELECT digest, first, count FROM receipt WHERE token = ?1", receipt[:1]).fetchall()
+    for number in named:
+        conn.execute("SELECT kind, batch FROM record WHERE no = ?1", (number,)).fetchall()
+        lines_of(conn, number)
+    conn.execute("SELECT next FROM meta").fetchall()
     conn.execute("BEGIN")
-    conn.execute("INSERT INTO record (no, kind, batch) VALUES (?1, 'person', 0)", (number,))
-    conn.execute(line, (number, 0, 0, "person", None, None))
-    conn.execute(line, (number, 1, 1, "name", name, None))
-    conn.execute(line, (number, 2, 1, "sex", "F", None))
-    conn.execute("UPDATE meta SET next = ?1", (number + 1,))
-    digest = hashlib.sha256(f"person,{name},F\n".encode()).digest()
-    kept = "INSERT INTO receipt (token, digest, first, count) VALUES (?1, ?2, ?3, ?4)"
-    conn.execute(kept, (f"t{number}", digest, number, 1))
+    for kind, lines in put:
+        if conn.execute("UPDATE record SET kind = ?2, batch = ?3 WHERE no = ?1", kind).rowcount == 0:
+            conn.execute("INSERT INTO record (no, kind, batch) VALUES (?1, ?2, ?3)", kind)
+        conn.execute("DELETE FROM line WHERE no = ?1", kind[:1])
+        for line in lines:
+            conn.execute(LINE, line)
+    if receipt[3]:
+        conn.execute("UPDATE meta SET next = ?1", (receipt[2] + 1,))
+    conn.execute("INSERT INTO receipt (token, digest, first, count) VALUES (?1, ?2, ?3, ?4)", receipt)
     conn.execute("COMMIT")
 
 
+def verbs(file, persons):
+    """A line for each verb: milliseconds a row of ours and of the peer."""
+    few_and_many = {verb: [[row(verb, k, persons) for k in range(count)] for count in (FEW, MANY)] for verb in VERBS}
+    plans = {verb: [plan(file, rows) for rows in both] for verb, both in few_and_many.items()}
+    for verb, both in few_and_many.items():
+        own, peer = [], []
+        for _ in range(RUNS):
+            own.append([ours(file, rows) for rows in both])
+            peer.append([theirs(file, steps)[1] for steps in plans[verb]])
+        cells = []
+        for times in (own, peer):
+            few, many = (min(run[n] for run in times) for n in range(2))
+            cells.append(f"{(many - few) / (MANY - FEW) * 1_000:.2f} ms")
+        print(f"| {persons:,} | {verb} | {' | '.join(cells)} |", flush=True)
+
+
+def opening(file, persons):
+    own = min(ours(file, []) for _ in range(RUNS))
+    peer = min(theirs(file, [])[0] for _ in range(RUNS))
+    print(f"| {persons:,} | opening, {file.stat().st_size / 1_000:,.0f} kB | {own * 1_000:.1f} ms | {peer * 1_000:.1f} ms |", flush=True)
+
+
+def all_in_turn(file, persons):
+    """10,000 rows: the first MANY of all verbs in turn, then persons, families and events of persons."""
+    rows = [row(verb, k, persons) for k in range(MANY) for verb in VERBS]
+    rows += [row(("person", "family", "event")[k % 3], k, persons) for k in range(ROWS - len(rows))]
+    steps = plan(file, rows)
+    opened = min(ours(file, []) for _ in range(RUNS))
+    own = min(ours(file, rows) for _ in range(RUNS)) - opened
+    peer = min(theirs(file, steps)[1] for _ in range(RUNS))
+    for name, seconds in (("parish", own), ("`sqlite3` (C)", peer)):
+        print(f"| {name} | {seconds:.2f} s | {len(rows) / seconds:,.0f} |", flush=True)
+
+
 def main():
-    print("| persons there | file | | opening | the first row | each of 20 more | 1,000 rows | each |")
-    print("|---|---|---|---|---|---|---|---|")
+    sizes = [int(word) for word in sys.argv[1:]] or [100, 10_000, 100_000]
     with tempfile.TemporaryDirectory() as folder:
-        made = pathlib.Path(folder) / "made.db"
-        subprocess.run([str(PARISH), "init", str(made), "--society", "Ashby"], check=True)
-        there = 0
-        for persons in [int(word) for word in sys.argv[1:]] or [0, 1_000, 3_000]:
-            apply(made, "".join(row(number) for number in range(there + 1, persons + 1)))
-            there = persons
-            size = f"{made.stat().st_size / 1_000:,.0f} kB"
-            runs = [(ours(made, there + 1, MANY), theirs(made, there + 1, FEW), theirs(made, there + 1, MANY)) for _ in range(3)]
-            opened, one, few, many = [min(run[0][step] for run in runs) for step in range(4)]
-            peer_opened, peer_few, peer_many = [min(run[a][b] for run in runs) for a, b in ((1, 0), (1, 1), (2, 1))]
-            for name, begun, first, more, rows in (
-                ("parish", opened, f"{(one - opened) * 1_000:.2f} ms", (few - one) / FEW, many - opened),
-                ("`sqlite3` (C)", peer_opened, "", peer_few / FEW, peer_many),
-            ):
-                print(
-                    f"| {persons:,} | {size} | {name} | {begun * 1_000:.1f} ms | {first} | {more * 1_000:.2f} ms |"
-                    f" {rows:.2f} s | {rows / MANY * 1_000:.2f} ms |",
-                    flush=True,
-                )
+        files = [pathlib.Path(folder) / f"{persons}.db" for persons in sizes]
+        print("| persons there | verb | parish, a row | `sqlite3` (C), a row |")
+        print("|---|---|---|---|")
+        for file, persons in zip(files, sizes):
+            made(file, persons)
+            opening(file, persons)
+            verbs(file, persons)
+        print(f"\n| 10,000 rows on {sizes[0]:,} persons | time | rows a second |")
+        print("|---|---|---|")
+        all_in_turn(files[0], sizes[0])
 
 
 if __name__ == "__main__":

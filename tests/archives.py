@@ -278,6 +278,42 @@ def a_reader_that_left(tools):
         expect(at.apply(), written(ANSWERS))
 
 
+def an_output_that_fails(tools):
+    """An output that cannot be written to, from the start or after an answer. Rows that were done are kept, and each that was
+    acknowledged is among them; sent again they get their answers."""
+    rows = [f"t{n},person,Ann /{n}/,F" for n in range(1, 51)]
+    answers = [f"t{n},ok,{n},1" for n in range(1, 51)]
+    with Folder(tools) as at:
+        at.made()
+        folder = os.open("/", os.O_RDONLY)
+        try:
+            expect(at.apply(lines(rows[:3]), stdout=folder), refused(95))
+        finally:
+            os.close(folder)
+        kept = at.rows_of("SELECT token FROM receipt")
+        demand(kept == [("t1",)], f"kept is {kept}")
+        process = subprocess.Popen(
+            [*at.parish, "apply", at.file], stdin=subprocess.PIPE, stdout=subprocess.PIPE, stderr=subprocess.PIPE
+        )
+        try:
+            process.stdin.write(lines(rows[:2]))
+            process.stdin.flush()
+            got = process.stdout.readline() + process.stdout.readline()
+            demand(got == lines(answers[:2]), f"the first rows were answered {got!r}")
+            process.stdout.close()
+            process.stdin.write(lines(rows[2:]))
+            process.stdin.close()
+            told = process.stderr.read()
+            demand(process.wait(timeout=20) == 1 and told == refused(95).err, f"{process.returncode} {told!r}")
+        finally:
+            process.kill()
+            process.stderr.close()
+            process.wait()
+        kept = at.rows_of("SELECT token FROM receipt ORDER BY id")
+        demand(kept == [("t1",), ("t2",), ("t3",)], f"kept is {kept}")
+        expect(at.apply(lines(rows)), written(lines(answers)))
+
+
 def an_input_that_fails(tools):
     with Folder(tools) as at:
         at.made()
@@ -395,6 +431,7 @@ TESTS = (
     two_programs_at_once,
     an_output_that_is_full,
     a_reader_that_left,
+    an_output_that_fails,
     an_input_that_fails,
     a_copy_is_an_archive,
     init_takes_no_input,

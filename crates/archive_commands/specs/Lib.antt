@@ -1,1 +1,3 @@
 pub mod Applying
+pub mod Made
+pub mod Opening

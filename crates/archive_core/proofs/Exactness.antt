@@ -1,5 +1,5 @@
 -- What is put differs from what is there.
-use Rattle.std.proofs.Common.{◌≡◌, ℕ, ◌+◌, List, [], ◌∷◌, ◌++◌, refl, sym, ap, ◌∙◌, subst}
+use Rattle.std.proofs.Common.{◌≡◌, ℕ, ◌+◌, List, [], ◌∷◌, ◌++◌, sym, ap, ◌∙◌, subst}
 use Rattle.std.specs.Prelude.{◌≢◌, Option, Some, None, Result, Ok, Err, IfOk}
 use Rattle.std.specs.FinMap.{get, insert}
 use Rattle.record_fields.specs.Dated.{date_from}
@@ -11,12 +11,11 @@ use Rattle.record_kinds.specs.declared.record.Record.{Record}
 use Rattle.record_kinds.specs.declared.record.Record.TheVariants as kind
 use Rattle.archive_state.specs.Changes.{Changes}
 use Rattle.archive_state.specs.Content.{Content}
-use Rattle.archive_state.specs.Sound.{IsSound}
 use Rattle.archive_state.specs.declared.changes.Kept.{Kept}
 use Rattle.receipts.specs.declared.answer.Answer.{Answer}
 use Rattle.archive_core.specs.Checks.{person_in, family_in, event_in}
 use Rattle.archive_core.specs.Exact.{IsExact}
-use Rattle.archive_core.specs.Steps.{or_kept_date, plain_name, plain_child, plain_participant, with_name, with_child, with_fields, with_participant}
+use Rattle.archive_core.specs.Steps.{or_kept_date, plain_name, plain_child, plain_participant, with_name, with_child, with_participant}
 use Rattle.archive_core.proofs.Fitting.{none_at_next}
 use Rattle.archive_core.proofs.Found.{person_found, family_found, event_found}
 use Rattle.archive_core.proofs.Undo.{put_same}

@@ -1,28 +1,45 @@
 -- The records that commands make are fit for a sound archive.
-use Rattle.std.proofs.Common.{◌≡◌, ℕ, ◌<◌, List, [], ◌∷◌, ◌++◌, Bool, true, false, ◌||◌, ◌==◌, refl, sym, ap, ◌∙◌, subst, map, arith}
+use Rattle.std.proofs.Common.{◌≡◌, ℕ, ◌<◌, ◌≤◌, List, [], ◌∷◌, ◌++◌, length, Bool, true, false, not, nat_lt, nat_le, ◌||◌, ◌==◌, refl, sym, ap, ◌∙◌, subst, map, arith}
 use Rattle.std.proofs.lemmas.Grind.{flat_map-append}
 use Rattle.std.proofs.lemmas.List.{map_push}
 use Rattle.std.proofs.lemmas.List.Folds.{list_any-append}
-use Rattle.std.specs.Prelude.{Option, Some, None, option_map, IfSome, codes}
+use Rattle.std.specs.Prelude.{◌&&◌, Option, Some, None, option_map, IfSome, codes}
+use Rattle.std.proofs.lemmas.Bool.Decides.{nat_tests}
 use Rattle.std.specs.FinMap.{get}
-use Rattle.std.specs.List.{list_any, flat_map}
+use Rattle.std.specs.List.{list_all, list_any, flat_map}
 use Rattle.std.specs.Str.{bytes_eq}
 use Rattle.record_fields.specs.declared.date.Date.{Date}
 use Rattle.record_fields.specs.declared.words.Sex.{Sex}
+use Rattle.record_text.specs.Text.{is_word}
+use Rattle.record_fields.specs.Bytes.{bytes_are}
+use Rattle.stored_lines.specs.Tree.{Tree}
+use Rattle.stored_lines.specs.Line.{Line, Lines}
 use Rattle.record_kinds.specs.Model as model
 use Rattle.record_kinds.specs.declared.record.Record.{Record}
 use Rattle.record_kinds.specs.declared.record.Record.TheVariants as kind
 use Rattle.record_links.specs.Links.{Link, Wanted, a_place, a_repo, a_source, a_person, a_holder, a_cited, at_level_0, links, is_wanted, name_links, partner_links, child_links, participant_links, place_line_links, carried_links}
 use Rattle.record_links.specs.Carried.{carried, carried_tags, tags, place_line_carried}
+use Rattle.record_shapes.specs.Forms.{is_some}
+use Rattle.record_shapes.specs.declared.field.Field.{Field}
+use Rattle.record_shapes.specs.Fields.{person_field, event_field, participant_field}
+use Rattle.record_shapes.specs.Fields as part
+use Rattle.record_shapes.specs.Untaken.{AreUntaken, person_leaves, event_leaves, participant_leaves, HasUntaken}
+use Rattle.record_shapes.specs.Levels.{AreWithin, HasRoom}
+use Rattle.archive_state.specs.Known.{known_of, known_before}
+use Rattle.archive_state.specs.Slips.{Slip}
 use Rattle.archive_state.specs.Content.{Content}
-use Rattle.archive_state.specs.Entries.{event_tags, is_event_tag, person_tags, family_tags}
-use Rattle.archive_state.specs.Paths.{HasPath, has_part}
-use Rattle.archive_state.specs.Sound.{EachOf, IsOnce, IsOfRecords, HasSaidPlace, HasEventTag, Stands, IsSound, members}
+use Rattle.record_shapes.specs.Tags.{event_tags, is_event_tag, person_tags, family_tags}
+use Rattle.record_shapes.specs.Paths.{has_part}
+use Rattle.archive_state.specs.Paths.{HasPath}
+use Rattle.record_shapes.specs.Lists.{EachOf, IsOnce}
+use Rattle.record_shapes.specs.Members.{members}
+use Rattle.archive_state.specs.Sound.{IsOfRecords, HasSaidPlace, HasEventTag, Stands, IsSound, owner_in}
 use Rattle.archive_core.specs.Checks.{tags_of, is_tag_of}
-use Rattle.archive_core.specs.Steps.{plain_name, plain_person, with_name, plain_partners, plain_child, with_child, is_same, is_partner, is_child, plain_place, plain_participant, with_participant, or_kept_place, with_fields}
+use Rattle.archive_core.specs.Steps.{plain_name, plain_person, with_name, plain_partners, plain_child, with_child, is_same, is_partner, is_child, plain_place, plain_participant, with_participant, or_kept_date, or_kept_place, with_fields}
 use Rattle.archive_core.specs.declared.looks.Owner.{Owner}
 use Rattle.archive_core.specs.declared.looks.Owner.TheVariants as owner
-use Rattle.archive_core.proofs.Keeping.{IsFit, each_both, each_front, each_back}
+use Rattle.archive_core.proofs.Each.{each_both, each_front, each_back}
+use Rattle.archive_core.proofs.Keeping.{IsAlike, IsFit}
 
 -- ---- lists
 no_more : {A : Type 0} (xs : List A) → xs ++ [] ≡ xs
@@ -46,6 +63,10 @@ joined_right : {A : Type 0} (xs ys zs : List A) → (xs ++ ys) ++ zs ≡ xs ++ (
 joined_right [] ys zs = refl
 joined_right (x ∷ xs) ys zs = ap (λ l. x ∷ l) (joined_right xs ys zs)
 
+and_true : (a b : Bool) → (a && b) ≡ true → (a ≡ true) × (b ≡ true)
+and_true true b e = (refl, e)
+and_true false b e = absurd cc
+
 any_of : {X Y : Type 0} (p : Y → Bool) (f : X → Y) (xs : List X) → list_any p (map f xs) ≡ list_any (λ x. p (f x)) xs
 any_of p f [] = refl
 any_of p f (x ∷ xs) = ap (λ b. p (f x) || b) (any_of p f xs)
@@ -54,6 +75,14 @@ any_of p f (x ∷ xs) = ap (λ b. p (f x) || b) (any_of p f xs)
 -- a sound archive has nothing at its next number
 pub none_at_next : (c : Content) → IsSound c → (old : Record) → get c.records c.next ≡ Some old → ⊥
 none_at_next c sound old e = let less : c.next < c.next = (sound.rules.numbered c.next old e).1 in absurd (omega arith)
+
+-- and no slip
+no_slip_at_next : (c : Content) → IsSound c → get c.slips c.next ≡ None
+no_slip_at_next c sound = by (get c.slips c.next) refl
+  where
+    by : (o : Option Slip) → get c.slips c.next ≡ o → o ≡ None
+    by None e = refl
+    by (Some s) e = let less : c.next < c.next = (sound.slips c.next s e).numbered.0.1 in absurd (omega arith)
 
 it_is : (c : Content) (n : ℕ) (r old : Record) → get c.records n ≡ Some r → get c.records n ≡ Some old → r ≡ old
 it_is c n r old e f = let both : Some r ≡ Some old = sym e ∙ f in cc
@@ -85,13 +114,41 @@ events_alike a_holder p q = refl
 events_alike a_cited p q = refl
 events_alike at_level_0 p q = refl
 
+-- a record of the kind of the one that is there
+over : (c : Content) (n : ℕ) (r new : Record) → get c.records n ≡ Some r → IsAlike r new → (old : Record) → get c.records n ≡ Some old → IsAlike old new
+over c n r new at alike old e = subst (λ x. IsAlike x new) (it_is c n r old at e) alike
+
+anew : (c : Content) (new : Record) → IsSound c → (old : Record) → get c.records c.next ≡ Some old → IsAlike old new
+anew c new sound old e = absurd (none_at_next c sound old e)
+
+persons_are : (p q : model.Person) → IsAlike (kind.Person p) (kind.Person q)
+persons_are p q = record { wanted = λ w. persons_alike w p q; events = refl; written = refl; room = refl }
+
+families_are : (p q : model.Family) → IsAlike (kind.Family p) (kind.Family q)
+families_are p q = record { wanted = λ w. families_alike w p q; events = refl; written = refl; room = refl }
+
+events_are : (p q : model.Event) → IsAlike (kind.Event p) (kind.Event q)
+events_are p q = record { wanted = λ w. events_alike w p q; events = refl; written = refl; room = refl }
+
+-- ---- carried lines
+-- what a field leaves, it leaves where the record has more
+untaken_more : (field : Tree Line → Field) (some more : Field → Bool) → ((x : Field) → some x ≡ true → more x ≡ true) → (ts : Lines) → AreUntaken field some ts → AreUntaken field more ts
+untaken_more field some more h [] u = refl
+untaken_more field some more h (t ∷ ts) u =
+    let both : (some (field t) ≡ true) × (list_all (λ v. some (field v)) ts ≡ true) = and_true (some (field t)) (list_all (λ v. some (field v)) ts) u in
+    λ i. h (field t) both.0 i && untaken_more field some more h ts both.1 i
+
+none_within : (n : ℕ) → AreWithin n []
+none_within n = omega arith
+
 -- ---- persons
-person_fits : (c : Content) (n : ℕ) (p : model.Person) → ((old : Record) → get c.records n ≡ Some old → (w : Wanted) → is_wanted w old ≡ is_wanted w (kind.Person p)) → ((old : Record) → get c.records n ≡ Some old → event_tags old ≡ person_tags) → EachOf (Stands c.records) (links (kind.Person p)) → EachOf IsOfRecords (carried_tags (kind.Person p)) → IsFit c n (kind.Person p)
-person_fits c n p alike tagged named carry = record {
+person_fits : (c : Content) (n : ℕ) (p : model.Person) → ((old : Record) → get c.records n ≡ Some old → IsAlike old (kind.Person p)) → get c.slips n ≡ None → EachOf (Stands c.records) (links (kind.Person p)) → EachOf IsOfRecords (carried_tags (kind.Person p)) → HasUntaken (known_before c.records n) (known_of c.records) (kind.Person p) → HasRoom (owner_in c.records (kind.Person p)) (kind.Person p) → IsFit c n (kind.Person p)
+person_fits c n p alike free named carry untaken levels = record {
   alike = alike;
-  tags = tagged;
+  no_slip = free;
   no_place = λ q e. absurd cc;
   no_entry = λ q e. absurd cc;
+  no_other = λ q e. absurd cc;
   named = named;
   parents = tt;
   normal = tt;
@@ -101,37 +158,50 @@ person_fits c n p alike tagged named carry = record {
   places = tt;
   events = tt;
   mentions = tt;
+  untaken = untaken;
+  levels = levels;
 }
 
 pub new_person_fits : (c : Content) (name : List ℕ) (sex : Option Sex) → IsSound c → IsFit c c.next (kind.Person (plain_person name sex))
 new_person_fits c name sex sound =
-    person_fits c c.next (plain_person name sex) (λ old e w. absurd (none_at_next c sound old e)) (λ old e. absurd (none_at_next c sound old e)) tt tt
+    person_fits c c.next (plain_person name sex) (anew c (kind.Person (plain_person name sex)) sound) (no_slip_at_next c sound) tt tt refl ((none_within 97, tt), none_within 98)
 
--- a person in the place of one with the same links and the same carried lines
-person_over : (c : Content) (n : ℕ) (p q : model.Person) → IsSound c → get c.records n ≡ Some (kind.Person p) → links (kind.Person q) ≡ links (kind.Person p) → carried (kind.Person q) ≡ carried (kind.Person p) → IsFit c n (kind.Person q)
-person_over c n p q sound at linked carry =
+-- a person in the place of one with the same links and the same carried lines, that has a sex where the other has one
+person_over : (c : Content) (n : ℕ) (p q : model.Person) → IsSound c → get c.records n ≡ Some (kind.Person p) → links (kind.Person q) ≡ links (kind.Person p) → carried (kind.Person q) ≡ carried (kind.Person p)
+    → q.carried ≡ p.carried → (is_some p.sex ≡ true → is_some q.sex ≡ true) → EachOf (λ (x : model.Name). AreWithin 97 x.carried) q.names → IsFit c n (kind.Person q)
+person_over c n p q sound at linked carry own sex names =
+    let field : Tree Line → Field = person_field (known_of c.records) in
     person_fits c n q
-    (λ old e w. ap (is_wanted w) (sym (it_is c n (kind.Person p) old at e)) ∙ persons_alike w p q)
-    (λ old e. ap event_tags (sym (it_is c n (kind.Person p) old at e)))
+    (over c n (kind.Person p) (kind.Person q) at (persons_are p q))
+    (sound.distinct n (kind.Person p) at)
     (subst (EachOf (Stands c.records)) (sym linked) (sound.named n (kind.Person p) at))
     (subst (λ l. EachOf IsOfRecords (flat_map tags l)) (sym carry) (sound.rules.tags n (kind.Person p) at))
+    (subst (λ (l : Lines). AreUntaken field (person_leaves q) l) (sym own) (untaken_more field (person_leaves p) (person_leaves q) more p.carried (sound.rules.untaken n (kind.Person p) at)))
+    (names, subst (λ (l : Lines). AreWithin 98 l) (sym own) (sound.rules.levels n (kind.Person p) at).1)
+  where
+    more : (x : Field) → person_leaves p x ≡ true → person_leaves q x ≡ true
+    more part.carried e = refl
+    more part.a_sex e = sex e
+    more _ e = absurd cc
 
 pub add_name_fits : (c : Content) (n : ℕ) (p : model.Person) (name : List ℕ) → IsSound c → get c.records n ≡ Some (kind.Person p) → IsFit c n (kind.Person (with_name name p))
 add_name_fits c n p name sound at =
     person_over c n p (with_name name p) sound at
     (ap (λ l. l ++ carried_links p.carried) (none_more name_links p.names (plain_name name) refl))
     (ap (λ l. l ++ p.carried) (none_more (λ (x : model.Name). x.carried) p.names (plain_name name) refl))
+    refl (λ e. e) (each_both (λ (x : model.Name). AreWithin 97 x.carried) p.names (plain_name name ∷ []) (sound.rules.levels n (kind.Person p) at).0 (none_within 97, tt))
 
-pub set_sex_fits : (c : Content) (n : ℕ) (p : model.Person) (sex : Option Sex) → IsSound c → get c.records n ≡ Some (kind.Person p) → IsFit c n (kind.Person (record p { sex = sex }))
-set_sex_fits c n p sex sound at = person_over c n p (record p { sex = sex }) sound at refl refl
+pub set_sex_fits : (c : Content) (n : ℕ) (p : model.Person) (sex : Sex) → IsSound c → get c.records n ≡ Some (kind.Person p) → IsFit c n (kind.Person (record p { sex = Some sex }))
+set_sex_fits c n p sex sound at = person_over c n p (record p { sex = Some sex }) sound at refl refl refl (λ e. refl) (sound.rules.levels n (kind.Person p) at).0
 
 -- ---- families
-family_fits : (c : Content) (n : ℕ) (f : model.Family) → ((old : Record) → get c.records n ≡ Some old → (w : Wanted) → is_wanted w old ≡ is_wanted w (kind.Family f)) → ((old : Record) → get c.records n ≡ Some old → event_tags old ≡ family_tags) → EachOf (Stands c.records) (links (kind.Family f)) → IsOnce (members f) → EachOf IsOfRecords (carried_tags (kind.Family f)) → IsFit c n (kind.Family f)
-family_fits c n f alike tagged named once carry = record {
+family_fits : (c : Content) (n : ℕ) (f : model.Family) → ((old : Record) → get c.records n ≡ Some old → IsAlike old (kind.Family f)) → get c.slips n ≡ None → EachOf (Stands c.records) (links (kind.Family f)) → IsOnce (members f) → EachOf IsOfRecords (carried_tags (kind.Family f)) → HasUntaken (known_before c.records n) (known_of c.records) (kind.Family f) → HasRoom (owner_in c.records (kind.Family f)) (kind.Family f) → IsFit c n (kind.Family f)
+family_fits c n f alike free named once carry untaken levels = record {
   alike = alike;
-  tags = tagged;
+  no_slip = free;
   no_place = λ q e. absurd cc;
   no_entry = λ q e. absurd cc;
+  no_other = λ q e. absurd cc;
   named = named;
   parents = tt;
   normal = tt;
@@ -141,6 +211,8 @@ family_fits c n f alike tagged named once carry = record {
   places = tt;
   events = tt;
   mentions = tt;
+  untaken = untaken;
+  levels = levels;
 }
 
 -- a person stands there, where a number is given
@@ -172,11 +244,18 @@ partners_carry (Some a) None = refl
 partners_carry None (Some b) = refl
 partners_carry (Some a) (Some b) = refl
 
+partners_room : (husband wife : Option ℕ) → EachOf (λ (p : model.Partner). AreWithin 97 p.carried × AreWithin 97 p.carried_by_person) (plain_partners husband wife)
+partners_room None None = tt
+partners_room (Some a) None = ((none_within 97, none_within 97), tt)
+partners_room None (Some b) = ((none_within 97, none_within 97), tt)
+partners_room (Some a) (Some b) = ((none_within 97, none_within 97), ((none_within 97, none_within 97), tt))
+
 pub new_family_fits : (c : Content) (husband wife : Option ℕ) → IsSound c → PersonAt c husband → PersonAt c wife → is_same husband wife ≡ false → IsFit c c.next (kind.Family (record { partners = plain_partners husband wife; children = []; carried = [] }))
 new_family_fits c husband wife sound h w other =
-    family_fits c c.next (family_of husband wife) (λ old e x. absurd (none_at_next c sound old e)) (λ old e. absurd (none_at_next c sound old e))
+    family_fits c c.next (family_of husband wife) (anew c (kind.Family (family_of husband wife)) sound) (no_slip_at_next c sound)
     (partners_stand c husband wife h w) (partners_once husband wife other)
     (subst (λ l. EachOf IsOfRecords (flat_map tags l)) (sym (partners_carry husband wife)) tt)
+    refl (partners_room husband wife, tt, none_within 98)
 
 first_no : (a b : Bool) → (a || b) ≡ false → a ≡ false
 first_no true b e = absurd cc
@@ -216,20 +295,24 @@ add_child_fits c n f person sound at stands other =
     let more : EachOf P (flat_map child_links (f.children ++ (plain_child person ∷ [])) ++ carried_links f.carried) = each_push P child_links f.children (plain_child person) (carried_links f.carried) rest (stands, tt) in
     let carry : carried (kind.Family (with_child person f)) ≡ carried (kind.Family f) =
     ap (λ l. flat_map (λ (p : model.Partner). p.carried ++ p.carried_by_person) f.partners ++ (l ++ f.carried)) (none_more (λ (x : model.Child). x.carried ++ x.carried_by_person) f.children (plain_child person) refl) in
+    let room : HasRoom None (kind.Family f) = sound.rules.levels n (kind.Family f) at in
     family_fits c n (with_child person f)
-    (λ old e w. ap (is_wanted w) (sym (it_is c n (kind.Family f) old at e)) ∙ families_alike w f (with_child person f))
-    (λ old e. ap event_tags (sym (it_is c n (kind.Family f) old at e)))
+    (over c n (kind.Family f) (kind.Family (with_child person f)) at (families_are f (with_child person f)))
+    (sound.distinct n (kind.Family f) at)
     (each_both P (flat_map partner_links f.partners) (flat_map child_links (f.children ++ (plain_child person ∷ [])) ++ carried_links f.carried) front more)
     (subst IsOnce (sym (member_more f person)) (once_more (members f) person (sound.rules.once n (kind.Family f) at) (no_member f person other)))
     (subst (λ l. EachOf IsOfRecords (flat_map tags l)) (sym carry) (sound.rules.tags n (kind.Family f) at))
+    (sound.rules.untaken n (kind.Family f) at)
+    (room.0, each_both (λ (x : model.Child). AreWithin 97 x.carried × AreWithin 97 x.carried_by_person) f.children (plain_child person ∷ []) room.1 ((none_within 97, none_within 97), tt), room.2)
 
 -- ---- events
-event_fits : (c : Content) (n : ℕ) (e : model.Event) → ((old : Record) → get c.records n ≡ Some old → (w : Wanted) → is_wanted w old ≡ is_wanted w (kind.Event e)) → ((old : Record) → get c.records n ≡ Some old → event_tags old ≡ []) → EachOf (Stands c.records) (links (kind.Event e)) → EachOf IsOfRecords (e.tag ∷ carried_tags (kind.Event e)) → HasSaidPlace c.records (kind.Event e) → HasEventTag c.records (kind.Event e) → IsFit c n (kind.Event e)
-event_fits c n e alike tagged named carry place event = record {
+event_fits : (c : Content) (n : ℕ) (e : model.Event) → ((old : Record) → get c.records n ≡ Some old → IsAlike old (kind.Event e)) → get c.slips n ≡ None → EachOf (Stands c.records) (links (kind.Event e)) → EachOf IsOfRecords (e.tag ∷ carried_tags (kind.Event e)) → HasSaidPlace c.records (kind.Event e) → HasEventTag c.records (kind.Event e) → HasUntaken (known_before c.records n) (known_of c.records) (kind.Event e) → HasRoom (owner_in c.records (kind.Event e)) (kind.Event e) → IsFit c n (kind.Event e)
+event_fits c n e alike free named carry place event untaken levels = record {
   alike = alike;
-  tags = tagged;
+  no_slip = free;
   no_place = λ q e. absurd cc;
   no_entry = λ q e. absurd cc;
+  no_other = λ q e. absurd cc;
   named = named;
   parents = tt;
   normal = tt;
@@ -239,6 +322,8 @@ event_fits c n e alike tagged named carry place event = record {
   places = place;
   events = event;
   mentions = tt;
+  untaken = untaken;
+  levels = levels;
 }
 
 -- a place stands there whose path has a part that is not empty, where a number is given
@@ -246,16 +331,33 @@ abbrev pub PlaceAt : Content → Option ℕ → Type 0
 PlaceAt c None = Unit {0}
 PlaceAt c (Some n) = Stands c.records (n, a_place) × ((path : List ℕ) → HasPath c.records n path → has_part path ≡ true)
 
--- no tag of an event is that of a continuation
-no_continuation : (o : Owner) (tag : List ℕ) → is_tag_of o tag ≡ true → IsOfRecords tag
-no_continuation owner.Person tag e = (
-  (λ (same : tag ≡ codes "CONC"). let f : false ≡ true = sym (ap (is_tag_of owner.Person) same) ∙ e in absurd cc),
-  (λ (same : tag ≡ codes "CONT"). let f : false ≡ true = sym (ap (is_tag_of owner.Person) same) ∙ e in absurd cc),
-)
-no_continuation owner.Family tag e = (
-  (λ (same : tag ≡ codes "CONC"). let f : false ≡ true = sym (ap (is_tag_of owner.Family) same) ∙ e in absurd cc),
-  (λ (same : tag ≡ codes "CONT"). let f : false ≡ true = sym (ap (is_tag_of owner.Family) same) ∙ e in absurd cc),
-)
+-- a tag of an event is a tag, and none of a continuation
+abbrev is_fine : List ℕ → Bool
+is_fine t = (nat_lt 0 (length t) && (nat_le (length t) 31 && list_all is_word t)) && not (bytes_eq t (codes "CONC") || bytes_eq t (codes "CONT"))
+
+is_one : (tags : List (List ℕ)) (tag : List ℕ) → list_all is_fine tags ≡ true → list_any (bytes_eq tag) tags ≡ true → is_fine tag ≡ true
+is_one [] tag h e = absurd cc
+is_one (t ∷ ts) tag h e =
+    let both : (is_fine t ≡ true) × (list_all is_fine ts ≡ true) = and_true (is_fine t) (list_all is_fine ts) h in
+    elim (bytes_eq tag t) as (λ b. bytes_eq tag t ≡ b → (b || list_any (bytes_eq tag) ts) ≡ true → is_fine tag ≡ true) [
+      | true ↦ λ same f. ap is_fine (bytes_are tag t same) ∙ both.0
+      | false ↦ λ same f. is_one ts tag both.1 f
+    ] refl e
+
+fine_range : (k : ℕ) (words other : Bool) → ((nat_lt 0 k && (nat_le k 31 && words)) && other) ≡ true → (0 < k) × ((k ≤ 31) × ((words ≡ true) × (other ≡ true)))
+fine_range k words other e = grind (arith, nat_tests)
+
+fine_tag : (tag : List ℕ) → is_fine tag ≡ true → IsOfRecords tag
+fine_tag tag e =
+    let r = fine_range (length tag) (list_all is_word tag) (not (bytes_eq tag (codes "CONC") || bytes_eq tag (codes "CONT"))) e in (
+      record { some = r.0; short = r.1.0; words = r.1.1.0 },
+      (λ (same : tag ≡ codes "CONC"). let f : is_fine (codes "CONC") ≡ true = ap is_fine (sym same) ∙ e in absurd cc),
+      (λ (same : tag ≡ codes "CONT"). let f : is_fine (codes "CONT") ≡ true = ap is_fine (sym same) ∙ e in absurd cc),
+    )
+
+fine_of_owner : (o : Owner) (tag : List ℕ) → is_tag_of o tag ≡ true → IsOfRecords tag
+fine_of_owner owner.Person tag e = fine_tag tag (is_one person_tags tag refl e)
+fine_of_owner owner.Family tag e = fine_tag tag (is_one family_tags tag refl e)
 
 abbrev plain_event : ℕ → List ℕ → List ℕ → Option Date → Option ℕ → model.Event
 plain_event owner tag value date place = record {
@@ -285,26 +387,44 @@ tag_of_owner : (c : Content) (k : ℕ) (o : Owner) (old : Record) (tag : List �
 tag_of_owner c k o old tag at tags e =
     subst (λ (r : Option Record). IfSome r (λ x. is_event_tag tag x ≡ true)) (sym at) (ap (list_any (bytes_eq tag)) tags ∙ e)
 
+new_room : (place : Option ℕ) → IfSome (option_map plain_place place) (λ (p : model.EventPlace). AreWithin 96 p.carried)
+new_room None = tt
+new_room (Some n) = none_within 96
+
 pub new_event_fits : (c : Content) (n : ℕ) (o : Owner) (old : Record) (tag value : List ℕ) (date : Option Date) (place : Option ℕ) → IsSound c → get c.records n ≡ Some old → is_wanted a_holder old ≡ true → event_tags old ≡ tags_of o → is_tag_of o tag ≡ true → PlaceAt c place
     → IsFit c c.next (kind.Event (record { owner = n; tag = tag; value = value; date = date; place = option_map plain_place place; participants = []; carried = [] }))
 new_event_fits c n o old tag value date place sound at holder tagged one said =
-    event_fits c c.next (plain_event n tag value date place) (λ old e x. absurd (none_at_next c sound old e)) (λ old e. absurd (none_at_next c sound old e))
+    event_fits c c.next (plain_event n tag value date place) (anew c (kind.Event (plain_event n tag value date place)) sound) (no_slip_at_next c sound)
     (new_links c n tag value date place (ap (option_map (is_wanted a_holder)) at ∙ ap Some holder) said)
-    (no_continuation o tag one, subst (λ l. EachOf IsOfRecords (flat_map tags l)) (sym (new_carried n tag value date place)) tt)
+    (fine_of_owner o tag one, subst (λ l. EachOf IsOfRecords (flat_map tags l)) (sym (new_carried n tag value date place)) tt)
     (new_said c n tag value date place said)
     (tag_of_owner c n o old tag at tagged one)
+    (tt, refl)
+    (new_room place, tt, none_within 97)
 
--- an event in the place of one of the same owner and tag
-event_over : (c : Content) (n : ℕ) (e f : model.Event) → IsSound c → get c.records n ≡ Some (kind.Event e) → f.owner ≡ e.owner → f.tag ≡ e.tag → EachOf (Stands c.records) (links (kind.Event f)) → EachOf IsOfRecords (carried_tags (kind.Event f)) → HasSaidPlace c.records (kind.Event f) → IsFit c n (kind.Event f)
-event_over c n e f sound at owner tag named carry place =
+-- an event in the place of one of the same owner, tag and carried lines, that has a date and a place where the other has them
+event_over : (c : Content) (n : ℕ) (e f : model.Event) → IsSound c → get c.records n ≡ Some (kind.Event e) → f.owner ≡ e.owner → f.tag ≡ e.tag → EachOf (Stands c.records) (links (kind.Event f)) → EachOf IsOfRecords (carried_tags (kind.Event f)) → HasSaidPlace c.records (kind.Event f)
+    → f.carried ≡ e.carried → (is_some e.date ≡ true → is_some f.date ≡ true) → (is_some e.place ≡ true → is_some f.place ≡ true)
+    → EachOf (λ (p : model.Participant). AreUntaken participant_field (participant_leaves p) p.carried) f.participants
+    → IfSome f.place (λ (p : model.EventPlace). AreWithin 96 p.carried) → EachOf (λ (p : model.Participant). AreWithin 96 p.carried) f.participants → IsFit c n (kind.Event f)
+event_over c n e f sound at owner tag named carry place own date put took placed_room took_room =
+    let field : Tree Line → Field = event_field (known_of c.records) in
     event_fits c n f
-    (λ old h w. ap (is_wanted w) (sym (it_is c n (kind.Event e) old at h)) ∙ events_alike w e f)
-    (λ old h. ap event_tags (sym (it_is c n (kind.Event e) old at h)))
+    (over c n (kind.Event e) (kind.Event f) at (events_are e f))
+    (sound.distinct n (kind.Event e) at)
     named
     (subst IsOfRecords (sym tag) (sound.rules.tags n (kind.Event e) at).0, carry)
     place
     (subst (λ (t : List ℕ). IfSome (get c.records f.owner) (λ r. is_event_tag t r ≡ true)) (sym tag)
     (subst (λ (k : ℕ). IfSome (get c.records k) (λ r. is_event_tag e.tag r ≡ true)) (sym owner) (sound.rules.events n (kind.Event e) at)))
+    (took, subst (λ (l : Lines). AreUntaken field (event_leaves f) l) (sym own) (untaken_more field (event_leaves e) (event_leaves f) more e.carried (sound.rules.untaken n (kind.Event e) at).1))
+    (placed_room, took_room, subst (λ (l : Lines). AreWithin 97 l) (sym own) (sound.rules.levels n (kind.Event e) at).2)
+  where
+    more : (x : Field) → event_leaves e x ≡ true → event_leaves f x ≡ true
+    more part.carried e = refl
+    more part.a_date e = date e
+    more part.a_place e = put e
+    more _ e = absurd cc
 
 pub add_participant_fits : (c : Content) (n : ℕ) (e : model.Event) (person : ℕ) (role : List ℕ) → IsSound c → get c.records n ≡ Some (kind.Event e) → Stands c.records (person, a_person) → IsFit c n (kind.Event (with_participant person role e))
 add_participant_fits c n e person role sound at stands =
@@ -316,10 +436,14 @@ add_participant_fits c n e person role sound at stands =
     let back : EachOf P (flat_map participant_links more.participants ++ carried_links e.carried) = each_push P participant_links e.participants (plain_participant person role) (carried_links e.carried) rest (stands, tt) in
     let carry : carried (kind.Event more) ≡ carried (kind.Event e) =
     ap (λ l. place_line_carried e.place ++ (l ++ e.carried)) (none_more (λ (x : model.Participant). x.carried) e.participants (plain_participant person role) refl) in
+    let room : HasRoom None (kind.Event e) = sound.rules.levels n (kind.Event e) at in
     event_over c n e more sound at refl refl
     (old.0, each_both P (place_line_links e.place) (flat_map participant_links more.participants ++ carried_links e.carried) front back)
     (subst (λ l. EachOf IsOfRecords (flat_map tags l)) (sym carry) (sound.rules.tags n (kind.Event e) at).1)
     (sound.rules.places n (kind.Event e) at)
+    refl (λ q. q) (λ q. q)
+    (each_both (λ (p : model.Participant). AreUntaken participant_field (participant_leaves p) p.carried) e.participants (plain_participant person role ∷ []) (sound.rules.untaken n (kind.Event e) at).0 (refl, tt))
+    room.0 (each_both (λ (p : model.Participant). AreWithin 96 p.carried) e.participants (plain_participant person role ∷ []) room.1 (none_within 96, tt))
 
 -- ---- another place
 amended_links : (c : Content) (place : Option ℕ) (p : Option model.EventPlace) → PlaceAt c place → EachOf (Stands c.records) (place_line_links p) → EachOf (Stands c.records) (place_line_links (or_kept_place place p))
@@ -339,6 +463,20 @@ amended_said c None p h old = old
 amended_said c (Some n) None h old = h.1
 amended_said c (Some n) (Some p) h old = h.1
 
+amended_room : (place : Option ℕ) (p : Option model.EventPlace) → IfSome p (λ (x : model.EventPlace). AreWithin 96 x.carried) → IfSome (or_kept_place place p) (λ (x : model.EventPlace). AreWithin 96 x.carried)
+amended_room None p h = h
+amended_room (Some n) None h = none_within 96
+amended_room (Some n) (Some p) h = h
+
+amended_place : (place : Option ℕ) (p : Option model.EventPlace) → is_some p ≡ true → is_some (or_kept_place place p) ≡ true
+amended_place None p e = e
+amended_place (Some n) None e = refl
+amended_place (Some n) (Some p) e = refl
+
+amended_date : (date old : Option Date) → is_some old ≡ true → is_some (or_kept_date date old) ≡ true
+amended_date None old e = e
+amended_date (Some d) old e = refl
+
 pub amend_event_fits : (c : Content) (n : ℕ) (e : model.Event) (value : List ℕ) (date : Option Date) (place : Option ℕ) → IsSound c → get c.records n ≡ Some (kind.Event e) → PlaceAt c place → IsFit c n (kind.Event (with_fields value date place e))
 amend_event_fits c n e value date place sound at said =
     let P : Link → Type 0 = Stands c.records in
@@ -349,7 +487,11 @@ amend_event_fits c n e value date place sound at said =
     let back : EachOf P rest = each_back P (place_line_links e.place) rest old.1 in
     let carry : carried (kind.Event after) ≡ carried (kind.Event e) =
     ap (λ l. l ++ (flat_map (λ (x : model.Participant). x.carried) e.participants ++ e.carried)) (amended_carried place e.place) in
+    let room : HasRoom None (kind.Event e) = sound.rules.levels n (kind.Event e) at in
     event_over c n e after sound at refl refl
     (old.0, each_both P (place_line_links after.place) rest front back)
     (subst (λ l. EachOf IsOfRecords (flat_map tags l)) (sym carry) (sound.rules.tags n (kind.Event e) at).1)
     (amended_said c place e.place said (sound.rules.places n (kind.Event e) at))
+    refl (amended_date date e.date) (amended_place place e.place)
+    (sound.rules.untaken n (kind.Event e) at).0
+    (amended_room place e.place room.0) room.1

@@ -1,6 +1,7 @@
 -- What an accepted step leaves beside its record: receipts, slips and the next number; and that it is sound.
-use Rattle.std.proofs.Common.{◌≡◌, ℕ, ◌+◌, ◌<◌, List, [], Bool, true, false, refl, sym, ap, ◌∙◌, inl, inr, nat_le, subst, arith}
+use Rattle.std.proofs.Common.{◌≡◌, ℕ, ◌+◌, ◌<◌, ◌≤◌, List, [], Bool, true, false, refl, sym, ap, ◌∙◌, inl, inr, nat_le, subst, arith}
 use Rattle.std.specs.Prelude.{Option, Some, None, Result, Ok, Err, if◌then◌else◌, not, ◌||◌, option_map}
+use Rattle.std.proofs.lemmas.Bool.Decides.{nat_tests}
 use Rattle.std.specs.FinMap.{get, insert}
 use Rattle.record_text.specs.declared.refusal.RefusalKind.{RefusalKind}
 use Rattle.record_text.specs.declared.refusal.RefusalKind.TheVariants.{Full, SamePerson, AlreadyInFamily, BadText, NotOfKind}
@@ -60,7 +61,7 @@ replaces_follows c n old r at fit = (
   refl,
   replaces_draws c n r,
   replaces_again c n old r at,
-  (λ sound. put_keeps c n c.next r sound (fit sound) (omega arith) (sound.rules.numbered n old at)),
+  (λ sound. put_keeps c n c.next r sound (fit sound) (omega arith) sound.bounded (sound.rules.numbered n old at)),
 )
 
 -- a record is made at the next number
@@ -87,17 +88,20 @@ creates_draws c r = (
       inl (λ none. let both : Some r ≡ None = sym (put_here c.records c.next r) ∙ ap (get (insert c.records c.next r)) same ∙ none in absurd cc),
 )
 
+one_more_free : (n : ℕ) → nat_le n 4_294_967_295 ≡ true → n + 1 ≤ 4294967296
+one_more_free n e = grind (arith, nat_tests)
+
 creates_follows : (c : Content) (r : Record) → (IsSound c → IsFit c c.next r) → Follows c (creates c r)
-creates_follows c r fit = elim (nat_le c.next 4_294_967_295) as (λ b. Follows c (and_then (if b then Ok c.next else Err Full) (λ n. created c n r))) [
-  | true ↦ (
+creates_follows c r fit = elim (nat_le c.next 4_294_967_295) as (λ b. nat_le c.next 4_294_967_295 ≡ b → Follows c (and_then (if b then Ok c.next else Err Full) (λ n. created c n r))) [
+  | true ↦ λ e. (
     refl,
     refl,
     creates_draws c r,
     creates_again c r,
-    (λ sound. let begun : 0 < c.next = sound.begun in put_keeps c c.next (c.next + 1) r sound (fit sound) (omega arith) (begun, omega arith)),
+    (λ sound. let begun : 0 < c.next = sound.begun in put_keeps c c.next (c.next + 1) r sound (fit sound) (omega arith) (one_more_free c.next e) (begun, omega arith)),
   )
-  | false ↦ tt
-]
+  | false ↦ λ e. tt
+] refl
 
 -- ---- what a look has found
 each_passed : {A : Type 0} (r : Result A RefusalKind) (u : Unit {0}) → passed (and_then r (λ a. Ok (Some a))) ≡ Ok u → passed r ≡ Ok u
@@ -151,7 +155,7 @@ row_follows c (row_command.Name person name) =
 row_follows c (row_command.Sex person sex) =
     then_follows c (person_at c person) _ (λ p found.
     let at : get c.records person ≡ Some (kind.Person p) = person_found (get c.records person) p found in
-    replaces_follows c person (kind.Person p) (kind.Person (record p { sex = Some sex })) at (λ sound. set_sex_fits c person p (Some sex) sound at))
+    replaces_follows c person (kind.Person p) (kind.Person (record p { sex = Some sex })) at (λ sound. set_sex_fits c person p sex sound at))
 row_follows c (row_command.Family husband wife) =
     let family : model.Family = record { partners = plain_partners husband wife; children = []; carried = [] } in
     then_follows c (passed (each (person_at c) husband)) _ (λ h first. then_follows c (passed (each (person_at c) wife)) _ (λ w second.

@@ -6,7 +6,7 @@ use Rattle.record_kinds.specs.Model as model
 use Rattle.record_kinds.specs.declared.record.Record.{Record}
 use Rattle.record_kinds.specs.declared.record.Record.TheVariants as kind
 use Rattle.record_links.specs.Links.{a_person, a_place, a_holder, is_wanted}
-use Rattle.archive_state.specs.Entries.{event_tags}
+use Rattle.record_shapes.specs.Tags.{event_tags}
 use Rattle.archive_core.specs.Checks.{person_in, family_in, event_in, place_in, owner_in, passed, tags_of}
 use Rattle.archive_core.specs.declared.looks.Owner.{Owner}
 use Rattle.archive_core.specs.declared.looks.Owner.TheVariants as owner

@@ -1,8 +1,10 @@
+mod Each
 mod Exactness
 mod Fitting
 mod Following
 mod Found
 mod Keeping
+mod Knowing
 mod Room
 mod Said
 mod SaidPaths

@@ -5,12 +5,12 @@ use Rattle.std.specs.Prelude.{◌≢◌, Option, Some, None, is_some, if◌then�
 use Rattle.std.specs.FinMap.{get, insert, remove, same_map, nat_cmp-IsAntisymmetric}
 use Rattle.std.specs.Cmp.{nat_cmp_total}
 use Rattle.record_kinds.specs.declared.record.Record.{Record}
-use Rattle.archive_state.specs.Content.{Content, Records}
-use Rattle.archive_state.specs.Sound.{EachOf}
+use Rattle.archive_state.specs.Content.{Records}
+use Rattle.record_shapes.specs.Lists.{EachOf}
 use Rattle.archive_state.specs.declared.changes.Numbered.{Numbered}
 use Rattle.archive_state.specs.Applied.{with_puts, without}
 use Rattle.archive_core.specs.Room.{blank, with_blank, with_room}
-use Rattle.archive_core.proofs.Keeping.{each_more}
+use Rattle.archive_core.proofs.Each.{each_more}
 use Rattle.archive_state.proofs.Putting.{put_cases, put_here, put_elsewhere}
 use Rattle.archive_core.proofs.Undo.{taken_out}
 

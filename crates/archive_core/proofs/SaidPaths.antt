@@ -8,7 +8,8 @@ use Rattle.std.specs.FinMap.{get}
 use Rattle.record_text.specs.declared.refusal.RefusalKind.TheVariants.{BadText}
 use Rattle.record_kinds.specs.Model as model
 use Rattle.archive_state.specs.Content.{Content, Records}
-use Rattle.archive_state.specs.Paths.{IsPlaceAt, Climbs, joined, HasPath, from_word, backwards, trimmed, parts, has_part}
+use Rattle.record_shapes.specs.Paths.{joined, from_word, backwards, trimmed, parts, has_part}
+use Rattle.archive_state.specs.Paths.{IsPlaceAt, Climbs, HasPath}
 use Rattle.commands.specs.Rows.{and_then}
 use Rattle.archive_core.specs.Checks.{says_something, is_said, place_in, need, said_place_at}
 use Rattle.archive_core.proofs.Said.{is_below, said_here, said_alone, said_above}
@@ -90,6 +91,7 @@ dark_parts (b ∷ bs) =
 
 -- a text has a part that is not empty where it has a character that is neither comma nor space
 pub part_is_said : (t : List ℕ) → has_part t ≡ says_something t
+unfolding has_part
 part_is_said t = some_part (parts t) ∙ dark_parts t
 
 -- ---- the names of a path

@@ -150,7 +150,7 @@ step_again : (c : Content) (k : Command) (done : Content × Answer) → step c k
 step_again c k done e = let f : Follows {E = Refusal} c (Ok done) = subst (Follows c) e (step_follows c k) in f.3
 
 sound_blind : (d : Content) (receipts : Receipts) → IsSound d → IsSound (record d { receipts = receipts })
-sound_blind d receipts h = record { begun = h.begun; named = h.named; rules = h.rules; slips = h.slips }
+sound_blind d receipts h = record { begun = h.begun; bounded = h.bounded; distinct = h.distinct; named = h.named; rules = h.rules; slips = h.slips }
 
 pub request_sound : (c after : Content) (r : Request) (o : Result Answer Refusal) → IsSound c → Does c r o after → IsSound after
 request_sound c after r o sound does = through IsSound sound_blind c after r o sound (step_sound c r.command sound) does

@@ -10,7 +10,7 @@ use Rattle.record_kinds.specs.Model as model
 use Rattle.record_kinds.specs.declared.record.Record.{Record}
 use Rattle.record_kinds.specs.declared.record.Record.TheVariants as kind
 use Rattle.archive_state.specs.Content.{Content, Records}
-use Rattle.archive_state.specs.Entries.{person_tags, family_tags}
+use Rattle.record_shapes.specs.Tags.{person_tags, family_tags}
 use Rattle.commands.specs.Fields.{text_of}
 use Rattle.commands.specs.Given.{GivenDate}
 use Rattle.commands.specs.Rows.{and_then, ok_or}

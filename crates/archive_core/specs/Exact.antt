@@ -5,7 +5,8 @@ use Rattle.std.specs.FinMap.{get}
 use Rattle.archive_state.specs.Changes.{Changes}
 use Rattle.archive_state.specs.Content.{Content, Slips}
 use Rattle.archive_state.specs.Slips.{Slip}
-use Rattle.archive_state.specs.Sound.{Ascends, EachOf, IsSound}
+use Rattle.record_shapes.specs.Lists.{Ascends, EachOf}
+use Rattle.archive_state.specs.Sound.{IsSound}
 use Rattle.archive_state.specs.declared.changes.Numbered.{Numbered}
 use Rattle.archive_state.specs.declared.changes.SlipChange.{SlipChange}
 use Rattle.archive_state.specs.declared.changes.SlipChange.TheVariants as change

@@ -4,7 +4,7 @@ ghost use Rattle.std.specs.Prelude.{◌≡◌, ◌≢◌, ℕ, IfOk, OnOk, OnErr
 ghost use Rattle.std.specs.FinMap as map;
 ghost use Rattle.archive_state.specs.Content.{Records, Slips};
 ghost use Rattle.archive_state.specs.Slips.{Slip};
-ghost use Rattle.archive_state.specs.Sound.{EachOf};
+ghost use Rattle.record_shapes.specs.Lists.{EachOf};
 ghost use Rattle.archive_state.specs.declared.changes.Numbered.{Numbered};
 ghost use Rattle.archive_state.specs.Applied as specs;
 ghost use Rattle.archive_core.specs.Room as room;

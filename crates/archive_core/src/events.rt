@@ -3,7 +3,7 @@
 ghost use Rattle.std.specs.Prelude.{◌≡◌, ◌↔◌, [], IfOk, IfErr, IsTrue, false, option_map};
 ghost use Rattle.std.specs.List.{list_any};
 ghost use Rattle.std.specs.Str.{bytes_eq};
-ghost use Rattle.archive_state.specs.Entries.{person_tags, family_tags};
+ghost use Rattle.record_shapes.specs.Tags.{person_tags, family_tags};
 ghost use Rattle.archive_view.specs.Looks.{Agrees, CountsFailures, OnView, is_failure, is_stop};
 ghost use Rattle.record_kinds.specs.Model as model;
 ghost use Rattle.archive_core.specs.Applied.{Plans};
@@ -44,9 +44,9 @@ pub(crate) fn new_event<V: View>(
     date: &Option<GivenDate>,
     place: Option<u32>,
 ) -> Result<Changes, RefusalKind>
-    ensures decides { OnView V.is_honest V.content view.old view.new
+    ensures decides { OnView V.is_honest V.shows V.content view.old view.new
         (λ c. Plans c result (steps.new_event c owner tag.now value.now date.now place)) }
-    ensures exact { OnView V.is_honest V.content view.old view.new
+    ensures exact { OnView V.is_honest V.shows V.content view.old view.new
         (λ c. IfOk result (IsExact c)) }
     ensures counts { CountsFailures (V.failed view.old) (V.failed view.new) result }
 {
@@ -68,9 +68,9 @@ pub(crate) fn amend_event<V: View>(
     date: &Option<GivenDate>,
     place: Option<u32>,
 ) -> Result<Changes, RefusalKind>
-    ensures decides { OnView V.is_honest V.content view.old view.new
+    ensures decides { OnView V.is_honest V.shows V.content view.old view.new
         (λ c. Plans c result (steps.amend_event c number value.now date.now place)) }
-    ensures exact { OnView V.is_honest V.content view.old view.new
+    ensures exact { OnView V.is_honest V.shows V.content view.old view.new
         (λ c. IfOk result (IsExact c)) }
     ensures counts { CountsFailures (V.failed view.old) (V.failed view.new) result }
 {
@@ -95,9 +95,9 @@ pub(crate) fn add_participant<V: View>(
     person: u32,
     role: &Field,
 ) -> Result<Changes, RefusalKind>
-    ensures decides { OnView V.is_honest V.content view.old view.new
+    ensures decides { OnView V.is_honest V.shows V.content view.old view.new
         (λ c. Plans c result (steps.add_participant c number person role.now)) }
-    ensures exact { OnView V.is_honest V.content view.old view.new
+    ensures exact { OnView V.is_honest V.shows V.content view.old view.new
         (λ c. IfOk result (IsExact c)) }
     ensures counts { CountsFailures (V.failed view.old) (V.failed view.new) result }
 {
@@ -116,7 +116,7 @@ fn tag_of<V: View>(
     place: Option<u32>,
     tag: &str,
 ) -> Result<Tag, RefusalKind>
-    ensures decides { OnView V.is_honest V.content view.old view.new
+    ensures decides { OnView V.is_honest V.shows V.content view.old view.new
         (λ c. Agrees is_stop result (checks.event_tag c owner place tag.now)) }
     ensures counts { CountsFailures (V.failed view.old) (V.failed view.new) result }
 {

@@ -23,9 +23,9 @@ pub(crate) fn new_family<V: View>(
     husband: Option<u32>,
     wife: Option<u32>,
 ) -> Result<Changes, RefusalKind>
-    ensures decides { OnView V.is_honest V.content view.old view.new
+    ensures decides { OnView V.is_honest V.shows V.content view.old view.new
         (λ c. Plans c result (steps.new_family c husband wife)) }
-    ensures exact { OnView V.is_honest V.content view.old view.new
+    ensures exact { OnView V.is_honest V.shows V.content view.old view.new
         (λ c. IfOk result (IsExact c)) }
     ensures counts { CountsFailures (V.failed view.old) (V.failed view.new) result }
 {
@@ -46,9 +46,9 @@ pub(crate) fn add_child<V: View>(
     number: u32,
     person: u32,
 ) -> Result<Changes, RefusalKind>
-    ensures decides { OnView V.is_honest V.content view.old view.new
+    ensures decides { OnView V.is_honest V.shows V.content view.old view.new
         (λ c. Plans c result (steps.add_child c number person)) }
-    ensures exact { OnView V.is_honest V.content view.old view.new
+    ensures exact { OnView V.is_honest V.shows V.content view.old view.new
         (λ c. IfOk result (IsExact c)) }
     ensures counts { CountsFailures (V.failed view.old) (V.failed view.new) result }
 {
@@ -67,7 +67,7 @@ pub(crate) fn check_person<V: View>(
     view: &mut V,
     number: u32,
 ) -> Result<(), RefusalKind>
-    ensures decides { OnView V.is_honest V.content view.old view.new
+    ensures decides { OnView V.is_honest V.shows V.content view.old view.new
         (λ c. Agrees is_stop result (checks.passed (checks.person_at c number))) }
     ensures counts { CountsFailures (V.failed view.old) (V.failed view.new) result }
 {
@@ -81,7 +81,7 @@ fn check_partner<V: View>(
     view: &mut V,
     number: Option<u32>,
 ) -> Result<(), RefusalKind>
-    ensures decides { OnView V.is_honest V.content view.old view.new
+    ensures decides { OnView V.is_honest V.shows V.content view.old view.new
         (λ c. Agrees is_stop result (checks.passed (checks.each (checks.person_at c) number))) }
     ensures counts { CountsFailures (V.failed view.old) (V.failed view.new) result }
 {

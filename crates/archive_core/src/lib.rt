@@ -1,8 +1,8 @@
 //! What a request does to an archive: its command is looked at, and either refused or done once, with its answer
 //! kept under the request's token for good.
 //!
-//! It stands on `archive_view` and `archive_state` for the view of an archive and for what changes, on `records` for
-//! what stands in it, and on `commands` for the commands and their digests.
+//! It uses `archive_view` and `archive_state` for the view of an archive and for what changes, `records` for what is in
+//! it, and `commands` for the commands and their digests.
 //!
 //! Callers may rely on: `decide` over any view answers the changes that, made, are the step of the definitions, or
 //! its refusal, and changes nothing itself. `apply` makes changes on a state, all of them or none, and `step` does both.

@@ -47,7 +47,7 @@ pub(crate) fn person_at<V: View>(
     view: &mut V,
     number: u32,
 ) -> Result<Person, RefusalKind>
-    ensures decides { OnView V.is_honest V.content view.old view.new
+    ensures decides { OnView V.is_honest V.shows V.content view.old view.new
         (λ c. Agrees is_stop result (checks.person_at c number)) }
     ensures counts { CountsFailures (V.failed view.old) (V.failed view.new) result }
 {
@@ -70,7 +70,7 @@ pub(crate) fn family_at<V: View>(
     view: &mut V,
     number: u32,
 ) -> Result<Family, RefusalKind>
-    ensures decides { OnView V.is_honest V.content view.old view.new
+    ensures decides { OnView V.is_honest V.shows V.content view.old view.new
         (λ c. Agrees is_stop result (checks.family_at c number)) }
     ensures counts { CountsFailures (V.failed view.old) (V.failed view.new) result }
 {
@@ -93,7 +93,7 @@ pub(crate) fn event_at<V: View>(
     view: &mut V,
     number: u32,
 ) -> Result<Event, RefusalKind>
-    ensures decides { OnView V.is_honest V.content view.old view.new
+    ensures decides { OnView V.is_honest V.shows V.content view.old view.new
         (λ c. Agrees is_stop result (checks.event_at c number)) }
     ensures counts { CountsFailures (V.failed view.old) (V.failed view.new) result }
 {
@@ -116,7 +116,7 @@ pub(crate) fn owner_at<V: View>(
     view: &mut V,
     number: u32,
 ) -> Result<Owner, RefusalKind>
-    ensures decides { OnView V.is_honest V.content view.old view.new
+    ensures decides { OnView V.is_honest V.shows V.content view.old view.new
         (λ c. Agrees is_stop result (checks.owner_at c number)) }
     ensures counts { CountsFailures (V.failed view.old) (V.failed view.new) result }
 {

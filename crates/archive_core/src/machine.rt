@@ -44,9 +44,9 @@ fn decide_over(alloc: Global, state: &State, request: &Request) -> Result<Change
 /// number is left (`Full`). The stops may come in place of any answer: `OutOfMemory`, and where a look of the view fails
 /// `BadStored` and `Storage`.
 pub fn decide<V: View>(alloc: Global, view: &mut V, request: &Request) -> Result<Changes, Refusal>
-    ensures decides { OnView V.is_honest V.content view.old view.new
+    ensures decides { OnView V.is_honest V.shows V.content view.old view.new
         (λ c. Decides c result (outcome c request.now)) }
-    ensures exact { OnView V.is_honest V.content view.old view.new
+    ensures exact { OnView V.is_honest V.shows V.content view.old view.new
         (λ c. IfOk result (IsExactFor c request.now)) }
     ensures counts { CountsStops (V.failed view.old) (V.failed view.new) result }
 {
@@ -64,9 +64,9 @@ fn answer_again<V: View>(
     receipt: &Receipt,
     digest: &[u8; 32],
 ) -> Result<Changes, Refusal>
-    ensures decides { OnView V.is_honest V.content view.old view.new
+    ensures decides { OnView V.is_honest V.shows V.content view.old view.new
         (λ c. Decides c result (answered_again c digest.now receipt.now)) }
-    ensures exact { OnView V.is_honest V.content view.old view.new
+    ensures exact { OnView V.is_honest V.shows V.content view.old view.new
         (λ c. IfOk result (ChangesNothing c)) }
     ensures counts { CountsStops (V.failed view.old) (V.failed view.new) result }
 {
@@ -90,9 +90,9 @@ fn decide_anew<V: View>(
     request: &Request,
     digest: [u8; 32],
 ) -> Result<Changes, Refusal>
-    ensures decides { OnView V.is_honest V.content view.old view.new
+    ensures decides { OnView V.is_honest V.shows V.content view.old view.new
         (λ c. Decides c result (kept_under «request».now.token digest (step c «request».now.command))) }
-    ensures exact { OnView V.is_honest V.content view.old view.new
+    ensures exact { OnView V.is_honest V.shows V.content view.old view.new
         (λ c. IfOk result (IsExact c)) }
     ensures keeps { IfOk result (λ changes. changes.kept ≡ Some (record {
       token = «request».now.token;
@@ -127,9 +127,9 @@ fn decide_row<V: View>(
     view: &mut V,
     row: &RowCommand,
 ) -> Result<Changes, RefusalKind>
-    ensures decides { OnView V.is_honest V.content view.old view.new
+    ensures decides { OnView V.is_honest V.shows V.content view.old view.new
         (λ c. Plans c result (row_step c row.now)) }
-    ensures exact { OnView V.is_honest V.content view.old view.new
+    ensures exact { OnView V.is_honest V.shows V.content view.old view.new
         (λ c. IfOk result (IsExact c)) }
     ensures counts { CountsFailures (V.failed view.old) (V.failed view.new) result }
 {

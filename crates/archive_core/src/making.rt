@@ -18,7 +18,7 @@ const NOTHING_MADE: Answer = Answer { first: 0, count: 0 };
 
 /// The next number, where one is left.
 fn next_free<V: View>(alloc: Global, view: &mut V) -> Result<u32, RefusalKind>
-    ensures decides { OnView V.is_honest V.content view.old view.new
+    ensures decides { OnView V.is_honest V.shows V.content view.old view.new
         (λ c. Agrees is_stop result (checks.next_free c)) }
     ensures counts { CountsFailures (V.failed view.old) (V.failed view.new) result }
 {
@@ -36,9 +36,9 @@ pub(crate) fn creates<V: View>(
     view: &mut V,
     value: Record,
 ) -> Result<Changes, RefusalKind>
-    ensures decides { OnView V.is_honest V.content view.old view.new
+    ensures decides { OnView V.is_honest V.shows V.content view.old view.new
         (λ c. Plans c result (steps.creates c value)) }
-    ensures exact { OnView V.is_honest V.content view.old view.new
+    ensures exact { OnView V.is_honest V.shows V.content view.old view.new
         (λ c. IfOk result (IsExact c)) }
     ensures counts { CountsFailures (V.failed view.old) (V.failed view.new) result }
 {
@@ -76,9 +76,9 @@ pub(crate) fn replaces<V: View>(
     number: u32,
     value: Record,
 ) -> Result<Changes, RefusalKind>
-    ensures decides { OnView V.is_honest V.content view.old view.new
+    ensures decides { OnView V.is_honest V.shows V.content view.old view.new
         (λ c. Plans c result (steps.replaces c number value)) }
-    ensures exact { OnView V.is_honest V.content view.old view.new
+    ensures exact { OnView V.is_honest V.shows V.content view.old view.new
         (λ c. IfOk result (λ changes. map.get c.records number ≢ Some value → IsExact c changes)) }
     ensures counts { CountsFailures (V.failed view.old) (V.failed view.new) result }
 {
@@ -94,9 +94,9 @@ pub(crate) fn replaces<V: View>(
 /// Nothing, where what is asked for is there already.
 #[tactic(auto, using(crate::proofs::Exactness::none_is_exact))]
 pub(crate) fn unchanged<V: View>(alloc: Global, view: &mut V) -> Result<Changes, RefusalKind>
-    ensures decides { OnView V.is_honest V.content view.old view.new
+    ensures decides { OnView V.is_honest V.shows V.content view.old view.new
         (λ c. Plans c result (Ok (c, record { first = 0; count = 0 }))) }
-    ensures exact { OnView V.is_honest V.content view.old view.new
+    ensures exact { OnView V.is_honest V.shows V.content view.old view.new
         (λ c. IfOk result (IsExact c)) }
     ensures counts { CountsFailures (V.failed view.old) (V.failed view.new) result }
 {

@@ -21,9 +21,9 @@ pub(crate) fn new_person<V: View>(
     name: &Field,
     sex: Option<Sex>,
 ) -> Result<Changes, RefusalKind>
-    ensures decides { OnView V.is_honest V.content view.old view.new
+    ensures decides { OnView V.is_honest V.shows V.content view.old view.new
         (λ c. Plans c result (steps.new_person c name.now sex)) }
-    ensures exact { OnView V.is_honest V.content view.old view.new
+    ensures exact { OnView V.is_honest V.shows V.content view.old view.new
         (λ c. IfOk result (IsExact c)) }
     ensures counts { CountsFailures (V.failed view.old) (V.failed view.new) result }
 {
@@ -40,9 +40,9 @@ pub(crate) fn add_name<V: View>(
     number: u32,
     name: &Field,
 ) -> Result<Changes, RefusalKind>
-    ensures decides { OnView V.is_honest V.content view.old view.new
+    ensures decides { OnView V.is_honest V.shows V.content view.old view.new
         (λ c. Plans c result (steps.add_name c number name.now)) }
-    ensures exact { OnView V.is_honest V.content view.old view.new
+    ensures exact { OnView V.is_honest V.shows V.content view.old view.new
         (λ c. IfOk result (IsExact c)) }
     ensures counts { CountsFailures (V.failed view.old) (V.failed view.new) result }
 {
@@ -60,9 +60,9 @@ pub(crate) fn set_sex<V: View>(
     number: u32,
     sex: Sex,
 ) -> Result<Changes, RefusalKind>
-    ensures decides { OnView V.is_honest V.content view.old view.new
+    ensures decides { OnView V.is_honest V.shows V.content view.old view.new
         (λ c. Plans c result (steps.set_sex c number sex)) }
-    ensures exact { OnView V.is_honest V.content view.old view.new
+    ensures exact { OnView V.is_honest V.shows V.content view.old view.new
         (λ c. IfOk result (IsExact c)) }
     ensures counts { CountsFailures (V.failed view.old) (V.failed view.new) result }
 {

@@ -16,7 +16,7 @@ pub(crate) fn check_place<V: View>(
     view: &mut V,
     number: Option<u32>,
 ) -> Result<(), RefusalKind>
-    ensures decides { OnView V.is_honest V.content view.old view.new
+    ensures decides { OnView V.is_honest V.shows V.content view.old view.new
         (λ c. Agrees is_stop result (checks.passed (checks.each (checks.said_place_at c) number))) }
     ensures counts { CountsFailures (V.failed view.old) (V.failed view.new) result }
 {
@@ -49,7 +49,7 @@ fn is_said<V: View>(
     number: u32,
     place: &Place,
 ) -> Result<bool, RefusalKind>
-    ensures decides { OnView V.is_honest V.content view.old view.new
+    ensures decides { OnView V.is_honest V.shows V.content view.old view.new
         (λ c. Looked result (λ said. said ≡ checks.is_said number c.records number place.now)) }
     ensures counts { CountsFailures (V.failed view.old) (V.failed view.new) result }
 {

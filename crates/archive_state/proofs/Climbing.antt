@@ -6,7 +6,8 @@ use Rattle.std.specs.FinMap.{get}
 use Rattle.record_kinds.specs.Model as model
 use Rattle.record_kinds.specs.declared.record.Record.TheVariants as kind
 use Rattle.archive_state.specs.Content.{Records}
-use Rattle.archive_state.specs.Paths.{IsPlaceAt, Climbs, joined, HasPath}
+use Rattle.record_shapes.specs.Paths.{joined}
+use Rattle.archive_state.specs.Paths.{IsPlaceAt, Climbs, HasPath}
 
 no_length : (xs : List ℕ) → length xs ≡ 0 → xs ≡ []
 no_length [] e = refl

@@ -4,4 +4,5 @@ mod Lowest
 mod Maps
 pub mod Putting
 mod Climbing
+pub mod Known
 pub mod Soundness

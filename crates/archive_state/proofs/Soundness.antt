@@ -24,12 +24,17 @@ no_records_are_sound next = record {
   places = λ n r e. absurd (none_there n r e);
   events = λ n r e. absurd (none_there n r e);
   mentions = λ n r e. absurd (none_there n r e);
+  untaken = λ n r e. absurd (none_there n r e);
+  shapes = λ n r e. absurd (none_there n r e);
+  levels = λ n r e. absurd (none_there n r e);
   keys = λ n k e h same. absurd (none_there n (kind.Entry e) h);
 }
 
 pub nothing_is_sound : IsSound nothing
 nothing_is_sound = record {
   begun = omega arith;
+  bounded = omega arith;
+  distinct = λ n r e. absurd (none_there n r e);
   named = λ n r e. absurd (none_there n r e);
   rules = no_records_are_sound 1;
   slips = λ n s e. absurd (none_there n s e);

@@ -2,6 +2,7 @@ pub mod Applied
 pub mod Changes
 pub mod Content
 pub mod Entries
+pub mod Known
 pub mod Merging
 pub mod Paths
 pub mod Referrers

@@ -1,6 +1,7 @@
 -- What a merge makes of records: in all of them one person's number becomes another's, and the two persons become one.
 -- A rule of our own.
-use Rattle.std.specs.Prelude.{ℕ, List, [], ◌∷◌, ◌++◌, map, Option, Some, None, option_map, codes, ◌==◌, if◌then◌else◌}
+use Rattle.std.specs.Prelude.{ℕ, List, [], ◌∷◌, ◌++◌, map, Bool, false, not, ◌&&◌, ◌||◌, Option, Some, None, option_map, codes, ◌==◌, if◌then◌else◌}
+use Rattle.std.specs.List.{list_any}
 use Rattle.stored_lines.specs.Tree.{node, none, relabel}
 use Rattle.stored_lines.specs.Line.{Line, Lines}
 use Rattle.record_kinds.specs.Model as model
@@ -143,6 +144,18 @@ once_child n (c ∷ cs) = if c.person == n then child_of_all n c cs ∷ others n
 abbrev pub once_in : ℕ → Record → Record
 once_in n (kind.Family x) = kind.Family (record x { children = once_child n x.children })
 once_in n r = r
+
+-- ---- what cannot be merged
+abbrev pub has_child : ℕ → model.Family → Bool
+has_child n x = list_any (λ (c : model.Child). c.person == n) x.children
+
+abbrev pub has_member : ℕ → model.Family → Bool
+has_member n x = list_any (λ (p : model.Partner). p.person == n) x.partners || has_child n x
+
+-- a family of both, but with both as its children
+abbrev pub clashes : ℕ → ℕ → Record → Bool
+clashes keep gone (kind.Family x) = (has_member keep x && has_member gone x) && not (has_child keep x && has_child gone x)
+clashes keep gone _ = false
 
 -- ---- all records
 abbrev pub renamed : ℕ → ℕ → ℕ → ℕ

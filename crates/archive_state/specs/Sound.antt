@@ -1,7 +1,7 @@
 -- What holds of a state that commands have made: each rule has a name. Rules of our own, so that what
 -- an archive holds can be written as GEDCOM and read again.
-use Rattle.std.specs.Prelude.{ℕ, ◌≡◌, ◌≢◌, ◌<◌, List, [], ◌∷◌, ◌++◌, Option, Some, None, true, false, ◌==◌, map, option_map, codes, MatchOption, IfSome}
-use Rattle.std.specs.List.{list_any, flat_map}
+use Rattle.std.specs.Prelude.{ℕ, ◌≡◌, ◌≢◌, ◌<◌, ◌≤◌, List, [], ◌∷◌, ◌++◌, Option, Some, None, true, false, map, option_map, codes, MatchOption, IfSome}
+use Rattle.std.specs.List.{flat_map}
 use Rattle.std.specs.FinMap.{FinMap, get, from_entries}
 use Rattle.std.specs.Ordering.{nat_cmp}
 use Rattle.record_kinds.specs.Model as model
@@ -10,30 +10,25 @@ use Rattle.record_kinds.specs.declared.record.Record.TheVariants as kind
 use Rattle.archive_state.specs.declared.slip.Change.{Change}
 use Rattle.record_links.specs.Carried.{carried_tags}
 use Rattle.archive_state.specs.Content.{Content, Records}
-use Rattle.archive_state.specs.Entries.{HasMentions, IsEntryAt, is_event_tag, is_role_of}
+use Rattle.record_shapes.specs.Tags.{is_event_tag}
+use Rattle.record_shapes.specs.Roles.{HasMentions, is_role_of}
+use Rattle.archive_state.specs.Entries.{IsEntryAt}
+use Rattle.record_shapes.specs.Lists.{EachOf, IsOnce, Ascends}
+use Rattle.record_shapes.specs.Members.{members}
+use Rattle.record_shapes.specs.Levels.{HasRoom}
+use Rattle.record_shapes.specs.Untaken.{HasUntaken}
+use Rattle.record_shapes.specs.Readable.{IsReadableOther}
+use Rattle.archive_state.specs.Known.{known_of, known_before}
+use Rattle.record_text.specs.Text.{IsTag}
 use Rattle.record_links.specs.Links.{Link, links, names, is_wanted}
-use Rattle.archive_state.specs.Merging.{merged}
-use Rattle.archive_state.specs.Paths.{HasPath, IsNormal, IsWithinLimits, has_part}
+use Rattle.archive_state.specs.Merging.{merged, clashes}
+use Rattle.record_shapes.specs.Paths.{IsNormal, IsWithinLimits, has_part}
+use Rattle.archive_state.specs.Paths.{HasPath}
 use Rattle.archive_state.specs.Slips.{Slip}
 
 -- each of a finite map, with its number
 abbrev pub EachIn : {X : Type 0} → FinMap nat_cmp X → (ℕ → X → Type 0) → Type 0
 EachIn {X} m P = (n : ℕ) (x : X) → get m n ≡ Some x → P n x
-
--- each of a list
-abbrev pub EachOf : {A : Type 0} → (A → Type 0) → List A → Type 0
-EachOf P [] = Unit {0}
-EachOf P (x ∷ xs) = P x × EachOf P xs
-
--- no number stands twice
-abbrev pub IsOnce : List ℕ → Type 0
-IsOnce [] = Unit {0}
-IsOnce (n ∷ ns) = (list_any (λ m. m == n) ns ≡ false) × IsOnce ns
-
--- each number is greater than the one before it
-abbrev pub Ascends : List ℕ → Type 0
-Ascends [] = Unit {0}
-Ascends (n ∷ ns) = EachOf (λ m. n < m) ns × Ascends ns
 
 -- ---- the rules on one record
 -- a number is from 1, and below the next one
@@ -47,9 +42,6 @@ HasSmallerParent n _ = Unit {0}
 abbrev pub HasNormalName : Record → Type 0
 HasNormalName (kind.Place p) = IsNormal p.name
 HasNormalName _ = Unit {0}
-
-abbrev pub members : model.Family → List ℕ
-members f = map (λ (p : model.Partner). p.person) f.partners ++ map (λ (c : model.Child). c.person) f.children
 
 abbrev pub HasMembersOnce : Record → Type 0
 HasMembersOnce (kind.Family f) = IsOnce (members f)
@@ -86,9 +78,20 @@ own_tags (kind.Event e) = e.tag ∷ []
 own_tags (kind.Other o) = o.tag ∷ []
 own_tags _ = []
 
--- a tag that may stand in a record
+-- a tag that may be in a record
 abbrev pub IsOfRecords : List ℕ → Type 0
-IsOfRecords tag = (tag ≢ codes "CONC") × (tag ≢ codes "CONT")
+IsOfRecords tag = IsTag tag × (tag ≢ codes "CONC") × (tag ≢ codes "CONT")
+
+-- a record of no other kind has not the shape of one of the others
+abbrev pub HasOwnShape : Records → Record → Type 0
+HasOwnShape m (kind.Other o) = IsReadableOther (known_of m) o
+HasOwnShape m _ = Unit {0}
+
+-- what has a citation or an event
+abbrev pub owner_in : Records → Record → Option Record
+owner_in m (kind.Citation c) = get m c.owner
+owner_in m (kind.Event e) = get m e.owner
+owner_in m _ = None
 
 -- the rules that ask for no other record, but for the places above a place, the owner of an event and like entries
 pub record HasSoundRecords (next : ℕ) (m : Records) : Type 0 where
@@ -102,7 +105,7 @@ pub record HasSoundRecords (next : ℕ) (m : Records) : Type 0 where
   pub paths : (n : ℕ) (path : List ℕ) → HasPath m n path → IsWithinLimits path
   -- no person stands twice in a family
   pub once : EachIn m (λ n r. HasMembersOnce r)
-  -- no line has the tag of a continuation, and no record that of the trailer
+  -- no line has the tag of a continuation or what is no tag, and no record that of the trailer
   pub tags : EachIn m (λ n r. EachOf IsOfRecords (own_tags r ++ carried_tags r))
   pub trailers : EachIn m (λ n r. IsNoTrailer r)
   -- the path of the place of an event or an entry has a part that is not empty
@@ -111,6 +114,12 @@ pub record HasSoundRecords (next : ℕ) (m : Records) : Type 0 where
   pub events : EachIn m (λ n r. HasEventTag m r)
   -- an entry has 1 to 100 mentions, with roles of its kind
   pub mentions : EachIn m (λ n r. HasSoundMentions r)
+  -- a carried line is one that no field of its part, read before it, would take
+  pub untaken : EachIn m (λ n r. HasUntaken (known_before m n) (known_of m) r)
+  -- a record of no other kind has not the shape of one of the others
+  pub shapes : EachIn m (λ n r. HasOwnShape m r)
+  -- no line of a record is below level 98 in a file
+  pub levels : EachIn m (λ n r. HasRoom (owner_in m r) r)
   -- no two entries agree in source, kind, page and item
   pub keys : (n k : ℕ) (e : model.Entry) → get m n ≡ Some (kind.Entry e) → IsEntryAt m e.source e.kind e.page e.item k → n ≡ k
 
@@ -156,6 +165,10 @@ pub record IsSoundSlip (next : ℕ) (number : ℕ) (s : Slip) : Type 0 where
   -- so is that of the person that stays; where it did not change, the other had no name, sex and carried line
   pub keep : MatchOption (get (old_records s) s.keep)
       ((r : Record) → get (old_records s) s.gone ≡ Some r → IsEmptyPerson r) IsPerson
+  -- they are two
+  pub apart : s.keep ≢ s.gone
+  -- no old record is a family of both, but with both as its children
+  pub joinable : EachIn (old_records s) (λ n r. clashes s.keep s.gone r ≡ false)
   -- the merge of the old records gives the new ones
   pub merges : EachOf (λ (c : Change). c.new ≡ merged s.keep s.gone (get (old_records s)) c.number) s.changes
   -- the old records break no rule, where what a number outside the slip names is not judged
@@ -164,8 +177,11 @@ pub record IsSoundSlip (next : ℕ) (number : ℕ) (s : Slip) : Type 0 where
 
 -- what holds of all that an archive holds
 pub record IsSound (c : Content) : Type 0 where
-  -- the next number is from 1
+  -- the next number is from 1, and at most one more than the last that there is
   pub begun : 0 < c.next
+  pub bounded : c.next ≤ 4294967296
+  -- no number is that of a record and of a slip
+  pub distinct : EachIn c.records (λ n r. get c.slips n ≡ None)
   -- every number in a record names a record of the kind that is demanded there; one on a carried line names a record
   -- that is written at level 0
   pub named : EachIn c.records (λ n r. EachOf (Stands c.records) (links r))

@@ -5,12 +5,18 @@ ghost use Rattle.record_fields.specs.declared.entry_words.EntryKind.{EntryKind};
 ghost use Rattle.record_fields.specs.declared.item.Item.{Item};
 ghost use Rattle.archive_state.specs.Content.{Content, Records};
 ghost use Rattle.archive_state.specs.Entries.{IsEntryAt};
+ghost use Rattle.archive_state.specs.Known.{path_of};
 ghost use Rattle.archive_state.specs.Paths.{HasPath, IsLowest};
 ghost use Rattle.archive_state.specs.Sound.{IsSound};
 
 /// A place has one path at the most.
 pub fn a_place_has_one_path()
     ensures { (m : Records) (n : ℕ) (a b : List ℕ) → HasPath m n a → HasPath m n b → a ≡ b }
+{}
+
+/// The path of a place is the one that is known of it, by which GEDCOM lines are read and written.
+pub fn the_path_of_a_place_is_known()
+    ensures { (m : Records) (n : ℕ) (path : List ℕ) → HasPath m n path ↔ (path_of m n ≡ Some path) }
 {}
 
 /// In a sound archive at most one entry has a given source, kind, page and item.

@@ -2,7 +2,7 @@
 //! and the slips of merges. Here, too, is what a request or an import changes. Tokens, answers, receipts and
 //! reports are those of `receipts`, and are handed on from here.
 //!
-//! It stands on `record_links`, `records` and `receipts`.
+//! It uses `record_links`, `record_shapes`, `records` and `receipts`.
 //!
 //! Callers may rely on: a call of `State` answers what the maps have, and one that changes them makes that one
 //! change and no other.

@@ -38,13 +38,10 @@ abbrev pub Looked : {A : Type 0} → Result A RefusalKind → (A → Type 0) →
 Looked (Ok a) P = P a
 Looked (Err e) P = is_stop e ≡ true
 
--- a view that is honest at the end was so at the start; there its content stayed, and P holds
-abbrev pub Keeps : Type 0 → Type 0 → Content → Content → Type 0 → Type 0
-Keeps honest_before honest_after before after P = honest_after → honest_before × (after ≡ before) × P
-
--- the same over a view, of whose content P holds
-abbrev pub OnView : {S : Type 0} → (S → Type 0) → (S → Content) → S → S → (Content → Type 0) → Type 0
-OnView honest content before after P = Keeps (honest before) (honest after) (content before) (content after) (P (content before))
+-- a view that is honest at the end was so at the start; what it showed then it shows still, and P holds of the content of that
+abbrev pub OnView : {S Held : Type 0} → (S → Type 0) → (S → Held → Type 0) → (Held → Content) → S → S → (Content → Type 0) → Type 0
+OnView {S} {Held} honest shows content before after P =
+    honest after → honest before × ((held : Held) → shows before held → shows after held × P (content held))
 
 -- what code answers is what is right, an answer or a refusal; or it is a stop
 abbrev pub Agrees : {A E : Type 0} → (E → Bool) → Result A E → Result A E → Type 0

@@ -5,7 +5,7 @@ ghost use Rattle.std.specs.FinMap as map;
 ghost use Rattle.archive_state.specs.Content.{Content};
 ghost use Rattle.archive_state.specs.Entries.{IsEntryAt};
 ghost use Rattle.archive_state.specs.Referrers.{referrers};
-ghost use Rattle.archive_view.specs.Looks.{Keeps, Looked, CountsOne};
+ghost use Rattle.archive_view.specs.Looks.{CountsOne, Looked, OnView};
 ghost use Rattle.archive_state.specs.Paths.{HasPath, IsLowest};
 ghost use Rattle.archive_view.specs.Shown.{content_of};
 
@@ -20,8 +20,14 @@ const NO_FAILURES: u64 = 0;
 /// What an archive holds, to be looked at. A call answers what is there, or it is refused: with 1, or, where a
 /// read of the view's own failed, with 40 or 80. Each such failure is counted.
 pub trait View {
-    /// What it shows.
-    ghost content: { Self → Content };
+    /// What an archive is kept as.
+    ghost Held: { Type 0 };
+
+    /// What is in an archive that is kept so.
+    ghost content: { Held → Content };
+
+    /// What it shows. An archive in tables shows its rows, which nobody need have read.
+    ghost shows: { Self → Held → Type 0 };
 
     /// Whether it shows that.
     ghost is_honest: { Self → Type 0 };
@@ -35,38 +41,38 @@ pub trait View {
 
     /// The record of a number.
     fn record_at(&mut self, alloc: Global, number: u32) -> Result<Option<Record>, RefusalKind>
-        ensures shows { Keeps (is_honest self.old) (is_honest self.new) (content self.old) (content self.new)
-            (Looked result (λ found. found ≡ map.get (content self.old).records number)) }
+        ensures shows { OnView is_honest shows content self.old self.new
+            (λ c. Looked result (λ found. found ≡ map.get c.records number)) }
         ensures counts { CountsOne (failed self.old) (failed self.new) result };
 
     /// The numbers of the records that name a number, ascending.
     fn referrers(&mut self, alloc: Global, number: u32) -> Result<Vec<u32>, RefusalKind>
-        ensures shows { Keeps (is_honest self.old) (is_honest self.new) (content self.old) (content self.new)
-            (Looked result (λ found. found.items ≡ referrers (content self.old) number)) }
+        ensures shows { OnView is_honest shows content self.old self.new
+            (λ c. Looked result (λ found. found.items ≡ referrers c number)) }
         ensures counts { CountsOne (failed self.old) (failed self.new) result };
 
     /// What is kept under a token.
     fn receipt(&mut self, alloc: Global, token: &Token) -> Result<Option<Receipt>, RefusalKind>
-        ensures shows { Keeps (is_honest self.old) (is_honest self.new) (content self.old) (content self.new)
-            (Looked result (λ found. found ≡ map.get (content self.old).receipts token.now)) }
+        ensures shows { OnView is_honest shows content self.old self.new
+            (λ c. Looked result (λ found. found ≡ map.get c.receipts token.now)) }
         ensures counts { CountsOne (failed self.old) (failed self.new) result };
 
     /// The slip of a number.
     fn slip(&mut self, alloc: Global, number: u32) -> Result<Option<Slip>, RefusalKind>
-        ensures shows { Keeps (is_honest self.old) (is_honest self.new) (content self.old) (content self.new)
-            (Looked result (λ found. found ≡ map.get (content self.old).slips number)) }
+        ensures shows { OnView is_honest shows content self.old self.new
+            (λ c. Looked result (λ found. found ≡ map.get c.slips number)) }
         ensures counts { CountsOne (failed self.old) (failed self.new) result };
 
     /// The number that the next record or slip gets.
     fn next(&mut self, alloc: Global) -> Result<u64, RefusalKind>
-        ensures shows { Keeps (is_honest self.old) (is_honest self.new) (content self.old) (content self.new)
-            (Looked result (λ next. next ≡ (content self.old).next)) }
+        ensures shows { OnView is_honest shows content self.old self.new
+            (λ c. Looked result (λ next. next ≡ c.next)) }
         ensures counts { CountsOne (failed self.old) (failed self.new) result };
 
     /// The lowest number of a place that has this path.
     fn place_at(&mut self, alloc: Global, path: &Text) -> Result<Option<u32>, RefusalKind>
-        ensures shows { Keeps (is_honest self.old) (is_honest self.new) (content self.old) (content self.new)
-            (Looked result (IsLowest (λ n. HasPath (content self.old).records n path.now))) }
+        ensures shows { OnView is_honest shows content self.old self.new
+            (λ c. Looked result (IsLowest (λ n. HasPath c.records n path.now))) }
         ensures counts { CountsOne (failed self.old) (failed self.new) result };
 
     /// The lowest number of an entry of this source, kind, page and item.
@@ -78,13 +84,17 @@ pub trait View {
         page: &Text,
         item: Item,
     ) -> Result<Option<u32>, RefusalKind>
-        ensures shows { Keeps (is_honest self.old) (is_honest self.new) (content self.old) (content self.new)
-            (Looked result (IsLowest (λ n. IsEntryAt (content self.old).records source kind page.now item n))) }
+        ensures shows { OnView is_honest shows content self.old self.new
+            (λ c. Looked result (IsLowest (λ n. IsEntryAt c.records source kind page.now item n))) }
         ensures counts { CountsOne (failed self.old) (failed self.new) result };
 }
 
 impl View for &State {
-    ghost content = { λ s. s.now };
+    ghost Held = { Content };
+
+    ghost content = { λ c. c };
+
+    ghost shows = { λ s held. held ≡ s.now };
 
     ghost is_honest = { λ s. ⊤ };
 
@@ -144,7 +154,11 @@ impl View for &State {
 }
 
 impl View for &Shown {
-    ghost content = { λ s. content_of s.now };
+    ghost Held = { Content };
+
+    ghost content = { λ c. c };
+
+    ghost shows = { λ s held. held ≡ content_of s.now };
 
     ghost is_honest = { λ s. ⊤ };
 

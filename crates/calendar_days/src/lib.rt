@@ -1,6 +1,6 @@
 //! Calendars, the dates that they have, and the days of a date.
 //!
-//! It stands on `jiff`, by whose calls Gregorian dates are checked and counted, and on no crate of
+//! It uses `jiff`, by whose calls Gregorian dates are checked and counted, and no crate of
 //! this repository.
 //!
 //! Callers may rely on: a date that is there exists in its calendar, so that `first_day` and

@@ -1,6 +1,6 @@
 //! The words of the command line, read in one place and turned into a value of our own.
 //!
-//! It stands on `clap`, of which the crates above know nothing.
+//! It uses `clap`, of which the crates above know nothing.
 //!
 //! Callers may rely on: nothing is printed and nothing ends here. The texts that come back are
 //! whole, with their last LF: those that were asked for are for standard output, those of refused

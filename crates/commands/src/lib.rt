@@ -1,8 +1,8 @@
 //! Commands as a request gives them: the verbs and their fields, and the bytes of a command, of which a digest is
 //! kept under the request's token. This is the one home of the verbs and of the order of their fields.
 //!
-//! It stands on `record_text` and `record_fields` for texts and dates, on `gedcom_date` for the spelling of dates,
-//! and on `csv` and `sha2` of the kit. What a command does to an archive is for `archive_core` to say.
+//! It uses `record_text` and `record_fields` for texts and dates, `gedcom_date` for the spelling of dates,
+//! and `csv` and `sha2` of the kit. What a command does to an archive is for `archive_core` to say.
 //!
 //! Callers may rely on: a row is read as one command, or refused for one reason, and the row of a command is read as
 //! that command; the bytes of a command are its verb and its fields as one row of CSV, and its digest is their

@@ -1,6 +1,6 @@
 //! Readers and writers that count their failures, and whole reads and writes over them.
 //!
-//! It stands on nothing but the standard library.
+//! It uses nothing but the standard library.
 //!
 //! Callers may rely on: an error of a reader or a writer is blamed on it only where its count of failures
 //! has risen in that call; a read takes all bytes up to a limit, and none behind it; after a write that

@@ -2,6 +2,7 @@
 
 ghost use Rattle.std.specs.Prelude.{◌≡◌, ⊤, true};
 ghost use Rattle.std.specs.Result.{IfErr};
+ghost use Rattle.archive_state.specs.Content.{Content};
 ghost use Rattle.archive_view.specs.Looks.{CountsOne, is_failure, is_stop};
 
 use archive_state::{Receipt, Slip, State, Token};
@@ -76,7 +77,11 @@ impl<'a> Failing<'a> {
 }
 
 impl View for Failing<'_> {
-    ghost content = { λ s. s.state.now };
+    ghost Held = { Content };
+
+    ghost content = { λ c. c };
+
+    ghost shows = { λ s held. held ≡ s.state.now };
 
     ghost is_honest = { λ s. ⊤ };
 

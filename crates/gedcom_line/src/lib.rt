@@ -1,7 +1,7 @@
 //! One line of a GEDCOM file: read from its bytes without a copy, and written; values, escapes, and the
 //! split of long texts.
 //!
-//! It stands on nothing.
+//! It uses no other crate.
 //!
 //! Callers may rely on: a line is read exactly where the grammar has one, and each fault is the first of
 //! the table; what is written of a line is read as that line; what is escaped is unescaped to itself; the

@@ -1,7 +1,7 @@
 //! The rules of a GEDCOM file, judged one line after another: what lines leave for the next one, and which
 //! rule it breaks first.
 //!
-//! It stands on `gedcom_line`, of which it uses the reading of a line.
+//! Of `gedcom_line` it uses the reading of a line.
 //!
 //! Callers may rely on: each line is judged by the lines before it alone; the first faulty line decides; what
 //! the bytes so far decide they decide however they go on. Tags have no meaning here, but for HEAD, TRLR,

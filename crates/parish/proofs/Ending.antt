@@ -1,13 +1,18 @@
--- How a command ends that did nothing for want of memory, and how `apply` ends.
-use Rattle.std.proofs.Common.{◌≡◌, ℕ, List, refl, inl, arith, Ok, Err}
+-- How a command ends that did nothing for want of memory, and how `init` and `apply` end.
+use Rattle.std.proofs.Common.{◌≡◌, ℕ, List, refl, sym, subst, inl, inr, arith, Ok, Err}
 use Rattle.std.specs.Prelude.{Option, Some, None, Result, IfErr, OnOk, is_ok, if◌then◌else◌}
 use Rattle.std.specs.Io.KnownBytes.{Keeps}
+use Rattle.sqlite.specs.Held.{Held}
+use Rattle.sqlite_disk.specs.declared.Disk as disk
+use Rattle.sqlite_store.specs.declared.store.FileStore.{FileStore}
+use Rattle.sqlite_wal.specs.Recovery.{Image}
 use Rattle.archive_commands.specs.Applying.{Answered, Unanswered}
+use Rattle.archive_commands.specs.Made.{IsMadeIn, Unmade}
 use Rattle.gedcom_rules.specs.Faults.{Fault}
 use Rattle.gedcom_rules.specs.declared.fault.TreeKind.TheVariants.{OutOfMemory}
 use Rattle.record_text.specs.declared.refusal.RefusalKind.{RefusalKind}
 use Rattle.record_text.specs.declared.refusal.RefusalKind.TheVariants as refusal
-use Rattle.parish.specs.Ends.{ApplyEnds, CheckEnds, NormEnds}
+use Rattle.parish.specs.Ends.{ApplyEnds, CheckEnds, InitEnds, NormEnds}
 
 pub keeps : (old : Option (List ℕ)) → Keeps old old
 keeps None = tt
@@ -30,23 +35,59 @@ check_wanting status known old ReaderFailed WriterFailed e = record {
   refused = λ _. (wanting, inl (inl (refl, refl), keeps old));
 }
 
-pub apply_wanting : (status : ℕ) (input old : Option (List ℕ)) (ReaderFailed WriterFailed : Type 0) → status ≡ 1 → ApplyEnds status input old old ReaderFailed WriterFailed
-apply_wanting status input old ReaderFailed WriterFailed e = record {
-  bound = omega (arith, e);
-  done = λ none. absurd (omega (arith, e, none));
-  refused = λ _. (refusal.OutOfMemory, inl (keeps old));
-}
+module _ {D : Type 0} {g : disk.Ghosts D} (image : Image) where
+  pub init_wanting : (society : List ℕ) (status : ℕ) → status ≡ 1 → InitEnds {D = D} {g = g} image society status None
+  init_wanting society status e = record {
+    bound = omega (arith, e);
+    done = λ none. absurd (omega (arith, e, none));
+    refused = λ _. (refusal.OutOfMemory, inr (inl refl));
+  }
 
-pub apply_ends : {A : Type 0} (r : Result A RefusalKind) (status : ℕ) (input old new : Option (List ℕ)) (ReaderFailed WriterFailed : Type 0)
-    → status ≡ (if is_ok r then 0 else 1) → OnOk r (Answered input old new) → IfErr r (λ kind. Unanswered kind input old new ReaderFailed WriterFailed)
-    → ApplyEnds status input old new ReaderFailed WriterFailed
-apply_ends (Ok a) status input old new ReaderFailed WriterFailed e all part = record {
-  bound = omega (arith, e);
-  done = λ zero. all;
-  refused = λ one. absurd (omega (arith, e, one));
-}
-apply_ends (Err kind) status input old new ReaderFailed WriterFailed e all part = record {
-  bound = omega (arith, e);
-  done = λ zero. absurd (omega (arith, e, zero));
-  refused = λ one. (kind, part);
-}
+  pub apply_wanting : (status : ℕ) (input old : Option (List ℕ)) (ReaderFailed WriterFailed : Type 0) → status ≡ 1
+      → ApplyEnds {D = D} {g = g} image status input old old ReaderFailed WriterFailed None
+  apply_wanting status input old ReaderFailed WriterFailed e = record {
+    bound = omega (arith, e);
+    done = λ none. absurd (omega (arith, e, none));
+    refused = λ _. (refusal.OutOfMemory, inl (refl, refl, keeps old));
+  }
+
+  init_by : {A : Type 0} (r : Result A RefusalKind) (society : List ℕ) (status : ℕ) (left : Option (Held (FileStore D g))) → status ≡ (if is_ok r then 0 else 1)
+      → OnOk r (IsMadeIn society left) → IfErr r (λ kind. Unmade image society kind left) → InitEnds image society status left
+  init_by (Ok a) society status left e made unmade = record {
+    bound = omega (arith, e);
+    done = λ zero. made;
+    refused = λ one. absurd (omega (arith, e, one));
+  }
+  init_by (Err kind) society status left e made unmade = record {
+    bound = omega (arith, e);
+    done = λ zero. absurd (omega (arith, e, zero));
+    refused = λ one. (kind, unmade);
+  }
+
+  apply_by : {A : Type 0} (r : Result A RefusalKind) (status : ℕ) (input old new : Option (List ℕ)) (ReaderFailed WriterFailed : Type 0) (left : Option (Held (FileStore D g)))
+      → status ≡ (if is_ok r then 0 else 1) → OnOk r (Answered image input old new left) → IfErr r (λ kind. Unanswered image kind input old new ReaderFailed WriterFailed left)
+      → ApplyEnds image status input old new ReaderFailed WriterFailed left
+  apply_by (Ok a) status input old new ReaderFailed WriterFailed left e all part = record {
+    bound = omega (arith, e);
+    done = λ zero. all;
+    refused = λ one. absurd (omega (arith, e, one));
+  }
+  apply_by (Err kind) status input old new ReaderFailed WriterFailed left e all part = record {
+    bound = omega (arith, e);
+    done = λ zero. absurd (omega (arith, e, zero));
+    refused = λ one. (kind, inr part);
+  }
+
+  -- the same of the society that the words name, and of the connection as it is handed on
+  pub init_ends : {A : Type 0} (r : Result A RefusalKind) (given named : List ℕ) (status : ℕ) (left back : Option (Held (FileStore D g))) → given ≡ named → back ≡ left
+      → status ≡ (if is_ok r then 0 else 1) → OnOk r (IsMadeIn given left) → IfErr r (λ kind. Unmade image given kind left) → InitEnds image named status back
+  init_ends r given named status left back is same e made unmade =
+      subst (λ (x : Option (Held (FileStore D g))). InitEnds image named status x) (sym same)
+      (subst (λ (x : List ℕ). InitEnds image x status left) is (init_by r given status left e made unmade))
+
+  pub apply_ends : {A : Type 0} (r : Result A RefusalKind) (status : ℕ) (input old new : Option (List ℕ)) (ReaderFailed WriterFailed : Type 0) (left back : Option (Held (FileStore D g)))
+      → back ≡ left → status ≡ (if is_ok r then 0 else 1) → OnOk r (Answered image input old new left)
+      → IfErr r (λ kind. Unanswered image kind input old new ReaderFailed WriterFailed left) → ApplyEnds image status input old new ReaderFailed WriterFailed back
+  apply_ends r status input old new ReaderFailed WriterFailed left back same e all part =
+      subst (λ (x : Option (Held (FileStore D g))). ApplyEnds image status input old new ReaderFailed WriterFailed x) (sym same)
+      (apply_by r status input old new ReaderFailed WriterFailed left e all part)

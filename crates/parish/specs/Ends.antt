@@ -1,20 +1,31 @@
 -- How a command ends.
-use Rattle.std.specs.Prelude.{◌≡◌, ◌⊎◌, ◌++◌, ◌∷◌, ◌≤◌, [], ℕ, List, Option, Some, IfSome, codes}
+use Rattle.std.specs.Prelude.{◌≡◌, ◌⊎◌, ◌++◌, ◌∷◌, ◌≤◌, [], ℕ, List, Option, None, Some, IfSome, codes}
 use Rattle.std.specs.Fmt.{decimal}
 use Rattle.std.specs.Io.KnownBytes.{Appends, Keeps}
+use Rattle.clap.specs.Words.{subcommand_of}
+use Rattle.sqlite.specs.Held.{Held}
+use Rattle.sqlite_disk.specs.declared.Disk as disk
+use Rattle.sqlite_store.specs.declared.store.FileStore.{FileStore}
+use Rattle.sqlite_wal.specs.Recovery.{Image}
 use Rattle.archive_commands.specs.Applying.{Answered, Unanswered}
-use Rattle.command_line.specs.Commands.{IsTaken, command_named}
+use Rattle.archive_commands.specs.Made.{IsMadeIn, Unmade}
+use Rattle.command_line.specs.Commands.{IsTaken, command_named, program, word_in}
 use Rattle.devices.specs.Devices.{AppendsBeginning}
 use Rattle.gedcom_rules.specs.Faults.{Fault}
 use Rattle.gedcom_tree.specs.File.{ReadsFile}
 use Rattle.gedcom_tree.specs.Forest.{Item}
 use Rattle.gedcom_tree.specs.Streams.{Begun, Normalised, NotRead, NotWritten}
-use Rattle.gedcom_tree.specs.Text.{record_count, text}
+use Rattle.gedcom_tree.specs.Text.{record_count}
 use Rattle.record_text.specs.declared.refusal.RefusalKind.{RefusalKind}
+use Rattle.record_text.specs.declared.refusal.RefusalKind.TheVariants.{OutOfMemory}
 
 -- the words are those of this command, with nothing that it does not take
 abbrev pub AreOf : List (List ℕ) → List ℕ → Type 0
 AreOf words name = IsTaken words × (command_named words ≡ Some name)
+
+-- the society that the words name for `init`
+abbrev pub society_in : List (List ℕ) → List ℕ
+society_in words = word_in (subcommand_of program words) (codes "society")
 
 -- ---- norm
 -- why it was not done: no forest was read, and nothing is written; or a beginning of its text is. The first type says that
@@ -58,10 +69,22 @@ pub record CheckEnds (status : ℕ) (known old new : Option (List ℕ)) (ReaderF
   pub done : status ≡ 0 → Told known old new
   pub refused : status ≡ 1 → (f : Fault) × Untold known old new ReaderFailed WriterFailed f
 
--- ---- apply
--- 0 where all rows of the input were served and answered. 1 where no archive was opened, and nothing is written, or where there is a
--- reason why not all rows were
-pub record ApplyEnds (status : ℕ) (input old new : Option (List ℕ)) (ReaderFailed WriterFailed : Type 0) : Type 0 where
-  pub bound : status ≤ 1
-  pub done : status ≡ 0 → Answered input old new
-  pub refused : status ≡ 1 → (kind : RefusalKind) × Unanswered kind input old new ReaderFailed WriterFailed
+module _ {D : Type 0} {g : disk.Ghosts D} where
+  -- ---- init
+  -- 0 where the file that was opened has the new archive of this society, 1 where there is a reason why none was made
+  pub record InitEnds (image : Image) (society : List ℕ) (status : ℕ) (left : Option (Held (FileStore D g))) : Type 0 where
+    pub bound : status ≤ 1
+    pub done : status ≡ 0 → IsMadeIn society left
+    pub refused : status ≡ 1 → (kind : RefusalKind) × Unmade image society kind left
+
+  -- ---- apply
+  -- no memory was found to read the words: no file is opened, and nothing written
+  abbrev pub IsWanting : RefusalKind → Option (List ℕ) → Option (List ℕ) → Option (Held (FileStore D g)) → Type 0
+  IsWanting kind old new left = (kind ≡ OutOfMemory) × (left ≡ None) × Keeps old new
+
+  -- 0 where all rows of the input were served on the archive that the file held, and answered. 1 where no archive was taken up, and
+  -- nothing is written, or where there is a reason why not all rows were served
+  pub record ApplyEnds (image : Image) (status : ℕ) (input old new : Option (List ℕ)) (ReaderFailed WriterFailed : Type 0) (left : Option (Held (FileStore D g))) : Type 0 where
+    pub bound : status ≤ 1
+    pub done : status ≡ 0 → Answered image input old new left
+    pub refused : status ≡ 1 → (kind : RefusalKind) × (IsWanting kind old new left ⊎ Unanswered image kind input old new ReaderFailed WriterFailed left)

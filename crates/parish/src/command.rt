@@ -1,21 +1,24 @@
 //! What a command line does, over any streams, and its exit status.
 
-ghost use Rattle.std.specs.Prelude.{◌≡◌, ◌≢◌, ◌≤◌, codes, map, string_bytes, IfErr, None, OnOk, OnErr, Some};
+ghost use Rattle.std.specs.Prelude.{◌≡◌, ◌≢◌, ◌≤◌, codes, if◌then◌else◌, is_ok, map, string_bytes, IfErr, None, OnOk, OnErr, Some};
 ghost use Rattle.std.specs.Io.KnownBytes.{Appends};
 ghost use Rattle.std.specs.IoError.{error_kind};
-ghost use Rattle.command_line.specs.Commands.{IsTaken, name_of};
+ghost use Rattle.sqlite_wal.specs.Files.{image_at};
+ghost use Rattle.command_line.specs.Commands.{HasWords, IsTaken, name_of, word_in};
 ghost use Rattle.devices.specs.Devices.{AppendsBeginning, Rose};
 ghost use Rattle.gedcom_rules.specs.Views.{fault_view};
 ghost use Rattle.gedcom_tree.specs.Streams.{NotWritten};
-ghost use Rattle.parish.specs.Ends.{ApplyEnds, AreOf, CheckEnds, NormEnds, Told, Untold};
-ghost use Rattle.tables.specs.Input.{row_bytes};
+ghost use Rattle.parish.specs.Doing.{Applies, Checks, Normalises};
+ghost use Rattle.parish.specs.Ends.{AreOf, InitEnds, Told, Untold, society_in};
 
 use crate::telling::{refuse, refuse_words, status_of};
-use archive_commands::{apply, init};
+use archive_commands::{OpenFile, apply, init};
 use command_line::{Asked, Refused, read_words};
 use gedcom_tree::{
     Device, TransferError, TreeFault, TreeKind, normalise, read_forest, write_bytes,
 };
+use record_text::RefusalKind;
+use sqlite::Start;
 use std::alloc::Global;
 use std::io;
 use std::io::{ErrorKind, Read, Write};
@@ -31,69 +34,81 @@ const WRITE_FAILED: TreeFault = TreeFault {
     at: None,
 };
 
-/// Does what the words ask for, the program's name first, and gives the exit status.
+/// Does what the words ask for, the program's name first, and gives the exit status, with the connection over the archive's file
+/// where one was opened. Who calls closes it.
 ///
 /// Results go to `output`, a refusal goes to `faults` as one line. Where `faults` fails too, the
 /// status tells alone. Where the words are refused nothing is read, and nothing written elsewhere.
 /// Words that are taken are never refused: what they name is done, with 0, or 1 and a reason.
-pub fn command<R: Read + Device, W: Write + Device, F: Write + Device>(
+pub fn command<S: Start, R: Read + Device, W: Write + Device, F: Write + Device>(
     rt: &HostRuntime,
     words: &[String],
+    start: S,
     input: &mut R,
     output: &mut W,
     faults: &mut F,
-) -> u8
-    ensures status { result ≤ 2 }
-    ensures done { result ≡ 0 → faults.new ≡ faults.old }
-    ensures words { result ≡ 2 → (input.new ≡ input.old) × (output.new ≡ output.old) }
-    ensures norm { AreOf (map string_bytes words.now) (codes "norm") → NormEnds result (R.remaining input.old)
-        (W.contents output.old) (W.contents output.new)
-        (Rose (R.failed input.old) (R.failed input.new)) (Rose (W.failed output.old) (W.failed output.new)) }
-    ensures check { AreOf (map string_bytes words.now) (codes "check") → CheckEnds result (R.remaining input.old)
-        (W.contents output.old) (W.contents output.new)
-        (Rose (R.failed input.old) (R.failed input.new)) (Rose (W.failed output.old) (W.failed output.new)) }
-    ensures init { AreOf (map string_bytes words.now) (codes "init") → (input.new ≡ input.old) × (output.new ≡ output.old) }
-    ensures apply { AreOf (map string_bytes words.now) (codes "apply") → ApplyEnds result (row_bytes (R.remaining input.old))
-        (W.contents output.old) (W.contents output.new)
-        (Rose (R.failed input.old) (R.failed input.new)) (Rose (W.failed output.old) (W.failed output.new)) }
+) -> (u8, Option<OpenFile<S>>)
+    ensures status { result.0 ≤ 2 }
+    ensures done { result.0 ≡ 0 → faults.new ≡ faults.old }
+    ensures words { result.0 ≡ 2 → (input.new ≡ input.old) × (output.new ≡ output.old) × (result.1 ≡ None) }
+    ensures norm { AreOf (map string_bytes words.now) (codes "norm")
+        → Normalises R.Read R.Device W.Write W.Device result.0 input.old input.new output.old output.new }
+    ensures check { AreOf (map string_bytes words.now) (codes "check")
+        → Checks R.Read R.Device W.Write W.Device result.0 input.old input.new output.old output.new }
+    ensures init { AreOf (map string_bytes words.now) (codes "init")
+        → InitEnds (image_at S.Start) (society_in (map string_bytes words.now)) result.0 result.1 × (input.new ≡ input.old) × (output.new ≡ output.old) }
+    ensures apply { AreOf (map string_bytes words.now) (codes "apply")
+        → Applies R.Read R.Device W.Write W.Device (image_at S.Start) result.0 input.old input.new output.old output.new result.1 }
     ensures others { ¬ (IsTaken (map string_bytes words.now)) → input.new ≡ input.old }
 {
     match read_words(rt.alloc(), words) {
-        Ok(asked) => work(rt, asked, input, output, faults),
-        Err(Refused::Words { text }) => refuse_words(faults, &text),
-        Err(Refused::OutOfMemory) => refuse(faults, &OUT_OF_MEMORY),
+        Ok(asked) => work(rt, asked, start, input, output, faults),
+        Err(Refused::Words { text }) => (refuse_words(faults, &text), None),
+        Err(Refused::OutOfMemory) => (refuse(faults, &OUT_OF_MEMORY), None),
     }
 }
 
-/// Does what was asked for, and gives the exit status.
-fn work<R: Read + Device, W: Write + Device, F: Write + Device>(
+/// Does what was asked for, and gives the exit status, with the connection over the archive's file where one was opened.
+fn work<S: Start, R: Read + Device, W: Write + Device, F: Write + Device>(
     rt: &HostRuntime,
     asked: Asked<'_>,
+    start: S,
     input: &mut R,
     output: &mut W,
     faults: &mut F,
-) -> u8
-    ensures status { result ≤ 1 }
-    ensures done { result ≡ 0 → faults.new ≡ faults.old }
-    ensures norm { name_of asked.entry ≡ Some (codes "norm") → NormEnds result (R.remaining input.old)
-        (W.contents output.old) (W.contents output.new)
-        (Rose (R.failed input.old) (R.failed input.new)) (Rose (W.failed output.old) (W.failed output.new)) }
-    ensures check { name_of asked.entry ≡ Some (codes "check") → CheckEnds result (R.remaining input.old)
-        (W.contents output.old) (W.contents output.new)
-        (Rose (R.failed input.old) (R.failed input.new)) (Rose (W.failed output.old) (W.failed output.new)) }
-    ensures init { name_of asked.entry ≡ Some (codes "init") → (input.new ≡ input.old) × (output.new ≡ output.old) }
-    ensures apply { name_of asked.entry ≡ Some (codes "apply") → ApplyEnds result (row_bytes (R.remaining input.old))
-        (W.contents output.old) (W.contents output.new)
-        (Rose (R.failed input.old) (R.failed input.new)) (Rose (W.failed output.old) (W.failed output.new)) }
+) -> (u8, Option<OpenFile<S>>)
+    ensures status { result.0 ≤ 1 }
+    ensures done { result.0 ≡ 0 → faults.new ≡ faults.old }
+    ensures norm { name_of asked.entry ≡ Some (codes "norm")
+        → Normalises R.Read R.Device W.Write W.Device result.0 input.old input.new output.old output.new }
+    ensures check { name_of asked.entry ≡ Some (codes "check")
+        → Checks R.Read R.Device W.Write W.Device result.0 input.old input.new output.old output.new }
+    ensures init { (found : _) → HasWords found asked.entry → name_of asked.entry ≡ Some (codes "init")
+        → InitEnds (image_at S.Start) (word_in found (codes "society")) result.0 result.1 × (input.new ≡ input.old) × (output.new ≡ output.old) }
+    ensures apply { name_of asked.entry ≡ Some (codes "apply")
+        → Applies R.Read R.Device W.Write W.Device (image_at S.Start) result.0 input.old input.new output.old output.new result.1 }
     ensures text { name_of asked.entry ≡ None → input.new ≡ input.old }
 {
     match asked {
-        Asked::Norm => norm(rt.alloc(), input, output, faults),
-        Asked::Check => check(rt.alloc(), input, output, faults),
-        Asked::Init { file, society } => status_of(init(rt, file, society), faults),
-        Asked::Apply { file } => status_of(apply(rt, file, input, output), faults),
-        Asked::Show { text } => status_of(show(output, &text), faults),
+        Asked::Norm => (norm(rt.alloc(), input, output, faults), None),
+        Asked::Check => (check(rt.alloc(), input, output, faults), None),
+        Asked::Init { file, society } => finished(init(rt, file, society, start), faults),
+        Asked::Apply { file } => finished(apply(rt, file, start, input, output), faults),
+        Asked::Show { text } => (status_of(show(output, &text), faults), None),
     }
+}
+
+/// The status of what was done on an archive in a file, and the line of its refusal. The connection is handed on.
+fn finished<S: Start, F: Write + Device>(
+    done: (Result<(), RefusalKind>, Option<OpenFile<S>>),
+    faults: &mut F,
+) -> (u8, Option<OpenFile<S>>)
+    ensures status { result.0 ≡ (if is_ok done.0 then 0 else 1) }
+    ensures done { OnOk done.0 (faults.new ≡ faults.old) }
+    ensures left { result.1 ≡ done.1 }
+{
+    let (outcome, left) = done;
+    (status_of(outcome, faults), left)
 }
 
 /// `norm`: the file of the input, canonical, on the output.
@@ -103,9 +118,7 @@ pub fn norm<R: Read + Device, W: Write + Device, F: Write + Device>(
     output: &mut W,
     faults: &mut F,
 ) -> u8
-    ensures ends { NormEnds result (R.remaining input.old)
-        (W.contents output.old) (W.contents output.new)
-        (Rose (R.failed input.old) (R.failed input.new)) (Rose (W.failed output.old) (W.failed output.new)) }
+    ensures ends { Normalises R.Read R.Device W.Write W.Device result input.old input.new output.old output.new }
     ensures done { result ≡ 0 → faults.new ≡ faults.old }
 {
     status_of(normalise(alloc, input, output), faults)
@@ -118,9 +131,7 @@ pub fn check<R: Read + Device, W: Write + Device, F: Write + Device>(
     output: &mut W,
     faults: &mut F,
 ) -> u8
-    ensures ends { CheckEnds result (R.remaining input.old)
-        (W.contents output.old) (W.contents output.new)
-        (Rose (R.failed input.old) (R.failed input.new)) (Rose (W.failed output.old) (W.failed output.new)) }
+    ensures ends { Checks R.Read R.Device W.Write W.Device result input.old input.new output.old output.new }
     ensures done { result ≡ 0 → faults.new ≡ faults.old }
 {
     status_of(count_records(alloc, input, output), faults)

@@ -1,12 +1,15 @@
 //! The program `parish`: the words of its command line, on the standard streams.
 //!
-//! It uses `command_line`, `gedcom_tree` and `archive_commands`. What it does is in `command`, over any streams.
+//! It uses `command_line`, `gedcom_tree` and `archive_commands`. What it does is in `command`, over any streams and whatever the file of
+//! an archive holds.
 #![tactic(auto)]
 
 mod command;
 mod telling;
 
+use archive_commands::{OpenFile, close};
 use gedcom_tree::Counted;
+use sqlite::{Start, Unknown};
 use std::process::ExitCode;
 use std::rt::Env;
 use std::{env, io};
@@ -20,12 +23,26 @@ fn words_of(rt: &(impl Env + AllocGlobal)) -> io::Result<Vec<String>> {
     Ok(words)
 }
 
+/// The status of what was done, after the file that was opened for it is closed.
+fn closed<S: Start>(done: (u8, Option<OpenFile<S>>)) -> u8 {
+    let (status, left) = done;
+    close(left);
+    status
+}
+
 fn main(rt: HostRuntime) -> ExitCode {
     let mut input = Counted::new(rt.stdin());
     let mut output = Counted::new(rt.stdout());
     let mut faults = Counted::new(rt.stderr());
     let status = match words_of(&rt) {
-        Ok(words) => command::command(&rt, &words, &mut input, &mut output, &mut faults),
+        Ok(words) => closed(command::command(
+            &rt,
+            &words,
+            Unknown,
+            &mut input,
+            &mut output,
+            &mut faults,
+        )),
         Err(error) => command::refuse_command_line(&error, &mut faults),
     };
     ExitCode::from(status)

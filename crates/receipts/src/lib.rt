@@ -1,7 +1,7 @@
 //! What a request is known by and what it is answered: tokens, answers, and the receipts that are kept of
 //! both; beside them the report of an import.
 //!
-//! It stands on no other crate.
+//! It uses no other crate.
 //!
 //! Callers may rely on: a `Token` is 1 to 64 characters from `!` to `~`; a word of a report has one spelling.
 #![tactic(auto)]

@@ -1,7 +1,7 @@
 //! What the fields of records hold beside texts: dates in canonical spelling, the numbers of register entries,
 //! and the values that have a word each, as the quality of a citation and the role of a mention.
 //!
-//! It stands on `record_text` and `gedcom_date`. Which record has which field is for `records` to say, which
+//! It uses `record_text` and `gedcom_date`. Which record has which field is for `records` to say, which
 //! hands all of this on.
 //!
 //! Callers may rely on: a `Date` is a text in the canonical spelling of what it says, an `Item` is a number in

@@ -1,10 +1,10 @@
 //! What a record of the archive is: places, repositories, sources, persons, families, citations, events,
 //! register entries and others, each with the carried lines of its parts.
 //!
-//! It stands on `record_text`, `record_fields` and `stored_lines`, whose texts, tags, dates, words and carried
-//! lines stand in the fields. How a record is kept is for `records` to say, which hands all of this on.
+//! It uses `record_text`, `record_fields` and `stored_lines`, whose texts, tags, dates, words and carried
+//! lines are in the fields. How a record is kept is for `records` to say, which hands all of this on.
 //!
-//! Callers may rely on: what a record cannot be stands in its types, and contracts see it as the values of
+//! Callers may rely on: what a record cannot be is in its types, and contracts see it as the values of
 //! `specs/Model`.
 #![tactic(auto)]
 

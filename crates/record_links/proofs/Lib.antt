@@ -1,1 +1,2 @@
 mod Links
+pub mod Stored

@@ -1,2 +1,3 @@
 pub mod Links
 pub mod Carried
+pub mod Stored

@@ -1,7 +1,7 @@
 //! What the fields of the archive's records are written with: texts and tags; refusals, with the table of
 //! their numbers and names; and the names of persons, as they are displayed and compared.
 //!
-//! It stands on `caseless` of the kit, and on no other crate of the repository. What a record is, is for
+//! It uses `caseless` of the kit, and no other crate of the repository. What a record is, is for
 //! `records` to say, which hands all of this on.
 //!
 //! Callers may rely on: a `Text` and a `Tag` are made only where the string is one, so what holds one need

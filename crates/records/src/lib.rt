@@ -1,8 +1,8 @@
-//! How a record is kept as lines, and read again. What a record is stands in `record_kinds`; texts, tags, refusals
+//! How a record is kept as lines, and read again. What a record is, `record_kinds` says; texts, tags, refusals
 //! and names are those of `record_text`, dates and words those of `record_fields`, carried and stored lines those
 //! of `stored_lines`; all are handed on from here.
 //!
-//! It stands on these four alone.
+//! It uses these four alone.
 //!
 //! Callers may rely on: `record_of` gives back the record whose lines `lines_of` gave, and refuses the lines of no
 //! record; `copy_record` gives the same record in memory of its own.

@@ -4,3 +4,4 @@ mod Looked
 mod Recognised
 mod Running
 mod Unchanged
+mod Viewed

@@ -6,7 +6,8 @@ use Rattle.std.specs.FinMap.{get, insert, remove}
 use Rattle.archive_state.specs.Applied.{applied, with_puts, without}
 use Rattle.archive_state.specs.Changes.{Changes}
 use Rattle.archive_state.specs.Content.{Content, Records}
-use Rattle.archive_state.specs.Sound.{Ascends, EachOf, IsSound}
+use Rattle.record_shapes.specs.Lists.{Ascends, EachOf}
+use Rattle.archive_state.specs.Sound.{IsSound}
 use Rattle.archive_state.specs.declared.changes.Kept.{Kept}
 use Rattle.archive_state.specs.declared.changes.Numbered.{Numbered}
 use Rattle.archive_state.specs.declared.changes.SlipChange.{SlipChange}

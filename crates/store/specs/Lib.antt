@@ -4,3 +4,4 @@ pub mod Calls
 pub mod Creating
 pub mod Histories
 pub mod Lives
+pub mod Viewing

@@ -29,9 +29,11 @@ use store_tables::connection::is_blank;
 
 /// A society's archive, over a connection on which no transaction is open.
 pub struct Archive<S: Alter> {
-    conn: Connection<S>,
-    /// A call answered 80, and the archive has to be opened again.
-    is_lost: bool,
+    pub(crate) conn: Connection<S>,
+    /// A call or a look answered 80, and the archive has to be opened again.
+    pub(crate) is_lost: bool,
+    /// How many looks of the last request failed.
+    pub(crate) failures: u64,
     ghost ended: { conn.in_transaction ≡ false },
 }
 
@@ -74,6 +76,7 @@ impl<S: Alter> Archive<S> {
             Ok(()) => Ok(Archive {
                 conn,
                 is_lost: false,
+                failures: 0,
             }),
             Err(kind) => Err((kind, conn)),
         }
@@ -97,7 +100,7 @@ impl<S: Alter> Archive<S> {
         if self.is_lost {
             return Err(RefusalKind::Reopen.into());
         }
-        let outcome = perform_on(alloc, &mut self.conn, request);
+        let outcome = perform_on(alloc, self, request);
         self.is_lost = has_failed(&outcome);
         outcome
     }
@@ -160,7 +163,11 @@ impl<S: Alter> Archive<S> {
     pub fn into_connection(self) -> Connection<S>
         ensures { result ≡ self.conn }
     {
-        let Archive { conn, is_lost: _ } = self;
+        let Archive {
+            conn,
+            is_lost: _,
+            failures: _,
+        } = self;
         conn
     }
 }
@@ -197,6 +204,7 @@ fn create_named<S: Alter>(
         Ok(()) => Ok(Archive {
             conn,
             is_lost: false,
+            failures: 0,
         }),
         Err(_) => Err((RefusalKind::Storage, conn)),
     }

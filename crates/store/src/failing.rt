@@ -1,6 +1,7 @@
 //! Which refusals say that the database failed.
 
 ghost use Rattle.std.specs.Prelude.{◌≡◌};
+ghost use Rattle.archive_view.specs.Looks as looks;
 ghost use Rattle.store.specs.Histories as history;
 
 use archive_state::Answer;
@@ -11,6 +12,13 @@ pub(crate) fn is_storage(kind: RefusalKind) -> bool
     ensures { result ≡ history.is_storage kind }
 {
     matches!(kind, RefusalKind::Storage)
+}
+
+/// Whether a refusal of a look says that a read failed: 40 or 80.
+pub(crate) fn is_failure(kind: RefusalKind) -> bool
+    ensures { result ≡ looks.is_failure kind }
+{
+    matches!(kind, RefusalKind::BadStored | RefusalKind::Storage)
 }
 
 /// Whether a request was refused because the database failed.

@@ -8,5 +8,6 @@ mod failing;
 pub mod laws;
 mod performing;
 mod reading;
+mod viewing;
 
 pub use archive::{Archive, society_named};

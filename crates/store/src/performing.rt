@@ -15,6 +15,7 @@ ghost use Rattle.store_rows.specs.Writing.{with_changes};
 ghost use Rattle.store.specs.Histories.{is_storage};
 ghost use Rattle.store.specs.Calls.{Acknowledges, LeavesDoneOrNot, LeavesEither, OnArchive, Performs};
 
+use crate::archive::Archive;
 use crate::committing::commit_changes;
 use crate::deciding::decide_on;
 use crate::failing::is_storage;
@@ -28,21 +29,20 @@ use store_tables::connection::still_answers;
 /// Does a request on an archive. After any refusal but 80 the archive is as it was.
 pub(crate) fn perform_on<S: Alter>(
     alloc: Global,
-    conn: &mut Connection<S>,
+    archive: &mut Archive<S>,
     request: &Request,
 ) -> Result<Answer, Refusal>
-    requires autocommit { conn.old.in_transaction ≡ false }
-    ensures performs { HasCleanDisk (state S.Store conn.new)
-        → Performs (state S.Store conn.old) ((«request».now, result) ∷ []) (state S.Store conn.new) }
-    ensures acknowledged { HasCleanDisk (state S.Store conn.new)
-        → IfOk result (λ answer. Acknowledges (state S.Store conn.old) «request».now answer (state S.Store conn.new)) }
-    ensures repeated { HasCleanDisk (state S.Store conn.new) → OnArchive (state S.Store conn.old) (λ society c rows.
-        get c.receipts «request».now.token ≢ None → LeavesOnly (state S.Store conn.new) rows) }
-    ensures ended { conn.new.in_transaction ≡ false }
+    requires kept { archive.old.is_lost ≡ false }
+    ensures performs { HasCleanDisk (state S.Store archive.new.conn)
+        → Performs (state S.Store archive.old.conn) ((«request».now, result) ∷ []) (state S.Store archive.new.conn) }
+    ensures acknowledged { HasCleanDisk (state S.Store archive.new.conn)
+        → IfOk result (λ answer. Acknowledges (state S.Store archive.old.conn) «request».now answer (state S.Store archive.new.conn)) }
+    ensures repeated { HasCleanDisk (state S.Store archive.new.conn) → OnArchive (state S.Store archive.old.conn) (λ society c rows.
+        get c.receipts «request».now.token ≢ None → LeavesOnly (state S.Store archive.new.conn) rows) }
 {
-    match try_request(alloc, conn, request) {
+    match try_request(alloc, archive, request) {
         Ok(answer) => Ok(answer),
-        Err(refusal) => Err(refusal_after(conn, refusal)),
+        Err(refusal) => Err(refusal_after(&mut archive.conn, refusal)),
     }
 }
 
@@ -64,25 +64,24 @@ fn refusal_after<S: Alter>(conn: &mut Connection<S>, refusal: Refusal) -> Refusa
 /// The same, before it is known whether the connection still answers.
 fn try_request<S: Alter>(
     alloc: Global,
-    conn: &mut Connection<S>,
+    archive: &mut Archive<S>,
     request: &Request,
 ) -> Result<Answer, Refusal>
-    requires autocommit { conn.old.in_transaction ≡ false }
-    ensures acknowledged { HasCleanDisk (state S.Store conn.new)
-        → IfOk result (λ answer. Acknowledges (state S.Store conn.old) «request».now answer (state S.Store conn.new)) }
-    ensures refused { HasCleanDisk (state S.Store conn.new) → IfErr result (λ e. is_storage e.kind ≡ false → OnArchive (state S.Store conn.old) (λ society c rows.
-        Does c «request».now (Err e) c × LeavesOnly (state S.Store conn.new) rows)) }
-    ensures crash { HasCleanDisk (state S.Store conn.new) → IfErr result (λ e. OnArchive (state S.Store conn.old) (λ society c rows.
-        LeavesDoneOrNot (state S.Store conn.new) society c rows «request».now)) }
-    ensures repeated { HasCleanDisk (state S.Store conn.new) → OnArchive (state S.Store conn.old) (λ society c rows.
-        get c.receipts «request».now.token ≢ None → LeavesOnly (state S.Store conn.new) rows) }
-    ensures clean { HasCleanDisk (state S.Store conn.new) → HasCleanDisk (state S.Store conn.old) }
-    ensures ended { conn.new.in_transaction ≡ false }
+    requires kept { archive.old.is_lost ≡ false }
+    ensures acknowledged { HasCleanDisk (state S.Store archive.new.conn)
+        → IfOk result (λ answer. Acknowledges (state S.Store archive.old.conn) «request».now answer (state S.Store archive.new.conn)) }
+    ensures refused { HasCleanDisk (state S.Store archive.new.conn) → IfErr result (λ e. is_storage e.kind ≡ false → OnArchive (state S.Store archive.old.conn) (λ society c rows.
+        Does c «request».now (Err e) c × LeavesOnly (state S.Store archive.new.conn) rows)) }
+    ensures crash { HasCleanDisk (state S.Store archive.new.conn) → IfErr result (λ e. OnArchive (state S.Store archive.old.conn) (λ society c rows.
+        LeavesDoneOrNot (state S.Store archive.new.conn) society c rows «request».now)) }
+    ensures repeated { HasCleanDisk (state S.Store archive.new.conn) → OnArchive (state S.Store archive.old.conn) (λ society c rows.
+        get c.receipts «request».now.token ≢ None → LeavesOnly (state S.Store archive.new.conn) rows) }
+    ensures clean { HasCleanDisk (state S.Store archive.new.conn) → HasCleanDisk (state S.Store archive.old.conn) }
 {
-    match decide_on(alloc, conn, request) {
+    match decide_on(alloc, archive, request) {
         Ok(changes) => {
             let answer = changes.answer;
-            match make_changes(alloc, conn, changes) {
+            match make_changes(alloc, &mut archive.conn, changes) {
                 Ok(()) => Ok(answer),
                 Err(kind) => Err(Refusal { kind, at: None }),
             }

@@ -77,7 +77,7 @@ fn look_at_tables<S: Alter>(conn: &mut Connection<S>) -> Result<(), RefusalKind>
 }
 
 /// The refusal of a call: 80 where the connection answers no more.
-fn refusal_after<S: Alter>(conn: &mut Connection<S>, kind: RefusalKind) -> RefusalKind
+pub(crate) fn refusal_after<S: Alter>(conn: &mut Connection<S>, kind: RefusalKind) -> RefusalKind
     requires autocommit { conn.old.in_transaction ≡ false }
     ensures settled { HasCleanDisk (state S.Store conn.new) → is_storage result ≡ false → (rows : Rows) → LeavesOnly (state S.Store conn.old) rows → Settled (state S.Store conn.new) rows }
     ensures same { is_storage result ≡ false → result ≡ kind }

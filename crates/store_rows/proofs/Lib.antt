@@ -1,8 +1,11 @@
+pub mod Ascending
 pub mod Got
 pub mod Meaning
+pub mod Naming
 pub mod OneContent
 mod Own
 mod Puts
+pub mod Seen
 pub mod SidesParted
 pub mod SidesRead
 pub mod Slips

@@ -14,13 +14,13 @@ use Rattle.store_rows.proofs.Puts.{IsAt}
 use Rattle.store_rows.proofs.SidesParted.{one_changes}
 use Rattle.store_rows.proofs.Slips.{IsSlipOf}
 
-one_at : (has : Bool) (lines : List (ℕ × Label)) (found other : Option Record) → IsAt has lines found → IsAt has lines other → found ≡ other
+pub one_at : (has : Bool) (lines : List (ℕ × Label)) (found other : Option Record) → IsAt has lines found → IsAt has lines other → found ≡ other
 one_at has lines None None h k = refl
 one_at has lines None (Some s) h k = absurd cc
 one_at has lines (Some r) None h k = absurd cc
 one_at has lines (Some r) (Some s) h k = ap Some (stored_one r s (sym h.1 ∙ k.1))
 
-one_slip : (n : ℕ) (row : Option SlipRow) (lines : List (Bool × (ℕ × (ℕ × Label)))) (found other : Option Slip) → IsSlipOf n row lines found → IsSlipOf n row lines other → found ≡ other
+pub one_slip : (n : ℕ) (row : Option SlipRow) (lines : List (Bool × (ℕ × (ℕ × Label)))) (found other : Option Slip) → IsSlipOf n row lines found → IsSlipOf n row lines other → found ≡ other
 one_slip n row lines None None h k = refl
 one_slip n row lines None (Some t) h k = absurd cc
 one_slip n row lines (Some s) None h k = absurd cc

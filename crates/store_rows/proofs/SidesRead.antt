@@ -13,7 +13,7 @@ use Rattle.stored_lines.specs.Line.{Label}
 use Rattle.record_kinds.specs.declared.record.Record.{Record}
 use Rattle.records.specs.Stored.{stored}
 use Rattle.records.specs.Shallow.{IsShallow}
-use Rattle.archive_state.specs.Sound.{EachOf}
+use Rattle.record_shapes.specs.Lists.{EachOf}
 use Rattle.archive_state.specs.declared.slip.Change.{Change}
 use Rattle.store_rows.specs.Meaning.{side_lines, change_lines, IsShallowOption}
 use Rattle.store_rows.specs.Sides.{SideLine, side_lines_in, begins_side, first_length, is_of, lines_of_side, side, new_sides, sides_of_change, first_new, after_new, NoSide, NoSides, NoChanges, NoPairs}

@@ -3,7 +3,7 @@ use Rattle.std.proofs.Common.{◌≡◌, ◌≢◌, ℕ, List, [], ◌∷◌, fi
 use Rattle.std.specs.Prelude.{◌==◌, Option, Some, None}
 use Rattle.records.specs.Stored.{stored}
 use Rattle.archive_state.specs.Changes.{Changes}
-use Rattle.archive_state.specs.Sound.{EachOf}
+use Rattle.record_shapes.specs.Lists.{EachOf}
 use Rattle.archive_state.specs.declared.changes.Numbered.{Numbered}
 use Rattle.archive_state.specs.declared.changes.Kept.{Kept}
 use Rattle.archive_state.specs.declared.changes.SlipChange.{SlipChange}

@@ -8,7 +8,8 @@ use Rattle.archive_state.specs.Applied.{with_puts, without, with_slip, as_undone
 use Rattle.archive_state.specs.Changes.{Changes}
 use Rattle.archive_state.specs.Content.{Content, Records, Slips}
 use Rattle.archive_state.specs.Slips.{Slip}
-use Rattle.archive_state.specs.Sound.{EachIn, EachOf}
+use Rattle.record_shapes.specs.Lists.{EachOf}
+use Rattle.archive_state.specs.Sound.{EachIn}
 use Rattle.archive_state.specs.declared.changes.Numbered.{Numbered}
 use Rattle.archive_state.specs.declared.changes.SlipChange.{SlipChange}
 use Rattle.archive_state.specs.declared.changes.SlipChange.TheVariants as change

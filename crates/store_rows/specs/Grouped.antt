@@ -1,5 +1,5 @@
 -- What the rows are as they are read, group by group. No clause that callers see names these definitions.
-use Rattle.std.specs.Prelude.{ℕ, ◌≡◌, ◌≢◌, ◌==◌, ◌&&◌, ◌⊎◌, Bool, true, false, List, [], map, filter, Option, Some, None, MatchOption, unwrap_or, option_map}
+use Rattle.std.specs.Prelude.{ℕ, ◌≡◌, ◌≢◌, ◌==◌, ◌&&◌, ◌⊎◌, Bool, true, false, List, [], map, filter, fold, Option, Some, None, MatchOption, unwrap_or, option_map}
 use Rattle.std.specs.List.{list_any, flat_map}
 use Rattle.std.specs.BTreeMap.{BTreeMap}
 use Rattle.std.specs.Global.{Vec}
@@ -54,6 +54,10 @@ LacksRecord closed rows lines = (n : ℕ) × (is_recorded closed rows n ≡ true
 -- what is kept under the tokens with one more row
 abbrev pub with_kept : Receipts → List ℕ × Receipt → Receipts
 with_kept m r = insert m r.0 r.1
+
+-- what the last of these rows keeps
+abbrev pub last_kept : List (List ℕ × Receipt) → Option Receipt
+last_kept = fold (λ _ r. Some r.1) None
 
 -- what slip is at a number, by its row and its lines
 abbrev pub IsSlipBy : ℕ → Option SlipRow → List SideLine → Option Slip → Type 0

@@ -1,4 +1,5 @@
 pub mod Grouped
+pub mod Looking
 pub mod Meaning
 pub mod Shallow
 pub mod Sides

@@ -9,7 +9,8 @@ use Rattle.records.specs.Stored.{stored}
 use Rattle.records.specs.Shallow.{IsShallow}
 use Rattle.archive_state.specs.Content.{Content, Receipts}
 use Rattle.archive_state.specs.Slips.{Slip}
-use Rattle.archive_state.specs.Sound.{EachIn, EachOf}
+use Rattle.record_shapes.specs.Lists.{EachOf}
+use Rattle.archive_state.specs.Sound.{EachIn}
 use Rattle.archive_state.specs.declared.slip.Change.{Change}
 use Rattle.store_tables.specs.Rows.{Rows, BatchRow, RecordRow, ReceiptRow, SlipRow, lines_of, slip_lines_of}
 

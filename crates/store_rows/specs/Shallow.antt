@@ -2,7 +2,7 @@
 use Rattle.std.specs.Prelude.{Option, Some, None}
 use Rattle.records.specs.Shallow.{IsShallow}
 use Rattle.archive_state.specs.Changes.{Changes}
-use Rattle.archive_state.specs.Sound.{EachOf}
+use Rattle.record_shapes.specs.Lists.{EachOf}
 use Rattle.archive_state.specs.declared.changes.Numbered.{Numbered}
 use Rattle.archive_state.specs.declared.changes.SlipChange.{SlipChange}
 use Rattle.archive_state.specs.declared.changes.SlipChange.TheVariants as change

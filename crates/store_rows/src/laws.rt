@@ -1,13 +1,16 @@
 //! What holds of the rows.
 
-ghost use Rattle.std.specs.Prelude.{◌≡◌, ◌≢◌, ◌==◌, ℕ, filter};
+ghost use Rattle.std.specs.Prelude.{◌≡◌, ◌≢◌, ◌==◌, ◌&&◌, ℕ, filter};
+ghost use Rattle.std.specs.List.{list_any};
 ghost use Rattle.archive_state.specs.Applied.{applied};
 ghost use Rattle.archive_state.specs.Changes.{Changes};
 ghost use Rattle.archive_state.specs.Content.{Content};
-ghost use Rattle.archive_state.specs.Sound.{EachOf};
+ghost use Rattle.archive_state.specs.Referrers.{referrers};
+ghost use Rattle.record_shapes.specs.Lists.{EachOf};
 ghost use Rattle.archive_state.specs.declared.changes.Numbered.{Numbered};
+ghost use Rattle.store_tables.specs.Keyed.{lines_naming};
 ghost use Rattle.store_tables.specs.Rows.{Rows, LineRow, RecordRow};
-ghost use Rattle.store_rows.specs.Meaning.{Means};
+ghost use Rattle.store_rows.specs.Meaning.{Means, has_record};
 ghost use Rattle.store_rows.specs.Writing.{with_changes};
 
 /// Rows mean one content at the most.
@@ -28,4 +31,11 @@ pub fn rows_of_other_numbers_stay()
         → EachOf (λ (p : Numbered). p.number ≢ m) changes.puts → EachOf (λ n. n ≢ m) changes.removals
         → (filter (λ (l : LineRow). l.no == m) (with_changes changes rows).lines ≡ filter (λ (l : LineRow). l.no == m) rows.lines)
         × (filter (λ (r : RecordRow). r.no == m) (with_changes changes rows).records ≡ filter (λ (r : RecordRow). r.no == m) rows.records) }
+{}
+
+/// Of rows that mean a content, a number is among the referrers of another exactly where it has a record and a line
+/// of it names the other.
+pub fn the_lines_that_name_a_number_tell_its_referrers()
+    ensures { (rows : Rows) (c : Content) (n m : ℕ) → Means rows c
+        → list_any (λ k. k == m) (referrers c n) ≡ (has_record m rows && list_any (λ k. k == m) (lines_naming n rows)) }
 {}

@@ -3,6 +3,7 @@
 
 mod grouping;
 pub mod laws;
+pub mod looking;
 mod reading;
 mod sides;
 mod state;

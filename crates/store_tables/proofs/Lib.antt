@@ -4,10 +4,12 @@ mod Coded
 mod Created
 mod Failing
 mod Finding
+mod KeyedQueries
+mod KeyedTexts
 pub mod Loops
 mod Preparing
 pub mod Queries
-mod ReadingRows
+pub mod ReadingRows
 pub mod Reopening
 mod Statements
 mod Texts

@@ -28,11 +28,11 @@ unchanged_by sql params old new rows plain h =
     let none = (subst IsPlain h.1.is plain).0 in
     (subst (ShowsRows old new sql h.0 (timed params h.0.formats h.1.now) rows) none h.2).3
 
-all_weaker : {X : Type 0} (P Q : X → Type 0) → ((y : X) → P y → Q y) → (ys : List X) → AllByRecursion P ys → AllByRecursion Q ys
+pub all_weaker : {X : Type 0} (P Q : X → Type 0) → ((y : X) → P y → Q y) → (ys : List X) → AllByRecursion P ys → AllByRecursion Q ys
 all_weaker P Q g [] k = tt
 all_weaker P Q g (y ∷ ys) k = (g y k.0, all_weaker P Q g ys k.1)
 
-ascending_weaker : {X : Type 0} (R T : X → X → Type 0) → ((x y : X) → R x y → T x y) → (xs : List X) → IsAscending R xs → IsAscending T xs
+pub ascending_weaker : {X : Type 0} (R T : X → X → Type 0) → ((x y : X) → R x y → T x y) → (xs : List X) → IsAscending R xs → IsAscending T xs
 ascending_weaker R T f [] h = tt
 ascending_weaker R T f (x ∷ xs) h = (all_weaker (R x) (T x) (f x) xs h.0, ascending_weaker R T f xs h.1)
 

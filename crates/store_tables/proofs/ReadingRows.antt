@@ -54,19 +54,19 @@ map_same [] = refl
 map_same (x ∷ xs) = ap (λ ys. x ∷ ys) (map_same xs)
 
 -- a query that shows the rows of a table, each of which is read as what it is
-module _ {X Y A : Type 0} (shown : X → Row) (read : X → Y) (IsTyped : X → Type 0) (items : A → List Y) (sql : List ℕ) (old new : State) (result : Result A RefusalKind)
-    (rows_of : Rows → List X) (shows : (rows : Rows) → Settled old rows → (all : List Row) → Shown sql [] old new all → all ≡ map shown (rows_of rows))
+module _ {X Y A : Type 0} (shown : X → Row) (read : X → Y) (IsTyped : X → Type 0) (items : A → List Y) (sql : List ℕ) (params : Row) (old new : State) (result : Result A RefusalKind)
+    (rows_of : Rows → List X) (shows : (rows : Rows) → Settled old rows → (all : List Row) → Shown sql params old new all → all ≡ map shown (rows_of rows))
     (typed : (rows : Rows) → AreTyped rows → AllByRecursion IsTyped (rows_of rows)) where
   abbrev Reads : Type 0
-  Reads = HasCleanDisk new → IfOk result (λ a. (all : List Row) × Shown sql [] old new all × EachWith (IsReadBy shown read) all (items a))
+  Reads = HasCleanDisk new → IfOk result (λ a. (all : List Row) × Shown sql params old new all × EachWith (IsReadBy shown read) all (items a))
 
   abbrev Refuses : Type 0
-  Refuses = HasCleanDisk new → IfErr result (λ kind. IsFailure kind ⊎ ((all : List Row) × Shown sql [] old new all × ¬ (AllByRecursion (ShowsTyped shown IsTyped) all)))
+  Refuses = HasCleanDisk new → IfErr result (λ kind. IsFailure kind ⊎ ((all : List Row) × Shown sql params old new all × ¬ (AllByRecursion (ShowsTyped shown IsTyped) all)))
 
   reads_all : Reads → HasCleanDisk new → IfOk result (λ a. (rows : Rows) → Settled old rows → items a ≡ map read (rows_of rows))
   reads_all h clean = if_ok result (λ a was rows settled. each_is shown read (rows_of rows) (items a) (subst (λ all. EachWith (IsReadBy shown read) all (items a)) (shows rows settled was.0 was.1) was.2)) (h clean)
 
-  only_fails : (kind : RefusalKind) (rows : Rows) → Settled old rows → IsFailure kind ⊎ ((all : List Row) × Shown sql [] old new all × ¬ (AllByRecursion (ShowsTyped shown IsTyped) all)) → IsFailure kind
+  only_fails : (kind : RefusalKind) (rows : Rows) → Settled old rows → IsFailure kind ⊎ ((all : List Row) × Shown sql params old new all × ¬ (AllByRecursion (ShowsTyped shown IsTyped) all)) → IsFailure kind
   only_fails kind rows settled (inl failed) = failed
   only_fails kind rows settled (inr was) = absurd (was.2 (subst (AllByRecursion (ShowsTyped shown IsTyped)) (sym (shows rows settled was.0 was.1)) (all_typed shown IsTyped (rows_of rows) (typed rows settled.good.typed))))
 
@@ -84,6 +84,10 @@ module _ {X Y A : Type 0} (shown : X → Row) (read : X → Y) (IsTyped : X → 
 -- ---- one call after the other
 pub looks_as : {A : Type 0} {P Q : Rows → A → Type 0} {old new : State} (result : Result A RefusalKind) → ((rows : Rows) (a : A) → P rows a → Q rows a) → Looks P old new result → Looks Q old new result
 looks_as result f h = record { read = λ clean. if_ok result (λ a is rows was. f rows a (is rows was)) (h.read clean); same = h.same; refused = h.refused; crash = h.crash; clean = h.clean }
+
+-- the same, where what the tables keep is needed
+pub looks_where : {A : Type 0} {P Q : Rows → A → Type 0} {old new : State} (result : Result A RefusalKind) → ((rows : Rows) → Settled old rows → (a : A) → P rows a → Q rows a) → Looks P old new result → Looks Q old new result
+looks_where result f h = record { read = λ clean. if_ok result (λ a is rows was. f rows was a (is rows was)) (h.read clean); same = h.same; refused = h.refused; crash = h.crash; clean = h.clean }
 
 looks_err : {A B : Type 0} {P : Rows → A → Type 0} {Q : Rows → B → Type 0} {old new : State} {kind : RefusalKind} → Looks P old new (Err kind) → Looks Q old new (Err kind)
 looks_err h = record { read = λ clean. tt; same = λ clean. tt; refused = h.refused; crash = h.crash; clean = h.clean }

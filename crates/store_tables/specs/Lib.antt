@@ -1,6 +1,7 @@
 pub mod Calls
 pub mod Conversion
 pub mod Creating
+pub mod Keyed
 pub mod Looking
 pub mod Prepared
 pub mod Reading

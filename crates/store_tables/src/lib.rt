@@ -3,6 +3,7 @@
 
 pub mod connection;
 mod creating;
+pub mod keyed;
 pub mod laws;
 pub mod lines;
 mod reading;

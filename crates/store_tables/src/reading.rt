@@ -6,6 +6,7 @@ ghost use Rattle.sqlite.specs.declared.types.Value.{Value};
 ghost use Rattle.sqlite.specs.Held.{state};
 ghost use Rattle.sqlite.specs.Listing.{understood};
 ghost use Rattle.sqlite.specs.State.{HasCleanDisk, Shown, FailsToQuery};
+ghost use Rattle.sqlite.specs.Values.{bound};
 ghost use Rattle.sqlite.proofs.Callers.{IsPlain};
 ghost use Rattle.store_tables.specs.Calls.{Settled, LeavesOnly};
 ghost use Rattle.store_tables.specs.Conversion.{EachWith, read_meta};
@@ -18,6 +19,7 @@ ghost use Rattle.store_tables.specs.Telling.{tells_no_archive};
 use crate::stored::{BatchRow, LineRow, ReceiptRow, RecordRow, SlipLineRow, SlipRow, StoredRows};
 use crate::typing::{FromRow, Meta, from_rows, only};
 use record_text::{RefusalKind, Text};
+use sqlite::types::ValueRef;
 use sqlite::{Alter, Connection, Error, Row};
 use std::alloc::Global;
 
@@ -73,7 +75,10 @@ pub fn society<S: Alter>(alloc: Global, conn: &mut Connection<S>) -> Result<Text
 }
 
 /// What the one row of `meta` says.
-fn read_meta<S: Alter>(alloc: Global, conn: &mut Connection<S>) -> Result<Meta, RefusalKind>
+pub(crate) fn read_meta<S: Alter>(
+    alloc: Global,
+    conn: &mut Connection<S>,
+) -> Result<Meta, RefusalKind>
     requires autocommit { conn.old.in_transaction ≡ false }
     ensures looks { Looks (λ rows meta. meta ≡ read_meta rows) (state S.Store conn.old) (state S.Store conn.new) result }
     ensures ended { conn.new.in_transaction ≡ false }
@@ -121,7 +126,7 @@ fn read_meta_rows<S: Alter>(
     ensures looks { Looks (λ rows items. items.items ≡ read_meta rows ∷ []) (state S.Store conn.old) (state S.Store conn.new) result }
     ensures ended { conn.new.in_transaction ≡ false }
 {
-    read_all(alloc, conn, SELECT_META)
+    read_all(alloc, conn, SELECT_META, &[])
 }
 
 fn read_batches<S: Alter>(
@@ -132,7 +137,7 @@ fn read_batches<S: Alter>(
     ensures looks { Looks (λ rows items. items.items ≡ rows.batches) (state S.Store conn.old) (state S.Store conn.new) result }
     ensures ended { conn.new.in_transaction ≡ false }
 {
-    read_all(alloc, conn, SELECT_BATCHES)
+    read_all(alloc, conn, SELECT_BATCHES, &[])
 }
 
 fn read_records<S: Alter>(
@@ -143,7 +148,7 @@ fn read_records<S: Alter>(
     ensures looks { Looks (λ rows items. items.items ≡ map read_record rows.records) (state S.Store conn.old) (state S.Store conn.new) result }
     ensures ended { conn.new.in_transaction ≡ false }
 {
-    read_all(alloc, conn, SELECT_RECORDS)
+    read_all(alloc, conn, SELECT_RECORDS, &[])
 }
 
 fn read_lines<S: Alter>(
@@ -154,7 +159,7 @@ fn read_lines<S: Alter>(
     ensures looks { Looks (λ rows items. items.items ≡ map read_line rows.lines) (state S.Store conn.old) (state S.Store conn.new) result }
     ensures ended { conn.new.in_transaction ≡ false }
 {
-    read_all(alloc, conn, SELECT_LINES)
+    read_all(alloc, conn, SELECT_LINES, &[])
 }
 
 fn read_receipts<S: Alter>(
@@ -165,7 +170,7 @@ fn read_receipts<S: Alter>(
     ensures looks { Looks (λ rows items. items.items ≡ map read_receipt rows.receipts) (state S.Store conn.old) (state S.Store conn.new) result }
     ensures ended { conn.new.in_transaction ≡ false }
 {
-    read_all(alloc, conn, SELECT_RECEIPTS)
+    read_all(alloc, conn, SELECT_RECEIPTS, &[])
 }
 
 fn read_slips<S: Alter>(
@@ -176,7 +181,7 @@ fn read_slips<S: Alter>(
     ensures looks { Looks (λ rows items. items.items ≡ rows.slips) (state S.Store conn.old) (state S.Store conn.new) result }
     ensures ended { conn.new.in_transaction ≡ false }
 {
-    read_all(alloc, conn, SELECT_SLIPS)
+    read_all(alloc, conn, SELECT_SLIPS, &[])
 }
 
 fn read_slip_lines<S: Alter>(
@@ -187,43 +192,48 @@ fn read_slip_lines<S: Alter>(
     ensures looks { Looks (λ rows items. items.items ≡ map read_slip_line rows.slip_lines) (state S.Store conn.old) (state S.Store conn.new) result }
     ensures ended { conn.new.in_transaction ≡ false }
 {
-    read_all(alloc, conn, SELECT_SLIP_LINES)
+    read_all(alloc, conn, SELECT_SLIP_LINES, &[])
 }
 
 /// All that a plain query shows, with the program's types.
-fn read_all<T: FromRow, S: Alter>(
+pub(crate) fn read_all<T: FromRow, S: Alter>(
     alloc: Global,
     conn: &mut Connection<S>,
     sql: &str,
+    params: &[ValueRef<'_>],
 ) -> Result<Vec<T>, RefusalKind>
     requires autocommit { conn.old.in_transaction ≡ false }
     requires plain { IsPlain (understood archive_schema sql.now) }
     ensures read { HasCleanDisk (state S.Store conn.new) → IfOk result (λ items.
-        (shown : List (List Value)) × Shown sql.now [] (state S.Store conn.old) (state S.Store conn.new) shown × EachWith T.reads_as shown items.items) }
+        (shown : List (List Value)) × Shown sql.now (bound params.now) (state S.Store conn.old) (state S.Store conn.new) shown × EachWith T.reads_as shown items.items) }
     ensures refused { HasCleanDisk (state S.Store conn.new) → IfErr result (λ kind. IsFailure kind ⊎
-        ((shown : List (List Value)) × Shown sql.now [] (state S.Store conn.old) (state S.Store conn.new) shown × ¬ (AllByRecursion T.is_readable shown))) }
+        ((shown : List (List Value)) × Shown sql.now (bound params.now) (state S.Store conn.old) (state S.Store conn.new) shown × ¬ (AllByRecursion T.is_readable shown))) }
     ensures same { HasCleanDisk (state S.Store conn.new) → IfOk result (λ _. (rows : Rows) → Settled (state S.Store conn.old) rows → Settled (state S.Store conn.new) rows) }
     ensures crash { HasCleanDisk (state S.Store conn.new) → (rows : Rows) → Settled (state S.Store conn.old) rows → LeavesOnly (state S.Store conn.new) rows }
     ensures clean { HasCleanDisk (state S.Store conn.new) → HasCleanDisk (state S.Store conn.old) }
     ensures ended { conn.new.in_transaction ≡ false }
 {
-    match ask(conn, sql) {
+    match ask(conn, sql, params) {
         Ok(rows) => from_rows(alloc, rows),
         Err(_) => Err(RefusalKind::Storage),
     }
 }
 
 /// All rows that a plain query shows: one that reads no clock and writes nothing.
-pub(crate) fn ask<S: Alter>(conn: &mut Connection<S>, sql: &str) -> Result<Vec<Row>, Error>
+pub(crate) fn ask<S: Alter>(
+    conn: &mut Connection<S>,
+    sql: &str,
+    params: &[ValueRef<'_>],
+) -> Result<Vec<Row>, Error>
     requires autocommit { conn.old.in_transaction ≡ false }
     requires plain { IsPlain (understood archive_schema sql.now) }
-    ensures shown { HasCleanDisk (state S.Store conn.new) → IfOk result (λ rows. Shown sql.now [] (state S.Store conn.old) (state S.Store conn.new) rows.items) }
+    ensures shown { HasCleanDisk (state S.Store conn.new) → IfOk result (λ rows. Shown sql.now (bound params.now) (state S.Store conn.old) (state S.Store conn.new) rows.items) }
     ensures same { HasCleanDisk (state S.Store conn.new) → IfOk result (λ _. (rows : Rows) → Settled (state S.Store conn.old) rows → Settled (state S.Store conn.new) rows) }
-    ensures failed { HasCleanDisk (state S.Store conn.new) → IfErr result (λ e. FailsToQuery sql.now [] (state S.Store conn.old) (state S.Store conn.new) e) }
+    ensures failed { HasCleanDisk (state S.Store conn.new) → IfErr result (λ e. FailsToQuery sql.now (bound params.now) (state S.Store conn.old) (state S.Store conn.new) e) }
     ensures known { HasCleanDisk (state S.Store conn.new) → IfErr result (λ e. (rows : Rows) → Settled (state S.Store conn.old) rows → tells_no_archive e ≡ false) }
     ensures crash { HasCleanDisk (state S.Store conn.new) → (rows : Rows) → Settled (state S.Store conn.old) rows → LeavesOnly (state S.Store conn.new) rows }
     ensures clean { HasCleanDisk (state S.Store conn.new) → HasCleanDisk (state S.Store conn.old) }
     ensures ended { conn.new.in_transaction ≡ false }
 {
-    conn.query_all(sql, &[])
+    conn.query_all(sql, params)
 }

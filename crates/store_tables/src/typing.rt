@@ -1,16 +1,16 @@
 //! Rows that a query shows, as values of the program's types.
 
-ghost use Rattle.std.specs.Prelude.{◌≡◌, [], ◌∷◌, ◌++◌, OnOk, ℕ, ◌+◌, ◌<◌, List, length, IfOk, IfErr, IfSome, Option};
+ghost use Rattle.std.specs.Prelude.{◌≡◌, [], ◌∷◌, ◌++◌, OnOk, ℕ, pos, ◌+◌, ◌<◌, List, length, IfOk, IfErr, IfSome, Option};
 ghost use Rattle.std.specs.List.{AllByRecursion};
 ghost use Rattle.sqlite.specs.declared.types.Value.{Value};
-ghost use Rattle.sqlite.specs.declared.types.Value.TheVariants.{Text as Words, Blob};
+ghost use Rattle.sqlite.specs.declared.types.Value.TheVariants.{Int, Text as Words, Blob};
 ghost use Rattle.sqlite.specs.Order.{column};
 ghost use Rattle.record_text.specs.Text.{IsTag, IsText};
 ghost use Rattle.receipts.specs.Tokens.{IsToken};
 ghost use Rattle.store_tables.specs.Conversion.{FailsUnless, read_meta, IsReadBy, ShowsTyped, EachWith, IsLineAt, HasLineAt};
 ghost use Rattle.store_tables.specs.Reading.{IsU32, IsTypedLine, IsTypedReceipt, IsTypedSlip, read_record, read_line, read_receipt, read_slip_line};
 ghost use Rattle.store_tables.specs.Rows as rows;
-ghost use Rattle.store_tables.specs.Rows.{words_or_null};
+ghost use Rattle.store_tables.specs.Rows.{line_fields, words_or_null};
 ghost use Rattle.store_tables.specs.Shown.{shown_meta, shown_batch, shown_record, shown_line, shown_receipt, shown_slip, shown_slip_line};
 
 use crate::stored::{BatchRow, LineRow, ReceiptRow, RecordRow, SlipLineRow, SlipRow};
@@ -193,6 +193,26 @@ impl FromRow for LineRow {
             number: value(row, 0)?,
             line: line_at(row, 1)?,
         })
+    }
+}
+
+impl FromRow for StoredLine {
+    ghost reads_as = { IsReadBy (λ (l : rows.LineRow). line_fields l.line) (λ (l : rows.LineRow). l.line) };
+
+    ghost is_readable = { ShowsTyped (λ (l : rows.LineRow). line_fields l.line) (λ (l : rows.LineRow). IsTypedLine l.line) };
+
+    fn from_row(row: &Row) -> Result<StoredLine, RefusalKind> {
+        line_at(row, 0)
+    }
+}
+
+impl FromRow for u32 {
+    ghost reads_as = { IsReadBy (λ (l : rows.LineRow). Int (pos l.no) ∷ []) (λ (l : rows.LineRow). l.no) };
+
+    ghost is_readable = { ShowsTyped (λ (l : rows.LineRow). Int (pos l.no) ∷ []) (λ (l : rows.LineRow). IsU32 l.no) };
+
+    fn from_row(row: &Row) -> Result<u32, RefusalKind> {
+        value(row, 0)
     }
 }
 

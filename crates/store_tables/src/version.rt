@@ -32,7 +32,7 @@ pub fn check_version<S: Alter>(conn: &mut Connection<S>) -> Result<(), RefusalKi
     ensures told { HasCleanDisk (state S.Store conn.new) → IfErr result (IsRefusedStore (state S.Store conn.old) (state S.Store conn.new)) }
     ensures ended { conn.new.in_transaction ≡ false }
 {
-    match ask(conn, SELECT_META) {
+    match ask(conn, SELECT_META, &[]) {
         Ok(rows) => version_of(&rows),
         Err(error) => Err(refusal_of(&error)),
     }

@@ -1,7 +1,7 @@
 //! Trees of lines, and the lines as they are stored: a branch is a line with those below it, and a stored
 //! line has its depth. Carried lines, which a record keeps beside its fields, are branches too.
 //!
-//! It stands on `record_text`, whose texts and tags stand on the lines. What the words on lines mean is for
+//! It uses `record_text`, whose texts and tags are on the lines. What the words on lines mean is for
 //! `records` to say.
 //!
 //! Callers may rely on: lines are those of one branch at the most, and `branch_of_lines` finds it where it has at most

@@ -1,6 +1,6 @@
 //! Rows of requests, read and answered as CSV.
 //!
-//! It stands on `store`, whose archive performs the requests, on `commands` and `archive_core` for what a request is, and on `csv` of
+//! It uses `store`, whose archive performs the requests, `commands` and `archive_core` for what a request is, and `csv` of
 //! the kit.
 //!
 //! Callers may rely on: a row asks for one request, or is refused for one reason; each row is answered by one row, which

@@ -6,7 +6,33 @@ next number; it stops at the look that fails, or at the check that refuses it.
 
 from __future__ import annotations
 
-from table.making import FAMILY, LAST, ask, looks, next_is, next_set, place, scenario, shows
+from table.making import FAMILY, LAST, Scenario, ask, looks, makes, next_is, next_set, place, scenario, shows
+
+
+def among(count: int) -> Scenario:
+    """Each verb in an archive of so many persons more, to whom none of its records points."""
+    tom, ann, family, event, town, part = range(count + 1, count + 7)
+    return scenario(
+        f"a command looks so often among {count:,} others",
+        [makes(number, f"other{number}", "person", f"Una /Kay {number}/", "F") for number in range(1, count + 1)],
+        makes(tom, "p1", "person", "Tom /Lee/", ""),
+        makes(ann, "p2", "person", "Ann /Lee/", ""),
+        makes(family, "f1", "family", "", tom),
+        makes(event, "e1", "event", family, "DIV", "", "1700", ""),
+        place(town, "Kent"),
+        place(part, "", town),
+        looks(2, "p1", "person", "Tom /Lee/", ""),
+        looks(2, "x", "person", "Eva", ""),
+        looks(3, "x", "name", tom, "Tom"),
+        looks(3, "x", "sex", tom, "M"),
+        looks(4, "x", "family", tom, ann),
+        looks(4, "x", "child", family, ann),
+        looks(5, "x", "event", tom, "BIRT", "", "1700", part),
+        looks(5, "x", "amend", event, "court", "", part),
+        looks(4, "x", "participant", event, ann, "witness"),
+        next_is(event + 1),
+    )
+
 
 SCENARIOS = (
     scenario(
@@ -69,4 +95,6 @@ SCENARIOS = (
         ask("! looks 80,x,frob", "x,refused,91,UnknownVerb"),
         ask("! looks 80,x y,person,,", ",refused,93,BadToken"),
     ),
+    among(10),
+    among(1_000),
 )

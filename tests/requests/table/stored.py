@@ -180,6 +180,7 @@ SCENARIOS = OTHERS + (
         spoils("DROP TABLE receipt", "unadopted", 82),
         spoils("DELETE FROM line", 40, 40, 40, "ok"),
         spoils("UPDATE line SET depth = 9 WHERE depth = 1", 40, 40, 40, "ok"),
+        spoils("DELETE FROM line WHERE no = 2", "ok", "ok", 40, "ok"),
         SAME,
     ),
 )

@@ -5,7 +5,7 @@ ghost use Rattle.sqlite.specs.State.{HasCleanDisk, Survives};
 ghost use Rattle.sqlite.specs.Held.{state};
 ghost use Rattle.store_tables.specs.Calls.{Follows};
 ghost use Rattle.store_tables.specs.Rows.{with_changed_lines};
-ghost use Rattle.archive_state.specs.Sound.{EachOf};
+ghost use Rattle.record_shapes.specs.Lists.{EachOf};
 ghost use Rattle.records.specs.Shallow.{IsShallow};
 ghost use Rattle.records.specs.Stored.{stored};
 ghost use Rattle.store_rows.specs.Shallow.{IsShallowPut};

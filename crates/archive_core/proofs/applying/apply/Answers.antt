@@ -1,5 +1,5 @@
 use Rattle.std.proofs.Common.{rules, ◌≡◌, subst}
-use Rattle.archive_state.specs.Sound.{EachOf}
+use Rattle.record_shapes.specs.Lists.{EachOf}
 use Rattle.archive_core.specs.Room.{with_room}
 use Rattle.archive_core.proofs.Room.{IsThereFor, room_there}
 use Rattle.archive_core.proofs.applying.apply.Goals as goal

@@ -1,7 +1,7 @@
 use Rattle.std.proofs.Common.{rules, ◌≡◌, ◌∷◌, false, ap, ◌∙◌}
 use Rattle.std.specs.Prelude.{is_some}
 use Rattle.std.specs.FinMap as map
-use Rattle.archive_state.specs.Content.{Content, Records}
+use Rattle.archive_state.specs.Content.{Records}
 use Rattle.archive_state.specs.Applied.{without}
 use Rattle.archive_core.specs.Room.{blank}
 use Rattle.archive_core.proofs.Room.{blank_back, blank_gone}

@@ -1,8 +1,7 @@
-use Rattle.std.proofs.Common.{rules, ◌≡◌, ◌∷◌}
+use Rattle.std.proofs.Common.{rules, ◌≡◌}
 use Rattle.std.specs.FinMap as map
 use Rattle.std.specs.Vec.Iter.{into_iter_items}
-use Rattle.archive_state.specs.Content.{Content}
-use Rattle.archive_state.specs.Sound.{EachOf}
+use Rattle.record_shapes.specs.Lists.{EachOf}
 use Rattle.archive_core.proofs.Room.{IsThereFor, each_stays}
 use Rattle.archive_core.proofs.applying.put_all.Goals as goal
 

@@ -1,6 +1,4 @@
-use Rattle.std.proofs.Common.{rules, ◌≡◌, sym}
-use Rattle.std.specs.Prelude.{IsTrue}
-use Rattle.archive_core.specs.Steps.{or_kept_date}
+use Rattle.std.proofs.Common.{rules, ◌≡◌}
 use Rattle.archive_core.proofs.Exactness.{same_date, date_same}
 use Rattle.archive_core.proofs.events.has_date.Goals as goal
 

@@ -1,4 +1,4 @@
-use Rattle.std.proofs.Common.{rules, ◌≡◌, ap, ◌∙◌}
+use Rattle.std.proofs.Common.{rules, ◌≡◌, ap, ◌∙◌, refl}
 use Rattle.std.specs.Prelude.{Some}
 use Rattle.std.specs.FinMap.{get}
 use Rattle.record_kinds.specs.declared.record.Record.TheVariants as kind
@@ -12,10 +12,15 @@ returns-clause-exact g c honest =
     let made = c.replaces.ensures.exact honest in
     let person = c.check_person.ensures.decides made.0 in
     let family = c.in_ok-family.ensures.decides person.0 in
-    let before : Content = g.V.View.content c.args.view.now in
     let new : c.in_ok-family-3.family ≡ with_child c.args.person c.in_ok-family.family = search rules in (
       family.0,
-      made.1 ∙ person.1 ∙ family.1,
-      exact_if c.replaces.result before _ c.args.number (kind.Family c.in_ok-family-3.family) (person.1 ∙ family.1) made.2
-          (λ e. child_differs (get before.records c.args.number) c.in_ok-family.family c.args.person family.2 (e ∙ ap (λ x. Some (kind.Family x)) new)),
+      λ held shown.
+          let before : Content = g.V.View.content held in
+          let found = family.1 held shown in
+          let there = person.1 held found.0 in
+          let done = made.1 held there.0 in (
+            done.0,
+            exact_if c.replaces.result before before c.args.number (kind.Family c.in_ok-family-3.family) refl done.1
+                (λ e. child_differs (get before.records c.args.number) c.in_ok-family.family c.args.person found.1 (e ∙ ap (λ x. Some (kind.Family x)) new)),
+          ),
     )

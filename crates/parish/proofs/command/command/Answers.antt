@@ -1,7 +1,8 @@
 use Rattle.std.proofs.Common.{◌≡◌, ◌∙◌, refl, sym, codes, map, string_bytes}
 use Rattle.std.specs.Prelude.{List, ℕ, Option, Some, None, IfSome, IsSome}
-use Rattle.command_line.specs.Commands.{IsTaken, command_named, name_of}
-use Rattle.parish.proofs.Ending.{apply_wanting, check_wanting, norm_wanting}
+use Rattle.clap.specs.Words.{subcommand_of}
+use Rattle.command_line.specs.Commands.{IsTaken, command_named, name_of, program}
+use Rattle.parish.proofs.Ending.{apply_wanting, check_wanting, init_wanting, norm_wanting}
 use Rattle.parish.proofs.command.command.Goals as goal
 
 -- what is asked for by words that are taken has the name of their command
@@ -27,7 +28,8 @@ returns-in-Ok-clause-check g c = λ are.
 pub returns-in-Ok-clause-init : goal.returns-in-Ok-clause-init
 returns-in-Ok-clause-init g c = λ are.
     let asked = c.in-Ok.ensures in
-    c.work.ensures.init (asked_as (name_of c.in-Ok.asked) (map string_bytes c.args.words.now) (codes "init") (asked.taken are.0) asked.asked.0 are.1)
+    let words = map string_bytes c.args.words.now in
+    c.work.ensures.init (subcommand_of program words) asked.asked.1 (asked_as (name_of c.in-Ok.asked) words (codes "init") (asked.taken are.0) asked.asked.0 are.1)
 
 pub returns-in-Ok-clause-apply : goal.returns-in-Ok-clause-apply
 returns-in-Ok-clause-apply g c = λ are.
@@ -38,11 +40,14 @@ pub returns-in-Ok-clause-others : goal.returns-in-Ok-clause-others
 returns-in-Ok-clause-others g c = λ none.
     c.work.ensures.text (asked_for_nothing (name_of c.in-Ok.asked) (map string_bytes c.args.words.now) c.in-Ok.ensures.asked.0 none)
 
-pub returns-in-Err-OutOfMemory-clause-norm : goal.returns-in-Err-OutOfMemory-clause-norm
-returns-in-Err-OutOfMemory-clause-norm g c = λ words. norm_wanting c.refuse.result _ _ _ _ c.refuse.ensures
+pub returns-clause-norm : goal.returns-clause-norm
+returns-clause-norm g c = λ words. norm_wanting c.refuse.result _ _ _ _ c.refuse.ensures
 
-pub returns-in-Err-OutOfMemory-clause-check : goal.returns-in-Err-OutOfMemory-clause-check
-returns-in-Err-OutOfMemory-clause-check g c = λ words. check_wanting c.refuse.result _ _ _ _ c.refuse.ensures
+pub returns-clause-check : goal.returns-clause-check
+returns-clause-check g c = λ words. check_wanting c.refuse.result _ _ _ _ c.refuse.ensures
 
-pub returns-in-Err-OutOfMemory-clause-apply : goal.returns-in-Err-OutOfMemory-clause-apply
-returns-in-Err-OutOfMemory-clause-apply g c = λ words. apply_wanting c.refuse.result _ _ _ _ c.refuse.ensures
+pub returns-clause-apply : goal.returns-clause-apply
+returns-clause-apply g c = λ words. apply_wanting _ c.refuse.result _ _ _ _ c.refuse.ensures
+
+pub returns-clause-init : goal.returns-clause-init
+returns-clause-init g c = λ words. (init_wanting _ _ c.refuse.result c.refuse.ensures, refl, refl)

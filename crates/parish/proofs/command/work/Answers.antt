@@ -1,7 +1,18 @@
-use Rattle.parish.proofs.Ending.{apply_ends}
+use Rattle.std.proofs.Common.{refl, subst}
+use Rattle.sqlite_wal.specs.Files.{image_at}
+use Rattle.command_line.specs.Commands.{HasWords}
+use Rattle.parish.proofs.Ending.{apply_ends, init_ends}
 use Rattle.parish.proofs.command.work.Goals as goal
+
+pub returns-in-Init-clause-init : goal.returns-in-Init-clause-init
+returns-in-Init-clause-init g c = λ found has _.
+    let words = subst (HasWords found) c.in-Init.is has in
+    let made = c.init.ensures in
+    let ended = c.finished.ensures in
+    (init_ends (image_at g.S.Start) c.init.result.0 _ _ c.finished.result.0 c.init.result.1 c.finished.result.1 words.1 ended.left ended.status made.made made.refused, refl, refl)
 
 pub returns-in-Apply-clause-apply : goal.returns-in-Apply-clause-apply
 returns-in-Apply-clause-apply g c = λ _.
-    let applied = c.apply.ensures in
-    apply_ends c.apply.result c.status_of-in-Apply.result _ _ _ _ _ c.status_of-in-Apply.ensures.status applied.answered applied.stopped
+    let did = c.apply.ensures in
+    let ended = c.finished-in-Apply.ensures in
+    apply_ends (image_at g.S.Start) c.apply.result.0 c.finished-in-Apply.result.0 _ _ _ _ _ c.apply.result.1 c.finished-in-Apply.result.1 ended.left ended.status did.answered did.stopped

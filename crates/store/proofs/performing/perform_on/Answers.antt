@@ -10,19 +10,19 @@ use Rattle.store.proofs.performing.perform_on.Goals as goal
 
 pub returns-in-Ok-clause-performs : goal.returns-in-Ok-clause-performs
 returns-in-Ok-clause-performs g c clean =
-    let old = state g.S.Store c.args.conn.now in
-    let new = state g.S.Store c.try_request.new.conn in
+    let old = state g.S.Store c.args.archive.now.conn in
+    let new = state g.S.Store c.try_request.new.archive.conn in
     ok_performs old new c.args.request.now c.in-Ok.answer (c.in-Ok.ensures.acknowledged clean)
-    (λ rows was t l. only_committed new rows t was (g.met.S.Store.settled c.try_request.new.conn.store t was.is_open l)) (c.in-Ok.ensures.clean clean)
+    (λ rows was t l. only_committed new rows t was (g.met.S.Store.settled c.try_request.new.archive.conn.store t was.is_open l)) (c.in-Ok.ensures.clean clean)
 
 pub returns-in-Err-clause-performs : goal.returns-in-Err-clause-performs
 returns-in-Err-clause-performs g c clean =
-    let old = state g.S.Store c.args.conn.now in
+    let old = state g.S.Store c.args.archive.now.conn in
     let new = state g.S.Store c.refusal_after.new.conn in
-    let mid = state g.S.Store c.try_request.new.conn in
+    let mid = state g.S.Store c.try_request.new.archive.conn in
     let r = c.args.request.now in
     let after = c.refusal_after.ensures in
-    let before : HasCleanDisk (state g.S.Store c.try_request.new.conn) = omega (arith, after.survives.clean, clean) in
+    let before : HasCleanDisk (state g.S.Store c.try_request.new.archive.conn) = omega (arith, after.survives.clean, clean) in
     let left : (t : Trees) → new.may_leave t → mid.may_leave t = λ t l. elim (after.survives.crash clean t l) [ inl was ↦ was | inr none ↦ absurd none ] in
     refusal_performs old new r c.refusal_after.result
     (λ sure society content rows was keeps.
@@ -35,5 +35,5 @@ returns-in-Err-clause-performs g c clean =
 pub returns-in-Err-clause-repeated : goal.returns-in-Err-clause-repeated
 returns-in-Err-clause-repeated g c clean society content rows was keeps kept t l =
     let after = c.refusal_after.ensures in
-    let before : HasCleanDisk (state g.S.Store c.try_request.new.conn) = omega (arith, after.survives.clean, clean) in
+    let before : HasCleanDisk (state g.S.Store c.try_request.new.archive.conn) = omega (arith, after.survives.clean, clean) in
     c.in-Err.ensures.repeated before society content rows was keeps kept t (elim (after.survives.crash clean t l) [ inl was ↦ was | inr none ↦ absurd none ])

@@ -1,5 +1,6 @@
-use Rattle.std.proofs.Common.{inl, inr, []}
+use Rattle.std.proofs.Common.{inl, inr}
 use Rattle.sqlite.specs.Held.{state}
+use Rattle.sqlite.specs.Values.{bound}
 use Rattle.sqlite.proofs.Callers.{never_commits}
 use Rattle.store_tables.proofs.Queries.{unchanged_by, still_settled, plain_under, only_committed}
 use Rattle.store_tables.proofs.Failing.{fails_known}
@@ -16,7 +17,7 @@ pub returns-clause-known : goal.returns-clause-known
 returns-clause-known g c clean =
     let old = state g.S.Store c.args.conn.now in
     let new = state g.S.Store c.query_all.new.self in
-    if_err c.query_all.result (λ e fails rows was. fails_known c.args.sql.now c.requires.plain old new was.schema [] e fails) (c.query_all.ensures.err clean)
+    if_err c.query_all.result (λ e fails rows was. fails_known c.args.sql.now c.requires.plain old new was.schema (bound c.args.params.now) e fails) (c.query_all.ensures.err clean)
 
 pub returns-clause-crash : goal.returns-clause-crash
 returns-clause-crash g c clean rows was t leaves =

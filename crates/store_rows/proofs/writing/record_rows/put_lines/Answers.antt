@@ -3,7 +3,7 @@ use Rattle.std.proofs.Common.{drop, ap, ◌∙◌, ◌+◌, subst, sym}
 use Rattle.records.specs.Stored.{stored}
 use Rattle.store_tables.specs.Rows.{with_changed_lines}
 use Rattle.store_tables.proofs.Loops.{goes_on, item_left}
-use Rattle.archive_state.specs.Sound.{EachOf}
+use Rattle.record_shapes.specs.Lists.{EachOf}
 use Rattle.store_rows.specs.Shallow.{IsShallowPut}
 use Rattle.store_rows.specs.Writing.{with_all_lines}
 use Rattle.store_rows.proofs.writing.record_rows.put_lines.Goals as goal

@@ -1,7 +1,7 @@
 -- One turn more.
 use Rattle.std.proofs.Common.{drop, ap, ◌∙◌, ◌+◌, subst, sym}
 use Rattle.store_tables.proofs.Loops.{goes_on, item_left}
-use Rattle.archive_state.specs.Sound.{EachOf}
+use Rattle.record_shapes.specs.Lists.{EachOf}
 use Rattle.store_rows.specs.Shallow.{IsShallowChange}
 use Rattle.store_rows.specs.Writing.{with_slip_changes, with_change}
 use Rattle.store_rows.proofs.writing.slip_rows.insert_changes.Goals as goal

@@ -2,7 +2,7 @@
 use Rattle.std.proofs.Common.{◌≡◌, drop}
 use Rattle.sqlite.specs.Held.{state}
 use Rattle.store_tables.proofs.Loops.{IsOnTheWay}
-use Rattle.archive_state.specs.Sound.{EachOf}
+use Rattle.record_shapes.specs.Lists.{EachOf}
 use Rattle.store_rows.specs.Shallow.{IsShallowChange}
 use Rattle.store_rows.specs.Writing.{with_slip_changes}
 use Rattle.store_rows.proofs.writing.slip_rows.insert_changes.Given as goal

@@ -1,0 +1,15 @@
+pub mod Entries
+pub mod Fields
+pub mod Forms
+pub mod Laws
+pub mod Levels
+pub mod Lists
+pub mod Members
+pub mod Paths
+pub mod Picking
+pub mod Readable
+pub mod Reading
+pub mod Roles
+pub mod Shapes
+pub mod Tags
+pub mod Untaken

@@ -1,0 +1,227 @@
+//! Single records, receipts and slips of an archive, each read of its own rows.
+
+ghost use Rattle.std.specs.Prelude.{◌≡◌, ◌==◌, ◌++◌, ◌∷◌, [], ℕ, false, filter, IfOk, OnOk};
+ghost use Rattle.std.specs.List.{list_any};
+ghost use Rattle.std.specs.BTreeSet as set;
+ghost use Rattle.std.specs.Ordering.{nat_cmp};
+ghost use Rattle.std.specs.FinMap as map;
+ghost use Rattle.sqlite.specs.Held.{state};
+ghost use Rattle.archive_state.specs.Entries.{IsEntryAt};
+ghost use Rattle.archive_state.specs.Paths.{HasPath, IsLowest};
+ghost use Rattle.archive_state.specs.Referrers.{referrers};
+ghost use Rattle.store_tables.specs.Looking.{Looks};
+ghost use Rattle.store_rows.specs.Looking.{Sees};
+ghost use Rattle.store_rows.specs.Grouped.{last_kept};
+ghost use Rattle.store_rows.specs.Meaning.{has_record, is_closed};
+
+use crate::reading::read_state;
+use crate::sides::changes_of;
+use archive_state::{Slip, State};
+use receipts::{Receipt, Token};
+use record_text::{RefusalKind, Text};
+use records::{EntryKind, Item, Record, record_of};
+use sqlite::{Alter, Connection};
+use std::alloc::{AllocError, Global};
+use std::collections::BTreeSet;
+use store_tables::{ReceiptRow, keyed};
+
+/// The record of a number, read of the rows of this number alone. No transaction may be open.
+///
+/// 40: the rows cannot be read, as where somebody else wrote them. 80: the database failed. 1: memory was refused. So
+/// of all calls below.
+pub fn record_at<S: Alter>(
+    alloc: Global,
+    conn: &mut Connection<S>,
+    number: u32,
+) -> Result<Option<Record>, RefusalKind>
+    requires autocommit { conn.old.in_transaction ≡ false }
+    ensures sees { Sees (λ c found. found ≡ map.get c.records number) (state S.Store conn.old) (state S.Store conn.new) result }
+    ensures ended { conn.new.in_transaction ≡ false }
+{
+    if !has_record(alloc, conn, number)? {
+        return Ok(None);
+    }
+    let lines = keyed::lines_at(alloc, conn, number)?;
+    Ok(Some(record_of(alloc, &lines)?))
+}
+
+/// The numbers of the records that name a number, ascending, read of the rows of the lines that name it and of the
+/// numbers that these are of.
+pub fn referrers_of<S: Alter>(
+    alloc: Global,
+    conn: &mut Connection<S>,
+    number: u32,
+) -> Result<Vec<u32>, RefusalKind>
+    requires autocommit { conn.old.in_transaction ≡ false }
+    ensures sees { Sees (λ c found. found.items ≡ referrers c number) (state S.Store conn.old) (state S.Store conn.new) result }
+    ensures ended { conn.new.in_transaction ≡ false }
+{
+    let lines = keyed::lines_naming(alloc, conn, number)?;
+    let numbers = distinct(alloc, &lines)?;
+    recorded(alloc, conn, &numbers)
+}
+
+/// What is kept under a token, read of the rows of this token alone. Of two rows the later one is meant.
+pub fn receipt_at<S: Alter>(
+    alloc: Global,
+    conn: &mut Connection<S>,
+    token: &Token,
+) -> Result<Option<Receipt>, RefusalKind>
+    requires autocommit { conn.old.in_transaction ≡ false }
+    ensures sees { Sees (λ c found. found ≡ map.get c.receipts token.now) (state S.Store conn.old) (state S.Store conn.new) result }
+    ensures ended { conn.new.in_transaction ≡ false }
+{
+    Ok(last_kept(keyed::receipts_at(alloc, conn, token)?))
+}
+
+/// The slip of a number, read of the rows of this slip alone.
+pub fn slip_at<S: Alter>(
+    alloc: Global,
+    conn: &mut Connection<S>,
+    number: u32,
+) -> Result<Option<Slip>, RefusalKind>
+    requires autocommit { conn.old.in_transaction ≡ false }
+    ensures sees { Sees (λ c found. found ≡ map.get c.slips number) (state S.Store conn.old) (state S.Store conn.new) result }
+    ensures ended { conn.new.in_transaction ≡ false }
+{
+    let Some(row) = keyed::slip_at(alloc, conn, number)? else {
+        return Ok(None);
+    };
+    let lines = keyed::slip_lines_at(alloc, conn, number)?;
+    Ok(Some(Slip {
+        keep: row.keep,
+        gone: row.gone,
+        changes: changes_of(alloc, &lines)?,
+        is_undone: row.is_undone,
+    }))
+}
+
+/// The number that the next record or slip gets.
+pub fn next<S: Alter>(alloc: Global, conn: &mut Connection<S>) -> Result<u64, RefusalKind>
+    requires autocommit { conn.old.in_transaction ≡ false }
+    ensures sees { Sees (λ c next. next ≡ c.next) (state S.Store conn.old) (state S.Store conn.new) result }
+    ensures ended { conn.new.in_transaction ≡ false }
+{
+    keyed::next(alloc, conn)
+}
+
+/// The lowest number of a place that has this path. It reads the whole archive.
+pub fn place_at<S: Alter>(
+    alloc: Global,
+    conn: &mut Connection<S>,
+    path: &Text,
+) -> Result<Option<u32>, RefusalKind>
+    requires autocommit { conn.old.in_transaction ≡ false }
+    ensures sees { Sees (λ c found. IsLowest (λ n. HasPath c.records n path.now) found) (state S.Store conn.old) (state S.Store conn.new) result }
+    ensures ended { conn.new.in_transaction ≡ false }
+{
+    let all = whole(alloc, conn)?;
+    Ok(all.place_at(path))
+}
+
+/// The lowest number of an entry of this source, kind, page and item. It reads the whole archive.
+pub fn entry_at<S: Alter>(
+    alloc: Global,
+    conn: &mut Connection<S>,
+    source: u32,
+    kind: EntryKind,
+    page: &Text,
+    item: Item,
+) -> Result<Option<u32>, RefusalKind>
+    requires autocommit { conn.old.in_transaction ≡ false }
+    ensures sees { Sees (λ c found. IsLowest (λ n. IsEntryAt c.records source kind page.now item n) found) (state S.Store conn.old) (state S.Store conn.new) result }
+    ensures ended { conn.new.in_transaction ≡ false }
+{
+    let all = whole(alloc, conn)?;
+    Ok(all.entry_at(source, kind, page, item))
+}
+
+/// The whole state.
+fn whole<S: Alter>(alloc: Global, conn: &mut Connection<S>) -> Result<State, RefusalKind>
+    requires autocommit { conn.old.in_transaction ≡ false }
+    ensures sees { Sees (λ c all. all ≡ c) (state S.Store conn.old) (state S.Store conn.new) result }
+    ensures ended { conn.new.in_transaction ≡ false }
+{
+    read_state(alloc, conn)
+}
+
+/// The numbers, each once, in order.
+fn distinct(alloc: Global, numbers: &[u32]) -> Result<BTreeSet<u32>, AllocError>
+    ensures { IfOk result (λ all. (n : ℕ) → set.contains nat_cmp all n ≡ list_any (λ k. k == n) numbers.now) }
+{
+    let mut all: BTreeSet<u32> = BTreeSet::new(alloc);
+    'numbers: for number in numbers {
+        all.insert(*number)?;
+    }
+    Ok(all)
+}
+
+/// Those of the numbers that have a record, in order. That the numbers of a set ascend is what its iteration says.
+fn recorded<S: Alter>(
+    alloc: Global,
+    conn: &mut Connection<S>,
+    numbers: &BTreeSet<u32>,
+) -> Result<Vec<u32>, RefusalKind>
+    requires autocommit { conn.old.in_transaction ≡ false }
+    ensures looks { Looks (λ rows found. found.items ≡ filter (λ m. has_record m rows) numbers.now.keys) (state S.Store conn.old) (state S.Store conn.new) result }
+    ensures ordered { set.IsOrdered nat_cmp numbers.now }
+    ensures ended { conn.new.in_transaction ≡ false }
+{
+    let mut found = Vec::new(alloc);
+    'numbers: for number in numbers {
+        if has_record(alloc, conn, *number)? {
+            push(&mut found, *number)?;
+        }
+    }
+    Ok(found)
+}
+
+/// Adds a number at the end.
+fn push(numbers: &mut Vec<u32>, number: u32) -> Result<(), AllocError>
+    ensures { OnOk result (numbers.new.items ≡ numbers.old.items ++ number ∷ []) }
+{
+    numbers.push(number)?;
+    Ok(())
+}
+
+/// Whether a number has a record: its row is of a batch that is closed.
+fn has_record<S: Alter>(
+    alloc: Global,
+    conn: &mut Connection<S>,
+    number: u32,
+) -> Result<bool, RefusalKind>
+    requires autocommit { conn.old.in_transaction ≡ false }
+    ensures looks { Looks (λ rows is. is ≡ has_record number rows) (state S.Store conn.old) (state S.Store conn.new) result }
+    ensures ended { conn.new.in_transaction ≡ false }
+{
+    match keyed::record_at(alloc, conn, number)? {
+        Some(row) => is_closed(alloc, conn, row.batch),
+        None => Ok(false),
+    }
+}
+
+/// Whether a batch is there and closed.
+fn is_closed<S: Alter>(
+    alloc: Global,
+    conn: &mut Connection<S>,
+    batch: u32,
+) -> Result<bool, RefusalKind>
+    requires autocommit { conn.old.in_transaction ≡ false }
+    ensures looks { Looks (λ rows is. is ≡ is_closed batch rows.batches) (state S.Store conn.old) (state S.Store conn.new) result }
+    ensures ended { conn.new.in_transaction ≡ false }
+{
+    match keyed::batch_at(alloc, conn, batch)? {
+        Some(row) => Ok(!row.is_open),
+        None => Ok(false),
+    }
+}
+
+/// What the last of these rows keeps.
+fn last_kept(mut rows: Vec<ReceiptRow>) -> Option<Receipt>
+    ensures { result ≡ last_kept rows.items }
+{
+    match rows.pop() {
+        Some(row) => Some(row.receipt),
+        None => None,
+    }
+}

@@ -1,0 +1,38 @@
+-- The rows of one number or of one token, as they are read.
+use Rattle.std.specs.Prelude.{ℕ, ◌≡◌, ◌==◌, Bool, false, List, [], ◌∷◌, map, filter, bytes_eq, Option, Some, None}
+use Rattle.stored_lines.specs.Line.{Label}
+use Rattle.receipts.specs.declared.answer.Receipt.{Receipt}
+use Rattle.store_tables.specs.Rows.{Rows, BatchRow, RecordRow, LineRow, ReceiptRow, SlipRow, SlipLineRow}
+use Rattle.store_tables.specs.Reading.{read_record, read_receipt, read_slip_line}
+
+-- the one item of a list, where it has one
+abbrev pub IsOnly : {X : Type 0} → List X → Option X → Type 0
+IsOnly xs None = xs ≡ []
+IsOnly xs (Some x) = xs ≡ x ∷ []
+
+abbrev pub batches_at : ℕ → Rows → List BatchRow
+batches_at n rows = filter (λ (b : BatchRow). b.no == n) rows.batches
+
+-- a number with its batch
+abbrev pub records_at : ℕ → Rows → List (ℕ × ℕ)
+records_at n rows = map read_record (filter (λ (r : RecordRow). r.no == n) rows.records)
+
+-- what is kept under a token
+abbrev pub receipts_at : List ℕ → Rows → List (List ℕ × Receipt)
+receipts_at token rows = map read_receipt (filter (λ (r : ReceiptRow). bytes_eq r.token token) rows.receipts)
+
+abbrev pub slips_at : ℕ → Rows → List SlipRow
+slips_at n rows = filter (λ (s : SlipRow). s.no == n) rows.slips
+
+-- the lines of a slip
+abbrev pub slip_lines_at : ℕ → Rows → List (ℕ × (Bool × (ℕ × (ℕ × Label))))
+slip_lines_at n rows = map read_slip_line (filter (λ (s : SlipLineRow). s.slip == n) rows.slip_lines)
+
+-- whether a number that may be missing is this one
+abbrev pub is_number : ℕ → Option ℕ → Bool
+is_number n None = false
+is_number n (Some m) = m == n
+
+-- the numbers of the records of all lines that name a number
+abbrev pub lines_naming : ℕ → Rows → List ℕ
+lines_naming n rows = map (λ (l : LineRow). l.no) (filter (λ (l : LineRow). is_number n l.line.1.target) rows.lines)

@@ -1,0 +1,181 @@
+//! The rows of one number or of one token, each read by a statement that names it.
+
+ghost use Rattle.std.specs.Prelude.{◌≡◌, ◌≤◌, false, List, length, IfOk, IfErr};
+ghost use Rattle.sqlite.specs.Held.{state};
+ghost use Rattle.store_tables.specs.Conversion.{FailsUnless};
+ghost use Rattle.store_tables.specs.Keyed.{IsOnly, batches_at, records_at, receipts_at, slips_at, slip_lines_at, lines_naming};
+ghost use Rattle.store_tables.specs.Looking.{Looks};
+ghost use Rattle.store_tables.specs.Rows.{lines_of};
+
+use crate::reading::{read_all, read_meta};
+use crate::stored::{BatchRow, ReceiptRow, RecordRow, SlipLineRow, SlipRow};
+use receipts::Token;
+use record_text::RefusalKind;
+use sqlite::{Alter, Connection, params};
+use std::alloc::Global;
+use stored_lines::StoredLine;
+
+// The queries of single numbers and tokens, in the order of the keys of the tables.
+const BATCH_AT: &str = "SELECT no, is_open FROM batch WHERE no = ?1 ORDER BY no";
+
+const RECORD_AT: &str = "SELECT no, batch FROM record WHERE no = ?1 ORDER BY no";
+
+const LINES_AT: &str = "SELECT depth, tag, text, dst FROM line WHERE no = ?1 ORDER BY id";
+
+const LINES_NAMING: &str = "SELECT no FROM line WHERE dst = ?1 ORDER BY id";
+
+const RECEIPTS_AT: &str =
+    "SELECT token, digest, first, count FROM receipt WHERE token = ?1 ORDER BY id";
+
+const SLIP_AT: &str = "SELECT no, keep, gone, undone FROM slip WHERE no = ?1 ORDER BY no";
+
+const SLIP_LINES_AT: &str =
+    "SELECT slip, side, no, depth, tag, text, dst FROM slip_line WHERE slip = ?1 ORDER BY id";
+
+/// The next number. Errors of this and of all calls below as of `read_rows`.
+pub fn next<S: Alter>(alloc: Global, conn: &mut Connection<S>) -> Result<u64, RefusalKind>
+    requires autocommit { conn.old.in_transaction ≡ false }
+    ensures looks { Looks (λ rows next. next ≡ rows.next) (state S.Store conn.old) (state S.Store conn.new) result }
+    ensures ended { conn.new.in_transaction ≡ false }
+{
+    Ok(read_meta(alloc, conn)?.next)
+}
+
+/// The batch of a number.
+pub fn batch_at<S: Alter>(
+    alloc: Global,
+    conn: &mut Connection<S>,
+    number: u32,
+) -> Result<Option<BatchRow>, RefusalKind>
+    requires autocommit { conn.old.in_transaction ≡ false }
+    ensures looks { Looks (λ rows found. IsOnly (batches_at number rows) found) (state S.Store conn.old) (state S.Store conn.new) result }
+    ensures ended { conn.new.in_transaction ≡ false }
+{
+    at_most_one(batches_at(alloc, conn, number)?)
+}
+
+/// The row of a number in `record`.
+pub fn record_at<S: Alter>(
+    alloc: Global,
+    conn: &mut Connection<S>,
+    number: u32,
+) -> Result<Option<RecordRow>, RefusalKind>
+    requires autocommit { conn.old.in_transaction ≡ false }
+    ensures looks { Looks (λ rows found. IsOnly (records_at number rows) found) (state S.Store conn.old) (state S.Store conn.new) result }
+    ensures ended { conn.new.in_transaction ≡ false }
+{
+    at_most_one(records_at(alloc, conn, number)?)
+}
+
+/// The stored lines of a number, in order.
+pub fn lines_at<S: Alter>(
+    alloc: Global,
+    conn: &mut Connection<S>,
+    number: u32,
+) -> Result<Vec<StoredLine>, RefusalKind>
+    requires autocommit { conn.old.in_transaction ≡ false }
+    ensures looks { Looks (λ rows items. items.items ≡ lines_of number rows) (state S.Store conn.old) (state S.Store conn.new) result }
+    ensures ended { conn.new.in_transaction ≡ false }
+{
+    read_all(alloc, conn, LINES_AT, params![number])
+}
+
+/// The numbers of all lines that name a number, in the order of the lines: a number as often as it has such lines.
+pub fn lines_naming<S: Alter>(
+    alloc: Global,
+    conn: &mut Connection<S>,
+    number: u32,
+) -> Result<Vec<u32>, RefusalKind>
+    requires autocommit { conn.old.in_transaction ≡ false }
+    ensures looks { Looks (λ rows items. items.items ≡ lines_naming number rows) (state S.Store conn.old) (state S.Store conn.new) result }
+    ensures ended { conn.new.in_transaction ≡ false }
+{
+    read_all(alloc, conn, LINES_NAMING, params![number])
+}
+
+/// What is kept under a token, in the order in which it was written.
+pub fn receipts_at<S: Alter>(
+    alloc: Global,
+    conn: &mut Connection<S>,
+    token: &Token,
+) -> Result<Vec<ReceiptRow>, RefusalKind>
+    requires autocommit { conn.old.in_transaction ≡ false }
+    ensures looks { Looks (λ rows items. items.items ≡ receipts_at token.now rows) (state S.Store conn.old) (state S.Store conn.new) result }
+    ensures ended { conn.new.in_transaction ≡ false }
+{
+    read_all(alloc, conn, RECEIPTS_AT, params![token.as_str()])
+}
+
+/// The row of a slip.
+pub fn slip_at<S: Alter>(
+    alloc: Global,
+    conn: &mut Connection<S>,
+    number: u32,
+) -> Result<Option<SlipRow>, RefusalKind>
+    requires autocommit { conn.old.in_transaction ≡ false }
+    ensures looks { Looks (λ rows found. IsOnly (slips_at number rows) found) (state S.Store conn.old) (state S.Store conn.new) result }
+    ensures ended { conn.new.in_transaction ≡ false }
+{
+    at_most_one(slips_at(alloc, conn, number)?)
+}
+
+/// The lines of a slip, in order.
+pub fn slip_lines_at<S: Alter>(
+    alloc: Global,
+    conn: &mut Connection<S>,
+    slip: u32,
+) -> Result<Vec<SlipLineRow>, RefusalKind>
+    requires autocommit { conn.old.in_transaction ≡ false }
+    ensures looks { Looks (λ rows items. items.items ≡ slip_lines_at slip rows) (state S.Store conn.old) (state S.Store conn.new) result }
+    ensures ended { conn.new.in_transaction ≡ false }
+{
+    read_all(alloc, conn, SLIP_LINES_AT, params![slip])
+}
+
+fn batches_at<S: Alter>(
+    alloc: Global,
+    conn: &mut Connection<S>,
+    number: u32,
+) -> Result<Vec<BatchRow>, RefusalKind>
+    requires autocommit { conn.old.in_transaction ≡ false }
+    ensures looks { Looks (λ rows items. (items.items ≡ batches_at number rows) × (length items.items ≤ 1)) (state S.Store conn.old) (state S.Store conn.new) result }
+    ensures ended { conn.new.in_transaction ≡ false }
+{
+    read_all(alloc, conn, BATCH_AT, params![number])
+}
+
+fn records_at<S: Alter>(
+    alloc: Global,
+    conn: &mut Connection<S>,
+    number: u32,
+) -> Result<Vec<RecordRow>, RefusalKind>
+    requires autocommit { conn.old.in_transaction ≡ false }
+    ensures looks { Looks (λ rows items. (items.items ≡ records_at number rows) × (length items.items ≤ 1)) (state S.Store conn.old) (state S.Store conn.new) result }
+    ensures ended { conn.new.in_transaction ≡ false }
+{
+    read_all(alloc, conn, RECORD_AT, params![number])
+}
+
+fn slips_at<S: Alter>(
+    alloc: Global,
+    conn: &mut Connection<S>,
+    number: u32,
+) -> Result<Vec<SlipRow>, RefusalKind>
+    requires autocommit { conn.old.in_transaction ≡ false }
+    ensures looks { Looks (λ rows items. (items.items ≡ slips_at number rows) × (length items.items ≤ 1)) (state S.Store conn.old) (state S.Store conn.new) result }
+    ensures ended { conn.new.in_transaction ≡ false }
+{
+    read_all(alloc, conn, SLIP_AT, params![number])
+}
+
+/// The item of a list of at most one: no key of a table comes twice.
+fn at_most_one<T: Drop>(mut items: Vec<T>) -> Result<Option<T>, RefusalKind>
+    ensures ok { IfOk result (λ found. IsOnly items.items found) }
+    ensures err { IfErr result (FailsUnless (length items.items ≤ 1)) }
+{
+    match items.pop() {
+        None => Ok(None),
+        Some(item) if items.is_empty() => Ok(Some(item)),
+        Some(_) => Err(RefusalKind::BadStored),
+    }
+}
