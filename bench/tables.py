@@ -23,6 +23,7 @@ SCHEMA = (
     " dst INTEGER REFERENCES record (no) ON DELETE RESTRICT) STRICT",
     "CREATE INDEX line_by_record ON line (no)",
     "CREATE INDEX line_by_target ON line (dst)",
+    "CREATE INDEX line_by_text ON line (text, dst)",
     "INSERT INTO batch VALUES (0, 0)",
 )
 

@@ -10,7 +10,7 @@ use Rattle.std.specs.List.{list_all, list_any, flat_map}
 use Rattle.std.specs.Str.{bytes_eq}
 use Rattle.record_fields.specs.declared.date.Date.{Date}
 use Rattle.record_fields.specs.declared.words.Sex.{Sex}
-use Rattle.record_text.specs.Text.{is_word}
+use Rattle.record_text.specs.Text.{IsText, is_word}
 use Rattle.record_fields.specs.Bytes.{bytes_are}
 use Rattle.stored_lines.specs.Tree.{Tree}
 use Rattle.stored_lines.specs.Line.{Line, Lines}
@@ -27,6 +27,7 @@ use Rattle.record_shapes.specs.Untaken.{AreUntaken, person_leaves, event_leaves,
 use Rattle.record_shapes.specs.Levels.{AreWithin, HasRoom}
 use Rattle.archive_state.specs.Known.{known_of, known_before}
 use Rattle.archive_state.specs.Slips.{Slip}
+use Rattle.archive_state.specs.Texts.{own_texts, carried_texts, date_texts, line_texts}
 use Rattle.archive_state.specs.Content.{Content}
 use Rattle.record_shapes.specs.Tags.{event_tags, is_event_tag, person_tags, family_tags}
 use Rattle.record_shapes.specs.Paths.{has_part}
@@ -35,11 +36,12 @@ use Rattle.record_shapes.specs.Lists.{EachOf, IsOnce}
 use Rattle.record_shapes.specs.Members.{members}
 use Rattle.archive_state.specs.Sound.{IsOfRecords, HasSaidPlace, HasEventTag, Stands, IsSound, owner_in}
 use Rattle.archive_core.specs.Checks.{tags_of, is_tag_of}
-use Rattle.archive_core.specs.Steps.{plain_name, plain_person, with_name, plain_partners, plain_child, with_child, is_same, is_partner, is_child, plain_place, plain_participant, with_participant, or_kept_date, or_kept_place, with_fields}
+use Rattle.archive_core.specs.Steps.{plain_name, plain_person, with_name, plain_partners, plain_child, with_child, is_same, is_partner, is_child, plain_place, plain_participant, with_participant, or_kept_date, or_kept_place, or_kept_text, with_fields}
 use Rattle.archive_core.specs.declared.looks.Owner.{Owner}
 use Rattle.archive_core.specs.declared.looks.Owner.TheVariants as owner
-use Rattle.archive_core.proofs.Each.{each_both, each_front, each_back}
-use Rattle.archive_core.proofs.Keeping.{IsAlike, IsFit}
+use Rattle.archive_state.proofs.Each.{each_both, each_front, each_back}
+use Rattle.archive_state.proofs.Keeping.{IsAlike}
+use Rattle.archive_core.proofs.Keeping.{IsFit}
 
 -- ---- lists
 no_more : {A : Type 0} (xs : List A) → xs ++ [] ≡ xs
@@ -141,9 +143,19 @@ untaken_more field some more h (t ∷ ts) u =
 none_within : (n : ℕ) → AreWithin n []
 none_within n = omega arith
 
+-- ---- texts
+-- those of a record in the place of one with the same carried lines
+still_written : (c : Content) (n : ℕ) (old new : Record) → IsSound c → get c.records n ≡ Some old → carried new ≡ carried old → EachOf IsText (own_texts new) → EachOf IsText (own_texts new ++ carried_texts new)
+still_written c n old new sound at carry own =
+    each_both IsText (own_texts new) (carried_texts new) own
+    (subst (λ l. EachOf IsText (flat_map line_texts l)) (sym carry) (each_back IsText (own_texts old) (carried_texts old) (sound.rules.texts n old at)))
+
+own_written : (c : Content) (n : ℕ) (old : Record) → IsSound c → get c.records n ≡ Some old → EachOf IsText (own_texts old)
+own_written c n old sound at = each_front IsText (own_texts old) (carried_texts old) (sound.rules.texts n old at)
+
 -- ---- persons
-person_fits : (c : Content) (n : ℕ) (p : model.Person) → ((old : Record) → get c.records n ≡ Some old → IsAlike old (kind.Person p)) → get c.slips n ≡ None → EachOf (Stands c.records) (links (kind.Person p)) → EachOf IsOfRecords (carried_tags (kind.Person p)) → HasUntaken (known_before c.records n) (known_of c.records) (kind.Person p) → HasRoom (owner_in c.records (kind.Person p)) (kind.Person p) → IsFit c n (kind.Person p)
-person_fits c n p alike free named carry untaken levels = record {
+person_fits : (c : Content) (n : ℕ) (p : model.Person) → ((old : Record) → get c.records n ≡ Some old → IsAlike old (kind.Person p)) → get c.slips n ≡ None → EachOf (Stands c.records) (links (kind.Person p)) → EachOf IsOfRecords (carried_tags (kind.Person p)) → EachOf IsText (own_texts (kind.Person p) ++ carried_texts (kind.Person p)) → HasUntaken (known_before c.records n) (known_of c.records) (kind.Person p) → HasRoom (owner_in c.records (kind.Person p)) (kind.Person p) → IsFit c n (kind.Person p)
+person_fits c n p alike free named carry written untaken levels = record {
   alike = alike;
   no_slip = free;
   no_place = λ q e. absurd cc;
@@ -155,6 +167,7 @@ person_fits c n p alike free named carry untaken levels = record {
   once = tt;
   data_tags = carry;
   trailers = tt;
+  texts = written;
   places = tt;
   events = tt;
   mentions = tt;
@@ -162,20 +175,21 @@ person_fits c n p alike free named carry untaken levels = record {
   levels = levels;
 }
 
-pub new_person_fits : (c : Content) (name : List ℕ) (sex : Option Sex) → IsSound c → IsFit c c.next (kind.Person (plain_person name sex))
-new_person_fits c name sex sound =
-    person_fits c c.next (plain_person name sex) (anew c (kind.Person (plain_person name sex)) sound) (no_slip_at_next c sound) tt tt refl ((none_within 97, tt), none_within 98)
+pub new_person_fits : (c : Content) (name : List ℕ) (sex : Option Sex) → IsSound c → IsText name → IsFit c c.next (kind.Person (plain_person name sex))
+new_person_fits c name sex sound is =
+    person_fits c c.next (plain_person name sex) (anew c (kind.Person (plain_person name sex)) sound) (no_slip_at_next c sound) tt tt (is, tt) refl ((none_within 97, tt), none_within 98)
 
 -- a person in the place of one with the same links and the same carried lines, that has a sex where the other has one
-person_over : (c : Content) (n : ℕ) (p q : model.Person) → IsSound c → get c.records n ≡ Some (kind.Person p) → links (kind.Person q) ≡ links (kind.Person p) → carried (kind.Person q) ≡ carried (kind.Person p)
+person_over : (c : Content) (n : ℕ) (p q : model.Person) → IsSound c → get c.records n ≡ Some (kind.Person p) → links (kind.Person q) ≡ links (kind.Person p) → carried (kind.Person q) ≡ carried (kind.Person p) → EachOf IsText (own_texts (kind.Person q))
     → q.carried ≡ p.carried → (is_some p.sex ≡ true → is_some q.sex ≡ true) → EachOf (λ (x : model.Name). AreWithin 97 x.carried) q.names → IsFit c n (kind.Person q)
-person_over c n p q sound at linked carry own sex names =
+person_over c n p q sound at linked carry written own sex names =
     let field : Tree Line → Field = person_field (known_of c.records) in
     person_fits c n q
     (over c n (kind.Person p) (kind.Person q) at (persons_are p q))
     (sound.distinct n (kind.Person p) at)
     (subst (EachOf (Stands c.records)) (sym linked) (sound.named n (kind.Person p) at))
     (subst (λ l. EachOf IsOfRecords (flat_map tags l)) (sym carry) (sound.rules.tags n (kind.Person p) at))
+    (still_written c n (kind.Person p) (kind.Person q) sound at carry written)
     (subst (λ (l : Lines). AreUntaken field (person_leaves q) l) (sym own) (untaken_more field (person_leaves p) (person_leaves q) more p.carried (sound.rules.untaken n (kind.Person p) at)))
     (names, subst (λ (l : Lines). AreWithin 98 l) (sym own) (sound.rules.levels n (kind.Person p) at).1)
   where
@@ -184,19 +198,20 @@ person_over c n p q sound at linked carry own sex names =
     more part.a_sex e = sex e
     more _ e = absurd cc
 
-pub add_name_fits : (c : Content) (n : ℕ) (p : model.Person) (name : List ℕ) → IsSound c → get c.records n ≡ Some (kind.Person p) → IsFit c n (kind.Person (with_name name p))
-add_name_fits c n p name sound at =
+pub add_name_fits : (c : Content) (n : ℕ) (p : model.Person) (name : List ℕ) → IsSound c → get c.records n ≡ Some (kind.Person p) → IsText name → IsFit c n (kind.Person (with_name name p))
+add_name_fits c n p name sound at is =
     person_over c n p (with_name name p) sound at
     (ap (λ l. l ++ carried_links p.carried) (none_more name_links p.names (plain_name name) refl))
     (ap (λ l. l ++ p.carried) (none_more (λ (x : model.Name). x.carried) p.names (plain_name name) refl))
+    (subst (EachOf IsText) (map_one (λ (x : model.Name). x.text) p.names (plain_name name)) (each_both IsText (map (λ (x : model.Name). x.text) p.names) (name ∷ []) (own_written c n (kind.Person p) sound at) (is, tt)))
     refl (λ e. e) (each_both (λ (x : model.Name). AreWithin 97 x.carried) p.names (plain_name name ∷ []) (sound.rules.levels n (kind.Person p) at).0 (none_within 97, tt))
 
 pub set_sex_fits : (c : Content) (n : ℕ) (p : model.Person) (sex : Sex) → IsSound c → get c.records n ≡ Some (kind.Person p) → IsFit c n (kind.Person (record p { sex = Some sex }))
-set_sex_fits c n p sex sound at = person_over c n p (record p { sex = Some sex }) sound at refl refl refl (λ e. refl) (sound.rules.levels n (kind.Person p) at).0
+set_sex_fits c n p sex sound at = person_over c n p (record p { sex = Some sex }) sound at refl refl (own_written c n (kind.Person p) sound at) refl (λ e. refl) (sound.rules.levels n (kind.Person p) at).0
 
 -- ---- families
-family_fits : (c : Content) (n : ℕ) (f : model.Family) → ((old : Record) → get c.records n ≡ Some old → IsAlike old (kind.Family f)) → get c.slips n ≡ None → EachOf (Stands c.records) (links (kind.Family f)) → IsOnce (members f) → EachOf IsOfRecords (carried_tags (kind.Family f)) → HasUntaken (known_before c.records n) (known_of c.records) (kind.Family f) → HasRoom (owner_in c.records (kind.Family f)) (kind.Family f) → IsFit c n (kind.Family f)
-family_fits c n f alike free named once carry untaken levels = record {
+family_fits : (c : Content) (n : ℕ) (f : model.Family) → ((old : Record) → get c.records n ≡ Some old → IsAlike old (kind.Family f)) → get c.slips n ≡ None → EachOf (Stands c.records) (links (kind.Family f)) → IsOnce (members f) → EachOf IsOfRecords (carried_tags (kind.Family f)) → EachOf IsText (carried_texts (kind.Family f)) → HasUntaken (known_before c.records n) (known_of c.records) (kind.Family f) → HasRoom (owner_in c.records (kind.Family f)) (kind.Family f) → IsFit c n (kind.Family f)
+family_fits c n f alike free named once carry written untaken levels = record {
   alike = alike;
   no_slip = free;
   no_place = λ q e. absurd cc;
@@ -208,6 +223,7 @@ family_fits c n f alike free named once carry untaken levels = record {
   once = once;
   data_tags = carry;
   trailers = tt;
+  texts = written;
   places = tt;
   events = tt;
   mentions = tt;
@@ -255,6 +271,7 @@ new_family_fits c husband wife sound h w other =
     family_fits c c.next (family_of husband wife) (anew c (kind.Family (family_of husband wife)) sound) (no_slip_at_next c sound)
     (partners_stand c husband wife h w) (partners_once husband wife other)
     (subst (λ l. EachOf IsOfRecords (flat_map tags l)) (sym (partners_carry husband wife)) tt)
+    (subst (λ l. EachOf IsText (flat_map line_texts l)) (sym (partners_carry husband wife)) tt)
     refl (partners_room husband wife, tt, none_within 98)
 
 first_no : (a b : Bool) → (a || b) ≡ false → a ≡ false
@@ -302,12 +319,13 @@ add_child_fits c n f person sound at stands other =
     (each_both P (flat_map partner_links f.partners) (flat_map child_links (f.children ++ (plain_child person ∷ [])) ++ carried_links f.carried) front more)
     (subst IsOnce (sym (member_more f person)) (once_more (members f) person (sound.rules.once n (kind.Family f) at) (no_member f person other)))
     (subst (λ l. EachOf IsOfRecords (flat_map tags l)) (sym carry) (sound.rules.tags n (kind.Family f) at))
+    (still_written c n (kind.Family f) (kind.Family (with_child person f)) sound at carry tt)
     (sound.rules.untaken n (kind.Family f) at)
     (room.0, each_both (λ (x : model.Child). AreWithin 97 x.carried × AreWithin 97 x.carried_by_person) f.children (plain_child person ∷ []) room.1 ((none_within 97, none_within 97), tt), room.2)
 
 -- ---- events
-event_fits : (c : Content) (n : ℕ) (e : model.Event) → ((old : Record) → get c.records n ≡ Some old → IsAlike old (kind.Event e)) → get c.slips n ≡ None → EachOf (Stands c.records) (links (kind.Event e)) → EachOf IsOfRecords (e.tag ∷ carried_tags (kind.Event e)) → HasSaidPlace c.records (kind.Event e) → HasEventTag c.records (kind.Event e) → HasUntaken (known_before c.records n) (known_of c.records) (kind.Event e) → HasRoom (owner_in c.records (kind.Event e)) (kind.Event e) → IsFit c n (kind.Event e)
-event_fits c n e alike free named carry place event untaken levels = record {
+event_fits : (c : Content) (n : ℕ) (e : model.Event) → ((old : Record) → get c.records n ≡ Some old → IsAlike old (kind.Event e)) → get c.slips n ≡ None → EachOf (Stands c.records) (links (kind.Event e)) → EachOf IsOfRecords (e.tag ∷ carried_tags (kind.Event e)) → EachOf IsText (own_texts (kind.Event e) ++ carried_texts (kind.Event e)) → HasSaidPlace c.records (kind.Event e) → HasEventTag c.records (kind.Event e) → HasUntaken (known_before c.records n) (known_of c.records) (kind.Event e) → HasRoom (owner_in c.records (kind.Event e)) (kind.Event e) → IsFit c n (kind.Event e)
+event_fits c n e alike free named carry written place event untaken levels = record {
   alike = alike;
   no_slip = free;
   no_place = λ q e. absurd cc;
@@ -319,6 +337,7 @@ event_fits c n e alike free named carry place event untaken levels = record {
   once = tt;
   data_tags = carry;
   trailers = tt;
+  texts = written;
   places = place;
   events = event;
   mentions = tt;
@@ -378,6 +397,13 @@ new_carried : (owner : ℕ) (tag value : List ℕ) (date : Option Date) (place :
 new_carried owner tag value date None = refl
 new_carried owner tag value date (Some n) = refl
 
+new_written : (owner : ℕ) (tag value : List ℕ) (date : Option Date) (place : Option ℕ) → IsText value → EachOf IsText (date_texts date)
+    → EachOf IsText (own_texts (kind.Event (plain_event owner tag value date place)) ++ carried_texts (kind.Event (plain_event owner tag value date place)))
+new_written owner tag value date place is dated =
+    let event : Record = kind.Event (plain_event owner tag value date place) in
+    each_both IsText (own_texts event) (carried_texts event) (is, each_both IsText (date_texts date) [] dated tt)
+    (subst (λ l. EachOf IsText (flat_map line_texts l)) (sym (new_carried owner tag value date place)) tt)
+
 new_said : (c : Content) (owner : ℕ) (tag value : List ℕ) (date : Option Date) (place : Option ℕ) → PlaceAt c place → HasSaidPlace c.records (kind.Event (plain_event owner tag value date place))
 new_said c owner tag value date None p = tt
 new_said c owner tag value date (Some n) p = p.1
@@ -391,29 +417,31 @@ new_room : (place : Option ℕ) → IfSome (option_map plain_place place) (λ (p
 new_room None = tt
 new_room (Some n) = none_within 96
 
-pub new_event_fits : (c : Content) (n : ℕ) (o : Owner) (old : Record) (tag value : List ℕ) (date : Option Date) (place : Option ℕ) → IsSound c → get c.records n ≡ Some old → is_wanted a_holder old ≡ true → event_tags old ≡ tags_of o → is_tag_of o tag ≡ true → PlaceAt c place
+pub new_event_fits : (c : Content) (n : ℕ) (o : Owner) (old : Record) (tag value : List ℕ) (date : Option Date) (place : Option ℕ) → IsSound c → get c.records n ≡ Some old → is_wanted a_holder old ≡ true → event_tags old ≡ tags_of o → is_tag_of o tag ≡ true → PlaceAt c place → IsText value → EachOf IsText (date_texts date)
     → IsFit c c.next (kind.Event (record { owner = n; tag = tag; value = value; date = date; place = option_map plain_place place; participants = []; carried = [] }))
-new_event_fits c n o old tag value date place sound at holder tagged one said =
+new_event_fits c n o old tag value date place sound at holder tagged one said is dated =
     event_fits c c.next (plain_event n tag value date place) (anew c (kind.Event (plain_event n tag value date place)) sound) (no_slip_at_next c sound)
     (new_links c n tag value date place (ap (option_map (is_wanted a_holder)) at ∙ ap Some holder) said)
     (fine_of_owner o tag one, subst (λ l. EachOf IsOfRecords (flat_map tags l)) (sym (new_carried n tag value date place)) tt)
+    (new_written n tag value date place is dated)
     (new_said c n tag value date place said)
     (tag_of_owner c n o old tag at tagged one)
     (tt, refl)
     (new_room place, tt, none_within 97)
 
 -- an event in the place of one of the same owner, tag and carried lines, that has a date and a place where the other has them
-event_over : (c : Content) (n : ℕ) (e f : model.Event) → IsSound c → get c.records n ≡ Some (kind.Event e) → f.owner ≡ e.owner → f.tag ≡ e.tag → EachOf (Stands c.records) (links (kind.Event f)) → EachOf IsOfRecords (carried_tags (kind.Event f)) → HasSaidPlace c.records (kind.Event f)
+event_over : (c : Content) (n : ℕ) (e f : model.Event) → IsSound c → get c.records n ≡ Some (kind.Event e) → f.owner ≡ e.owner → f.tag ≡ e.tag → EachOf (Stands c.records) (links (kind.Event f)) → EachOf IsOfRecords (carried_tags (kind.Event f)) → EachOf IsText (own_texts (kind.Event f) ++ carried_texts (kind.Event f)) → HasSaidPlace c.records (kind.Event f)
     → f.carried ≡ e.carried → (is_some e.date ≡ true → is_some f.date ≡ true) → (is_some e.place ≡ true → is_some f.place ≡ true)
     → EachOf (λ (p : model.Participant). AreUntaken participant_field (participant_leaves p) p.carried) f.participants
     → IfSome f.place (λ (p : model.EventPlace). AreWithin 96 p.carried) → EachOf (λ (p : model.Participant). AreWithin 96 p.carried) f.participants → IsFit c n (kind.Event f)
-event_over c n e f sound at owner tag named carry place own date put took placed_room took_room =
+event_over c n e f sound at owner tag named carry written place own date put took placed_room took_room =
     let field : Tree Line → Field = event_field (known_of c.records) in
     event_fits c n f
     (over c n (kind.Event e) (kind.Event f) at (events_are e f))
     (sound.distinct n (kind.Event e) at)
     named
     (subst IsOfRecords (sym tag) (sound.rules.tags n (kind.Event e) at).0, carry)
+    written
     place
     (subst (λ (t : List ℕ). IfSome (get c.records f.owner) (λ r. is_event_tag t r ≡ true)) (sym tag)
     (subst (λ (k : ℕ). IfSome (get c.records k) (λ r. is_event_tag e.tag r ≡ true)) (sym owner) (sound.rules.events n (kind.Event e) at)))
@@ -426,8 +454,18 @@ event_over c n e f sound at owner tag named carry place own date put took placed
     more part.a_place e = put e
     more _ e = absurd cc
 
-pub add_participant_fits : (c : Content) (n : ℕ) (e : model.Event) (person : ℕ) (role : List ℕ) → IsSound c → get c.records n ≡ Some (kind.Event e) → Stands c.records (person, a_person) → IsFit c n (kind.Event (with_participant person role e))
-add_participant_fits c n e person role sound at stands =
+one_role_more : (e : model.Event) (person : ℕ) (role : List ℕ) → EachOf IsText (own_texts (kind.Event e)) → IsText role → EachOf IsText (own_texts (kind.Event (with_participant person role e)))
+one_role_more e person role old is =
+    let role_of : model.Participant → List ℕ = λ p. p.role in
+    let dates : List (List ℕ) = date_texts e.date in
+    let roles : List (List ℕ) = map role_of e.participants in (
+      old.0,
+      each_both IsText dates (map role_of (e.participants ++ (plain_participant person role ∷ []))) (each_front IsText dates roles old.1)
+          (subst (EachOf IsText) (map_one role_of e.participants (plain_participant person role)) (each_both IsText roles (role ∷ []) (each_back IsText dates roles old.1) (is, tt))),
+    )
+
+pub add_participant_fits : (c : Content) (n : ℕ) (e : model.Event) (person : ℕ) (role : List ℕ) → IsSound c → get c.records n ≡ Some (kind.Event e) → Stands c.records (person, a_person) → IsText role → IsFit c n (kind.Event (with_participant person role e))
+add_participant_fits c n e person role sound at stands is =
     let P : Link → Type 0 = Stands c.records in
     let old : EachOf P (links (kind.Event e)) = sound.named n (kind.Event e) at in
     let more : model.Event = with_participant person role e in
@@ -440,6 +478,7 @@ add_participant_fits c n e person role sound at stands =
     event_over c n e more sound at refl refl
     (old.0, each_both P (place_line_links e.place) (flat_map participant_links more.participants ++ carried_links e.carried) front back)
     (subst (λ l. EachOf IsOfRecords (flat_map tags l)) (sym carry) (sound.rules.tags n (kind.Event e) at).1)
+    (still_written c n (kind.Event e) (kind.Event more) sound at carry (one_role_more e person role (own_written c n (kind.Event e) sound at) is))
     (sound.rules.places n (kind.Event e) at)
     refl (λ q. q) (λ q. q)
     (each_both (λ (p : model.Participant). AreUntaken participant_field (participant_leaves p) p.carried) e.participants (plain_participant person role ∷ []) (sound.rules.untaken n (kind.Event e) at).0 (refl, tt))
@@ -477,8 +516,24 @@ amended_date : (date old : Option Date) → is_some old ≡ true → is_some (or
 amended_date None old e = e
 amended_date (Some d) old e = refl
 
-pub amend_event_fits : (c : Content) (n : ℕ) (e : model.Event) (value : List ℕ) (date : Option Date) (place : Option ℕ) → IsSound c → get c.records n ≡ Some (kind.Event e) → PlaceAt c place → IsFit c n (kind.Event (with_fields value date place e))
-amend_event_fits c n e value date place sound at said =
+amended_text : (value old : List ℕ) → IsText value → IsText old → IsText (or_kept_text value old)
+amended_text [] old is was = was
+amended_text (b ∷ bs) old is was = is
+
+amended_dates : (date old : Option Date) → EachOf IsText (date_texts date) → EachOf IsText (date_texts old) → EachOf IsText (date_texts (or_kept_date date old))
+amended_dates None old is was = was
+amended_dates (Some d) old is was = is
+
+amended_written : (value : List ℕ) (date : Option Date) (place : Option ℕ) (e : model.Event) → EachOf IsText (own_texts (kind.Event e)) → IsText value → EachOf IsText (date_texts date) → EachOf IsText (own_texts (kind.Event (with_fields value date place e)))
+amended_written value date place e old is dated =
+    let dates : List (List ℕ) = date_texts e.date in
+    let roles : List (List ℕ) = map (λ (p : model.Participant). p.role) e.participants in (
+      amended_text value e.value is old.0,
+      each_both IsText (date_texts (or_kept_date date e.date)) roles (amended_dates date e.date dated (each_front IsText dates roles old.1)) (each_back IsText dates roles old.1),
+    )
+
+pub amend_event_fits : (c : Content) (n : ℕ) (e : model.Event) (value : List ℕ) (date : Option Date) (place : Option ℕ) → IsSound c → get c.records n ≡ Some (kind.Event e) → PlaceAt c place → IsText value → EachOf IsText (date_texts date) → IsFit c n (kind.Event (with_fields value date place e))
+amend_event_fits c n e value date place sound at said is dated =
     let P : Link → Type 0 = Stands c.records in
     let old : EachOf P (links (kind.Event e)) = sound.named n (kind.Event e) at in
     let after : model.Event = with_fields value date place e in
@@ -491,6 +546,7 @@ amend_event_fits c n e value date place sound at said =
     event_over c n e after sound at refl refl
     (old.0, each_both P (place_line_links after.place) rest front back)
     (subst (λ l. EachOf IsOfRecords (flat_map tags l)) (sym carry) (sound.rules.tags n (kind.Event e) at).1)
+    (still_written c n (kind.Event e) (kind.Event after) sound at carry (amended_written value date place e (own_written c n (kind.Event e) sound at) is dated))
     (amended_said c place e.place said (sound.rules.places n (kind.Event e) at))
     refl (amended_date date e.date) (amended_place place e.place)
     (sound.rules.untaken n (kind.Event e) at).0

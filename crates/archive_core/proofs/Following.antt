@@ -11,7 +11,9 @@ use Rattle.record_kinds.specs.declared.record.Record.TheVariants as kind
 use Rattle.receipts.specs.declared.answer.Answer.{Answer}
 use Rattle.archive_state.specs.Content.{Content}
 use Rattle.archive_state.specs.Sound.{IsSound}
+use Rattle.std.specs.Str.{IsUtf8}
 use Rattle.commands.specs.Rows.{and_then}
+use Rattle.commands.specs.Sound.{WhereSome}
 use Rattle.commands.specs.declared.command.Command.{Command}
 use Rattle.commands.specs.declared.command.Command.TheVariants as command
 use Rattle.commands.specs.declared.row_command.RowCommand.{RowCommand}
@@ -19,26 +21,28 @@ use Rattle.commands.specs.declared.row_command.RowCommand.TheVariants as row_com
 use Rattle.archive_core.specs.Checks.{text_in, date_in, person_at, family_at, event_at, owner_at, place_at, tag_in, event_tag, is_tag_of, is_said, said_place_at, passed, each, need}
 use Rattle.archive_core.specs.Steps.{RowStep, placed, row_step, step, creates, replaces, plain_person, plain_partners, plain_place, with_name, with_child, with_fields, with_participant, is_same, is_partner, is_child}
 use Rattle.archive_core.specs.Machine.{Draws, UsesNoneAgain}
+use Rattle.archive_core.specs.Words.{IsUtf8Date, IsUtf8Row, HasUtf8Words}
 use Rattle.archive_core.specs.declared.looks.Owner.{Owner}
 use Rattle.archive_state.proofs.Putting.{put_elsewhere, put_here}
 use Rattle.archive_core.proofs.Keeping.{IsFit, put_keeps}
 use Rattle.archive_core.proofs.Found.{person_found, family_found, event_found, owner_found, person_stands, place_stands, passes}
 use Rattle.archive_core.proofs.SaidPaths.{said_has_part}
+use Rattle.archive_core.proofs.Worded.{text_found, maybe_date}
 use Rattle.archive_core.proofs.Fitting.{PersonAt, PlaceAt, new_person_fits, add_name_fits, set_sex_fits, new_family_fits, add_child_fits, new_event_fits, amend_event_fits, add_participant_fits}
 
 -- an accepted step leaves receipts and slips as they are, draws the numbers of what it makes, uses no number again, and
--- leaves a sound archive sound
-abbrev pub Follows : {E : Type 0} → Content → Result (Content × Answer) E → Type 0
-Follows c (Ok done) = (done.0.receipts ≡ c.receipts) × (done.0.slips ≡ c.slips) × Draws c done.1 done.0 × UsesNoneAgain c done.0 × (IsSound c → IsSound done.0)
-Follows c (Err e) = Unit {0}
+-- where W holds leaves a sound archive sound
+abbrev pub Follows : {E : Type 0} → Type 0 → Content → Result (Content × Answer) E → Type 0
+Follows W c (Ok done) = (done.0.receipts ≡ c.receipts) × (done.0.slips ≡ c.slips) × Draws c done.1 done.0 × UsesNoneAgain c done.0 × (W → IsSound c → IsSound done.0)
+Follows W c (Err e) = Unit {0}
 
-then_follows : {A : Type 0} (c : Content) (r : Result A RefusalKind) (f : A → RowStep) → ((a : A) → r ≡ Ok a → Follows c (f a)) → Follows c (and_then r f)
-then_follows c (Ok a) f h = h a refl
-then_follows c (Err e) f h = tt
+then_follows : {A : Type 0} (W : Type 0) (c : Content) (r : Result A RefusalKind) (f : A → RowStep) → ((a : A) → r ≡ Ok a → Follows W c (f a)) → Follows W c (and_then r f)
+then_follows W c (Ok a) f h = h a refl
+then_follows W c (Err e) f h = tt
 
-need_follows : (c : Content) (b : Bool) (k : RefusalKind) (f : Unit {0} → RowStep) → (b ≡ true → Follows c (f tt)) → Follows c (and_then (need b k) f)
-need_follows c true k f h = h refl
-need_follows c false k f h = tt
+need_follows : (W : Type 0) (c : Content) (b : Bool) (k : RefusalKind) (f : Unit {0} → RowStep) → (b ≡ true → Follows W c (f tt)) → Follows W c (and_then (need b k) f)
+need_follows W c true k f h = h refl
+need_follows W c false k f h = tt
 
 -- a record changes that is there
 replaces_again : (c : Content) (n : ℕ) (old r : Record) → get c.records n ≡ Some old → UsesNoneAgain c (record c { records = insert c.records n r })
@@ -55,13 +59,13 @@ replaces_again c n old r at = (
 replaces_draws : (c : Content) (n : ℕ) (r : Record) → Draws c (record { first = 0; count = 0 }) (record c { records = insert c.records n r })
 replaces_draws c n r = (omega arith, inr (refl, refl), λ k low high. absurd (omega arith))
 
-replaces_follows : (c : Content) (n : ℕ) (old r : Record) → get c.records n ≡ Some old → (IsSound c → IsFit c n r) → Follows c (replaces c n r)
-replaces_follows c n old r at fit = (
+replaces_follows : (W : Type 0) (c : Content) (n : ℕ) (old r : Record) → get c.records n ≡ Some old → (W → IsSound c → IsFit c n r) → Follows W c (replaces c n r)
+replaces_follows W c n old r at fit = (
   refl,
   refl,
   replaces_draws c n r,
   replaces_again c n old r at,
-  (λ sound. put_keeps c n c.next r sound (fit sound) (omega arith) sound.bounded (sound.rules.numbered n old at)),
+  (λ w sound. put_keeps c n c.next r sound (fit w sound) (omega arith) sound.bounded (sound.rules.numbered n old at)),
 )
 
 -- a record is made at the next number
@@ -91,14 +95,14 @@ creates_draws c r = (
 one_more_free : (n : ℕ) → nat_le n 4_294_967_295 ≡ true → n + 1 ≤ 4294967296
 one_more_free n e = grind (arith, nat_tests)
 
-creates_follows : (c : Content) (r : Record) → (IsSound c → IsFit c c.next r) → Follows c (creates c r)
-creates_follows c r fit = elim (nat_le c.next 4_294_967_295) as (λ b. nat_le c.next 4_294_967_295 ≡ b → Follows c (and_then (if b then Ok c.next else Err Full) (λ n. created c n r))) [
+creates_follows : (W : Type 0) (c : Content) (r : Record) → (W → IsSound c → IsFit c c.next r) → Follows W c (creates c r)
+creates_follows W c r fit = elim (nat_le c.next 4_294_967_295) as (λ b. nat_le c.next 4_294_967_295 ≡ b → Follows W c (and_then (if b then Ok c.next else Err Full) (λ n. created c n r))) [
   | true ↦ λ e. (
     refl,
     refl,
     creates_draws c r,
     creates_again c r,
-    (λ sound. let begun : 0 < c.next = sound.begun in put_keeps c c.next (c.next + 1) r sound (fit sound) (omega arith) (one_more_free c.next e) (begun, omega arith)),
+    (λ w sound. let begun : 0 < c.next = sound.begun in put_keeps c c.next (c.next + 1) r sound (fit w sound) (omega arith) (one_more_free c.next e) (begun, omega arith)),
   )
   | false ↦ λ e. tt
 ] refl
@@ -145,31 +149,31 @@ event_tag_found c owner place t tag e =
     (o.0, o.1, maybe_place c place p.0 p.1, tag_found o.0 t tag p.2)
 
 -- ---- each command
-row_follows : (c : Content) (k : RowCommand) → Follows c (row_step c k)
+row_follows : (c : Content) (k : RowCommand) → Follows (IsUtf8Row k) c (row_step c k)
 row_follows c (row_command.Person name sex) =
-    then_follows c (text_in name) _ (λ t e. creates_follows c (kind.Person (plain_person t sex)) (new_person_fits c t sex))
+    then_follows (IsUtf8 name) c (text_in name) _ (λ t e. creates_follows (IsUtf8 name) c (kind.Person (plain_person t sex)) (λ w sound. new_person_fits c t sex sound (text_found name t w e)))
 row_follows c (row_command.Name person name) =
-    then_follows c (text_in name) _ (λ t e. then_follows c (person_at c person) _ (λ p found.
+    then_follows (IsUtf8 name) c (text_in name) _ (λ t e. then_follows (IsUtf8 name) c (person_at c person) _ (λ p found.
     let at : get c.records person ≡ Some (kind.Person p) = person_found (get c.records person) p found in
-    replaces_follows c person (kind.Person p) (kind.Person (with_name t p)) at (λ sound. add_name_fits c person p t sound at)))
+    replaces_follows (IsUtf8 name) c person (kind.Person p) (kind.Person (with_name t p)) at (λ w sound. add_name_fits c person p t sound at (text_found name t w e))))
 row_follows c (row_command.Sex person sex) =
-    then_follows c (person_at c person) _ (λ p found.
+    then_follows (Unit {0}) c (person_at c person) _ (λ p found.
     let at : get c.records person ≡ Some (kind.Person p) = person_found (get c.records person) p found in
-    replaces_follows c person (kind.Person p) (kind.Person (record p { sex = Some sex })) at (λ sound. set_sex_fits c person p sex sound at))
+    replaces_follows (Unit {0}) c person (kind.Person p) (kind.Person (record p { sex = Some sex })) at (λ w sound. set_sex_fits c person p sex sound at))
 row_follows c (row_command.Family husband wife) =
     let family : model.Family = record { partners = plain_partners husband wife; children = []; carried = [] } in
-    then_follows c (passed (each (person_at c) husband)) _ (λ h first. then_follows c (passed (each (person_at c) wife)) _ (λ w second.
-    need_follows c (not (is_same husband wife)) SamePerson _ (λ other. creates_follows c (kind.Family family)
-    (λ sound. new_family_fits c husband wife sound (maybe_person c husband h first) (maybe_person c wife w second) (not_true (is_same husband wife) other)))))
+    then_follows (Unit {0}) c (passed (each (person_at c) husband)) _ (λ h first. then_follows (Unit {0}) c (passed (each (person_at c) wife)) _ (λ w second.
+    need_follows (Unit {0}) c (not (is_same husband wife)) SamePerson _ (λ other. creates_follows (Unit {0}) c (kind.Family family)
+    (λ w sound. new_family_fits c husband wife sound (maybe_person c husband h first) (maybe_person c wife w second) (not_true (is_same husband wife) other)))))
 row_follows c (row_command.Child family person) =
-    then_follows c (family_at c family) _ (λ f found. then_follows c (passed (person_at c person)) _ (λ u there.
-    need_follows c (not (is_partner person f || is_child person f)) AlreadyInFamily _ (λ other.
+    then_follows (Unit {0}) c (family_at c family) _ (λ f found. then_follows (Unit {0}) c (passed (person_at c person)) _ (λ u there.
+    need_follows (Unit {0}) c (not (is_partner person f || is_child person f)) AlreadyInFamily _ (λ other.
     let at : get c.records family ≡ Some (kind.Family f) = family_found (get c.records family) f found in
-    replaces_follows c family (kind.Family f) (kind.Family (with_child person f)) at
-    (λ sound. add_child_fits c family f person sound at (one_person c person u there) (not_true (is_partner person f || is_child person f) other)))))
+    replaces_follows (Unit {0}) c family (kind.Family f) (kind.Family (with_child person f)) at
+    (λ w sound. add_child_fits c family f person sound at (one_person c person u there) (not_true (is_partner person f || is_child person f) other)))))
 row_follows c (row_command.Event owner tag value date place) =
-    then_follows c (text_in tag) _ (λ t i. then_follows c (text_in value) _ (λ v j. then_follows c (each date_in date) _ (λ d k.
-    then_follows c (event_tag c owner place t) _ (λ is found.
+    then_follows (IsUtf8 tag × IsUtf8 value × WhereSome IsUtf8Date date) c (text_in tag) _ (λ t i. then_follows (IsUtf8 tag × IsUtf8 value × WhereSome IsUtf8Date date) c (text_in value) _ (λ v j. then_follows (IsUtf8 tag × IsUtf8 value × WhereSome IsUtf8Date date) c (each date_in date) _ (λ d k.
+    then_follows (IsUtf8 tag × IsUtf8 value × WhereSome IsUtf8Date date) c (event_tag c owner place t) _ (λ is found.
     let event : model.Event = record {
       owner = owner;
       tag = is;
@@ -181,24 +185,24 @@ row_follows c (row_command.Event owner tag value date place) =
     } in
     let one = event_tag_found c owner place t is found in
     let holder = owner_found (get c.records owner) one.0 one.1 in
-    creates_follows c (kind.Event event)
-    (λ sound. new_event_fits c owner one.0 holder.0 is v d place sound holder.1 holder.2 holder.3 one.3 one.2)))))
+    creates_follows (IsUtf8 tag × IsUtf8 value × WhereSome IsUtf8Date date) c (kind.Event event)
+    (λ w sound. new_event_fits c owner one.0 holder.0 is v d place sound holder.1 holder.2 holder.3 one.3 one.2 (text_found value v w.1 j) (maybe_date date d w.2 k))))))
 row_follows c (row_command.Amend event value date place) =
-    then_follows c (text_in value) _ (λ v i. then_follows c (each date_in date) _ (λ d j. then_follows c (event_at c event) _ (λ e found.
-    then_follows c (passed (each (said_place_at c) place)) _ (λ u there.
+    then_follows (IsUtf8 value × WhereSome IsUtf8Date date) c (text_in value) _ (λ v i. then_follows (IsUtf8 value × WhereSome IsUtf8Date date) c (each date_in date) _ (λ d j. then_follows (IsUtf8 value × WhereSome IsUtf8Date date) c (event_at c event) _ (λ e found.
+    then_follows (IsUtf8 value × WhereSome IsUtf8Date date) c (passed (each (said_place_at c) place)) _ (λ u there.
     let at : get c.records event ≡ Some (kind.Event e) = event_found (get c.records event) e found in
-    replaces_follows c event (kind.Event e) (kind.Event (with_fields v d place e)) at
-    (λ sound. amend_event_fits c event e v d place sound at (maybe_place c place u there))))))
+    replaces_follows (IsUtf8 value × WhereSome IsUtf8Date date) c event (kind.Event e) (kind.Event (with_fields v d place e)) at
+    (λ w sound. amend_event_fits c event e v d place sound at (maybe_place c place u there) (text_found value v w.0 i) (maybe_date date d w.1 j))))))
 row_follows c (row_command.Participant event person role) =
-    then_follows c (text_in role) _ (λ r i. then_follows c (event_at c event) _ (λ e found. then_follows c (passed (person_at c person)) _ (λ u there.
+    then_follows (IsUtf8 role) c (text_in role) _ (λ r i. then_follows (IsUtf8 role) c (event_at c event) _ (λ e found. then_follows (IsUtf8 role) c (passed (person_at c person)) _ (λ u there.
     let at : get c.records event ≡ Some (kind.Event e) = event_found (get c.records event) e found in
-    replaces_follows c event (kind.Event e) (kind.Event (with_participant person r e)) at
-    (λ sound. add_participant_fits c event e person r sound at (one_person c person u there)))))
+    replaces_follows (IsUtf8 role) c event (kind.Event e) (kind.Event (with_participant person r e)) at
+    (λ w sound. add_participant_fits c event e person r sound at (one_person c person u there) (text_found role r w i)))))
 
 -- where a refusal is does not matter
-placed_follows : (c : Content) (place : Option ℕ) (s : RowStep) → Follows c s → Follows c (placed place s)
-placed_follows c place (Ok done) h = h
-placed_follows c place (Err e) h = tt
+placed_follows : (W : Type 0) (c : Content) (place : Option ℕ) (s : RowStep) → Follows W c s → Follows W c (placed place s)
+placed_follows W c place (Ok done) h = h
+placed_follows W c place (Err e) h = tt
 
-pub step_follows : (c : Content) (k : Command) → Follows c (step c k)
-step_follows c (command.Row row) = placed_follows c None (row_step c row) (row_follows c row)
+pub step_follows : (c : Content) (k : Command) → Follows (HasUtf8Words k) c (step c k)
+step_follows c (command.Row row) = placed_follows (IsUtf8Row row) c None (row_step c row) (row_follows c row)

@@ -16,7 +16,9 @@ use Rattle.commands.specs.Bytes.{digest_of}
 use Rattle.commands.specs.declared.command.Command.{Command}
 use Rattle.archive_core.specs.Steps.{Step, refused_at, step}
 use Rattle.archive_core.specs.Machine.{Draws, UsesNoneAgain, Does, Runs, Done, served, kept_under, answered_again}
+use Rattle.archive_core.specs.Words.{HasUtf8Words}
 use Rattle.archive_core.specs.declared.request.Request.{Request}
+use Rattle.record_shapes.specs.Lists.{EachOf}
 use Rattle.archive_core.proofs.Following.{Follows, step_follows}
 
 ok_is : {A : Type 0} (x y : A) (r : Result A Refusal) → r ≡ Ok x → r ≡ Ok y → x ≡ y
@@ -26,7 +28,7 @@ err_is_not : {A : Type 0} (k : Refusal) (y : A) (r : Result A Refusal) → r ≡
 err_is_not k y r e f = let both : Err k ≡ Ok y = sym e ∙ f in absurd cc
 
 pub step_draws : (c t : Content) (k : Command) (a : Answer) → step c k ≡ Ok (t, a) → Draws c a t
-step_draws c t k a e = let f : Follows {E = Refusal} c (Ok (t, a)) = subst (Follows c) e (step_follows c k) in f.2
+step_draws c t k a e = let f : Follows {E = Refusal} (HasUtf8Words k) c (Ok (t, a)) = subst (Follows (HasUtf8Words k) c) e (step_follows c k) in f.2
 
 -- ---- one request
 at_itself : (token : List ℕ) → eq_by_cmp (slice_cmp nat_cmp) token token ≡ true
@@ -88,15 +90,15 @@ still_there c token other x v none some =
       | false ↦ λ e. some
     ] refl
 
-keeps_on : (c after : Content) (r : Request) (a : Answer) (other : List ℕ) (x : Receipt) (s : Step) → Follows c s → kept_under r.token (digest_of r.command) s ≡ Ok (after, a) → get c.receipts r.token ≡ None → get c.receipts other ≡ Some x → get after.receipts other ≡ Some x
-keeps_on c after r a other x (Ok done) f e none some =
+keeps_on : (W : Type 0) (c after : Content) (r : Request) (a : Answer) (other : List ℕ) (x : Receipt) (s : Step) → Follows W c s → kept_under r.token (digest_of r.command) s ≡ Ok (after, a) → get c.receipts r.token ≡ None → get c.receipts other ≡ Some x → get after.receipts other ≡ Some x
+keeps_on W c after r a other x (Ok done) f e none some =
     let same : (left_by r.token (digest_of r.command) done, done.1) ≡ (after, a) = ok_is _ _ _ refl e in
     let v : Receipt = record { digest = digest_of r.command; answer = done.1 } in
     ap (λ (p : Content × Answer). get p.0.receipts other) (sym same) ∙ ap (λ m. get (insert m r.token v) other) f.0 ∙ still_there c r.token other x v none some
-keeps_on c after r a other x (Err k) f e none some = absurd (err_is_not k (after, a) _ refl e)
+keeps_on W c after r a other x (Err k) f e none some = absurd (err_is_not k (after, a) _ refl e)
 
 kept_on : (c after : Content) (r : Request) (a : Answer) (o : Option Receipt) (other : List ℕ) (x : Receipt) → get c.receipts r.token ≡ o → served c r o ≡ Ok (after, a) → get c.receipts other ≡ Some x → get after.receipts other ≡ Some x
-kept_on c after r a None other x is e some = keeps_on c after r a other x (step c r.command) (step_follows c r.command) e is some
+kept_on c after r a None other x is e some = keeps_on (HasUtf8Words r.command) c after r a other x (step c r.command) (step_follows c r.command) e is some
 kept_on c after r a (Some y) other x is e some = ap (λ (z : Content). get z.receipts other) (sym (stays c after (digest_of r.command) y a e)) ∙ some
 
 -- what is kept under a token is kept for good
@@ -143,24 +145,24 @@ through P blind c after r (Ok a) here h e =
     ] e
 
 -- a step leaves a sound archive sound, and uses no number again
-step_sound : (c : Content) (k : Command) → IsSound c → (done : Content × Answer) → step c k ≡ Ok done → IsSound done.0
-step_sound c k sound done e = let f : Follows {E = Refusal} c (Ok done) = subst (Follows c) e (step_follows c k) in f.4 sound
+step_sound : (c : Content) (k : Command) → HasUtf8Words k → IsSound c → (done : Content × Answer) → step c k ≡ Ok done → IsSound done.0
+step_sound c k words sound done e = let f : Follows {E = Refusal} (HasUtf8Words k) c (Ok done) = subst (Follows (HasUtf8Words k) c) e (step_follows c k) in f.4 words sound
 
 step_again : (c : Content) (k : Command) (done : Content × Answer) → step c k ≡ Ok done → UsesNoneAgain c done.0
-step_again c k done e = let f : Follows {E = Refusal} c (Ok done) = subst (Follows c) e (step_follows c k) in f.3
+step_again c k done e = let f : Follows {E = Refusal} (HasUtf8Words k) c (Ok done) = subst (Follows (HasUtf8Words k) c) e (step_follows c k) in f.3
 
 sound_blind : (d : Content) (receipts : Receipts) → IsSound d → IsSound (record d { receipts = receipts })
 sound_blind d receipts h = record { begun = h.begun; bounded = h.bounded; distinct = h.distinct; named = h.named; rules = h.rules; slips = h.slips }
 
-pub request_sound : (c after : Content) (r : Request) (o : Result Answer Refusal) → IsSound c → Does c r o after → IsSound after
-request_sound c after r o sound does = through IsSound sound_blind c after r o sound (step_sound c r.command sound) does
+pub request_sound : (c after : Content) (r : Request) (o : Result Answer Refusal) → HasUtf8Words r.command → IsSound c → Does c r o after → IsSound after
+request_sound c after r o words sound does = through IsSound sound_blind c after r o sound (step_sound c r.command words sound) does
 
 request_again : (c after : Content) (r : Request) (o : Result Answer Refusal) → Does c r o after → UsesNoneAgain c after
 request_again c after r o does = through (UsesNoneAgain c) (λ d receipts h. h) c after r o (none_here c) (step_again c r.command) does
 
-pub run_sound : (dones : List Done) (c after : Content) → IsSound c → Runs c dones after → IsSound after
-run_sound [] c after sound h = subst IsSound (sym h) sound
-run_sound (done ∷ more) c after sound (between, does, rest) = run_sound more between after (request_sound c between done.0 done.1 sound does) rest
+pub run_sound : (dones : List Done) (c after : Content) → EachOf (λ (done : Done). HasUtf8Words done.0.command) dones → IsSound c → Runs c dones after → IsSound after
+run_sound [] c after words sound h = subst IsSound (sym h) sound
+run_sound (done ∷ more) c after words sound (between, does, rest) = run_sound more between after words.1 (request_sound c between done.0 done.1 words.0 sound does) rest
 
 pub run_again : (dones : List Done) (c after : Content) → Runs c dones after → UsesNoneAgain c after
 run_again [] c after h = subst (UsesNoneAgain c) (sym h) (none_here c)

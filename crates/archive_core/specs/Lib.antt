@@ -4,3 +4,4 @@ pub mod Exact
 pub mod Machine
 pub mod Room
 pub mod Steps
+pub mod Words

@@ -17,6 +17,8 @@ ghost use Rattle.archive_state.specs.Applied.{applied};
 ghost use Rattle.archive_core.specs.Checks.{need, said_place_at};
 ghost use Rattle.archive_core.specs.Machine.{Does, Done, Draws, Runs, UsesNoneAgain, outcome};
 ghost use Rattle.archive_core.specs.Steps.{step};
+ghost use Rattle.archive_core.specs.Words.{HasUtf8Words};
+ghost use Rattle.record_shapes.specs.Lists.{EachOf};
 ghost use Rattle.archive_core.specs.declared.request.Request.{Request};
 
 /// A request that was accepted is answered as before when it comes again, and changes nothing then.
@@ -47,21 +49,23 @@ pub fn no_number_is_used_twice()
     ensures { (dones : List Done) (c after : Content) → Runs c dones after → UsesNoneAgain c after }
 {}
 
-/// A request leaves a sound archive sound, accepted or refused.
+/// A request leaves a sound archive sound, accepted or refused. Its words are what a `String` can hold: the type of a request
+/// keeps that, and here any request is meant.
 pub fn a_request_keeps_an_archive_sound()
     ensures { (c after : Content) (r : Request) (o : Result Answer Refusal)
-        → IsSound c → Does c r o after → IsSound after }
+        → HasUtf8Words r.command → IsSound c → Does c r o after → IsSound after }
 {}
 
 /// So do the changes that are decided, when they are made.
 pub fn decided_changes_keep_an_archive_sound()
     ensures { (c : Content) (r : Request) (changes : Changes)
-        → IsSound c → Decides c (Ok changes) (outcome c r) → IsSound (applied c changes) }
+        → HasUtf8Words r.command → IsSound c → Decides c (Ok changes) (outcome c r) → IsSound (applied c changes) }
 {}
 
 /// And a run of requests.
 pub fn a_run_keeps_an_archive_sound()
-    ensures { (dones : List Done) (c after : Content) → IsSound c → Runs c dones after → IsSound after }
+    ensures { (dones : List Done) (c after : Content) → EachOf (λ (done : Done). HasUtf8Words done.0.command) dones
+        → IsSound c → Runs c dones after → IsSound after }
 {}
 
 /// A place that an event may have is one whose path has a part that is not empty.

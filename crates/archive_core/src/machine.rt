@@ -7,12 +7,13 @@ ghost use Rattle.archive_core.specs.Applied.{Decides, Plans};
 ghost use Rattle.archive_core.specs.Exact.{ChangesNothing, IsExact, IsExactFor};
 ghost use Rattle.archive_core.specs.Machine.{Does, answered_again, kept_under, outcome, served};
 ghost use Rattle.archive_core.specs.Steps.{row_step, step};
+ghost use Rattle.archive_core.specs.Words.{HasUtf8Words};
 
 use crate::applying::apply;
 use crate::events::{add_participant, amend_event, new_event};
 use crate::families::{add_child, new_family};
 use crate::persons::{add_name, new_person, set_sex};
-use crate::request::Request;
+use crate::request::{Request, tell_words};
 use archive_state::{Answer, Changes, Kept, Receipt, State, Token};
 use archive_view::View;
 use commands::{Command, RowCommand, command_digest};
@@ -42,14 +43,16 @@ fn decide_over(alloc: Global, state: &State, request: &Request) -> Result<Change
 /// (`BadText`), then each number in the order of its field (`NoSuch`, `WrongKind`, and `BadText` for a place whose path has
 /// empty parts alone), then what is the command's own (`SamePerson`, `AlreadyInFamily`, `NotOfKind`), and last whether a
 /// number is left (`Full`). The stops may come in place of any answer: `OutOfMemory`, and where a look of the view fails
-/// `BadStored` and `Storage`.
+/// `BadStored` and `Storage`. Whatever it answers, the words of the request are UTF-8, by the type of the request.
 pub fn decide<V: View>(alloc: Global, view: &mut V, request: &Request) -> Result<Changes, Refusal>
     ensures decides { OnView V.is_honest V.shows V.content view.old view.new
         (λ c. Decides c result (outcome c request.now)) }
     ensures exact { OnView V.is_honest V.shows V.content view.old view.new
         (λ c. IfOk result (IsExactFor c request.now)) }
     ensures counts { CountsStops (V.failed view.old) (V.failed view.new) result }
+    ensures words { HasUtf8Words request.now.command }
 {
+    tell_words(&request.command);
     let digest = command_digest(alloc, &request.command)?;
     match view.receipt(alloc, &request.token)? {
         Some(receipt) => answer_again(alloc, view, &receipt, &digest),

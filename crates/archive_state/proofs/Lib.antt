@@ -1,8 +1,14 @@
 mod Entries
-mod Keyed
+pub mod Keyed
 mod Lowest
 mod Maps
 pub mod Putting
-mod Climbing
+pub mod Climbing
 pub mod Known
 pub mod Soundness
+pub mod Each
+pub mod Keeping
+mod Knowing
+pub mod Changing
+mod PathTexts
+mod Readable

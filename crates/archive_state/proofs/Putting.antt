@@ -5,10 +5,10 @@ use Rattle.std.specs.FinMap.{FinMap, get, insert, get-insert, nat_cmp-IsAntisymm
 use Rattle.std.specs.Ordering.{nat_cmp, eq_by_cmp}
 use Rattle.std.specs.Cmp.{nat_cmp_total, eq_by_cmp_equiv, Equal-is}
 
-one_number : (a b : ℕ) → eq_by_cmp nat_cmp a b ≡ true → a ≡ b
+pub one_number : (a b : ℕ) → eq_by_cmp nat_cmp a b ≡ true → a ≡ b
 one_number a b e = nat_cmp-IsAntisymmetric a b ((Equal-is (nat_cmp a b)).0 e)
 
-itself : (n : ℕ) → eq_by_cmp nat_cmp n n ≡ true
+pub itself : (n : ℕ) → eq_by_cmp nat_cmp n n ≡ true
 itself n = (eq_by_cmp_equiv nat_cmp_total).refl n
 
 not_one : (n k : ℕ) → eq_by_cmp nat_cmp n k ≡ false → n ≡ k → ⊥

@@ -21,6 +21,7 @@ no_records_are_sound next = record {
   once = λ n r e. absurd (none_there n r e);
   tags = λ n r e. absurd (none_there n r e);
   trailers = λ n r e. absurd (none_there n r e);
+  texts = λ n r e. absurd (none_there n r e);
   places = λ n r e. absurd (none_there n r e);
   events = λ n r e. absurd (none_there n r e);
   mentions = λ n r e. absurd (none_there n r e);

@@ -8,3 +8,5 @@ pub mod Paths
 pub mod Referrers
 pub mod Slips
 pub mod Sound
+pub mod Texts
+pub mod Owned

@@ -19,12 +19,13 @@ use Rattle.record_shapes.specs.Levels.{HasRoom}
 use Rattle.record_shapes.specs.Untaken.{HasUntaken}
 use Rattle.record_shapes.specs.Readable.{IsReadableOther}
 use Rattle.archive_state.specs.Known.{known_of, known_before}
-use Rattle.record_text.specs.Text.{IsTag}
+use Rattle.record_text.specs.Text.{IsTag, IsText}
 use Rattle.record_links.specs.Links.{Link, links, names, is_wanted}
 use Rattle.archive_state.specs.Merging.{merged, clashes}
 use Rattle.record_shapes.specs.Paths.{IsNormal, IsWithinLimits, has_part}
 use Rattle.archive_state.specs.Paths.{HasPath}
 use Rattle.archive_state.specs.Slips.{Slip}
+use Rattle.archive_state.specs.Texts.{own_texts, carried_texts}
 
 -- each of a finite map, with its number
 abbrev pub EachIn : {X : Type 0} → FinMap nat_cmp X → (ℕ → X → Type 0) → Type 0
@@ -108,6 +109,8 @@ pub record HasSoundRecords (next : ℕ) (m : Records) : Type 0 where
   -- no line has the tag of a continuation or what is no tag, and no record that of the trailer
   pub tags : EachIn m (λ n r. EachOf IsOfRecords (own_tags r ++ carried_tags r))
   pub trailers : EachIn m (λ n r. IsNoTrailer r)
+  -- each text in a record is UTF-8 without U+0000 and CR, of at most 1,048,576 bytes
+  pub texts : EachIn m (λ n r. EachOf IsText (own_texts r ++ carried_texts r))
   -- the path of the place of an event or an entry has a part that is not empty
   pub places : EachIn m (λ n r. HasSaidPlace m r)
   -- the tag of an event is of its owner's kind

@@ -3,9 +3,14 @@
 ghost use Rattle.std.specs.Prelude.{◌≡◌, ◌↔◌, ℕ, List, Option, Some};
 ghost use Rattle.record_fields.specs.declared.entry_words.EntryKind.{EntryKind};
 ghost use Rattle.record_fields.specs.declared.item.Item.{Item};
+ghost use Rattle.stored_lines.specs.Tree.{Tree};
+ghost use Rattle.record_kinds.specs.declared.record.Record.{Record};
+ghost use Rattle.record_shapes.specs.Readable.{IsReadable};
+ghost use Rattle.record_shapes.specs.Shapes.{Around};
 ghost use Rattle.archive_state.specs.Content.{Content, Records};
 ghost use Rattle.archive_state.specs.Entries.{IsEntryAt};
-ghost use Rattle.archive_state.specs.Known.{path_of};
+ghost use Rattle.archive_state.specs.Known.{known_before, known_of, path_of};
+ghost use Rattle.archive_state.specs.Owned.{IsAround, IsWithOwned};
 ghost use Rattle.archive_state.specs.Paths.{HasPath, IsLowest};
 ghost use Rattle.archive_state.specs.Sound.{IsSound};
 
@@ -31,4 +36,11 @@ pub fn the_entry_of_a_key_is_found()
     ensures { (c : Content) (source : ℕ) (kind : EntryKind) (page : List ℕ) (item : Item) (found : Option ℕ) (n : ℕ)
         → IsSound c → IsLowest (λ k. IsEntryAt c.records source kind page item k) found
         → (found ≡ Some n) ↔ IsEntryAt c.records source kind page item n }
+{}
+
+/// In a sound archive each record that is written at level 0 can be read again from its lines, with the events and citations
+/// that it owns.
+pub fn a_sound_archive_is_readable()
+    ensures { (c : Content) (a : Around) (n : ℕ) (t : Tree Record) → IsSound c → IsAround c.records a → IsWithOwned c.records n t
+        → IsReadable (known_before c.records n) (known_of c.records) a n t }
 {}

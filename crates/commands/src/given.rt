@@ -5,7 +5,7 @@ ghost use Rattle.gedcom_date.specs.Form.{Form};
 ghost use Rattle.gedcom_date.specs.Grammar.{Says};
 ghost use Rattle.gedcom_date.specs.Spelling.{spelling};
 ghost use Rattle.gedcom_date.specs.View.{view};
-ghost use Rattle.commands.specs.Given.{Gives};
+ghost use Rattle.commands.specs.Given.{Gives, IsGiven};
 
 use gedcom_date::{DateValue, read_date, write_date};
 use record_fields::Date;
@@ -67,7 +67,8 @@ impl GivenDate {
 
     /// The canonical spelling.
     pub fn spelling(&self) -> &str
-        ensures { result.now ≡ self.now.spelling }
+        ensures same { result.now ≡ self.now.spelling }
+        ensures given { IsGiven self.now.spelling self.now.date }
     {
         self.spelling.as_str()
     }

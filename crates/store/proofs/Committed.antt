@@ -19,6 +19,7 @@ use Rattle.archive_state.specs.declared.changes.Kept.{Kept}
 use Rattle.archive_core.specs.Applied.{Decides}
 use Rattle.archive_core.specs.Exact.{ChangesNothing, IsExactFor}
 use Rattle.archive_core.specs.Machine.{Does, outcome}
+use Rattle.archive_core.specs.Words.{HasUtf8Words}
 use Rattle.archive_core.specs.declared.request.Request.{Request}
 use Rattle.archive_core.proofs.Serving.{request_sound}
 use Rattle.store_tables.specs.Calls.{Follows, Good, LeavesOnly, Settled}
@@ -52,12 +53,12 @@ pub writes_nothing : (c : Content) (r : Request) (changes : Changes) → IsExact
 writes_nothing c r changes exact there = (there_is _ _ (get c.receipts r.token) there exact.0).kept
 
 -- ---- what the archive is afterwards
-module _ (society : List ℕ) (c : Content) (rows : Rows) (r : Request) (changes : Changes) (keeps : Keeps society c rows) (decided : Decides c (Ok changes) (outcome c r)) where
+module _ (society : List ℕ) (c : Content) (rows : Rows) (r : Request) (changes : Changes) (keeps : Keeps society c rows) (decided : Decides c (Ok changes) (outcome c r)) (words : HasUtf8Words r.command) where
   pub keeps_on : (AllShallow c → AllShallow (applied c changes)) → Keeps society (applied c changes) (with_changes changes rows)
   keeps_on shallow = record {
     means = changes_mean changes rows c keeps.means;
     shallow = shallow keeps.shallow;
-    sound = request_sound c (applied c changes) r (Ok changes.answer) keeps.sound decided;
+    sound = request_sound c (applied c changes) r (Ok changes.answer) words keeps.sound decided;
     society_is = society_stays changes rows ∙ keeps.society_is;
   }
 

@@ -7,6 +7,7 @@ ghost use Rattle.record_text.specs.declared.refusal.RefusalKind.TheVariants.{Bad
 ghost use Rattle.archive_core.specs.Applied.{Decides};
 ghost use Rattle.archive_core.specs.Exact.{IsExactFor};
 ghost use Rattle.archive_core.specs.Machine.{outcome};
+ghost use Rattle.archive_core.specs.Words.{HasUtf8Words};
 ghost use Rattle.store_tables.specs.Calls.{Settled, LeavesOnly};
 ghost use Rattle.store.specs.Viewing.{OnReadable};
 
@@ -36,6 +37,7 @@ pub(crate) fn decide_on<S: Alter>(
     ensures crash { HasCleanDisk (state S.Store archive.new.conn)
         → OnReadable (state S.Store archive.old.conn) (λ rows _. LeavesOnly (state S.Store archive.new.conn) rows) }
     ensures clean { HasCleanDisk (state S.Store archive.new.conn) → HasCleanDisk (state S.Store archive.old.conn) }
+    ensures words { HasUtf8Words «request».now.command }
 {
     archive.failures = 0;
     let decided = decide(alloc, archive, request);

@@ -1,4 +1,5 @@
 pub mod Ascending
+pub mod Found
 pub mod Got
 pub mod Meaning
 pub mod Naming

@@ -1,3 +1,4 @@
+pub mod Finding
 pub mod Grouped
 pub mod Looking
 pub mod Meaning

@@ -1,6 +1,7 @@
 //! An archive as rows of tables: what the rows mean, the changes of a request written as rows, and the state read of them.
 #![tactic(auto)]
 
+mod finding;
 mod grouping;
 pub mod laws;
 pub mod looking;

@@ -14,6 +14,7 @@ ghost use Rattle.store_rows.specs.Looking.{Sees};
 ghost use Rattle.store_rows.specs.Grouped.{last_kept};
 ghost use Rattle.store_rows.specs.Meaning.{has_record, is_closed};
 
+use crate::finding;
 use crate::reading::read_state;
 use crate::sides::changes_of;
 use archive_state::{Slip, State};
@@ -105,7 +106,8 @@ pub fn next<S: Alter>(alloc: Global, conn: &mut Connection<S>) -> Result<u64, Re
     keyed::next(alloc, conn)
 }
 
-/// The lowest number of a place that has this path. It reads the whole archive.
+/// The lowest number of a place that has this path, read of the records that an index gives: those with a line whose
+/// text is what stands before a comma in the path, or the whole path. Of each the places that it is within are read too.
 pub fn place_at<S: Alter>(
     alloc: Global,
     conn: &mut Connection<S>,
@@ -115,8 +117,8 @@ pub fn place_at<S: Alter>(
     ensures sees { Sees (λ c found. IsLowest (λ n. HasPath c.records n path.now) found) (state S.Store conn.old) (state S.Store conn.new) result }
     ensures ended { conn.new.in_transaction ≡ false }
 {
-    let all = whole(alloc, conn)?;
-    Ok(all.place_at(path))
+    let numbers = finding::lines_with_a_front(alloc, conn, path.as_str())?;
+    finding::lowest_place(alloc, conn, &numbers, path.as_str().as_bytes())
 }
 
 /// The lowest number of an entry of this source, kind, page and item. It reads the whole archive.

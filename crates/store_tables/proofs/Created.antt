@@ -13,8 +13,8 @@ use Rattle.sqlite.specs.State.{State, Writes, Executes, mode_of}
 use Rattle.sqlite_catalog.specs.Listing.{IsSound}
 use Rattle.sqlite_tied.specs.Compute.{everything}
 use Rattle.sqlite.proofs.Callers.{runs_as}
-use Rattle.store_tables.specs.Schema.{schema_1, schema_2, schema_3, schema_4, schema_5, schema_6, schema_7, schema_8, schema_9, schema_10, archive_schema, no_schema, meta, batches, records, lines, receipts, slips, slip_lines, line_by_record, line_by_target, receipt_by_token, slip_line_by_slip}
-use Rattle.store_tables.proofs.Texts.{create_meta, create_batch, create_record, create_line, create_receipt, create_slip, create_slip_line, create_line_by_record, create_line_by_target, create_receipt_by_token, create_slip_line_by_slip, meta_is, batch_is, record_is, line_is, receipt_is, slip_is, slip_line_is, line_by_record_is, line_by_target_is, receipt_by_token_is, slip_line_by_slip_is}
+use Rattle.store_tables.specs.Schema.{schema_1, schema_2, schema_3, schema_4, schema_5, schema_6, schema_7, schema_8, schema_9, schema_10, schema_11, archive_schema, no_schema, meta, batches, records, lines, receipts, slips, slip_lines, line_by_record, line_by_target, receipt_by_token, slip_line_by_slip, line_by_text}
+use Rattle.store_tables.proofs.Texts.{create_meta, create_batch, create_record, create_line, create_receipt, create_slip, create_slip_line, create_line_by_record, create_line_by_target, create_receipt_by_token, create_slip_line_by_slip, create_line_by_text, meta_is, batch_is, record_is, line_is, receipt_is, slip_is, slip_line_is, line_by_record_is, line_by_target_is, receipt_by_token_is, slip_line_by_slip_is, line_by_text_is}
 use Rattle.store_tables.proofs.Writing.{went, same_value}
 use Rattle.store_tables.specs.Creating.{IsCreate, IsCreateIndex}
 
@@ -146,5 +146,12 @@ pub makes_slip_line_by_slip : IsCreateIndex schema_10 create_slip_line_by_slip 6
 unfolding understood everything
 makes_slip_line_by_slip = record { command = refl; whole = refl; plain = (refl, refl); listed = refl; defined = slip_line_by_slip_is }
 
-pub after_slip_line_by_slip : indexed schema_10 slip_lines (record slip_line_by_slip { tree = 0 }) ≡ archive_schema
+pub after_slip_line_by_slip : indexed schema_10 slip_lines (record slip_line_by_slip { tree = 0 }) ≡ schema_11
 after_slip_line_by_slip = refl
+
+pub makes_line_by_text : IsCreateIndex schema_11 create_line_by_text 3 lines (record line_by_text { tree = 0 })
+unfolding understood everything
+makes_line_by_text = record { command = refl; whole = refl; plain = (refl, refl); listed = refl; defined = line_by_text_is }
+
+pub after_line_by_text : indexed schema_11 lines (record line_by_text { tree = 0 }) ≡ archive_schema
+after_line_by_text = refl

@@ -1,5 +1,5 @@
 -- What the queries of one number or one token answer.
-use Rattle.std.proofs.Common.{◌≡◌, ℕ, ◌==◌, ◌&&◌, pos, Bool, true, List, [], ◌∷◌, map, filter, Option, Some, None, refl, ap, ap₂, ◌∙◌, Less, Equal, inl, inr, length, ◌≤◌, ◌<◌, arith, bytes_eq}
+use Rattle.std.proofs.Common.{◌≡◌, ℕ, ◌==◌, ◌&&◌, pos, Bool, true, false, List, [], ◌∷◌, map, filter, Option, Some, None, refl, ap, ap₂, ◌∙◌, Less, Equal, inl, inr, length, ◌≤◌, ◌<◌, arith, bytes_eq}
 use Rattle.std.specs.Ordering.{ordering_then, is_eq}
 use Rattle.std.specs.List.{list_all}
 use Rattle.std.proofs.lemmas.Map.Text.{is_eq-slice_cmp}
@@ -13,7 +13,7 @@ use Rattle.sqlite.specs.Program.{overlay}
 use Rattle.sqlite.specs.State.{State, Shown}
 use Rattle.sqlite.proofs.Callers.{reads_as}
 use Rattle.sqlite_value.proofs.OrderLemmas.{value_cmp-Text}
-use Rattle.store_tables.specs.Keyed.{is_number}
+use Rattle.store_tables.specs.Keyed.{is_number, is_text}
 use Rattle.store_tables.specs.Rows.{Rows, BatchRow, RecordRow, LineRow, ReceiptRow, SlipRow, SlipLineRow, Holds, Keeps, batch_values, record_values, line_values, line_fields, receipt_values, slip_values, slip_line_values, number_or_null, words_or_null}
 use Rattle.store_tables.specs.Schema.{archive_schema}
 use Rattle.store_tables.specs.Shown.{shown_batch, shown_record, shown_receipt, shown_slip, shown_slip_line}
@@ -23,7 +23,7 @@ use Rattle.store_tables.proofs.Finding.{simple, in_order}
 use Rattle.store_tables.proofs.Queries.{ascending_weaker}
 use Rattle.store_tables.proofs.Statements.{truth_of}
 use Rattle.store_tables.proofs.Texts.{with_key, by_key}
-use Rattle.store_tables.proofs.KeyedTexts.{batch_at, batch_at_is, batch_at_plain, batch_at_unlisted, record_at, record_at_is, record_at_plain, record_at_unlisted, lines_at, lines_at_is, lines_at_plain, lines_at_unlisted, lines_naming, lines_naming_is, lines_naming_plain, lines_naming_unlisted, receipts_at, receipts_at_is, receipts_at_plain, receipts_at_unlisted, slip_at, slip_at_is, slip_at_plain, slip_at_unlisted, slip_lines_at, slip_lines_at_is, slip_lines_at_plain, slip_lines_at_unlisted}
+use Rattle.store_tables.proofs.KeyedTexts.{batch_at, batch_at_is, batch_at_plain, batch_at_unlisted, record_at, record_at_is, record_at_plain, record_at_unlisted, lines_at, lines_at_is, lines_at_plain, lines_at_unlisted, lines_naming, lines_naming_is, lines_naming_plain, lines_naming_unlisted, receipts_at, receipts_at_is, receipts_at_plain, receipts_at_unlisted, slip_at, slip_at_is, slip_at_plain, slip_at_unlisted, slip_lines_at, slip_lines_at_is, slip_lines_at_plain, slip_lines_at_unlisted, lines_saying, lines_saying_is, lines_saying_plain, lines_saying_unlisted, lines_saying_of, lines_saying_of_is, lines_saying_of_plain, lines_saying_of_unlisted, with_both}
 
 -- the rows of a table that pass the tests, in the order of its key
 module _ {X : Type 0} (enc : X → Row) (key : X → ℕ) (keyed : (x : X) → rowid (enc x) ≡ Int (pos (key x))) (params : Row) (tests : List Term) (q : X → Bool)
@@ -83,6 +83,38 @@ naming_passes n x = go x.line.1.target
     go None = refl
     go (Some m) = ap (λ b. is_true (from_truth (Some b)) && true) (same_int m n) ∙ truth_of (m == n)
 
+-- nor does a line without a text pass a test of texts
+saying_passes : (t : List ℕ) (more : Row) (x : LineRow) → list_all (holds ((Text t ∷ more) ∷ line_values x ∷ [])) (with_key 6) ≡ is_text t x.line.1.text
+unfolding binary
+saying_passes t more x = go x.line.1.text
+  where
+    go : (o : Option (List ℕ))
+        → list_all (holds ((Text t ∷ more) ∷ (Int (pos x.id) ∷ Null ∷ Int (pos x.no) ∷ Int (pos x.at) ∷ Int (pos x.line.0) ∷ Text x.line.1.tag ∷ words_or_null o ∷ number_or_null x.line.1.target ∷ []) ∷ [])) (with_key 6)
+        ≡ is_text t o
+    go None = refl
+    go (Some s) = ap (λ b. is_true (from_truth (Some b)) && true) (same_text s t) ∙ truth_of (bytes_eq s t)
+
+-- both tests, of a text and of a number
+both_pass : (t : List ℕ) (n : ℕ) (x : LineRow) → list_all (holds ((Text t ∷ Int (pos n) ∷ []) ∷ line_values x ∷ [])) with_both ≡ (is_text t x.line.1.text && is_number n x.line.1.target)
+unfolding binary
+both_pass t n x = go x.line.1.text x.line.1.target
+  where
+    go : (o : Option (List ℕ)) (q : Option ℕ)
+        → list_all (holds ((Text t ∷ Int (pos n) ∷ []) ∷ (Int (pos x.id) ∷ Null ∷ Int (pos x.no) ∷ Int (pos x.at) ∷ Int (pos x.line.0) ∷ Text x.line.1.tag ∷ words_or_null o ∷ number_or_null q ∷ []) ∷ [])) with_both
+        ≡ (is_text t o && is_number n q)
+    go None q = refl
+    go (Some s) None = ap (λ b. is_true (from_truth (Some b)) && false) (same_text s t) ∙ never (bytes_eq s t)
+      where
+        never : (b : Bool) → (is_true (from_truth (Some b)) && false) ≡ (b && false)
+        never true = refl
+        never false = refl
+    go (Some s) (Some m) = ap₂ (λ a b. is_true (from_truth (Some a)) && (is_true (from_truth (Some b)) && true)) (same_text s t) (same_int m n) ∙ two (bytes_eq s t) (m == n)
+      where
+        two : (a b : Bool) → (is_true (from_truth (Some a)) && (is_true (from_truth (Some b)) && true)) ≡ (a && b)
+        two true true = refl
+        two true false = refl
+        two false b = refl
+
 -- ---- the queries
 
 pub reads_batch : (old new : State) (n : ℕ) (read : List Row) (rows : Rows) → old.now.schema ≡ archive_schema → Holds rows old.now.trees → Shown batch_at (Int (pos n) ∷ []) old new read
@@ -126,3 +158,15 @@ pub reads_slip_lines_at : (old new : State) (n : ℕ) (read : List Row) (rows : 
 reads_slip_lines_at old new n read rows has was h =
     let reads = reads_as slip_lines_at (Int (pos n) ∷ []) old new archive_schema has _ slip_lines_at_is slip_lines_at_plain slip_lines_at_unlisted read h in
     found_in_order slip_line_values (λ (x : SlipLineRow). x.id) (λ _. refl) (Int (pos n) ∷ []) (with_key 2) (λ (x : SlipLineRow). x.slip == n) (slip_line_passes n) 6 (col 1 2 ∷ col 1 3 ∷ col 1 4 ∷ col 1 6 ∷ col 1 7 ∷ col 1 8 ∷ col 1 9 ∷ []) (overlay old.now.trees []) rows.slip_lines read was.slip_lines (reads.answer Null)
+
+pub reads_saying : (old new : State) (text : List ℕ) (read : List Row) (rows : Rows) → old.now.schema ≡ archive_schema → Holds rows old.now.trees → Shown lines_saying (Text text ∷ []) old new read
+    → read ≡ map (λ (l : LineRow). Int (pos l.no) ∷ []) (filter (λ (x : LineRow). is_text text x.line.1.text) rows.lines)
+reads_saying old new text read rows has was h =
+    let reads = reads_as lines_saying (Text text ∷ []) old new archive_schema has _ lines_saying_is lines_saying_plain lines_saying_unlisted read h in
+    found_in_order line_values (λ (x : LineRow). x.id) (λ _. refl) (Text text ∷ []) (with_key 6) (λ (x : LineRow). is_text text x.line.1.text) (saying_passes text []) 3 (col 1 2 ∷ []) (overlay old.now.trees []) rows.lines read was.lines (reads.answer Null)
+
+pub reads_saying_of : (old new : State) (text : List ℕ) (n : ℕ) (read : List Row) (rows : Rows) → old.now.schema ≡ archive_schema → Holds rows old.now.trees → Shown lines_saying_of (Text text ∷ Int (pos n) ∷ []) old new read
+    → read ≡ map (λ (l : LineRow). Int (pos l.no) ∷ []) (filter (λ (x : LineRow). is_text text x.line.1.text && is_number n x.line.1.target) rows.lines)
+reads_saying_of old new text n read rows has was h =
+    let reads = reads_as lines_saying_of (Text text ∷ Int (pos n) ∷ []) old new archive_schema has _ lines_saying_of_is lines_saying_of_plain lines_saying_of_unlisted read h in
+    found_in_order line_values (λ (x : LineRow). x.id) (λ _. refl) (Text text ∷ Int (pos n) ∷ []) with_both (λ (x : LineRow). is_text text x.line.1.text && is_number n x.line.1.target) (both_pass text n) 3 (col 1 2 ∷ []) (overlay old.now.trees []) rows.lines read was.lines (reads.answer Null)

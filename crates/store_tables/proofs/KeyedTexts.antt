@@ -1,6 +1,9 @@
 -- What each query of one number or one token means under the schema of an archive, as computing finds it.
 use Rattle.std.proofs.Common.{◌≡◌, ℕ, List, [], ◌∷◌, codes, false, refl}
-use Rattle.sqlite.specs.Term.{col}
+use Rattle.sqlite.specs.Term.{Term, col, op2}
+use Rattle.sqlite_sql.specs.declared.ops.BinaryOp.TheVariants.{Compare}
+use Rattle.sqlite_sql.specs.declared.ops.CompareOp.TheVariants.{Eq}
+use Rattle.sqlite.specs.Collation.TheVariants.{Binary}
 use Rattle.sqlite.specs.Command.TheVariants.{Select}
 use Rattle.sqlite_tied.specs.Compute.{everything}
 use Rattle.sqlite.specs.Listing.{understood, reads_listing}
@@ -113,3 +116,37 @@ slip_lines_at_plain = (refl, refl)
 pub slip_lines_at_unlisted : reads_listing archive_schema slip_lines_at ≡ false
 unfolding understood everything
 slip_lines_at_unlisted = refl
+
+abbrev pub lines_saying : List ℕ
+lines_saying = codes "SELECT no FROM line WHERE text = ?1 ORDER BY id"
+
+pub lines_saying_is : command_of (understood archive_schema lines_saying) ≡ Select (record { lets = []; body = simple 3 (with_key 6) (col 1 2 ∷ []) by_key }) (codes "no" ∷ [])
+unfolding understood everything
+lines_saying_is = refl
+
+pub lines_saying_plain : IsPlain (understood archive_schema lines_saying)
+unfolding understood everything
+lines_saying_plain = (refl, refl)
+
+pub lines_saying_unlisted : reads_listing archive_schema lines_saying ≡ false
+unfolding understood everything
+lines_saying_unlisted = refl
+
+abbrev pub lines_saying_of : List ℕ
+lines_saying_of = codes "SELECT no FROM line WHERE text = ?1 AND dst = ?2 ORDER BY id"
+
+-- the tests of a text and of a number
+abbrev pub with_both : List Term
+with_both = op2 (Compare Eq Binary) (col 1 6) (col 0 0) ∷ op2 (Compare Eq Binary) (col 1 7) (col 0 1) ∷ []
+
+pub lines_saying_of_is : command_of (understood archive_schema lines_saying_of) ≡ Select (record { lets = []; body = simple 3 with_both (col 1 2 ∷ []) by_key }) (codes "no" ∷ [])
+unfolding understood everything
+lines_saying_of_is = refl
+
+pub lines_saying_of_plain : IsPlain (understood archive_schema lines_saying_of)
+unfolding understood everything
+lines_saying_of_plain = (refl, refl)
+
+pub lines_saying_of_unlisted : reads_listing archive_schema lines_saying_of ≡ false
+unfolding understood everything
+lines_saying_of_unlisted = refl

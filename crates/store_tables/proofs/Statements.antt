@@ -63,7 +63,7 @@ abbrev pub Others : Trees → Trees → ℕ → Type 0
 Others old new at = (t : ℕ) → t < 7 → t ≢ at → new t ≡ old t
 
 pub others_of : (old new : Trees) (edit : Edit) → Applies archive_schema Enforced old edit new → Others old new edit.table.tree
-others_of old new edit a t low off = a.others t off (omega (arith, low), (omega (arith, low), (omega (arith, low), (omega (arith, low), tt))))
+others_of old new edit a t low off = a.others t off (omega (arith, low), (omega (arith, low), (omega (arith, low), (omega (arith, low), (omega (arith, low), tt)))))
 
 -- ---- rows with a given key
 

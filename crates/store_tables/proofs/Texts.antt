@@ -14,7 +14,7 @@ use Rattle.sqlite_tied.specs.Compute.{everything}
 use Rattle.sqlite.specs.Listing.{understood, reads_listing}
 use Rattle.sqlite.proofs.Callers.{IsPlain, command_of}
 use Rattle.store_tables.proofs.Finding.{simple}
-use Rattle.store_tables.specs.Schema.{meta, batches, records, lines, receipts, slips, slip_lines, line_by_record, line_by_target, receipt_by_token, slip_line_by_slip, archive_schema}
+use Rattle.store_tables.specs.Schema.{meta, batches, records, lines, receipts, slips, slip_lines, line_by_record, line_by_target, receipt_by_token, slip_line_by_slip, line_by_text, archive_schema}
 
 abbrev pub create_meta : List ℕ
 create_meta = codes "CREATE TABLE meta (one INTEGER PRIMARY KEY, version INTEGER NOT NULL, next INTEGER NOT NULL, society TEXT NOT NULL) STRICT"
@@ -48,6 +48,9 @@ create_receipt_by_token = codes "CREATE INDEX receipt_by_token ON receipt (token
 
 abbrev pub create_slip_line_by_slip : List ℕ
 create_slip_line_by_slip = codes "CREATE INDEX slip_line_by_slip ON slip_line (slip)"
+
+abbrev pub create_line_by_text : List ℕ
+create_line_by_text = codes "CREATE INDEX line_by_text ON line (text, dst)"
 
 pub meta_is : (table_defined_by create_meta ≡ Ok (record meta { tree = 0 }))
 unfolding understood everything
@@ -92,6 +95,10 @@ receipt_by_token_is = refl
 pub slip_line_by_slip_is : (index_defined_by slip_lines create_slip_line_by_slip ≡ Ok (record slip_line_by_slip { tree = 0 }))
 unfolding understood everything
 slip_line_by_slip_is = refl
+
+pub line_by_text_is : (index_defined_by lines create_line_by_text ≡ Ok (record line_by_text { tree = 0 }))
+unfolding understood everything
+line_by_text_is = refl
 
 abbrev pub insert_meta : List ℕ
 insert_meta = codes "INSERT INTO meta (one, version, next, society) VALUES (1, 1, 1, ?1)"

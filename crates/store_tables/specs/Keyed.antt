@@ -1,5 +1,5 @@
 -- The rows of one number or of one token, as they are read.
-use Rattle.std.specs.Prelude.{ℕ, ◌≡◌, ◌==◌, Bool, false, List, [], ◌∷◌, map, filter, bytes_eq, Option, Some, None}
+use Rattle.std.specs.Prelude.{ℕ, ◌≡◌, ◌==◌, ◌&&◌, Bool, false, List, [], ◌∷◌, map, filter, bytes_eq, Option, Some, None}
 use Rattle.stored_lines.specs.Line.{Label}
 use Rattle.receipts.specs.declared.answer.Receipt.{Receipt}
 use Rattle.store_tables.specs.Rows.{Rows, BatchRow, RecordRow, LineRow, ReceiptRow, SlipRow, SlipLineRow}
@@ -32,6 +32,19 @@ slip_lines_at n rows = map read_slip_line (filter (λ (s : SlipLineRow). s.slip 
 abbrev pub is_number : ℕ → Option ℕ → Bool
 is_number n None = false
 is_number n (Some m) = m == n
+
+-- whether a text that may be missing is this one
+abbrev pub is_text : List ℕ → Option (List ℕ) → Bool
+is_text text None = false
+is_text text (Some t) = bytes_eq t text
+
+-- the numbers of the records of all lines with a text
+abbrev pub lines_saying : List ℕ → Rows → List ℕ
+lines_saying text rows = map (λ (l : LineRow). l.no) (filter (λ (l : LineRow). is_text text l.line.1.text) rows.lines)
+
+-- the same of those that name a number too
+abbrev pub lines_saying_of : List ℕ → ℕ → Rows → List ℕ
+lines_saying_of text n rows = map (λ (l : LineRow). l.no) (filter (λ (l : LineRow). is_text text l.line.1.text && is_number n l.line.1.target) rows.lines)
 
 -- the numbers of the records of all lines that name a number
 abbrev pub lines_naming : ℕ → Rows → List ℕ

@@ -79,11 +79,15 @@ receipt_by_token = an_index (codes "receipt_by_token") 9 4 2
 abbrev pub slip_line_by_slip : Index
 slip_line_by_slip = an_index (codes "slip_line_by_slip") 10 6 2
 
+-- on two columns: the lines with a text, and of these the ones that name a number
+abbrev pub line_by_text : Index
+line_by_text = record { name = codes "line_by_text"; tree = 11; table = 3; columns = 6 ∷ 7 ∷ []; order = record { digits = 0 }; is_unique = false }
+
 abbrev pub all_tables : List Table
 all_tables = meta ∷ batches ∷ records ∷ lines ∷ receipts ∷ slips ∷ slip_lines ∷ []
 
 abbrev pub archive_schema : Schema
-archive_schema = record { tables = all_tables; indexes = line_by_record ∷ line_by_target ∷ receipt_by_token ∷ slip_line_by_slip ∷ []; views = [] }
+archive_schema = record { tables = all_tables; indexes = line_by_record ∷ line_by_target ∷ receipt_by_token ∷ slip_line_by_slip ∷ line_by_text ∷ []; views = [] }
 
 abbrev pub no_schema : Schema
 no_schema = record { tables = []; indexes = []; views = [] }
@@ -119,3 +123,6 @@ schema_9 = record { tables = all_tables; indexes = line_by_record ∷ line_by_ta
 
 abbrev pub schema_10 : Schema
 schema_10 = record { tables = all_tables; indexes = line_by_record ∷ line_by_target ∷ receipt_by_token ∷ []; views = [] }
+
+abbrev pub schema_11 : Schema
+schema_11 = record { tables = all_tables; indexes = line_by_record ∷ line_by_target ∷ receipt_by_token ∷ slip_line_by_slip ∷ []; views = [] }

@@ -89,7 +89,8 @@ fn create_indexes<S: Alter>(tx: &mut Transaction<'_, S>) -> Result<(), Error>
     create_index(tx, "CREATE INDEX line_by_record ON line (no)")?;
     create_index(tx, "CREATE INDEX line_by_target ON line (dst)")?;
     create_index(tx, "CREATE INDEX receipt_by_token ON receipt (token)")?;
-    create_index(tx, "CREATE INDEX slip_line_by_slip ON slip_line (slip)")
+    create_index(tx, "CREATE INDEX slip_line_by_slip ON slip_line (slip)")?;
+    create_index(tx, "CREATE INDEX line_by_text ON line (text, dst)")
 }
 
 fn insert_meta<S: Alter>(tx: &mut Transaction<'_, S>, society: &Text) -> Result<(), Error>

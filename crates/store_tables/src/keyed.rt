@@ -3,7 +3,7 @@
 ghost use Rattle.std.specs.Prelude.{◌≡◌, ◌≤◌, false, List, length, IfOk, IfErr};
 ghost use Rattle.sqlite.specs.Held.{state};
 ghost use Rattle.store_tables.specs.Conversion.{FailsUnless};
-ghost use Rattle.store_tables.specs.Keyed.{IsOnly, batches_at, records_at, receipts_at, slips_at, slip_lines_at, lines_naming};
+ghost use Rattle.store_tables.specs.Keyed.{IsOnly, batches_at, records_at, receipts_at, slips_at, slip_lines_at, lines_naming, lines_saying, lines_saying_of};
 ghost use Rattle.store_tables.specs.Looking.{Looks};
 ghost use Rattle.store_tables.specs.Rows.{lines_of};
 
@@ -23,6 +23,10 @@ const RECORD_AT: &str = "SELECT no, batch FROM record WHERE no = ?1 ORDER BY no"
 const LINES_AT: &str = "SELECT depth, tag, text, dst FROM line WHERE no = ?1 ORDER BY id";
 
 const LINES_NAMING: &str = "SELECT no FROM line WHERE dst = ?1 ORDER BY id";
+
+const LINES_SAYING: &str = "SELECT no FROM line WHERE text = ?1 ORDER BY id";
+
+const LINES_SAYING_OF: &str = "SELECT no FROM line WHERE text = ?1 AND dst = ?2 ORDER BY id";
 
 const RECEIPTS_AT: &str =
     "SELECT token, digest, first, count FROM receipt WHERE token = ?1 ORDER BY id";
@@ -91,6 +95,33 @@ pub fn lines_naming<S: Alter>(
     ensures ended { conn.new.in_transaction ≡ false }
 {
     read_all(alloc, conn, LINES_NAMING, params![number])
+}
+
+/// The numbers of all lines with a text, in the order of the lines: a number as often as it has such lines.
+pub fn lines_saying<S: Alter>(
+    alloc: Global,
+    conn: &mut Connection<S>,
+    text: &str,
+) -> Result<Vec<u32>, RefusalKind>
+    requires autocommit { conn.old.in_transaction ≡ false }
+    ensures looks { Looks (λ rows items. items.items ≡ lines_saying text.now rows) (state S.Store conn.old) (state S.Store conn.new) result }
+    ensures ended { conn.new.in_transaction ≡ false }
+{
+    read_all(alloc, conn, LINES_SAYING, params![text])
+}
+
+/// The numbers of all lines that have a text and name a number, as of `lines_saying`.
+pub fn lines_saying_of<S: Alter>(
+    alloc: Global,
+    conn: &mut Connection<S>,
+    text: &str,
+    number: u32,
+) -> Result<Vec<u32>, RefusalKind>
+    requires autocommit { conn.old.in_transaction ≡ false }
+    ensures looks { Looks (λ rows items. items.items ≡ lines_saying_of text.now number rows) (state S.Store conn.old) (state S.Store conn.new) result }
+    ensures ended { conn.new.in_transaction ≡ false }
+{
+    read_all(alloc, conn, LINES_SAYING_OF, params![text, number])
 }
 
 /// What is kept under a token, in the order in which it was written.

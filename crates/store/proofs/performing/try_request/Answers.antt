@@ -15,11 +15,12 @@ returns-in-Ok-make_changes-clause-acknowledged g c clean society content rows wa
     let before = made.clean clean in
     let new = state g.S.Store c.make_changes.new.conn in
     let decided = c.in-Ok.ensures.decides before rows content was keeps.means keeps.shallow in
+    let words = c.in-Ok.ensures.words in
     let exact = c.in-Ok.ensures.exact before rows content was keeps.means keeps.shallow in
     let settled = c.in-Ok.ensures.same before rows content was keeps.means keeps.shallow in
     subst (λ a. AcknowledgedBy society content rows r a new) (sym (ap (λ (x : Changes). x.answer) c.changes.view_is)) (by_kept changes.kept
-    (λ none. acknowledged_again society content rows r changes keeps decided new exact none (subst (λ h. Settled (state g.S.Store h) rows) (sym (made.again none)) settled))
-    (λ some. acknowledged_anew society content rows r changes keeps decided new exact (made.shallow some content) (made.made some clean rows settled)))
+    (λ none. acknowledged_again society content rows r changes keeps decided words new exact none (subst (λ h. Settled (state g.S.Store h) rows) (sym (made.again none)) settled))
+    (λ some. acknowledged_anew society content rows r changes keeps decided words new exact (made.shallow some content) (made.made some clean rows settled)))
 
 pub returns-in-Ok-make_changes-clause-repeated : goal.returns-in-Ok-make_changes-clause-repeated
 returns-in-Ok-make_changes-clause-repeated g c clean society content rows was keeps kept =
@@ -37,7 +38,7 @@ pub returns-in-Err-make_changes-clause-crash : goal.returns-in-Err-make_changes-
 returns-in-Err-make_changes-clause-crash g c clean society content rows was keeps =
     let made = c.in-Err-make_changes.ensures in
     let before = made.clean clean in
-    done_or_not society content rows c.args.request.now c.in-Ok.changes keeps (c.in-Ok.ensures.decides before rows content was keeps.means keeps.shallow)
+    done_or_not society content rows c.args.request.now c.in-Ok.changes keeps (c.in-Ok.ensures.decides before rows content was keeps.means keeps.shallow) c.in-Ok.ensures.words
     (state g.S.Store c.make_changes.new.conn) (made.crash made.kept clean rows (c.in-Ok.ensures.same before rows content was keeps.means keeps.shallow))
 
 pub returns-in-Err-make_changes-clause-repeated : goal.returns-in-Err-make_changes-clause-repeated

@@ -1,10 +1,7 @@
-use Rattle.std.proofs.Common.{Ok, subst}
-use Rattle.archive_state.specs.Content.{Content}
-use Rattle.archive_state.specs.Paths.{HasPath, IsLowest}
-use Rattle.store_rows.proofs.Seen.{sees_from}
+use Rattle.store_rows.proofs.Found.{sees_after, place_found}
 use Rattle.store_rows.proofs.looking.place_at.Goals as goal
 
 pub returns-clause-sees : goal.returns-clause-sees
 returns-clause-sees g c =
-    sees_from (Ok _) c.in_ok-all.ensures.sees
-    (λ content same. subst (λ (s : Content). IsLowest (λ n. HasPath s.records n c.args.path.now) c.place_at.result) same c.place_at.ensures) tt
+    sees_after c.lowest_place.result (λ rows content found all means low. place_found c.args.path.now rows content c.in_ok-numbers.numbers.items found means all low)
+    (rw (c.as_str.ensures.same) at c.in_ok-numbers.ensures.looks) (rw (c.as_bytes.ensures.value, c.as_str-2.ensures.same, c.deref.ensures.value) at c.lowest_place.ensures.sees)

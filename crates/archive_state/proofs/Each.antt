@@ -17,3 +17,11 @@ each_front P (x ∷ xs) ys h = (h.0, each_front P xs ys h.1)
 pub each_back : {A : Type 0} (P : A → Type 0) (xs ys : List A) → EachOf P (xs ++ ys) → EachOf P ys
 each_back P [] ys h = h
 each_back P (x ∷ xs) ys h = each_back P xs ys h.1
+
+pub each_all : {A : Type 0} (P : A → Type 0) → ((a : A) → P a) → (xs : List A) → EachOf P xs
+each_all P f [] = tt
+each_all P f (x ∷ xs) = (f x, each_all P f xs)
+
+pub each_zip : {A : Type 0} (P Q R : A → Type 0) → ((a : A) → P a → Q a → R a) → (xs : List A) → EachOf P xs → EachOf Q xs → EachOf R xs
+each_zip P Q R f [] h k = tt
+each_zip P Q R f (x ∷ xs) h k = (f x h.0 k.0, each_zip P Q R f xs h.1 k.1)

@@ -1,0 +1,11 @@
+pub mod Hands
+pub mod ExamplesNumbers
+pub mod ExamplesPlaces
+pub mod ExamplesTags
+pub mod ExamplesLines
+pub mod ExamplesSlips
+pub mod Tests
+pub mod Parts
+pub mod Judging
+pub mod Whole
+pub mod Sound

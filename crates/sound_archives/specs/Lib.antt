@@ -1,0 +1,3 @@
+pub mod Archives
+pub mod Judged
+pub mod Rules
