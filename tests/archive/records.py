@@ -277,8 +277,8 @@ RECORDS = (
     (
         "an entry of a baptism that names two, one of them linked",
         (
-            Line(0, "entry", "BAPTISM", 4),
-            Line(1, "page", "f. 3"),
+            Line(0, "entry", "BAPTISM"),
+            Line(1, "page", "f. 3", 4),
             Line(1, "item", "12"),
             Line(1, "date", "15 APR 1699/00", 3),
             Line(1, "text", ""),
@@ -296,8 +296,8 @@ RECORDS = (
     (
         "the entry of the example",
         (
-            Line(0, "entry", "BAPTISM", 4),
-            Line(1, "page", "f. 3"),
+            Line(0, "entry", "BAPTISM"),
+            Line(1, "page", "f. 3", 4),
             Line(1, "item", "1"),
             Line(1, "date", "15 APR 1699/00", 3),
             Line(1, "text", "John of Tom"),
@@ -315,8 +315,8 @@ RECORDS = (
     (
         "an entry without date, place and mentions",
         (
-            Line(0, "entry", "BURIAL", 4),
-            Line(1, "page", ""),
+            Line(0, "entry", "BURIAL"),
+            Line(1, "page", "", 4),
             Line(1, "item", "999999"),
             Line(1, "text", "two\nlines"),
         ),
@@ -325,8 +325,8 @@ RECORDS = (
     (
         "an entry with a date alone",
         (
-            Line(0, "entry", "MARRIAGE", 4),
-            Line(1, "page", "f. 3"),
+            Line(0, "entry", "MARRIAGE"),
+            Line(1, "page", "f. 3", 4),
             Line(1, "item", "1"),
             Line(1, "date", ""),
             Line(1, "text", "x"),
@@ -336,8 +336,8 @@ RECORDS = (
     (
         "an entry with a place alone",
         (
-            Line(0, "entry", "MARRIAGE", 4),
-            Line(1, "page", "f. 3"),
+            Line(0, "entry", "MARRIAGE"),
+            Line(1, "page", "f. 3", 4),
             Line(1, "item", "1"),
             Line(1, "date", None, 3),
             Line(1, "text", "x"),
@@ -348,8 +348,8 @@ RECORDS = (
         (
             f"an entry that names a {role}",
             (
-                Line(0, "entry", "BURIAL", 4),
-                Line(1, "page", "f. 3"),
+                Line(0, "entry", "BURIAL"),
+                Line(1, "page", "f. 3", 4),
                 Line(1, "item", "1"),
                 Line(1, "text", ""),
                 Line(1, "mention", "", 7),

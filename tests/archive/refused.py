@@ -17,8 +17,8 @@ CITATION = (Line(0, "citation", None, 2), Line(1, "source", "f. 3", 1))
 FAMILY = (Line(0, "family"), Line(1, "partner", "wife", 4))
 SOURCE = (Line(0, "source", "Ashby register"),)
 ENTRY = (
-    Line(0, "entry", "BAPTISM", 4),
-    Line(1, "page", "f. 3"),
+    Line(0, "entry", "BAPTISM"),
+    Line(1, "page", "f. 3", 4),
     Line(1, "item", "12"),
     Line(1, "text", ""),
     Line(1, "mention", "John"),
@@ -140,8 +140,10 @@ REFUSED = (
     ),
     ("a participant without a role", (*EVENT, Line(1, "participant", None, 2))),
     ("a participant without a number", (*EVENT, Line(1, "participant", "witness"))),
-    ("an entry of no kind", but(ENTRY, 0, Line(0, "entry", "baptism", 4))),
-    ("an entry without a source", but(ENTRY, 0, Line(0, "entry", "BAPTISM"))),
+    ("an entry of no kind", but(ENTRY, 0, Line(0, "entry", "baptism"))),
+    ("an entry without a source", but(ENTRY, 1, Line(1, "page", "f. 3"))),
+    ("an entry with its source on its first line", but(but(ENTRY, 1, Line(1, "page", "f. 3")), 0, Line(0, "entry", "BAPTISM", 4))),
+    ("an entry with its source on both lines", but(ENTRY, 0, Line(0, "entry", "BAPTISM", 4))),
     ("an entry without a page", but(ENTRY, 1)),
     ("an entry without an item", but(ENTRY, 2)),
     ("an item with a leading zero", but(ENTRY, 2, Line(1, "item", "012"))),

@@ -7,6 +7,7 @@ from typing import NamedTuple
 from plain import QUERIES, Tables
 from records import RECORDS
 from rows import Ask, Case, Line, given, kept, row
+from states import ENTRIES, FAMILY, NAMED_BY, entry, place
 
 SOCIETY = "Ashby family history society"
 LONGEST = 1_048_576  # bytes of a text
@@ -176,6 +177,101 @@ def slips() -> Scene:
     return filling.scene("slips, done and undone")
 
 
+def looked_for() -> Scene:
+    """What the tables themselves answer, of the rows that a number, a token, a path or a key leads to."""
+    filling = Filling()
+    for number, lines in FAMILY.items():
+        filling.put(number, lines)
+    filling.receipt("m1", 7, 11, 1)
+    filling.write(12)
+    for number, named_by in NAMED_BY.items():
+        filling.ask("tables", "record", number, wanted=kept(FAMILY[number]) if number in FAMILY else "none\n")
+        filling.ask("tables", "referrers", number, wanted=" ".join(["referrers", *map(str, named_by)]) + "\n")
+    filling.ask("tables", "receipt", "m1", wanted="07" * 32 + " 11 1\n")
+    filling.ask("tables", "receipt", "M1", wanted="none\n")
+    filling.ask("tables", "slip", 5, wanted="none\n")
+    filling.ask("tables", "next", wanted="12\n")
+    return filling.scene("records, referrers and receipts, asked of the tables")
+
+
+# Paths and the lowest place of each. Ashby in Kent is 25 and 27; 22 is a place within Ashby, 25, and 23 one whose own name has a comma.
+PLACES = {
+    20: place("Kent"),
+    21: place("Ashby"),
+    25: place("Ashby", 20),
+    22: place("Mill Field"),
+    23: place("Ashby, Kent"),
+    26: place("Mill Field", 25),
+    27: place("Ashby", 20),
+    28: place("x" * 4090, 20),
+    # a person of that name is no place
+    19: (Line(0, "person"), Line(1, "name", "Kent")),
+}
+PATHS = {
+    "Kent": 20,
+    "Ashby": 21,
+    "Ashby, Kent": 23,
+    "Mill Field": 22,
+    "Mill Field, Ashby, Kent": 26,
+    "Mill Field, Ashby": None,
+    "Ashby, Kent, ": None,
+    "Ashby,Kent": None,
+    "ashby": None,
+    "": None,
+    ",": None,
+    "x" * 4090 + ", Kent": 28,
+    "x" * 4090: None,
+}
+
+
+def places_found() -> Scene:
+    filling = Filling()
+    for number, lines in PLACES.items():
+        filling.put(number, lines)
+    filling.write(30)
+    for path, number in PATHS.items():
+        filling.ask("tables", "place", path, wanted=f"{'-' if number is None else number}\n")
+    # without 23 the path is that of 25
+    filling.take(23)
+    filling.write(30)
+    filling.ask("tables", "place", "Ashby, Kent", wanted="25\n")
+    # a place of an open batch is not there
+    filling.ask("sql", "INSERT INTO batch VALUES (1, 1)")
+    filling.ask("sql", "UPDATE record SET batch = 1 WHERE no = 25")
+    filling.ask("tables", "place", "Ashby, Kent", wanted="27\n")
+    filling.ask("sql", "UPDATE record SET batch = 0 WHERE no = 25")
+    filling.ask("sql", "DELETE FROM batch WHERE no = 1")
+    return filling.scene("places, asked of the tables by their paths")
+
+
+def entries_found() -> Scene:
+    filling = Filling()
+    sources = sorted({key[0] for _, key in ENTRIES} | {1, 2})
+    for number in sources:
+        filling.put(100 + number, (Line(0, "source", "f. 3"),))
+    for number, (source, *key) in ENTRIES:
+        filling.put(number, entry(100 + source, *key))
+    filling.write(200)
+    for source, *key in {key for _, key in ENTRIES}:
+        lowest = min(number for number, other in ENTRIES if other == (source, *key))
+        filling.ask("tables", "entry", 100 + source, *key, wanted=f"{lowest}\n")
+    for source, *key in (
+        (1, "MARRIAGE", "f. 3", 1),
+        (2, "BURIAL", "f. 3", 1),
+        (1, "BURIAL", "f. 3 ", 1),
+        (1, "BURIAL", "f. 3", 3),
+        (1, "BURIAL", "f.3", 1),
+        (1, "BURIAL", "BURIAL", 1),
+    ):
+        filling.ask("tables", "entry", 100 + source, *key, wanted="-\n")
+    # a citation of the same page and source is no entry
+    filling.put(150, person("Ann /Lee/"))
+    filling.put(1, (Line(0, "citation", None, 150), Line(1, "source", "f. 3", 101)))
+    filling.write(200)
+    filling.ask("tables", "entry", 101, "BURIAL", "f. 3", 1, wanted="7\n")
+    return filling.scene("entries, asked of the tables by their keys")
+
+
 def dangling() -> Scene:
     """A line that names no record is refused by the database, and nothing of its commit is there."""
     filling = Filling()
@@ -265,7 +361,7 @@ def again():
 
 
 def scenes():
-    yield from (all_records(), one_changed(), taken(), receipts(), slips(), dangling(), again())
+    yield from (all_records(), one_changed(), taken(), receipts(), slips(), looked_for(), places_found(), entries_found(), dangling(), again())
     yield from foreign()
 
 

@@ -1,6 +1,6 @@
 //! The answer to a row: lines, and one with a full stop.
 
-use crate::asking::{ask, ask_state, question_of};
+use crate::asking::{ask, ask_state, ask_tables, question_of};
 use crate::changing::change;
 use crate::lines::say_of_lines;
 use crate::planning::{plan, write_planned};
@@ -58,7 +58,7 @@ fn answer_asked(
     out: &mut Answer,
 ) -> Result<(), RefusalKind> {
     match word(words, 0) {
-        "state" | "view" | "shown" => answer_question(alloc, session, words, out),
+        "state" | "view" | "shown" | "tables" => answer_question(alloc, session, words, out),
         "change" => change(alloc, session, words, out),
         "read" => say_read(alloc, &session.lines, word(words, 1), out),
         "plan" => plan(alloc, session, words),
@@ -68,10 +68,10 @@ fn answer_asked(
     }
 }
 
-/// Answers a question to the state, to a view of it, or to a view of what is shown.
+/// Answers a question to the state, to a view of it, to a view of what is shown, or to the tables.
 fn answer_question(
     alloc: Global,
-    session: &Session,
+    session: &mut Session,
     words: &[String],
     out: &mut Answer,
 ) -> Result<(), RefusalKind> {
@@ -79,6 +79,7 @@ fn answer_question(
     match word(words, 0) {
         "state" => ask_state(alloc, &session.state, &question, out),
         "view" => ask(alloc, &mut &session.state, &question, out),
+        "tables" => ask_tables(alloc, &mut session.conn, &question, out),
         _ => ask(alloc, &mut &session.shown, &question, out),
     }
 }

@@ -1,11 +1,13 @@
-//! Rows that ask what a state holds: of the state itself, and through a view.
+//! Rows that ask what an archive holds: of a state itself, through a view, and of the tables.
 
 use crate::reading::say_gone;
 use archive_state::{Slip, State, Token};
 use archive_view::View;
 use records::{EntryKind, Item, Record, RefusalKind, Text};
 use row_words::{Answer, number, say_found, say_receipt, say_slip, text, token_of, word};
+use sqlite::{Alter, Connection};
 use std::alloc::{AllocError, Global};
+use store_rows::looking;
 
 /// What is asked.
 #[derive(Drop)]
@@ -18,7 +20,7 @@ pub(crate) enum Question {
     Receipt(Token),
     Slip(u32),
     Next,
-    /// How many calls failed; only a view is asked.
+    /// How many calls failed; only a view is asked, and tables answer nothing.
     Failures,
 }
 
@@ -130,7 +132,39 @@ pub(crate) fn ask<V: View>(
     }
 }
 
-/// Says the lines of a record that a view gave.
+/// Says what the rows of tables answer that a number, a token, a path or a key leads to. 80: a row `sql` has begun a
+/// transaction.
+pub(crate) fn ask_tables<S: Alter>(
+    alloc: Global,
+    conn: &mut Connection<S>,
+    question: &Question,
+    out: &mut Answer,
+) -> Result<(), RefusalKind> {
+    if !conn.is_autocommit() {
+        return Err(RefusalKind::Storage);
+    }
+    match question {
+        Question::Record(at) => say_record_of(alloc, looking::record_at(alloc, conn, *at), out),
+        Question::Slip(at) => say_slip_of(alloc, looking::slip_at(alloc, conn, *at), out),
+        Question::Referrers(at) => say_referrers(looking::referrers_of(alloc, conn, *at), out),
+        Question::Place(path) => say_number_of(looking::place_at(alloc, conn, path), out),
+        Question::Entry(key) => {
+            let found = looking::entry_at(alloc, conn, key.source, key.kind, &key.page, key.item);
+            say_number_of(found, out)
+        }
+        Question::Receipt(token) => {
+            say_receipt(looking::receipt_at(alloc, conn, token)?.as_ref(), out);
+            Ok(())
+        }
+        Question::Next => {
+            out.say_count(looking::next(alloc, conn)?);
+            Ok(())
+        }
+        Question::Failures => Ok(()),
+    }
+}
+
+/// Says the lines of a record that was answered.
 fn say_record_of(
     alloc: Global,
     found: Result<Option<Record>, RefusalKind>,

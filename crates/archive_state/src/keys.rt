@@ -8,13 +8,7 @@ ghost use Rattle.archive_state.specs.Entries.{HasKey};
 use records::{Entry, EntryKind, Item, Record, Text};
 
 /// Whether the record is an entry of that source, kind, page and item.
-pub(crate) fn is_entry_of(
-    found: &Record,
-    source: u32,
-    kind: EntryKind,
-    page: &Text,
-    item: Item,
-) -> bool
+pub fn is_entry_of(found: &Record, source: u32, kind: EntryKind, page: &Text, item: Item) -> bool
     ensures { IsTrue result ↔ ((e : model.Entry) × (found.now ≡ variant.Entry e) × HasKey source kind page.now item e) }
 {
     match found {

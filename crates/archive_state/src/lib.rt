@@ -16,6 +16,7 @@ mod slip;
 mod state;
 
 pub use changes::{Batch, Changes, Kept, Numbered, SlipChange};
+pub use keys::is_entry_of;
 pub use receipts::{Answer, Receipt, Report, ReportLine, ReportWord, Token};
 pub use slip::{Change, Slip};
 pub use state::State;

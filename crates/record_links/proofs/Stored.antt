@@ -175,8 +175,8 @@ module _ (n : ℕ) where
   bare_has date (Some p) = when_has date (Some (bare_place p))
 
   entry_has : (e : model.Entry) → Has n (entry_tree e) (entry_links e)
-  entry_has e = has_branch field.Entry (Some (entry_kind_word e.kind)) (Some e.source) ((e.source, a_source) ∷ []) (the_target a_source e.source)
-      (tells_both (no_text field.Page (Some e.page)) (tells_both (no_text field.Item (Some (decimal e.item.number))) (tells_both (bare_has (option_map date_text e.date) e.place)
+  entry_has e = has_branch field.Entry (Some (entry_kind_word e.kind)) None [] refl
+      (tells_both (tells_one (has_branch field.Page (Some e.page) (Some e.source) ((e.source, a_source) ∷ []) (the_target a_source e.source) tells_none)) (tells_both (no_text field.Item (Some (decimal e.item.number))) (tells_both (bare_has (option_map date_text e.date) e.place)
       (tells_both (no_text field.Text (Some e.text)) (tells_each mention_tree mention_links mention_has e.mentions)))))
 
   other_has : (o : model.Other) → Has n (other_tree o) (other_links o)

@@ -270,12 +270,14 @@ module _ (read : Branches → Lines) (P : Lines → Type 0) (nil : P []) (back :
       let when : Segment = record { field = field.Date; lines = when_trees date place; is_of = of-when date place } in
       let mentions : Segment = record { field = field.Mention; lines = map mention_tree e.mentions; is_of = of-mentions e.mentions } in
       let item = decimal e.item.number in
-      let ss = text-of field.Page (Some e.page) ∷ text-of field.Item (Some item) ∷ when ∷ text-of field.Text (Some e.text) ∷ mentions ∷ [] in
+      let lines = branch field.Page (Some e.page) (Some e.source) [] ∷ [] in
+      let page : Segment = record { field = field.Page; lines = lines; is_of = of-one field.Page (Some e.page) (Some e.source) [] } in
+      let ss = page ∷ text-of field.Item (Some item) ∷ when ∷ text-of field.Text (Some e.text) ∷ mentions ∷ [] in
       let line = field-of field.Date ss (when_trees date place) refl in
       λ i. record {
-        source = e.source;
+        source = ap (λ ts. number_at (first ts)) (field-of field.Page ss lines refl) i;
         kind = ap (λ o. unwrap_or o entry_kind.Baptism) (entry_kind_back e.kind) i;
-        page = ap text_or_empty (text-field field.Page ss (Some e.page) refl) i;
+        page = ap (λ ts. text_or_empty (text_at (first ts))) (field-of field.Page ss lines refl) i;
         item = (ap (λ t. unwrap_or (read_by item_of t) first_item) (text-field field.Item ss (Some item) refl) ∙ ap (λ o. unwrap_or o first_item) (item_back e.item)) i;
         date = (ap (λ ts. date_from (text_at (first ts))) line ∙ ap date_from (when-text date place) ∙ date_back e.date) i;
         place = (ap (λ ts. option_map place_number (event_place_from read (first ts))) line ∙ ap (option_map place_number) (when-place date place (bare-place e.place)) ∙ number-back e.place) i;

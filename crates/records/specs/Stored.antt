@@ -130,7 +130,7 @@ abbrev pub bare_place : ℕ → model.EventPlace
 bare_place n = record { place = n; carried = [] }
 
 abbrev pub entry_tree : model.Entry → Tree Label
-entry_tree e = branch field.Entry (Some (entry_kind_word e.kind)) (Some e.source) (text_trees field.Page (Some e.page)
+entry_tree e = branch field.Entry (Some (entry_kind_word e.kind)) None ((branch field.Page (Some e.page) (Some e.source) [] ∷ [])
     ++ (text_trees field.Item (Some (decimal e.item.number))
     ++ (when_trees (option_map date_text e.date) (option_map bare_place e.place)
     ++ (text_trees field.Text (Some e.text) ++ map mention_tree e.mentions))))

@@ -1,19 +1,19 @@
 //! Register entries as branches.
 
-ghost use Rattle.std.specs.Prelude.{◌≡◌, IfOk, option_map};
+ghost use Rattle.std.specs.Prelude.{[], ◌≡◌, IfOk, Some, option_map};
 ghost use Rattle.std.specs.Option.{unwrap_or};
 ghost use Rattle.record_fields.specs.Words.{entry_kind_of, entry_kind_word, role_of, role_word};
 ghost use Rattle.record_fields.specs.Items.{first_item, item_of};
 ghost use Rattle.record_fields.specs.declared.entry_words.EntryKind.TheVariants as kinds;
 ghost use Rattle.record_fields.specs.declared.entry_words.Role.TheVariants as roles;
-ghost use Rattle.records.specs.Stored.{mention_tree, entry_tree, link_person, link_reason, bare_place};
+ghost use Rattle.records.specs.Stored.{branch, mention_tree, entry_tree, link_person, link_reason, bare_place};
 ghost use Rattle.records.specs.Reading.{shallow_lines, mention_from, entry_from, link_from, read_by, place_number, event_place_from, first, under, text_from};
 ghost use Rattle.records.specs.declared.field.Field.TheVariants as field;
 
 use crate::event_parts::{date_at, date_words, place_at, push_when};
 use crate::field::Field;
 use crate::part::{Part, parts_at, push_parts};
-use crate::reading::{children_of, number_or_zero, text_at, text_or_none, words_at};
+use crate::reading::{children_of, number_at, text_at, text_or_none, words_at};
 use crate::writing::push_text;
 use record_fields::{EntryKind, Item, Role};
 use record_kinds::{Entry, EventPlace, Link, Mention};
@@ -65,20 +65,20 @@ impl Part for Entry {
 
     fn write(&self, alloc: Global) -> Result<Branch, AllocError> {
         let mut below = Vec::new(alloc);
-        push_text(alloc, &mut below, Field::Page, Some(self.page.copy(alloc)?))?;
+        below.push(page_line(alloc, self)?)?;
         push_text(alloc, &mut below, Field::Item, Some(self.item.text(alloc)?))?;
         let place = bare(alloc, self.place);
         push_when(alloc, &mut below, date_words(alloc, &self.date)?, &place)?;
         push_text(alloc, &mut below, Field::Text, Some(self.text.copy(alloc)?))?;
         push_parts(alloc, &mut below, &self.mentions)?;
         let kind = Some(kind_text(alloc, self.kind)?);
-        Field::Entry.branch(alloc, kind, Some(self.source), below)
+        Field::Entry.branch(alloc, kind, None, below)
     }
 
     fn read(alloc: Global, branch: &Branch) -> Result<Entry, AllocError> {
         let parts = children_of(branch);
         Ok(Entry {
-            source: number_or_zero(branch.target),
+            source: number_at(parts, Field::Page),
             kind: kind_in(&branch.text),
             item: item_at(alloc, parts)?,
             place: number_at_date(alloc, parts)?,
@@ -88,6 +88,14 @@ impl Part for Entry {
             mentions: parts_at(alloc, parts, Field::Mention)?,
         })
     }
+}
+
+/// The line of the page, which names the source too: so an entry is found by both.
+fn page_line(alloc: Global, entry: &Entry) -> Result<Branch, AllocError>
+    ensures { IfOk result (λ line. line ≡ branch field.Page (Some entry.now.page) (Some entry.now.source) []) }
+{
+    let page = Some(entry.page.copy(alloc)?);
+    Field::Page.branch(alloc, page, Some(entry.source), Vec::new(alloc))
 }
 
 /// The number of a place as that of an event, without carried lines.

@@ -1,6 +1,6 @@
--- Places found by a path: which numbers an index gives, and which of them is the answer.
-use Rattle.std.proofs.Common.{◌+◌, ◌≡◌, ◌≢◌, ◌⊎◌, inl, inr, ℕ, ◌<◌, Bool, true, false, List, [], ◌∷◌, ◌++◌, filter, cond, length, refl, sym, ap, subst, ◌∙◌, arith, Result, Ok, get_or, bytes_eq}
-use Rattle.std.specs.Prelude.{◌==◌, ◌&&◌, ◌||◌, nat_lt, codes, Option, Some, None}
+-- Places found by a path, and entries by a key: which numbers an index gives, and which of them is the answer.
+use Rattle.std.proofs.Common.{◌+◌, ◌≡◌, ◌≢◌, ◌⊎◌, inl, inr, ℕ, ◌<◌, Bool, true, false, List, [], ◌∷◌, ◌++◌, filter, cond, length, refl, sym, ap, subst, ◌∙◌, arith, ap₂, map, ◌↔◌, Result, Ok, get_or, bytes_eq}
+use Rattle.std.specs.Prelude.{◌==◌, ◌&&◌, ◌||◌, nat_lt, codes, Option, Some, None, IsTrue}
 use Rattle.std.specs.List.{list_any}
 use Rattle.std.specs.FinMap.{get}
 use Rattle.std.proofs.lemmas.Bool.Decides.{nat_tests}
@@ -11,18 +11,22 @@ use Rattle.std.proofs.Common.{take}
 use Rattle.sqlite.specs.State.{State}
 use Rattle.stored_lines.specs.Line.{Label}
 use Rattle.record_text.specs.declared.refusal.RefusalKind.{RefusalKind}
+use Rattle.record_fields.specs.Words.{entry_kind_word}
+use Rattle.record_fields.specs.declared.entry_words.EntryKind.{EntryKind}
+use Rattle.record_fields.specs.declared.item.Item.{Item}
 use Rattle.record_kinds.specs.Model as model
 use Rattle.record_kinds.specs.declared.record.Record.{Record}
 use Rattle.record_kinds.specs.declared.record.Record.TheVariants as kind
 use Rattle.records.specs.Stored.{stored}
 use Rattle.archive_state.specs.Content.{Content, Records}
+use Rattle.archive_state.specs.Entries.{IsEntryAt, HasKey}
 use Rattle.archive_state.specs.Paths.{HasPath, IsPlaceAt, IsLowest}
 use Rattle.archive_state.proofs.Climbing.{Goes, path_goes, none_iff}
-use Rattle.store_tables.specs.Keyed.{is_text, lines_saying}
+use Rattle.store_tables.specs.Keyed.{is_text, is_number, lines_saying, lines_saying_of}
 use Rattle.store_tables.specs.Looking.{Looks}
 use Rattle.store_tables.specs.Rows.{Rows, LineRow, lines_of}
 use Rattle.store_tables.proofs.Calls.{if_ok, if_err}
-use Rattle.store_rows.specs.Finding.{IsAmong, IsLowestAmong, IsFront, HasAllSaying, HasSaying, IsClimbFrom, lower}
+use Rattle.store_rows.specs.Finding.{IsAmong, IsLowestAmong, IsFront, HasAllSaying, HasSaying, IsClimbFrom, IsEntryFound, lower}
 use Rattle.store_rows.specs.declared.finding.Climb.TheVariants as climb
 use Rattle.store_rows.specs.Looking.{Sees}
 use Rattle.store_rows.specs.Meaning.{Means, IsRecordAt}
@@ -174,20 +178,20 @@ same_bytes : (xs : List ℕ) → bytes_eq xs xs ≡ true
 same_bytes [] = refl
 same_bytes (x ∷ xs) = let here : (x == x) ≡ true = grind (arith, nat_tests) in rw here (same_bytes xs)
 
-pub said_by : (text : List ℕ) (n : ℕ) (rows : Rows) → list_any (λ k. k == n) (lines_saying text rows) ≡ list_any (λ (x : ℕ × Label). is_text text x.1.text) (lines_of n rows)
-said_by text n rows =
-    let says = (λ (l : LineRow). is_text text l.line.1.text) in
+pub said_where : (says : Label → Bool) (n : ℕ) (rows : Rows) → list_any (λ k. k == n) (map (λ (l : LineRow). l.no) (filter (λ (l : LineRow). says l.line.1) rows.lines)) ≡ list_any (λ (x : ℕ × Label). says x.1) (lines_of n rows)
+said_where says n rows =
+    let told = (λ (l : LineRow). says l.line.1) in
     let own = (λ (l : LineRow). l.no == n) in
-    any_map (λ k. k == n) (λ (l : LineRow). l.no) (filter says rows.lines) ∙ sym (any_kept says own rows.lines)
-    ∙ any_same (λ l. says l && own l) (λ l. own l && says l) (λ l. and_swap (says l) (own l)) rows.lines
-    ∙ any_kept own says rows.lines ∙ sym (any_map (λ (x : ℕ × Label). is_text text x.1.text) (λ (l : LineRow). l.line) (filter own rows.lines))
+    any_map (λ k. k == n) (λ (l : LineRow). l.no) (filter told rows.lines) ∙ sym (any_kept told own rows.lines)
+    ∙ any_same (λ l. told l && own l) (λ l. own l && told l) (λ l. and_swap (told l) (own l)) rows.lines
+    ∙ any_kept own told rows.lines ∙ sym (any_map (λ (x : ℕ × Label). says x.1) (λ (l : LineRow). l.line) (filter own rows.lines))
 
 pub kept_as : (n : ℕ) (rows : Rows) (c : Content) (r : Record) → Means rows c → get c.records n ≡ Some r → lines_of n rows ≡ stored r
 kept_as n rows c r means at = let is : IsRecordAt rows n (Some r) = subst (IsRecordAt rows n) at (means.records n) in is.1
 
 name_said : (n : ℕ) (rows : Rows) (c : Content) (p : model.Place) → Means rows c → IsPlaceAt c.records n p → IsAmong n (lines_saying p.name rows)
 name_said n rows c p means at =
-    said_by p.name n rows ∙ ap (list_any (λ (x : ℕ × Label). is_text p.name x.1.text)) (kept_as n rows c (kind.Place p) means at) ∙ left_of (bytes_eq p.name p.name) _ (same_bytes p.name)
+    said_where (λ (l : Label). is_text p.name l.text) n rows ∙ ap (list_any (λ (x : ℕ × Label). is_text p.name x.1.text)) (kept_as n rows c (kind.Place p) means at) ∙ left_of (bytes_eq p.name p.name) _ (same_bytes p.name)
 
 place_there : (m : Records) (n : ℕ) (path : List ℕ) → HasPath m n path → (p : model.Place) × IsPlaceAt m n p
 place_there m n path ([], h, e) = absurd h
@@ -210,6 +214,33 @@ lowest_of_all P ns (Some k) among (there, low) = (there, λ j less p. low j (amo
 
 pub place_found : (path : List ℕ) (rows : Rows) (c : Content) (ns : List ℕ) (found : Option ℕ) → Means rows c → HasAllSaying path rows ns → IsLowestAmong (λ n. HasPath c.records n path) ns found → IsLowest (λ n. HasPath c.records n path) found
 place_found path rows c ns found means all low = lowest_of_all (λ n. HasPath c.records n path) ns found (λ n h. path_among path rows c ns n means all h) low
+
+-- ---- the line of an entry's page
+page_said : (n : ℕ) (rows : Rows) (c : Content) (e : model.Entry) → Means rows c → get c.records n ≡ Some (kind.Entry e) → IsAmong n (lines_saying_of e.page e.source rows)
+page_said n rows c e means at =
+    let says = (λ (l : Label). is_text e.page l.text && is_number e.source l.target) in
+    let of : (e.source == e.source) ≡ true = grind (arith, nat_tests) in
+    said_where says n rows ∙ ap (list_any (λ (x : ℕ × Label). says x.1)) (kept_as n rows c (kind.Entry e) means at)
+    ∙ right_of (is_text e.page (Some (entry_kind_word e.kind)) && false) _ (left_of (bytes_eq e.page e.page && (e.source == e.source)) _ (ap₂ (λ a b. a && b) (same_bytes e.page) of))
+
+key_among : (source : ℕ) (k : EntryKind) (page : List ℕ) (item : Item) (rows : Rows) (c : Content) (ns : List ℕ) (n : ℕ) → Means rows c → ns ≡ lines_saying_of page source rows → IsEntryAt c.records source k page item n → IsAmong n ns
+key_among source k page item rows c ns n means is (e, at, (from, same, on, of)) =
+    subst (IsAmong n) (sym is) (subst (λ t. IsAmong n (lines_saying_of t source rows)) on (subst (λ m. IsAmong n (lines_saying_of e.page m rows)) from (page_said n rows c e means at)))
+
+pub key_found : (source : ℕ) (k : EntryKind) (page : List ℕ) (item : Item) (rows : Rows) (c : Content) (ns : List ℕ) (found : Option ℕ) → Means rows c → ns ≡ lines_saying_of page source rows
+    → IsLowestAmong (λ n. IsEntryAt c.records source k page item n) ns found → IsLowest (λ n. IsEntryAt c.records source k page item n) found
+key_found source k page item rows c ns found means is low = lowest_of_all (λ n. IsEntryAt c.records source k page item n) ns found (λ n h. key_among source k page item rows c ns n means is h) low
+
+-- ---- what was found is an entry of a key
+pub key_seen : {b : Bool} {found : Option Record} {r : Record} (source : ℕ) (k : EntryKind) (page : List ℕ) (item : Item) (same : found ≡ Some r)
+    → IsTrue b ↔ ((e : model.Entry) × (r ≡ kind.Entry e) × HasKey source k page item e) → IsTrue b ↔ IsEntryFound found source k page item
+key_seen source k page item same iff = (
+  λ t. let h = iff.0 t in (h.0, same ∙ ap Some h.1, h.2),
+  λ h. iff.1 (h.0, (let both : Some _ ≡ Some (kind.Entry h.0) = sym same ∙ h.1 in cc), h.2),
+)
+
+pub no_key_seen : {found : Option Record} (source : ℕ) (k : EntryKind) (page : List ℕ) (item : Item) → found ≡ None → IsTrue false ↔ IsEntryFound found source k page item
+no_key_seen source k page item none = (λ t. absurd cc, λ h. let both : None ≡ Some (kind.Entry h.0) = sym none ∙ h.1 in absurd cc)
 
 -- ---- one step up
 -- what is no place has no path

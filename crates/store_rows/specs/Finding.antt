@@ -3,8 +3,13 @@
 use Rattle.std.specs.Prelude.{ℕ, ◌≡◌, ◌<◌, ◌==◌, ◌⊎◌, ◌↔◌, ◌++◌, true, Bool, List, Option, Some, None, MatchOption, cond, codes, length, nat_lt, IsTrue}
 use Rattle.std.specs.List.{list_any}
 use Rattle.std.specs.FinMap.{get}
+use Rattle.record_fields.specs.declared.entry_words.EntryKind.{EntryKind}
+use Rattle.record_fields.specs.declared.item.Item.{Item}
+use Rattle.record_kinds.specs.Model as model
 use Rattle.record_kinds.specs.declared.record.Record.{Record}
+use Rattle.record_kinds.specs.declared.record.Record.TheVariants as kind
 use Rattle.archive_state.specs.Content.{Records}
+use Rattle.archive_state.specs.Entries.{HasKey}
 use Rattle.archive_state.specs.Paths.{HasPath}
 use Rattle.store_tables.specs.Keyed.{lines_saying}
 use Rattle.store_tables.specs.Rows.{Rows}
@@ -49,3 +54,7 @@ IsClimbFrom found n path step = (m : Records) → get m n ≡ found → IsClimb 
 abbrev pub LeadsBelow : ℕ → Climb → Type 0
 LeadsBelow n (climb.Ended is) = Unit {0}
 LeadsBelow n (climb.Above q rest) = q < n
+
+-- what was found at a number is an entry of that source, kind, page and item
+abbrev pub IsEntryFound : Option Record → ℕ → EntryKind → List ℕ → Item → Type 0
+IsEntryFound found source k page item = (e : model.Entry) × (found ≡ Some (kind.Entry e)) × HasKey source k page item e

@@ -1,17 +1,19 @@
-//! Places by their paths: the numbers that an index gives, each looked at on its own.
+//! Places by their paths and entries by their keys: the numbers that an index gives, each looked at on its own.
 
 ghost use Rattle.std.specs.Prelude.{◌≡◌, ◌≢◌, ◌<◌, ◌++◌, ◌↔◌, ℕ, List, Some, MatchOption, IsTrue, OnOk, length, false};
 ghost use Rattle.sqlite.specs.Held.{state};
 ghost use Rattle.record_kinds.specs.Model as model;
 ghost use Rattle.record_kinds.specs.declared.record.Record.TheVariants as kind;
+ghost use Rattle.archive_state.specs.Entries.{IsEntryAt};
 ghost use Rattle.archive_state.specs.Paths.{HasPath};
 ghost use Rattle.store_tables.specs.Looking.{Looks};
 ghost use Rattle.store_rows.specs.Looking.{Sees};
-ghost use Rattle.store_rows.specs.Finding.{HasAllSaying, HasSaying, IsClimbFrom, IsLowestAmong, LeadsBelow, lower};
+ghost use Rattle.store_rows.specs.Finding.{HasAllSaying, HasSaying, IsClimbFrom, IsEntryFound, IsLowestAmong, LeadsBelow, lower};
 
 use crate::looking::record_at;
-use record_text::RefusalKind;
-use records::{Place, Record};
+use archive_state::is_entry_of;
+use record_text::{RefusalKind, Text};
+use records::{EntryKind, Item, Place, Record};
 use sqlite::{Alter, Connection};
 use std::alloc::{AllocError, Global};
 use store_tables::keyed;
@@ -175,4 +177,63 @@ fn behind<'a>(bytes: &'a [u8], front: &[u8]) -> Option<&'a [u8]>
         ((rest : List ℕ) → bytes.now ≢ front.now ++ rest) (λ rest. bytes.now ≡ front.now ++ rest.now) }
 {
     bytes.strip_prefix(front)
+}
+
+/// The lowest of the numbers at which an entry of this source, kind, page and item is.
+pub(crate) fn lowest_entry<S: Alter>(
+    alloc: Global,
+    conn: &mut Connection<S>,
+    numbers: &[u32],
+    source: u32,
+    kind: EntryKind,
+    page: &Text,
+    item: Item,
+) -> Result<Option<u32>, RefusalKind>
+    requires autocommit { conn.old.in_transaction ≡ false }
+    ensures sees { Sees (λ c found. IsLowestAmong (λ n. IsEntryAt c.records source kind page.now item n) numbers.now found) (state S.Store conn.old) (state S.Store conn.new) result }
+    ensures ended { conn.new.in_transaction ≡ false }
+{
+    let mut lowest = None;
+    'numbers: for number in numbers {
+        if is_entry_at(alloc, conn, *number, source, kind, page, item)? {
+            lowest = Some(lower(lowest, *number));
+        }
+    }
+    Ok(lowest)
+}
+
+/// Whether an entry of this source, kind, page and item is at a number, by the record of this number.
+fn is_entry_at<S: Alter>(
+    alloc: Global,
+    conn: &mut Connection<S>,
+    number: u32,
+    source: u32,
+    kind: EntryKind,
+    page: &Text,
+    item: Item,
+) -> Result<bool, RefusalKind>
+    requires autocommit { conn.old.in_transaction ≡ false }
+    ensures sees { Sees (λ c is. IsTrue is ↔ IsEntryAt c.records source kind page.now item number) (state S.Store conn.old) (state S.Store conn.new) result }
+    ensures ended { conn.new.in_transaction ≡ false }
+{
+    let found = record_at(alloc, conn, number)?;
+    let is = is_entry_found(&found, source, kind, page, item);
+    drop(found);
+    Ok(is)
+}
+
+/// Whether what was found is such an entry.
+fn is_entry_found(
+    found: &Option<Record>,
+    source: u32,
+    kind: EntryKind,
+    page: &Text,
+    item: Item,
+) -> bool
+    ensures { IsTrue result ↔ IsEntryFound found.now source kind page.now item }
+{
+    match found {
+        Some(record) => is_entry_of(record, source, kind, page, item),
+        None => false,
+    }
 }

@@ -15,9 +15,8 @@ ghost use Rattle.store_rows.specs.Grouped.{last_kept};
 ghost use Rattle.store_rows.specs.Meaning.{has_record, is_closed};
 
 use crate::finding;
-use crate::reading::read_state;
 use crate::sides::changes_of;
-use archive_state::{Slip, State};
+use archive_state::Slip;
 use receipts::{Receipt, Token};
 use record_text::{RefusalKind, Text};
 use records::{EntryKind, Item, Record, record_of};
@@ -121,7 +120,8 @@ pub fn place_at<S: Alter>(
     finding::lowest_place(alloc, conn, &numbers, path.as_str().as_bytes())
 }
 
-/// The lowest number of an entry of this source, kind, page and item. It reads the whole archive.
+/// The lowest number of an entry of this source, kind, page and item, read of the records that an index gives: those
+/// with a line whose text is the page and which names the source.
 pub fn entry_at<S: Alter>(
     alloc: Global,
     conn: &mut Connection<S>,
@@ -134,17 +134,8 @@ pub fn entry_at<S: Alter>(
     ensures sees { Sees (λ c found. IsLowest (λ n. IsEntryAt c.records source kind page.now item n) found) (state S.Store conn.old) (state S.Store conn.new) result }
     ensures ended { conn.new.in_transaction ≡ false }
 {
-    let all = whole(alloc, conn)?;
-    Ok(all.entry_at(source, kind, page, item))
-}
-
-/// The whole state.
-fn whole<S: Alter>(alloc: Global, conn: &mut Connection<S>) -> Result<State, RefusalKind>
-    requires autocommit { conn.old.in_transaction ≡ false }
-    ensures sees { Sees (λ c all. all ≡ c) (state S.Store conn.old) (state S.Store conn.new) result }
-    ensures ended { conn.new.in_transaction ≡ false }
-{
-    read_state(alloc, conn)
+    let numbers = keyed::lines_saying_of(alloc, conn, page.as_str(), source)?;
+    finding::lowest_entry(alloc, conn, &numbers, source, kind, page, item)
 }
 
 /// The numbers, each once, in order.

@@ -1,11 +1,7 @@
-use Rattle.std.proofs.Common.{Ok, subst}
-use Rattle.archive_state.specs.Content.{Content}
-use Rattle.archive_state.specs.Entries.{IsEntryAt}
-use Rattle.archive_state.specs.Paths.{IsLowest}
-use Rattle.store_rows.proofs.Seen.{sees_from}
+use Rattle.store_rows.proofs.Found.{sees_after, key_found}
 use Rattle.store_rows.proofs.looking.entry_at.Goals as goal
 
 pub returns-clause-sees : goal.returns-clause-sees
 returns-clause-sees g c =
-    sees_from (Ok _) c.in_ok-all.ensures.sees
-    (λ content same. subst (λ (s : Content). IsLowest (λ n. IsEntryAt s.records c.args.source c.args.kind c.args.page.now c.args.item n) c.entry_at.result) same c.entry_at.ensures) tt
+    sees_after c.lowest_entry.result (λ rows content found all means low. key_found c.args.source c.args.kind c.args.page.now c.args.item rows content c.in_ok-numbers.numbers.items found means all low)
+    (rw (c.as_str.ensures.same) at c.in_ok-numbers.ensures.looks) (rw (c.deref.ensures.value) at c.lowest_entry.ensures.sees)
