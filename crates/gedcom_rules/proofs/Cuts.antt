@@ -1,5 +1,5 @@
 -- A file's first piece, and the rest.
-use Rattle.std.proofs.Common.{◌≡◌, ℕ, suc, ◌+◌, ◌<◌, ◌≤◌, Bool, true, false, not, List, [], ◌∷◌, ◌++◌, length, ◌-◌, take, drop, length-drop, refl, ◌∙◌, arith, inl, inr, ◌⊎◌}
+use Rattle.std.proofs.Common.{◌≡◌, ℕ, suc, ◌+◌, ◌<◌, ◌≤◌, Bool, true, false, not, List, [], ◌∷◌, ◌++◌, length, ◌-◌, take, drop, length-drop, refl, ap, ◌∙◌, arith, inl, inr, ◌⊎◌}
 use Rattle.std.proofs.lemmas.Bool.{not-true}
 use Rattle.std.specs.List.{prefix_len, list_all}
 use Rattle.std.proofs.Math.Numerals.{one-add}
@@ -7,7 +7,7 @@ use Rattle.std.proofs.lemmas.List.{take_all}
 use Rattle.gedcom_line.specs.Words.{is_end}
 use Rattle.gedcom_line.specs.Line.{IsPiece}
 use Rattle.gedcom_line.proofs.Steps.{both, all_front}
-use Rattle.gedcom_rules.specs.Pieces.{pieces, onto_first}
+use Rattle.gedcom_rules.specs.Pieces.{pieces, onto_first, IsCut}
 
 pub cases_bool : (b : Bool) → (b ≡ true) ⊎ (b ≡ false)
 cases_bool true = inl refl
@@ -35,6 +35,19 @@ first_ended (x ∷ xs) n e h = elim (cases_bool (is_end x)) [
       let three : n + 1 ≡ suc (m + 1) = omega arith in
       let k = first_ended xs m refl (omega arith) in
       rw (three, two, f, k.0, k.1) (refl, refl)
+]
+
+pub cut_parts : (b : List ℕ) (n : ℕ) → n ≡ prefix_len (λ x. not (is_end x)) b → n < length b → IsCut b (take n b) (drop (n + 1) b)
+cut_parts [] n e h = absurd (omega arith)
+cut_parts (x ∷ xs) n e h = elim (cases_bool (is_end x)) [
+  | inl f ↦ let z : n ≡ 0 = rw f at e in rw z (record { end = x; ends = f; parts = refl })
+  | inr f ↦
+      let m : ℕ = prefix_len (λ x. not (is_end x)) xs in
+      let one : n ≡ 1 + m = rw f at e in
+      let two : n ≡ suc m = one ∙ one-add m in
+      let three : n + 1 ≡ suc (m + 1) = omega arith in
+      let k = cut_parts xs m refl (omega (arith, one)) in
+      rw (three, two) (record { end = k.end; ends = k.ends; parts = ap (λ (t : List ℕ). x ∷ t) k.parts })
 ]
 
 pub whole_rest : (b : List ℕ) (n : ℕ) → take (length b - n) (drop n b) ≡ drop n b

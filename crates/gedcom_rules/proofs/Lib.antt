@@ -2,6 +2,7 @@ pub mod Bools
 pub mod Cuts
 pub mod Sizes
 pub mod Marks
+pub mod Resumed
 pub mod Judged
 pub mod Runs
 pub mod Limits

@@ -1,5 +1,6 @@
 -- The pieces of a file that goes on, with a byte order mark that may be cut in two.
-use Rattle.std.proofs.Common.{◌≡◌, ℕ, suc, ◌≤◌, Bool, true, false, eqb, ◌&&◌, List, [], ◌∷◌, ◌++◌, length, refl, sym, ap, ◌∙◌, arith, inl, inr, eq-eqb}
+use Rattle.std.proofs.Common.{◌≡◌, ℕ, suc, ◌+◌, ◌≤◌, Bool, true, false, eqb, ◌&&◌, List, [], ◌∷◌, ◌++◌, length, refl, sym, ap, ◌∙◌, arith, inl, inr, eq-eqb}
+use Rattle.std.proofs.Math.Bool.{and-false}
 use Rattle.std.proofs.lemmas.Bool.{cases_eq}
 use Rattle.std.proofs.lemmas.Bool.Decides.{nat_tests}
 use Rattle.gedcom_line.specs.Words.{is_end}
@@ -55,7 +56,7 @@ open_is_all (x ∷ xs) h = elim (cases_bool (is_end x)) [
 ]
 
 -- the three bytes of the mark
-abbrev is_mark : ℕ → ℕ → ℕ → Bool
+abbrev pub is_mark : ℕ → ℕ → ℕ → Bool
 is_mark a b c = eqb a 239 && eqb b 187 && eqb c 191
 
 pub skip_le : (b : List ℕ) → length (skip_mark b) ≤ length b
@@ -126,6 +127,22 @@ skip-append (a ∷ b ∷ []) c h = elim (cases_bool (is_end a)) [
   ]
 ]
 skip-append (a ∷ b ∷ d ∷ bs) c h = elim (cases_bool (is_mark a b d)) [ inl e ↦ rw e refl | inr e ↦ rw e refl ]
+
+end_no_third : (x : ℕ) → is_end x ≡ true → eqb x 191 ≡ false
+end_no_third x h = grind (arith, nat_tests)
+
+-- nor does it reach over a line end
+pub skip_end : (p t : List ℕ) (e : ℕ) → is_end e ≡ true → skip_mark (p ++ e ∷ t) ≡ skip_mark p ++ e ∷ t
+skip_end [] t e h = short_mark e t h
+skip_end (a ∷ []) t e h = second_mark a e t h
+skip_end (a ∷ b ∷ []) t e h = rw (end_no_third e h, and-false (eqb a 239 && eqb b 187)) refl
+skip_end (a ∷ b ∷ c ∷ bs) t e h = elim (cases_bool (is_mark a b c)) [ inl k ↦ rw k refl | inr k ↦ rw k refl ]
+
+pub skip_ge : (b : List ℕ) → length b ≤ length (skip_mark b) + 3
+skip_ge [] = omega arith
+skip_ge (a ∷ []) = omega arith
+skip_ge (a ∷ b ∷ []) = omega arith
+skip_ge (a ∷ b ∷ c ∷ bs) = elim (cases_bool (is_mark a b c)) [ inl h ↦ rw h (omega arith) | inr h ↦ rw h (omega arith) ]
 
 -- how an open line goes on: with the mark taken off where it is all that there was
 abbrev pub resumed : ℕ → List ℕ → List ℕ → List ℕ

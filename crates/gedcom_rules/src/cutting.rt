@@ -4,7 +4,7 @@ ghost use Rattle.std.specs.Prelude.{◌≡◌, ◌<◌, ◌∷◌, [], not, Matc
 ghost use Rattle.std.specs.List.{prefix_len};
 ghost use Rattle.gedcom_line.specs.Words.{is_end as end_test};
 ghost use Rattle.gedcom_line.specs.Line.{IsPiece};
-ghost use Rattle.gedcom_rules.specs.Pieces.{pieces, skip_mark as unmarked};
+ghost use Rattle.gedcom_rules.specs.Pieces.{pieces, skip_mark as unmarked, IsCut};
 
 /// Whether the byte ends a line.
 pub(crate) fn is_end(byte: u8) -> bool
@@ -27,6 +27,7 @@ pub fn cut(bytes: &[u8]) -> Option<(&[u8], &[u8])>
     ensures open_ { MatchOption result ((pieces bytes.now).open_ ≡ bytes.now)
         (λ x. (pieces bytes.now).open_ ≡ (pieces x.1.now).open_) }
     ensures piece { MatchOption result (IsPiece bytes.now) (λ x. IsPiece x.0.now) }
+    ensures parts { MatchOption result (Unit {0}) (λ x. IsCut bytes.now x.0.now x.1.now) }
     ensures shorter { MatchOption result (Unit {0}) (λ x. length x.1.now < length bytes.now) }
 {
     let at = line_len(bytes);

@@ -3,7 +3,7 @@
 ghost use Rattle.std.specs.Prelude.{◌≡◌, true, false, ◌⊎◌, ◌+◌, ◌<◌, ◌≤◌, Option, Some, None, Ok, Err, MatchResult, IfOk, length, option_map, ◌^◌};
 ghost use Rattle.gedcom_rules.specs.Pieces.{pieces};
 ghost use Rattle.gedcom_rules.specs.Faults.{IsLineless, IsOpen, Decides, extra, overflows as overflow_test, within};
-ghost use Rattle.gedcom_rules.specs.Judging.{run, start, unended, open_fault as fault_of_open};
+ghost use Rattle.gedcom_rules.specs.Judging.{run, start, unended, open_fault as fault_of_open, fault_behind};
 ghost use Rattle.gedcom_rules.specs.Rules.{Progress};
 ghost use Rattle.gedcom_rules.specs.Views.{HasRun, fault_view, progress};
 
@@ -65,6 +65,30 @@ fn open_fault(count: u32, rest: &[u8], next: Option<u8>) -> Option<TreeFault>
         kind,
         at: Some(count + 1),
     })
+}
+
+/// Judges a line that has not ended behind the lines so far, where `next` is the first byte that is more than a
+/// file may have. `TooLong`: the line is too long, or `next` makes it so. `FileTooLarge`: there is such a byte.
+pub fn judge_open(seen: &Seen, rest: &[u8], next: Option<u8>) -> Result<(), TreeFault>
+    requires { (progress seen.now).count + 1 < 2 ^ 32 }
+    ensures { MatchResult result (λ _. fault_of_open rest.now next (Ok (progress seen.now)) ≡ None)
+        (λ f. fault_of_open rest.now next (Ok (progress seen.now)) ≡ Some (fault_view f)) }
+{
+    match open_fault(seen.count, rest, next) {
+        Some(fault) => Err(fault),
+        None => Ok(()),
+    }
+}
+
+/// The fault of a line behind those so far that is longer than a line may be.
+pub fn too_long(seen: &Seen) -> TreeFault
+    requires { (progress seen.now).count + 1 < 2 ^ 32 }
+    ensures { fault_view result ≡ fault_behind (progress seen.now).count TreeKind.TooLong }
+{
+    TreeFault {
+        kind: TreeKind::TooLong,
+        at: Some(seen.count + 1),
+    }
 }
 
 /// As many bytes as a file may have, and the byte behind them.

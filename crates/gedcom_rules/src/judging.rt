@@ -19,7 +19,7 @@ use gedcom_line::{LineKind, LineRef, read_line};
 use std::alloc::Global;
 
 /// The most bytes between two line ends, a byte order mark not counted.
-pub(crate) const MAX_LINE: usize = 65_536;
+pub const MAX_LINE: usize = 65_536;
 
 /// The same refusal in the table of files.
 fn of_line(kind: LineKind) -> TreeKind

@@ -5,11 +5,14 @@ pub mod Pointed
 pub mod Gathered
 pub mod Computed
 pub mod Ends
+pub mod Results
+pub mod Led
+pub mod Behind
 pub mod Fed
 pub mod Grown
 pub mod Recorded
 pub mod Added
-pub mod Walked
+pub mod Finished
 pub mod Fitting
 pub mod Sized
 pub mod Valued
@@ -19,7 +22,6 @@ pub mod Charsets
 pub mod Headed
 pub mod Shaped
 pub mod Handing
-pub mod Streamed
 pub mod Lines
 pub mod Measured
 pub mod Numbered
@@ -32,5 +34,7 @@ pub mod Again
 pub mod Same
 pub mod Short
 pub mod Stays
+pub mod Streamed
+pub mod Plain
 pub mod Matched
 pub mod Alike

@@ -1,65 +1,102 @@
--- What is read of a front of a file that is one byte longer than a file may be is what the file is.
-use Rattle.std.proofs.Common.{◌≡◌, ℕ, suc, ◌≤◌, List, [], ◌∷◌, ◌++◌, length, take, refl, sym, ap, ◌∙◌, subst, inl, inr, ◌⊎◌, arith, Option, Some, None, Ok, Err, Result}
+-- A reader that is fed a file piece by piece answers what the file is.
+use Rattle.std.proofs.Common.{◌≡◌, ℕ, zero, suc, ◌+◌, ◌<◌, ◌≤◌, List, [], ◌∷◌, ◌++◌, length, length-append, append-nil, take, refl, sym, ap, ◌∙◌, subst, inl, inr, ◌⊎◌, arith, Option, Some, None, Ok, Err, Result}
 use Rattle.std.specs.Prelude.{IfSome, IfOk, IfErr}
+use Rattle.std.specs.Io.KnownBytes.{Consumes}
+use Rattle.std.proofs.KnownBytes.{Consumes-nil, Consumes-trans}
 use Rattle.gedcom_rules.specs.Views.{fault_view, outcome}
 use Rattle.gedcom_rules.specs.declared.fault.TreeFault.{TreeFault}
 use Rattle.std.specs.List.{flat_map}
-use Rattle.std.proofs.lemmas.List.{length-take, take_all}
 use Rattle.gedcom_rules.specs.declared.fault.TreeKind.TheVariants.{OutOfMemory, ReadFailed}
 use Rattle.gedcom_tree.specs.Forest.{Item}
 use Rattle.gedcom_rules.specs.Faults.{max_file, Fault, IsLineless, Decides, FaultOf}
 use Rattle.gedcom_tree.specs.File.{ReadsFile}
-use Rattle.gedcom_tree.specs.State.{Finishes}
-use Rattle.gedcom_tree.specs.Streams.{NotRead, ReadAs}
+use Rattle.gedcom_tree.specs.Reading.{Reader}
+use Rattle.gedcom_tree.specs.State.{Holds, Takes, Finishes}
+use Rattle.gedcom_tree.specs.Streams.{NotRead, ReadAs, HasFed, Feeds}
 use Rattle.std.proofs.lemmas.Bool.{le-leb}
 use Rattle.gedcom_tree.specs.Text.{EachNode, IsForest, IsLow, text, node_text, line_text, trailer}
 use Rattle.gedcom_tree.proofs.Shaped.{reads_forest}
-use Rattle.gedcom_tree.proofs.Fed.{decided_front}
-use Rattle.gedcom_rules.proofs.Decided.{decided_is, is_decided}
-use Rattle.gedcom_tree.proofs.Ends.{decides_fault, decides_of_file, fault_of_file}
+use Rattle.gedcom_tree.proofs.Stays.{stays_decided}
+use Rattle.gedcom_rules.proofs.Decided.{decided_small, open_undecided}
+use Rattle.gedcom_tree.proofs.Ends.{decides_of_file, fault_of_file}
 
-pub finishes_read : (b : List ℕ) (r : Result (List Item) Fault) → Finishes b r → ReadAs b r
+finishes_read : (b : List ℕ) (r : Result (List Item) Fault) → Finishes b r → ReadAs b r
 finishes_read b (Ok f) h = h
 finishes_read b (Err f) (inl m) = inl m
 finishes_read b (Err f) (inr h) = inr (fault_of_file b f h, h)
 
-pub decides_read : (b : List ℕ) (f : Fault) → IsLineless OutOfMemory f ⊎ Decides b f → ReadAs b (Err f)
-decides_read b f (inl m) = inl m
-decides_read b f (inr h) = inr (decides_of_file b f h, decides_fault b f h)
+-- what `read_forest` owes
+known_forest : (known : Option (List ℕ)) (bytes : List ℕ) (f : List Item) → IfSome known (λ b. bytes ≡ b) → ReadsFile bytes f → IfSome known (λ b. ReadsFile b f)
+known_forest None bytes f e h = tt
+known_forest (Some b) bytes f e h = subst (λ (x : List ℕ). ReadsFile x f) e h
 
-front_whole : (known : List ℕ) → length (take (suc max_file) known) ≤ max_file → take (suc max_file) known ≡ known
-front_whole known h = take_all (suc max_file) known (omega (arith, length-take (suc max_file) known))
-
-front_decides : (known : List ℕ) (f : Fault) → Decides (take (suc max_file) known) f → Decides known f
-front_decides known f h = decided_is known f (sym (decided_front known) ∙ is_decided (take (suc max_file) known) f h)
-
-front_fault : (known : List ℕ) (f : Fault) → FaultOf (take (suc max_file) known) f → FaultOf known f
-front_fault known f (inl h) = decides_fault known f (front_decides known f h.1)
-front_fault known f (inr h) = subst (λ (b : List ℕ). FaultOf b f) (front_whole known h.0) (inr h)
-
-front_read : (known : List ℕ) (r : Result (List Item) Fault) → ReadAs (take (suc max_file) known) r → ReadAs known r
-front_read known (Ok f) h = subst (λ (b : List ℕ). ReadsFile b f) (front_whole known h.size) h
-front_read known (Err f) (inl m) = inl m
-front_read known (Err f) (inr h) = inr (h.0, front_fault known f h.1)
-
-pub known_read : (known : Option (List ℕ)) (bytes : List ℕ) (r : Result (List Item) Fault) → IfSome known (λ b. bytes ≡ take (suc max_file) b) → ReadAs bytes r → IfSome known (λ b. ReadAs b r)
-known_read None bytes r e h = tt
-known_read (Some b) bytes r e h = front_read b r (subst (λ (x : List ℕ). ReadAs x r) e h)
-
-pub known_forest : (known : Option (List ℕ)) (bytes : List ℕ) (f : List Item) → IfSome known (λ b. bytes ≡ take (suc max_file) b) → ReadAs bytes (Ok f) → IfSome known (λ b. ReadsFile b f)
-known_forest known bytes f e h = known_read known bytes (Ok f) e h
-
-known_fault : (known : Option (List ℕ)) (bytes : List ℕ) (f : Fault) → IfSome known (λ b. bytes ≡ take (suc max_file) b) → FaultOf bytes f → IfSome known (λ b. FaultOf b f)
+known_fault : (known : Option (List ℕ)) (bytes : List ℕ) (f : Fault) → IfSome known (λ b. bytes ≡ b) → FaultOf bytes f → IfSome known (λ b. FaultOf b f)
 known_fault None bytes f e h = tt
-known_fault (Some b) bytes f e h = front_fault b f (subst (λ (x : List ℕ). FaultOf x f) e h)
+known_fault (Some b) bytes f e h = subst (λ (x : List ℕ). FaultOf x f) e h
 
-pub known_refused : (known : Option (List ℕ)) (bytes : List ℕ) (Failed : Type 0) (f : Fault) → IfSome known (λ b. bytes ≡ take (suc max_file) b) → ReadAs bytes (Err f) → NotRead known Failed f
+known_refused : (known : Option (List ℕ)) (bytes : List ℕ) (Failed : Type 0) (f : Fault) → IfSome known (λ b. bytes ≡ b) → ReadAs bytes (Err f) → NotRead known Failed f
 known_refused known bytes Failed f e (inl m) = inl m
 known_refused known bytes Failed f e (inr h) = inr (inr (h.0, known_fault known bytes f e h.1))
 
 pub unread_refused : (known : Option (List ℕ)) (Failed : Type 0) (f : Fault) → IsLineless OutOfMemory f ⊎ (IsLineless ReadFailed f × Failed) → NotRead known Failed f
 unread_refused known Failed f (inl m) = inl m
 unread_refused known Failed f (inr h) = inr (inl h)
+
+-- each file that goes on so has the fault that is decided
+known_decided : (known left : Option (List ℕ)) (bytes : List ℕ) (f : Fault) → Consumes known left bytes → Decides bytes f → IfSome known (λ b. FaultOf b f)
+known_decided None left bytes f e h = tt
+known_decided (Some b) None bytes f e h = absurd e
+known_decided (Some b) (Some c) bytes f e h = subst (λ (x : List ℕ). FaultOf x f) (sym e) (stays_decided bytes c f h)
+
+decided_refused : (known left : Option (List ℕ)) (bytes : List ℕ) (Failed : Type 0) (f : Fault) → Consumes known left bytes → IsLineless OutOfMemory f ⊎ Decides bytes f → NotRead known Failed f
+decided_refused known left bytes Failed f e (inl m) = inl m
+decided_refused known left bytes Failed f e (inr h) = inr (inr (decides_of_file bytes f h, known_decided known left bytes f e h))
+
+pub fed_refused : (known mid left : Option (List ℕ)) (old new : Reader) (total : ℕ) (piece : List ℕ) (Failed : Type 0) (f : Fault) → Feeds known mid old total → Consumes mid left piece → ((b : List ℕ) → Holds old b → Takes new (b ++ piece) (Some f)) → NotRead known Failed f
+fed_refused known mid left old new total piece Failed f h e t = decided_refused known left (h.bytes ++ piece) Failed f (Consumes-trans known mid left h.bytes piece h.read e) (t h.bytes h.holds).1
+
+-- one piece more
+pub fed_more : (known mid left : Option (List ℕ)) (old new : Reader) (total more : ℕ) (piece : List ℕ) → Feeds known mid old total → Consumes mid left piece → more ≡ length piece → ((b : List ℕ) → Holds old b → Takes new (b ++ piece) None) → Feeds known left new (total + more)
+fed_more known mid left old new total more piece h e n t = record {
+  bytes = h.bytes ++ piece;
+  holds = (t h.bytes h.holds).0;
+  read = Consumes-trans known mid left h.bytes piece h.read e;
+  count = omega (arith, h.count, n, length-append h.bytes piece);
+}
+
+-- not more than a file may have
+pub fed_small : (known mid left : Option (List ℕ)) (old new : Reader) (total more : ℕ) (piece : List ℕ) → Feeds known mid old total → more ≡ length piece → ((b : List ℕ) → Holds old b → Takes new (b ++ piece) None) → total + more ≤ max_file
+fed_small known mid left old new total more piece h n t = omega (arith, h.count, n, length-append h.bytes piece, decided_small (h.bytes ++ piece) (open_undecided (h.bytes ++ piece) (t h.bytes h.holds).1))
+
+-- no byte is left
+at_end : (n : ℕ) (left : List ℕ) → 0 < n → [] ≡ take n left → left ≡ []
+at_end n [] h e = refl
+at_end zero (x ∷ xs) h e = absurd (omega (arith, h))
+at_end (suc n) (x ∷ xs) h e = absurd cc
+
+pub fed_all : (known mid : Option (List ℕ)) (r : Reader) (total most : ℕ) (piece : List ℕ) → Feeds known mid r total → 0 < most → piece ≡ [] → IfSome mid (λ b. piece ≡ take most b) → HasFed known r
+fed_all known mid r total most piece h s e k = record { bytes = h.bytes; holds = h.holds; all = whole known mid h.bytes h.read k }
+  where
+    whole : (known mid : Option (List ℕ)) (bytes : List ℕ) → Consumes known mid bytes → IfSome mid (λ b. piece ≡ take most b) → IfSome known (λ b. bytes ≡ b)
+    whole None mid bytes c k = tt
+    whole (Some b) None bytes c k = absurd c
+    whole (Some b) (Some l) bytes c k = sym (c ∙ ap (λ (x : List ℕ). bytes ++ x) (at_end most l s (sym e ∙ k)) ∙ append-nil bytes)
+
+pub fed_none : (known : Option (List ℕ)) (r : Reader) → Holds r [] → Feeds known known r 0
+fed_none known r h = record { bytes = []; holds = h; read = Consumes-nil known; count = refl }
+
+-- a reader that was fed all answers what the file is
+pub forest_read : (known : Option (List ℕ)) (bytes : List ℕ) (r : Result (List Item) TreeFault) → IfSome known (λ b. bytes ≡ b) → Finishes bytes (outcome r) → IfOk r (λ f. IfSome known (λ b. ReadsFile b f))
+forest_read known bytes (Ok f) e h = known_forest known bytes f e h
+forest_read known bytes (Err f) e h = tt
+
+pub forest_refused : (known : Option (List ℕ)) (Failed : Type 0) (bytes : List ℕ) (r : Result (List Item) TreeFault) → IfSome known (λ b. bytes ≡ b) → Finishes bytes (outcome r) → IfErr r (λ f. NotRead known Failed (fault_view f))
+forest_refused known Failed bytes (Ok f) e h = tt
+forest_refused known Failed bytes (Err f) e h = known_refused known bytes Failed (fault_view f) e (finishes_read bytes (Err (fault_view f)) h)
+
+pub forest_shaped : (bytes : List ℕ) (r : Result (List Item) TreeFault) → Finishes bytes (outcome r) → IfOk r (λ f. IsForest f)
+forest_shaped bytes (Ok f) h = reads_forest bytes f h
+forest_shaped bytes (Err f) h = tt
 
 -- no level of a forest is above 98
 nodes_low : (f : List Item) → EachNode f → IsLow f
@@ -72,16 +109,3 @@ forest_low f g e h = subst IsLow (sym e) (nodes_low f h.nodes)
 pub text_is : (f g : List Item) → g ≡ f → flat_map node_text g ++ line_text trailer ≡ text f
 unfolding text
 text_is f g e = ap (λ (x : List Item). flat_map node_text x ++ line_text trailer) e
-
--- what `read_forest` owes
-pub forest_read : (known : Option (List ℕ)) (kept bytes : List ℕ) (r : Result (List Item) TreeFault) → IfSome known (λ b. kept ≡ take (suc max_file) b) → bytes ≡ kept → ReadAs bytes (outcome r) → IfOk r (λ f. IfSome known (λ b. ReadsFile b f))
-forest_read known kept bytes (Ok f) e s h = known_forest known kept f e (subst (λ (x : List ℕ). ReadAs x (Ok f)) s h)
-forest_read known kept bytes (Err f) e s h = tt
-
-pub forest_refused : (known : Option (List ℕ)) (Failed : Type 0) (kept bytes : List ℕ) (r : Result (List Item) TreeFault) → IfSome known (λ b. kept ≡ take (suc max_file) b) → bytes ≡ kept → ReadAs bytes (outcome r) → IfErr r (λ f. NotRead known Failed (fault_view f))
-forest_refused known Failed kept bytes (Ok f) e s h = tt
-forest_refused known Failed kept bytes (Err f) e s h = known_refused known kept Failed (fault_view f) e (subst (λ (x : List ℕ). ReadAs x (Err (fault_view f))) s h)
-
-pub forest_shaped : (bytes : List ℕ) (r : Result (List Item) TreeFault) → ReadAs bytes (outcome r) → IfOk r (λ f. IsForest f)
-forest_shaped bytes (Ok f) h = reads_forest bytes f h
-forest_shaped bytes (Err f) h = tt

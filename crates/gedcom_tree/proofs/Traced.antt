@@ -46,13 +46,13 @@ name_has x l (Some y) e = rw e (or-false (bytes_eq x y))
 names_after : (x : List ℕ) (names : List (List ℕ)) (l : Parts) → list_any (bytes_eq x) (names ++ name_on l.xref) ≡ (list_any (bytes_eq x) names || has_name x l)
 names_after x names l = any_more x names (name_on l.xref) ∙ ap (λ (b : Bool). list_any (bytes_eq x) names || b) (name_has x l l.xref refl)
 
-traced_after : (t : Trace) (l : Parts) → progress_from (trace_after t l) ≡ after (progress_from t) l
+pub traced_after : (t : Trace) (l : Parts) → progress_from (trace_after t l) ≡ after (progress_from t) l
 traced_after t l =
     let names : (λ (x : List ℕ). list_any (bytes_eq x) (t.names ++ name_on l.xref)) ≡ (λ (x : List ℕ). list_any (bytes_eq x) t.names || has_name x l) = same_function _ _ (λ x. names_after x t.names l) in
     let open_ : standing_in (table (above_after (standing_in t.standings) l) (l.level + 1)) ≡ above_after (standing_in t.standings) l = same_function _ _ (standings_after (standing_in t.standings) l) in
     rw (names, open_) refl
 
-traced_advance : (t : Trace) (j : Result (Option Parts) TreeKind) → traced (trace_advance t j) ≡ advance (progress_from t) j
+pub traced_advance : (t : Trace) (j : Result (Option Parts) TreeKind) → traced (trace_advance t j) ≡ advance (progress_from t) j
 traced_advance t (Ok None) = refl
 traced_advance t (Ok (Some l)) = ap (λ (p : Progress). Ok p) (traced_after t l)
 traced_advance t (Err k) = refl

@@ -2,6 +2,7 @@ pub mod Forest
 pub mod File
 pub mod Reading
 pub mod Views
+pub mod Lines
 pub mod State
 pub mod Flat
 pub mod Depth

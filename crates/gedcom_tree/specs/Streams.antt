@@ -1,10 +1,12 @@
 -- What is said of files that come from a reader and go to a writer.
-use Rattle.std.specs.Prelude.{◌≡◌, ◌⊎◌, ℕ, List, ◌++◌, Option, IfSome, Result, Ok, Err}
-use Rattle.std.specs.Io.KnownBytes.{Appends}
+use Rattle.std.specs.Prelude.{◌≡◌, ◌⊎◌, ℕ, List, ◌++◌, length, Option, IfSome, Result, Ok, Err}
+use Rattle.std.specs.Io.KnownBytes.{Appends, Consumes}
 use Rattle.gedcom_rules.specs.declared.fault.TreeKind.{TreeKind}
 use Rattle.gedcom_rules.specs.declared.fault.TreeKind.TheVariants.{OutOfMemory, ReadFailed, WriteFailed}
 use Rattle.gedcom_rules.specs.Faults.{Fault, IsLineless, FaultOf}
 use Rattle.gedcom_tree.specs.File.{ReadsFile}
+use Rattle.gedcom_tree.specs.Reading.{Reader}
+use Rattle.gedcom_tree.specs.State.{Holds}
 use Rattle.gedcom_tree.specs.Forest.{Item}
 use Rattle.gedcom_tree.specs.Text.{IsForest, text}
 use Rattle.devices.specs.Devices.{AppendsBeginning}
@@ -30,6 +32,19 @@ IsOfFile _ = Unit {0}
 abbrev pub NotRead : Option (List ℕ) → Type 0 → Fault → Type 0
 NotRead known Failed f =
     IsLineless OutOfMemory f ⊎ ((IsLineless ReadFailed f × Failed) ⊎ (IsOfFile f.kind × IfSome known (λ b. FaultOf b f)))
+
+-- a reader of a file has been fed all that there was, and has answered no fault
+pub record HasFed (known : Option (List ℕ)) (r : Reader) : Type 0 where
+  pub bytes : List ℕ
+  pub holds : Holds r bytes
+  pub all : IfSome known (λ b. bytes ≡ b)
+
+-- it has been fed what was taken of it
+pub record Feeds (known left : Option (List ℕ)) (r : Reader) (total : ℕ) : Type 0 where
+  pub bytes : List ℕ
+  pub holds : Holds r bytes
+  pub read : Consumes known left bytes
+  pub count : total ≡ length bytes
 
 -- the forest of bytes, or why there is none
 abbrev pub ReadAs : List ℕ → Result (List Item) Fault → Type 0

@@ -10,13 +10,13 @@
 #![tactic(auto)]
 
 mod comparing;
+mod ended;
 mod forest;
 mod growing;
 pub mod laws;
 mod node;
 mod normal;
 mod reader;
-mod reading;
 mod writing;
 
 pub use devices::{Counted, Device, TransferError, has_risen, read_up_to, write_bytes};

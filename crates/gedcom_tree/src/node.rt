@@ -60,7 +60,7 @@ pub(crate) fn join_value(
     Ok(())
 }
 
-fn xref_of(alloc: Global, xref: Option<&str>) -> Result<Option<String>, AllocError>
+pub(crate) fn xref_of(alloc: Global, xref: Option<&str>) -> Result<Option<String>, AllocError>
     ensures { IfOk result (λ x. option_map string_bytes x ≡ option_map (λ s. s.now) xref.entry) }
 {
     match xref {

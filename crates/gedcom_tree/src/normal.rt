@@ -1,13 +1,14 @@
 //! A file read from a stream, and brought to its canonical text.
 
-ghost use Rattle.std.specs.Prelude.{◌≡◌, ◌⊎◌, take, IfOk, IfErr, OnOk, IfSome};
-ghost use Rattle.std.specs.Io.KnownBytes.{Keeps};
+ghost use Rattle.std.specs.Prelude.{◌≡◌, ◌⊎◌, [], take, IfOk, IfErr, OnOk, IfSome};
+ghost use Rattle.std.specs.Io.KnownBytes.{Keeps, Consumes};
 ghost use Rattle.gedcom_rules.specs.Faults.{IsLineless};
 ghost use Rattle.gedcom_tree.specs.File.{ReadsFile};
 ghost use Rattle.gedcom_tree.specs.Text.{IsForest};
 ghost use Rattle.devices.specs.Devices.{Rose};
-ghost use Rattle.gedcom_tree.specs.Streams.{NotRead, Normalised, Begun, ReadAs};
-ghost use Rattle.gedcom_rules.specs.Views.{fault_view, outcome};
+ghost use Rattle.gedcom_tree.specs.State.{Holds};
+ghost use Rattle.gedcom_tree.specs.Streams.{NotRead, Normalised, Begun, HasFed};
+ghost use Rattle.gedcom_rules.specs.Views.{fault_view};
 
 use crate::forest::Forest;
 use crate::reader::TreeReader;
@@ -17,14 +18,22 @@ use gedcom_rules::{MAX_FILE, TreeFault, TreeKind};
 use std::alloc::Global;
 use std::io::{Read, Write};
 
-/// The bytes of a file, and one more where it is too large.
-fn read_bytes<R: Read + Device>(alloc: Global, reader: &mut R) -> Result<Vec<u8>, TreeFault>
-    ensures bytes { IfOk result (λ all. IfSome (R.remaining reader.old) (λ known. all.items ≡ take 67_108_865 known)) }
+/// The most bytes of a piece that is read.
+const PIECE: usize = 65_536;
+
+/// The next piece of a file, of at most so many bytes: an empty one only where `most` is 0 or no byte is left.
+fn read_piece<R: Read + Device>(
+    alloc: Global,
+    reader: &mut R,
+    before: u64,
+    most: usize,
+) -> Result<Vec<u8>, TreeFault>
+    ensures front { IfOk result (λ piece. IfSome (R.remaining reader.old) (λ known. piece.items ≡ take most known)) }
+    ensures read { IfOk result (λ piece. Consumes (R.remaining reader.old) (R.remaining reader.new) piece.items) }
     ensures fault { IfErr result (λ f. IsLineless TreeKind.OutOfMemory (fault_view f)
-        ⊎ (IsLineless TreeKind.ReadFailed (fault_view f) × Rose (R.failed reader.old) (R.failed reader.new))) }
+        ⊎ (IsLineless TreeKind.ReadFailed (fault_view f) × Rose before (R.failed reader.new))) }
 {
-    let before = reader.failures();
-    match read_up_to(alloc, reader, before, MAX_FILE + 1) {
+    match read_up_to(alloc, reader, before, most) {
         Ok(bytes) => Ok(bytes),
         Err(TransferError::OutOfMemory) => Err(TreeFault {
             kind: TreeKind::OutOfMemory,
@@ -37,14 +46,31 @@ fn read_bytes<R: Read + Device>(alloc: Global, reader: &mut R) -> Result<Vec<u8>
     }
 }
 
-/// The forest of whole bytes.
-fn forest_of(alloc: Global, bytes: &[u8]) -> Result<Forest, TreeFault>
-    ensures { ReadAs bytes.now (outcome result) }
+/// Feeds all bytes that are left, in pieces, up to the first fault.
+fn feed_all<R: Read + Device>(
+    alloc: Global,
+    reader: &mut R,
+    before: u64,
+    lines: &mut TreeReader,
+) -> Result<(), TreeFault>
+    requires { Holds lines.old [] }
+    ensures fed { OnOk result (HasFed (R.remaining reader.old) lines.new) }
+    ensures fault { IfErr result (λ f. NotRead (R.remaining reader.old) (Rose before (R.failed reader.new)) (fault_view f)) }
 {
-    let mut reader = TreeReader::new(alloc);
-    match reader.feed(bytes) {
-        Ok(()) => reader.finish(),
-        Err(fault) => Err(fault),
+    let mut total = 0usize;
+    'pieces: loop {
+        let piece = match read_piece(alloc, reader, before, PIECE.min(MAX_FILE + 1 - total)) {
+            Ok(piece) => piece,
+            Err(fault) => return Err(fault),
+        };
+        if piece.is_empty() {
+            return Ok(());
+        }
+        match lines.feed(&piece) {
+            Ok(()) => {}
+            Err(fault) => return Err(fault),
+        }
+        total += piece.len();
     }
 }
 
@@ -58,11 +84,13 @@ pub fn read_forest<R: Read + Device>(alloc: Global, reader: &mut R) -> Result<Fo
     ensures fault { IfErr result (λ f. NotRead (R.remaining reader.old)
         (Rose (R.failed reader.old) (R.failed reader.new)) (fault_view f)) }
 {
-    let bytes = match read_bytes(alloc, reader) {
-        Ok(bytes) => bytes,
+    let before = reader.failures();
+    let mut lines = TreeReader::new(alloc);
+    match feed_all(alloc, reader, before, &mut lines) {
+        Ok(()) => {}
         Err(fault) => return Err(fault),
-    };
-    forest_of(alloc, &bytes)
+    }
+    lines.finish()
 }
 
 /// Reads a whole file, and writes its forest in canonical form. Nothing is written before the forest is

@@ -5,7 +5,7 @@ ghost use Rattle.std.specs.List.{flat_map, list_all};
 ghost use Rattle.std.specs.Io.KnownBytes.{Appends};
 ghost use Rattle.gedcom_line.specs.Escape.{escaped};
 ghost use Rattle.gedcom_line.specs.Value.{Text};
-ghost use Rattle.gedcom_line.specs.Split.{part};
+ghost use Rattle.gedcom_line.specs.Split.{part, canonical};
 ghost use Rattle.gedcom_tree.specs.Forest.{part_line, mark_tag as tag_of_mark};
 ghost use Rattle.gedcom_tree.specs.Text.{line_text, node_text, text, trailer, IsLow};
 ghost use Rattle.gedcom_tree.specs.Flat.{flat, flats, said};
@@ -24,6 +24,9 @@ use std::io::Write;
 /// So many bytes of text are put together before the writer gets them.
 const BUFFER: usize = 65_536;
 
+/// A text of so many bytes has as it is written at most the characters of one line.
+const SHORT: usize = 100;
+
 /// The tag of a continuation.
 fn mark_tag(mark: Mark) -> &'static str
     ensures { result.now ≡ tag_of_mark mark }
@@ -34,7 +37,7 @@ fn mark_tag(mark: Mark) -> &'static str
     }
 }
 
-/// Appends a line whose value is the text.
+/// Appends a line whose value is the text, without a copy where no `@` is to be doubled.
 fn push_part(
     alloc: Global,
     out: &mut String,
@@ -50,8 +53,18 @@ fn push_part(
       raw = escaped value.now;
     })) }
 {
+    if !value.as_bytes().contains(&b'@') {
+        return write_line(out, level, xref, tag, value);
+    }
     let raw = escape(alloc, value)?;
     write_line(out, level, xref, tag, &raw)
+}
+
+/// Whether the text stands on one line whatever it has: few bytes, and no LF.
+fn is_one_part(text: &str) -> bool
+    ensures { result ≡ true → canonical text.now ≡ record { mark = Mark.Cont; text = text.now } ∷ [] }
+{
+    text.len() <= SHORT && !text.as_bytes().contains(&b'\n')
 }
 
 /// Appends the continuations.
@@ -88,6 +101,9 @@ fn push_text(
       value = Text value.now;
     })) }
 {
+    if is_one_part(value) {
+        return push_part(alloc, out, level, xref, tag, value);
+    }
     let parts = split_text(alloc, value)?;
     match parts.as_slice() {
         [first, more @ ..] => {

@@ -1,0 +1,40 @@
+-- A text that stands on one line as it is.
+use Rattle.std.proofs.Common.{◌≡◌, ℕ, zero, suc, ◌≤◌, Bool, true, false, eqb, List, [], ◌∷◌, length, refl, sym, ap, ◌∙◌, append-nil, Option}
+use Rattle.std.specs.List.{list_any, slice_split}
+use Rattle.std.proofs.lemmas.Bool.{le-leb}
+use Rattle.gedcom_line.specs.Escape.{escaped_from, escaped}
+use Rattle.gedcom_line.specs.Split.{is_short, is_lf, parts_by, segment_parts, canonical}
+use Rattle.gedcom_line.specs.Value.{Text}
+use Rattle.gedcom_line.specs.declared.splitting.Mark.TheVariants.{Cont}
+use Rattle.gedcom_line.proofs.Counts.{few_bytes}
+use Rattle.gedcom_line.proofs.Steps.{neither}
+use Rattle.gedcom_tree.specs.Text.{line_text, node_text}
+
+-- without an @ a text is written as it is
+pub escaped_plain : (inside : Bool) (t : List ℕ) → list_any (λ b. eqb b 64) t ≡ false → escaped_from inside t ≡ t
+escaped_plain inside [] h = refl
+escaped_plain inside (b ∷ bs) h =
+    let n = neither (eqb b 64) (list_any (λ x. eqb x 64) bs) h in
+    rw n.0 (ap (λ (x : List ℕ). b ∷ x) (escaped_plain inside bs n.1))
+
+-- without an LF, and of few bytes, it is one part
+unsplit : (t : List ℕ) → list_any is_lf t ≡ false → slice_split is_lf t ≡ t ∷ []
+unsplit [] h = refl
+unsplit (b ∷ bs) h =
+    let n = neither (is_lf b) (list_any is_lf bs) h in
+    rw (n.0, unsplit bs n.1) refl
+
+one_part : (n : ℕ) (s : List ℕ) → is_short s ≡ true → parts_by n s ≡ s ∷ []
+unfolding parts_by
+one_part zero s h = refl
+one_part (suc n) s h = rw h refl
+
+few_short : (t : List ℕ) → length t ≤ 100 → is_short t ≡ true
+few_short t h = sym (few_bytes t h) ∙ le-leb (length t) 100 h
+
+pub canonical_one : (t : List ℕ) → length t ≤ 100 → list_any is_lf t ≡ false → canonical t ≡ record { mark = Cont; text = t } ∷ []
+unfolding canonical segment_parts
+canonical_one t h k = rw (unsplit t k, one_part (length t) t (few_short t h)) refl
+
+pub text_one : (line level : ℕ) (xref : Option (List ℕ)) (tag t : List ℕ) → canonical t ≡ record { mark = Cont; text = t } ∷ [] → line_text (record { level = level; xref = xref; tag = tag; raw = escaped t }) ≡ node_text (record { line = line; level = level; xref = xref; tag = tag; value = Text t })
+text_one line level xref tag t h = rw h (sym (append-nil (line_text (record { level = level; xref = xref; tag = tag; raw = escaped t }))))
