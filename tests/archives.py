@@ -365,9 +365,9 @@ def a_full_disk(tools):
         expect(at.apply(lines(rows)), written(lines(answers)))
 
 
-def generated(seed, count):
+def generated(seed, count, *how):
     """Rows of all verbs for a new archive, by the generator of the tests of requests."""
-    words = ("python3", os.path.join(ROOT, "tests/requests/generate.py"), str(seed), str(count))
+    words = ("python3", os.path.join(ROOT, "tests/requests/generate.py"), str(seed), str(count), *how)
     return subprocess.run(words, stdout=subprocess.PIPE, check=True).stdout
 
 
@@ -392,7 +392,7 @@ def killed(at, rows, after):
 
 def killed_and_run_again(tools, seed=1, count=300, stops=10):
     """A program that is killed at some moment, and again: the rows sent again get the answers of a run that was not stopped."""
-    rows = generated(seed, count)
+    rows = generated(seed, count, "lasting")
     with Folder(tools) as whole:
         wanted = whole.made().apply(rows)
         demand(wanted.status == 0 and wanted.err == b"", f"{wanted.status} {wanted.err!r}")

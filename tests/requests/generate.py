@@ -1,9 +1,12 @@
 """Rows of requests for a new archive, most of them accepted, by a seeded generator.
 
-    python3 tests/requests/generate.py SEED COUNT
+    python3 tests/requests/generate.py SEED COUNT [lasting]
+
+`lasting`: no row removes a record, so that each row, whenever it is given again, is answered as before.
 """
 
 import random
+import re
 import sys
 
 from table.making import LAST, field
@@ -15,9 +18,12 @@ FAMILY_TAGS = ["MARR", "DIV", "ENGA", "CENS", "EVEN", "RESI"]
 DATES = ["", "", "1700", "1 may 1800", " abt  1700", "BET 1700 AND 1701", "()", "44b.c.", "about a day", "1731/32"]
 ROLES = ["", "witness", "witness", "a,b", "priest"]
 VALUES = ["", "", "at home", "two\nlines"]
+TITLES = ["Ashby register", "Wills", "", 'The "old" book, vol. 1', "two\nlines", " "]
+SHORT = ["", "", "Rev. Lee", "MS 4", "a,b"]  # authors, publishers, call numbers and pages
+QUALITIES = ["", "0", "1", "2", "3"]
 PLACE = ""  # no request makes a place yet
 
-# The kinds of the fields of each verb: number, text, sex, tag or date.
+# The kinds of the fields of each verb: number, text, sex, tag, date or quality.
 KINDS = {
     "person": "TS",
     "name": "NT",
@@ -27,6 +33,10 @@ KINDS = {
     "event": "NGTDN",
     "amend": "NTDN",
     "participant": "NNT",
+    "repo": "T",
+    "source": "TTTNT",
+    "citation": "NNTQ",
+    "remove": "N",
 }
 ODD = {
     "N": ["0", "00000000001", str(LAST + 1), "+1", "1a", " 1", str(LAST), "1000", "1000", "1000"],
@@ -34,19 +44,24 @@ ODD = {
     "S": ["X", "m"],
     "G": ["birt", "NAME", "HUSB", "", "a\0b"],
     "D": ["a\rb", "a\0b", "(\r)"],
+    "Q": ["4", "03", " 1", "q"],
 }
-ODD_VERBS = ["frob", "", "Person", "person ", "personal"]
+ODD_VERBS = ["frob", "", "Person", "person ", "personal", "repository", "removed"]
 ODD_TOKENS = ["", "a b", "x" * 65, "\u00e9", "!", "~", "a,b", "x" * 64, "\x7f"]
 
 
 class Rows:
-    """The rows of one archive. It keeps what stands at which number, as far as it can tell."""
+    """The rows of one archive. It keeps what stands at which number, and what each record names."""
 
-    def __init__(self, rng):
+    def __init__(self, rng, removes):
         self.rng = rng
+        self.removes = removes
         self.people, self.families, self.events = [], [], []
+        self.repos, self.sources, self.citations = [], [], []
+        self.names = {}  # the numbers that each record names
         self.next = 1
         self.given = []
+        self.refused = {}  # the tokens of what was refused, with the number of a removal
 
     def chance(self, share):
         return self.rng.random() < share
@@ -56,6 +71,26 @@ class Rows:
 
     def of(self, numbers):
         return self.spelt(self.rng.choice(numbers))
+
+    def kinds(self):
+        """The numbers of each kind, by the verb that makes it."""
+        return {
+            "person": self.people,
+            "family": self.families,
+            "event": self.events,
+            "repo": self.repos,
+            "source": self.sources,
+            "citation": self.citations,
+        }
+
+    def is_named(self, number):
+        return any(number in named for one, named in self.names.items() if one != number)
+
+    def take_out(self, number):
+        del self.names[number]
+        for numbers in self.kinds().values():
+            if number in numbers:
+                numbers.remove(number)
 
     def person(self):
         return [self.rng.choice(NAMES), self.rng.choice(["", *SEXES])]
@@ -85,29 +120,60 @@ class Rows:
     def participant(self):
         return [self.of(self.events), self.of(self.people), self.rng.choice(ROLES)]
 
+    def repo(self):
+        return [self.rng.choice(TITLES)]
+
+    def source(self):
+        texts = [self.rng.choice(TITLES), self.rng.choice(SHORT), self.rng.choice(SHORT)]
+        if self.repos and self.chance(0.5):
+            return [*texts, self.of(self.repos), self.rng.choice(SHORT)]
+        return [*texts, "", ""]
+
+    def citation(self):
+        owners = self.rng.choice([one for one in (self.people, self.families, self.events) if one])
+        return [self.of(owners), self.of(self.sources), self.rng.choice(SHORT), self.rng.choice(QUALITIES)]
+
+    def remove(self):
+        return [self.of([number for number in self.names if not self.is_named(number)])]
+
     def verbs(self):
         """The verbs for which there is what they name, those that make something more than once."""
-        found = ["person"] * 3
+        found = ["person"] * 3 + ["repo", "source"]
         if self.people:
             found += ["family"] * 2 + ["event"] * 3 + ["name", "sex"]
         if self.families:
             found += ["child"] * 2
         if self.events:
             found += ["amend", "participant", "participant"]
+        if self.sources and (self.people or self.families or self.events):
+            found += ["citation"] * 3
+        if self.removes and not all(self.is_named(number) for number in self.names):
+            found += ["remove"]
         return found
+
+    def note(self, verb, fields):
+        """Keeps what an accepted command makes, names and removes."""
+        named = {int(one) for one, kind in zip(fields, KINDS[verb]) if kind == "N" and one}
+        made = self.kinds().get(verb)
+        if made is not None:
+            made.append(self.next)
+            self.names[self.next] = named
+            self.next += 1
+        elif verb == "remove":
+            self.take_out(*named)
+        else:
+            self.names[int(fields[0])] |= named - {int(fields[0])}
 
     def good(self):
         """A verb and its fields that are accepted, but for a child who is in the family already."""
         verb = self.rng.choice(self.verbs())
         fields = getattr(self, verb)()
-        made = {"person": self.people, "family": self.families, "event": self.events}.get(verb)
-        if made is not None:
-            made.append(self.next)
-            self.next += 1
+        self.note(verb, fields)
         return [verb, *fields]
 
     def odd(self):
-        """A row that is refused: an unknown verb, a field more or less, one person twice, or a wrong field."""
+        """A row that is refused: an unknown verb, a field more or less, one person twice, a call number alone, or a wrong
+        field."""
         verb = self.rng.choice(self.verbs())
         fields = getattr(self, verb)()
         form = self.rng.random()
@@ -119,6 +185,8 @@ class Rows:
             return [verb, *fields[:-1]]
         if verb == "family" and form < 0.5:
             return [verb, str(self.people[0]), self.of(self.people[:1])]
+        if verb == "source" and form < 0.5:
+            return [verb, *fields[:3], "", "MS 4"]
         at = self.rng.randrange(len(fields))
         fields[at] = self.wrong(verb, at)
         return [verb, *fields]
@@ -129,7 +197,15 @@ class Rows:
         if kind != "N" or self.chance(0.5):
             return self.rng.choice(ODD[kind])
         if verb == "event":
-            others = self.events
+            others = self.events + self.sources
+        elif verb == "source":
+            others = self.people + self.sources
+        elif verb == "citation" and at == 0:
+            others = self.repos + self.sources + self.citations
+        elif verb == "citation":
+            others = self.people + self.repos
+        elif verb == "remove":
+            others = [number for number in self.names if self.is_named(number)]
         elif verb == "child" and at == 0:
             others = self.people + self.events
         elif verb in ("amend", "participant") and at == 0:
@@ -142,14 +218,30 @@ class Rows:
         """A row with a token of its own, a row of before, a token of before, or a token that is odd."""
         form = self.rng.random()
         if self.given and form < 0.12:
-            return self.rng.choice(self.given)
+            return self.once_more(self.rng.choice(self.given))
         if self.given and form < 0.18:
             return [self.rng.choice(self.given)[0], *self.odd()]
         if form < 0.21:
             return [self.rng.choice(ODD_TOKENS), *self.odd()]
-        made = [f"t{place}", *(self.odd() if self.chance(0.25) else self.good())]
+        if self.chance(0.25):
+            made = [f"t{place}", *self.odd()]
+            self.refused[made[0]] = self.named_by(made)
+        else:
+            made = [f"t{place}", *self.good()]
         self.given.append(made)
         return made
+
+    def named_by(self, given):
+        """The number of a removal that is well formed."""
+        is_removal = given[1] == "remove" and len(given) == 3 and re.fullmatch("[0-9]{1,10}", given[2])
+        return int(given[2]) if is_removal else None
+
+    def once_more(self, given):
+        """A row of before. A removal that was refused may be accepted now."""
+        number = self.refused.get(given[0])
+        if number in self.names and not self.is_named(number):
+            self.take_out(number)
+        return given
 
 
 def written(rng, fields):
@@ -161,12 +253,12 @@ def written(rng, fields):
     return (",".join(words) + end).encode("utf-8")
 
 
-def rows(seed, count):
+def rows(seed, count, removes=True):
     """So many rows for one archive."""
     rng = random.Random(seed)
-    made = Rows(rng)
+    made = Rows(rng, removes)
     return [written(rng, made.row(place)) for place in range(count)]
 
 
 if __name__ == "__main__":
-    sys.stdout.buffer.write(b"".join(rows(sys.argv[1], int(sys.argv[2]))))
+    sys.stdout.buffer.write(b"".join(rows(sys.argv[1], int(sys.argv[2]), sys.argv[3:] != ["lasting"])))

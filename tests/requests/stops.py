@@ -110,6 +110,7 @@ REQUESTS = b"".join(given for given, _ in STORED)
 PERFORMED = {
     "an event": 'event,3,MARR,"at home, ""late""",ABT 1750,',
     "an amendment": "amend,4,Köln,1800,",
+    "a removal": "remove,4",
     "a long name": "name,2," + "x" * 2 * LONG,
 }
 

@@ -15,11 +15,13 @@ use Rattle.receipts.specs.declared.answer.Receipt.{Receipt}
 use Rattle.commands.specs.Bytes.{digest_of}
 use Rattle.commands.specs.declared.command.Command.{Command}
 use Rattle.archive_core.specs.Steps.{Step, refused_at, step}
-use Rattle.archive_core.specs.Machine.{Draws, UsesNoneAgain, Does, Runs, Done, served, kept_under, answered_again}
+use Rattle.archive_steps.specs.Numbers.{Draws, UsesNoneAgain}
+use Rattle.archive_core.specs.Machine.{Does, Runs, Done, served, kept_under, answered_again}
 use Rattle.archive_core.specs.Words.{HasUtf8Words}
 use Rattle.archive_core.specs.declared.request.Request.{Request}
 use Rattle.record_shapes.specs.Lists.{EachOf}
-use Rattle.archive_core.proofs.Following.{Follows, step_follows}
+use Rattle.archive_steps.proofs.Following.{Follows}
+use Rattle.archive_core.proofs.Following.{step_follows}
 
 ok_is : {A : Type 0} (x y : A) (r : Result A Refusal) → r ≡ Ok x → r ≡ Ok y → x ≡ y
 ok_is x y r e f = let both : Ok x ≡ Ok y = sym e ∙ f in cc

@@ -3,12 +3,10 @@ use Rattle.std.proofs.Common.{◌≡◌, ℕ, Bool, true, false, refl, sym, ap, 
 use Rattle.std.specs.Prelude.{Option, Some, None}
 use Rattle.std.specs.FinMap.{FinMap, get, insert, remove, get-insert, get-remove, same_map, nat_cmp-IsAntisymmetric}
 use Rattle.std.specs.Ordering.{nat_cmp, eq_by_cmp}
-use Rattle.std.specs.Cmp.{nat_cmp_total, eq_by_cmp_equiv, Equal-is}
+use Rattle.std.specs.Cmp.{nat_cmp_total, eq_by_cmp_equiv}
 use Rattle.archive_state.specs.Content.{Content, Slips}
 use Rattle.archive_state.specs.Slips.{Slip}
-
-one_number : (a b : ℕ) → eq_by_cmp nat_cmp a b ≡ true → a ≡ b
-one_number a b e = nat_cmp-IsAntisymmetric a b ((Equal-is (nat_cmp a b)).0 e)
+use Rattle.archive_steps.proofs.Same.{one_number}
 
 module _ {X : Type 0} where
   at_once : (b : Bool) (v : X) (old o : Option X) → (b ≡ true → o ≡ old) → cond b old (cond b (Some v) o) ≡ o
@@ -21,15 +19,6 @@ module _ {X : Type 0} where
       get-insert nat_cmp_total (insert m n v) n old q
       ∙ ap (cond (eq_by_cmp nat_cmp q n) (Some old)) (get-insert nat_cmp_total m n v q)
       ∙ at_once (eq_by_cmp nat_cmp q n) v (Some old) (get m q) (λ t. ap (get m) (one_number q n t) ∙ e))
-
-  once : (b : Bool) (v : X) (o : Option X) → (b ≡ true → o ≡ Some v) → cond b (Some v) o ≡ o
-  once true v o h = sym (h refl)
-  once false v o h = refl
-
-  -- what is there is put there
-  pub put_same : (m : FinMap nat_cmp X) (n : ℕ) (v : X) → get m n ≡ Some v → insert m n v ≡ m
-  put_same m n v e = same_map nat_cmp_total nat_cmp-IsAntisymmetric _ _ (λ q.
-      get-insert nat_cmp_total m n v q ∙ once (eq_by_cmp nat_cmp q n) v (get m q) (λ t. ap (get m) (one_number q n t) ∙ e))
 
   -- what was not there is taken out
   pub taken_out : (m : FinMap nat_cmp X) (n : ℕ) (v : X) → get m n ≡ None → remove (insert m n v) n ≡ m

@@ -1,11 +1,10 @@
 -- What a request does: an accepted one acts once, and its answer is kept under its token for good. Rules of our own.
-use Rattle.std.specs.Prelude.{ℕ, ◌+◌, ◌<◌, ◌≤◌, ◌⊎◌, true, false, List, [], ◌∷◌, ◌≡◌, ◌≢◌, Option, Some, None, Result, Ok, Err, if◌then◌else◌}
+use Rattle.std.specs.Prelude.{ℕ, false, List, [], ◌∷◌, ◌≡◌, Option, Some, None, Result, Ok, Err, if◌then◌else◌}
 use Rattle.std.specs.Str.{bytes_eq}
 use Rattle.std.specs.FinMap.{get, insert}
 use Rattle.record_text.specs.declared.refusal.Refusal.{Refusal}
 use Rattle.record_text.specs.declared.refusal.RefusalKind.TheVariants.{TokenReused}
 use Rattle.archive_state.specs.Content.{Content}
-use Rattle.archive_state.specs.Slips.{Slip}
 use Rattle.receipts.specs.declared.answer.Answer.{Answer}
 use Rattle.receipts.specs.declared.answer.Receipt.{Receipt}
 use Rattle.commands.specs.Bytes.{digest_of}
@@ -46,27 +45,3 @@ Done = Request × Result Answer Refusal
 abbrev pub Runs : Content → List Done → Content → Type 0
 Runs c [] after = after ≡ c
 Runs c (done ∷ more) after = (between : Content) × Does c done.0 done.1 between × Runs between more after
-
--- a record or a slip has the number
-abbrev pub IsTaken : Content → ℕ → Type 0
-IsTaken c n = (get c.records n ≢ None) ⊎ (get c.slips n ≢ None)
-
--- the numbers from the next one of before up to that of after are drawn, each for a record or a slip, and the answer is the
--- first of them with their count; or it is 0 and 0, and none is drawn
-abbrev pub Draws : Content → Answer → Content → Type 0
-Draws c a after =
-    (after.next ≡ c.next + a.count) × ((a.first ≡ c.next) ⊎ ((a.first ≡ 0) × (a.count ≡ 0)))
-    × ((n : ℕ) → c.next ≤ n → n < after.next → IsTaken after n)
-
--- a number that is used up: it is below the next one, no record has it, and each merge that took its record away was undone,
--- so that none can bring it back
-abbrev pub IsUsedUp : Content → ℕ → Type 0
-IsUsedUp c n =
-    (n < c.next) × (get c.records n ≡ None)
-    × ((k : ℕ) (s : Slip) → get c.slips k ≡ Some s → s.gone ≡ n → s.is_undone ≡ true)
-
--- no number is used twice: the next one does not fall, below it no slip is where none was, and what is used up stays so
-abbrev pub UsesNoneAgain : Content → Content → Type 0
-UsesNoneAgain c after =
-    (c.next ≤ after.next) × ((n : ℕ) → n < c.next → get c.slips n ≡ None → get after.slips n ≡ None)
-    × ((n : ℕ) → IsUsedUp c n → IsUsedUp after n)

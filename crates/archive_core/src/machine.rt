@@ -3,20 +3,19 @@
 ghost use Rattle.std.specs.Prelude.{◌≡◌, Some, IfOk, IfErr, None, false};
 ghost use Rattle.std.specs.FinMap as map;
 ghost use Rattle.archive_view.specs.Looks.{CountsFailures, CountsStops, OnView, is_failure};
-ghost use Rattle.archive_core.specs.Applied.{Decides, Plans};
-ghost use Rattle.archive_core.specs.Exact.{ChangesNothing, IsExact, IsExactFor};
+ghost use Rattle.archive_core.specs.Applied.{Decides};
+ghost use Rattle.archive_core.specs.Exact.{IsExactFor};
 ghost use Rattle.archive_core.specs.Machine.{Does, answered_again, kept_under, outcome, served};
-ghost use Rattle.archive_core.specs.Steps.{row_step, step};
+ghost use Rattle.archive_core.specs.Steps.{step};
 ghost use Rattle.archive_core.specs.Words.{HasUtf8Words};
+ghost use Rattle.archive_steps.specs.Exact.{ChangesNothing, IsExact};
 
 use crate::applying::apply;
-use crate::events::{add_participant, amend_event, new_event};
-use crate::families::{add_child, new_family};
-use crate::persons::{add_name, new_person, set_sex};
 use crate::request::{Request, tell_words};
 use archive_state::{Answer, Changes, Kept, Receipt, State, Token};
+use archive_steps::decide_row;
 use archive_view::View;
-use commands::{Command, RowCommand, command_digest};
+use commands::{Command, command_digest};
 use records::{Refusal, RefusalKind};
 use std::alloc::Global;
 
@@ -122,43 +121,4 @@ fn with_receipt(changes: Changes, token: Token, digest: [u8; 32]) -> Changes
     };
     changes.kept = Some(Kept { token, receipt });
     changes
-}
-
-/// What a command of one row changes.
-fn decide_row<V: View>(
-    alloc: Global,
-    view: &mut V,
-    row: &RowCommand,
-) -> Result<Changes, RefusalKind>
-    ensures decides { OnView V.is_honest V.shows V.content view.old view.new
-        (λ c. Plans c result (row_step c row.now)) }
-    ensures exact { OnView V.is_honest V.shows V.content view.old view.new
-        (λ c. IfOk result (IsExact c)) }
-    ensures counts { CountsFailures (V.failed view.old) (V.failed view.new) result }
-{
-    match row {
-        RowCommand::Person { name, sex } => new_person(alloc, view, name, *sex),
-        RowCommand::Name { person, name } => add_name(alloc, view, *person, name),
-        RowCommand::Sex { person, sex } => set_sex(alloc, view, *person, *sex),
-        RowCommand::Family { husband, wife } => new_family(alloc, view, *husband, *wife),
-        RowCommand::Child { family, person } => add_child(alloc, view, *family, *person),
-        RowCommand::Event {
-            owner,
-            tag,
-            value,
-            date,
-            place,
-        } => new_event(alloc, view, *owner, tag, value, date, *place),
-        RowCommand::Amend {
-            event,
-            value,
-            date,
-            place,
-        } => amend_event(alloc, view, *event, value, date, *place),
-        RowCommand::Participant {
-            event,
-            person,
-            role,
-        } => add_participant(alloc, view, *event, *person, role),
-    }
 }

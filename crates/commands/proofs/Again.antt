@@ -8,15 +8,17 @@ use Rattle.csv.specs.declared.parser.State.TheVariants as st
 use Rattle.csv.proofs.RoundTrip.{read-write-many}
 use Rattle.record_text.specs.declared.refusal.RefusalKind.{RefusalKind}
 use Rattle.record_text.specs.declared.refusal.RefusalKind.TheVariants.{BadRow}
-use Rattle.record_fields.specs.Words.{sex_word}
+use Rattle.record_fields.specs.Words.{quality_word, sex_word}
+use Rattle.record_fields.specs.declared.words.Quality.{Quality}
+use Rattle.record_fields.specs.declared.words.Quality.TheVariants as quality
 use Rattle.record_fields.specs.declared.words.Sex.{Sex}
 use Rattle.record_fields.specs.declared.words.Sex.TheVariants as sex
-use Rattle.record_fields.proofs.Worded.{sex_back}
+use Rattle.record_fields.proofs.Worded.{quality_back, sex_back}
 use Rattle.csv.specs.Writing.{default_writer, row_text}
 use Rattle.commands.specs.Bytes.{or_empty, row_of, spelt}
 use Rattle.commands.specs.Dated.{given_of}
 use Rattle.commands.specs.Given.{GivenDate, Gives}
-use Rattle.commands.specs.Rows.{Reads, and_then, number_in, ok_or, or_none, read_fields, read_row, sex_in}
+use Rattle.commands.specs.Rows.{Reads, and_then, number_in, ok_or, or_none, quality_in, read_fields, read_row, sex_in}
 use Rattle.commands.specs.Sound.{IsDate, IsNumber, IsSoundRow, WhereSome}
 use Rattle.commands.specs.Verbs.{verb_of, verb_word}
 use Rattle.commands.specs.declared.row_command.RowCommand.{RowCommand}
@@ -49,6 +51,17 @@ sex-or-none (Some sex.Male) = ap (λ r. and_then r (λ a. Ok (Some a))) (sex-aga
 sex-or-none (Some sex.Female) = ap (λ r. and_then r (λ a. Ok (Some a))) (sex-again sex.Female)
 sex-or-none (Some sex.Unknown) = ap (λ r. and_then r (λ a. Ok (Some a))) (sex-again sex.Unknown)
 
+quality-again : (q : Quality) → quality_in (quality_word q) ≡ Ok q
+unfolding quality_in
+quality-again q = ap (ok_or BadRow) (quality_back q)
+
+quality-or-none : (q : Option Quality) → or_none quality_in (or_empty quality_word q) ≡ Ok q
+quality-or-none None = refl
+quality-or-none (Some quality.Unreliable) = ap (λ r. and_then r (λ a. Ok (Some a))) (quality-again quality.Unreliable)
+quality-or-none (Some quality.Questionable) = ap (λ r. and_then r (λ a. Ok (Some a))) (quality-again quality.Questionable)
+quality-or-none (Some quality.Secondary) = ap (λ r. and_then r (λ a. Ok (Some a))) (quality-again quality.Secondary)
+quality-or-none (Some quality.Primary) = ap (λ r. and_then r (λ a. Ok (Some a))) (quality-again quality.Primary)
+
 date-again : (date : Option GivenDate) → WhereSome IsDate date → given_of (or_empty spelt date) ≡ date
 date-again None h = one_given [] (given_of []) None (gives_of []) refl
 date-again (Some g) h = one_given g.spelling (given_of g.spelling) (Some g) (gives_of g.spelling) (h.some, h, h.written)
@@ -64,6 +77,10 @@ verb_back verb.Child = refl
 verb_back verb.Event = refl
 verb_back verb.Amend = refl
 verb_back verb.Participant = refl
+verb_back verb.Repo = refl
+verb_back verb.Source = refl
+verb_back verb.Citation = refl
+verb_back verb.Remove = refl
 
 by-verb : (v : Verb) (fields : List (List ℕ)) → read_row given_of (verb_word v ∷ fields) ≡ read_fields given_of v fields
 by-verb v fields = rw (verb_back v) refl
@@ -85,6 +102,13 @@ row-again (row_command.Amend event value date place) h =
     ∙ rw (number_back event h.0.0 h.0.1, number-or-none place h.2, date-again date h.1) refl
 row-again (row_command.Participant event person role) h =
     by-verb verb.Participant (decimal event ∷ decimal person ∷ role ∷ []) ∙ rw (number_back event h.0.0 h.0.1, number_back person h.1.0 h.1.1) refl
+row-again (row_command.Repo name) h = by-verb verb.Repo (name ∷ [])
+row-again (row_command.Source title author publisher repo call_number) h =
+    by-verb verb.Source (title ∷ author ∷ publisher ∷ or_empty decimal repo ∷ call_number ∷ []) ∙ rw (number-or-none repo h) refl
+row-again (row_command.Citation owner source page quality) h =
+    by-verb verb.Citation (decimal owner ∷ decimal source ∷ page ∷ or_empty quality_word quality ∷ [])
+    ∙ rw (number_back owner h.0.0 h.0.1, number_back source h.1.0 h.1.1, quality-or-none quality) refl
+row-again (row_command.Remove number) h = by-verb verb.Remove (decimal number ∷ []) ∙ rw (number_back number h.0 h.1) refl
 
 pub row_back : (c : RowCommand) → IsSoundRow c → Reads (row_of c) (Ok c)
 row_back c h = is_reading (row_of c) (Ok c) (sym (row-again c h))
@@ -113,6 +137,12 @@ bytes_back (row_command.Amend event value date place) rest =
     read-write-many (verb_word verb.Amend) (decimal event) (value ∷ or_empty spelt date ∷ or_empty decimal place ∷ []) rest
 bytes_back (row_command.Participant event person role) rest =
     read-write-many (verb_word verb.Participant) (decimal event) (decimal person ∷ role ∷ []) rest
+bytes_back (row_command.Repo name) rest = read-write-many (verb_word verb.Repo) name [] rest
+bytes_back (row_command.Source title author publisher repo call_number) rest =
+    read-write-many (verb_word verb.Source) title (author ∷ publisher ∷ or_empty decimal repo ∷ call_number ∷ []) rest
+bytes_back (row_command.Citation owner source page quality) rest =
+    read-write-many (verb_word verb.Citation) (decimal owner) (decimal source ∷ page ∷ or_empty quality_word quality ∷ []) rest
+bytes_back (row_command.Remove number) rest = read-write-many (verb_word verb.Remove) (decimal number) [] rest
 
 -- row commands of one row are one
 pub one_row : (c d : RowCommand) → IsSoundRow c → IsSoundRow d → row_of c ≡ row_of d → c ≡ d

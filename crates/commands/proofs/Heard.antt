@@ -8,7 +8,7 @@ use Rattle.std.proofs.lemmas.Bool.Decides.{nat_tests}
 use Rattle.record_text.specs.declared.refusal.RefusalKind.{RefusalKind}
 use Rattle.record_text.specs.declared.refusal.RefusalKind.TheVariants.{BadRow, UnknownVerb}
 use Rattle.commands.specs.Given.{GivenDate, Gives}
-use Rattle.commands.specs.Rows.{Reads, and_then, is_number, number_in, ok_or, or_none, read_fields, read_row, sex_in}
+use Rattle.commands.specs.Rows.{Reads, and_then, is_number, number_in, ok_or, or_none, quality_in, read_fields, read_row, sex_in}
 use Rattle.commands.specs.Sound.{IsDate, IsNumber, IsSoundRow, WhereSome}
 use Rattle.commands.specs.Verbs.{verb_of}
 use Rattle.commands.specs.declared.row_command.RowCommand.{RowCommand}
@@ -81,6 +81,17 @@ fields-sound given verb.Participant (event ∷ person ∷ role ∷ []) c dates e
     then-sound (number_in event) IsNumber (λ v. and_then (number_in person) (λ p. Ok (row_command.Participant v p role))) c (number-in event)
     (λ v x. then-sound (number_in person) IsNumber (λ p. Ok (row_command.Participant v p role)) c (number-in person)
     (λ p y same. is-that (row_command.Participant v p role) c same (x, y))) e
+fields-sound given verb.Repo (name ∷ []) c dates e = is-that (row_command.Repo name) c e tt
+fields-sound given verb.Source (title ∷ author ∷ publisher ∷ repo ∷ call_number ∷ []) c dates e =
+    then-sound (or_none number_in repo) (WhereSome IsNumber) (λ r. Ok (row_command.Source title author publisher r call_number)) c (number-or-none repo)
+    (λ r x same. is-that (row_command.Source title author publisher r call_number) c same x) e
+fields-sound given verb.Citation (owner ∷ source ∷ page ∷ quality ∷ []) c dates e =
+    then-sound (number_in owner) IsNumber (λ o. and_then (number_in source) (λ s. and_then (or_none quality_in quality) (λ q. Ok (row_command.Citation o s page q)))) c (number-in owner)
+    (λ o x. then-sound (number_in source) IsNumber (λ s. and_then (or_none quality_in quality) (λ q. Ok (row_command.Citation o s page q))) c (number-in source)
+    (λ s y. then-sound (or_none quality_in quality) (λ q. Unit {0}) (λ q. Ok (row_command.Citation o s page q)) c (λ q i. tt)
+    (λ q i same. is-that (row_command.Citation o s page q) c same (x, y)))) e
+fields-sound given verb.Remove (number ∷ []) c dates e =
+    then-sound (number_in number) IsNumber (λ n. Ok (row_command.Remove n)) c (number-in number) (λ n h same. is-that (row_command.Remove n) c same h) e
 fields-sound given _ _ c dates e = absurd cc
 
 row-sound : (given : List ℕ → Option GivenDate) (row : List (List ℕ)) (c : RowCommand)

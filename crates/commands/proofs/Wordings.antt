@@ -196,6 +196,10 @@ row-begins (row_command.Child family person) = (verb.Child, refl)
 row-begins (row_command.Event owner tag value date place) = (verb.Event, refl)
 row-begins (row_command.Amend event value date place) = (verb.Amend, refl)
 row-begins (row_command.Participant event person role) = (verb.Participant, refl)
+row-begins (row_command.Repo name) = (verb.Repo, refl)
+row-begins (row_command.Source title author publisher repo call_number) = (verb.Source, refl)
+row-begins (row_command.Citation owner source page quality) = (verb.Citation, refl)
+row-begins (row_command.Remove number) = (verb.Remove, refl)
 
 sound-wording : (c : Command) → IsSoundWording (wording_of c)
 sound-wording (command.Row c) = row-begins c

@@ -4,7 +4,7 @@ use Rattle.std.specs.Prelude.{ℕ, List, [], ◌∷◌, ◌++◌, codes, Option,
 use Rattle.std.specs.List.{flat_map}
 use Rattle.csv.specs.Writing.{default_writer, row_text}
 use Rattle.sha2.specs.Sha256.{sha256}
-use Rattle.record_fields.specs.Words.{sex_word}
+use Rattle.record_fields.specs.Words.{quality_word, sex_word}
 use Rattle.commands.specs.Given.{GivenDate}
 use Rattle.commands.specs.Verbs.{verb_word}
 use Rattle.commands.specs.declared.command.Command.{Command}
@@ -35,6 +35,12 @@ row_of (row_command.Amend event value date place) =
     verb_word verb.Amend ∷ decimal event ∷ value ∷ or_empty spelt date ∷ or_empty decimal place ∷ []
 row_of (row_command.Participant event person role) =
     verb_word verb.Participant ∷ decimal event ∷ decimal person ∷ role ∷ []
+row_of (row_command.Repo name) = verb_word verb.Repo ∷ name ∷ []
+row_of (row_command.Source title author publisher repo call_number) =
+    verb_word verb.Source ∷ title ∷ author ∷ publisher ∷ or_empty decimal repo ∷ call_number ∷ []
+row_of (row_command.Citation owner source page quality) =
+    verb_word verb.Citation ∷ decimal owner ∷ decimal source ∷ page ∷ or_empty quality_word quality ∷ []
+row_of (row_command.Remove number) = verb_word verb.Remove ∷ decimal number ∷ []
 
 -- ---- bytes
 -- what the bytes of a command are written from: the fields of one row; the source of a batch of entries and the fields of

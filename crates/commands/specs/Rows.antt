@@ -5,7 +5,8 @@ use Rattle.std.specs.List.{list_all}
 use Rattle.std.specs.Str.Parse.{digits_value}
 use Rattle.record_text.specs.declared.refusal.RefusalKind.{RefusalKind}
 use Rattle.record_text.specs.declared.refusal.RefusalKind.TheVariants.{OutOfMemory, BadRow, UnknownVerb, FieldCount}
-use Rattle.record_fields.specs.Words.{sex_of}
+use Rattle.record_fields.specs.Words.{quality_of, sex_of}
+use Rattle.record_fields.specs.declared.words.Quality.{Quality}
 use Rattle.record_fields.specs.declared.words.Sex.{Sex}
 use Rattle.commands.specs.Given.{GivenDate, Gives}
 use Rattle.commands.specs.Verbs.{verb_of}
@@ -38,13 +39,18 @@ number_in field = if is_number field then Ok (digits_value 10 field) else Err Ba
 unfoldable pub sex_in : List ℕ → Result Sex RefusalKind
 sex_in field = ok_or BadRow (sex_of field)
 
+-- the digit 0, 1, 2 or 3
+unfoldable pub quality_in : List ℕ → Result Quality RefusalKind
+quality_in field = ok_or BadRow (quality_of field)
+
 -- an empty field is none
 abbrev pub or_none : {A : Type 0} → (List ℕ → Result A RefusalKind) → List ℕ → Result (Option A) RefusalKind
 or_none read [] = Ok None
 or_none read (b ∷ more) = and_then (read (b ∷ more)) (λ a. Ok (Some a))
 
 -- ---- rows
--- the fields of each verb in their order; names, tags, values and roles are any words, and so are dates
+-- the fields of each verb in their order; names, tags, values, roles, titles, authors, publishers, call numbers and pages
+-- are any words, and so are dates
 abbrev pub read_fields : (List ℕ → Option GivenDate) → Verb → List (List ℕ) → Result RowCommand RefusalKind
 read_fields given verb.Person (name ∷ sex ∷ []) = and_then (or_none sex_in sex) (λ s. Ok (row_command.Person name s))
 read_fields given verb.Name (person ∷ name ∷ []) = and_then (number_in person) (λ p. Ok (row_command.Name p name))
@@ -60,6 +66,13 @@ read_fields given verb.Amend (event ∷ value ∷ date ∷ place ∷ []) =
     and_then (number_in event) (λ e. and_then (or_none number_in place) (λ p. Ok (row_command.Amend e value (given date) p)))
 read_fields given verb.Participant (event ∷ person ∷ role ∷ []) =
     and_then (number_in event) (λ e. and_then (number_in person) (λ p. Ok (row_command.Participant e p role)))
+read_fields given verb.Repo (name ∷ []) = Ok (row_command.Repo name)
+read_fields given verb.Source (title ∷ author ∷ publisher ∷ repo ∷ call_number ∷ []) =
+    and_then (or_none number_in repo) (λ r. Ok (row_command.Source title author publisher r call_number))
+read_fields given verb.Citation (owner ∷ source ∷ page ∷ quality ∷ []) =
+    and_then (number_in owner) (λ o. and_then (number_in source) (λ s.
+    and_then (or_none quality_in quality) (λ q. Ok (row_command.Citation o s page q))))
+read_fields given verb.Remove (number ∷ []) = and_then (number_in number) (λ n. Ok (row_command.Remove n))
 read_fields given _ _ = Err FieldCount
 
 -- the verb first

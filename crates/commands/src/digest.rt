@@ -1,7 +1,7 @@
 //! The bytes of a command and their digest.
 
 ghost use Rattle.std.specs.Prelude.{◌≡◌, IfOk, decimal, string_bytes};
-ghost use Rattle.record_fields.specs.Words.{sex_word};
+ghost use Rattle.record_fields.specs.Words.{quality_word, sex_word};
 ghost use Rattle.commands.specs.Bytes.{bytes_of, digest_of, or_empty, spelt};
 ghost use Rattle.commands.specs.declared.command.Command.TheVariants as command;
 ghost use Rattle.commands.specs.declared.row_command.RowCommand.TheVariants as row_command;
@@ -10,9 +10,9 @@ use crate::command::Command;
 use crate::field::Field;
 use crate::given::GivenDate;
 use crate::row_command::RowCommand;
-use crate::rows::{row_of_five, row_of_four, row_of_three, row_of_two};
+use crate::rows::{row_of_five, row_of_four, row_of_one, row_of_three, row_of_two};
 use crate::verb::Verb;
-use record_fields::Sex;
+use record_fields::{Quality, Sex};
 use sha2::{Digest, Sha256};
 use std::alloc::{AllocError, Global};
 
@@ -61,6 +61,21 @@ fn row_command_bytes(alloc: Global, row: &RowCommand) -> Result<Vec<u8>, AllocEr
             person,
             role,
         } => participant_bytes(alloc, *event, *person, role),
+        RowCommand::Repo { name } => repo_bytes(alloc, name),
+        RowCommand::Source {
+            title,
+            author,
+            publisher,
+            repo,
+            call_number,
+        } => source_bytes(alloc, title, author, publisher, *repo, call_number),
+        RowCommand::Citation {
+            owner,
+            source,
+            page,
+            quality,
+        } => citation_bytes(alloc, *owner, *source, page, *quality),
+        RowCommand::Remove { number } => remove_bytes(alloc, *number),
     }
 }
 
@@ -173,6 +188,63 @@ fn participant_bytes(
     )
 }
 
+fn repo_bytes(alloc: Global, name: &Field) -> Result<Vec<u8>, AllocError>
+    ensures { IfOk result (λ bytes. bytes.items ≡ bytes_of (command.Row (row_command.Repo name.now))) }
+{
+    row_of_one(alloc, Verb::Repo, name.as_str().as_bytes())
+}
+
+fn source_bytes(
+    alloc: Global,
+    title: &Field,
+    author: &Field,
+    publisher: &Field,
+    repo: Option<u32>,
+    call_number: &Field,
+) -> Result<Vec<u8>, AllocError>
+    ensures { IfOk result (λ bytes. bytes.items
+        ≡ bytes_of (command.Row (row_command.Source title.now author.now publisher.now repo call_number.now))) }
+{
+    let repo = number_or_empty(alloc, repo)?;
+    row_of_five(
+        alloc,
+        Verb::Source,
+        title.as_str().as_bytes(),
+        author.as_str().as_bytes(),
+        publisher.as_str().as_bytes(),
+        repo.as_bytes(),
+        call_number.as_str().as_bytes(),
+    )
+}
+
+fn citation_bytes(
+    alloc: Global,
+    owner: u32,
+    source: u32,
+    page: &Field,
+    quality: Option<Quality>,
+) -> Result<Vec<u8>, AllocError>
+    ensures { IfOk result (λ bytes. bytes.items ≡ bytes_of (command.Row (row_command.Citation owner source page.now quality))) }
+{
+    let owner = owner.to_string(alloc)?;
+    let source = source.to_string(alloc)?;
+    row_of_four(
+        alloc,
+        Verb::Citation,
+        owner.as_bytes(),
+        source.as_bytes(),
+        page.as_str().as_bytes(),
+        digit_or_empty(quality).as_bytes(),
+    )
+}
+
+fn remove_bytes(alloc: Global, number: u32) -> Result<Vec<u8>, AllocError>
+    ensures { IfOk result (λ bytes. bytes.items ≡ bytes_of (command.Row (row_command.Remove number))) }
+{
+    let number = number.to_string(alloc)?;
+    row_of_one(alloc, Verb::Remove, number.as_bytes())
+}
+
 /// A number as digits, or nothing.
 fn number_or_empty(alloc: Global, number: Option<u32>) -> Result<String, AllocError>
     ensures { IfOk result (λ digits. string_bytes digits ≡ or_empty decimal number) }
@@ -189,6 +261,16 @@ fn letter_or_empty(sex: Option<Sex>) -> &'static str
 {
     match sex {
         Some(sex) => sex.as_str(),
+        None => "",
+    }
+}
+
+/// The digit of a quality, or nothing.
+fn digit_or_empty(quality: Option<Quality>) -> &'static str
+    ensures { result.now ≡ or_empty quality_word quality }
+{
+    match quality {
+        Some(quality) => quality.as_str(),
         None => "",
     }
 }

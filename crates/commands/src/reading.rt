@@ -4,14 +4,14 @@ ghost use Rattle.std.specs.Prelude.{◌≡◌, ◌∷◌, [], IfOk, map};
 ghost use Rattle.std.specs.Char.{is_ascii_digit};
 ghost use Rattle.std.specs.List.{list_all};
 ghost use Rattle.commands.specs.Dated.{given_of};
-ghost use Rattle.commands.specs.Rows.{Decided, Reads, number_in, or_none, read_fields, sex_in};
+ghost use Rattle.commands.specs.Rows.{Decided, Reads, number_in, or_none, quality_in, read_fields, sex_in};
 ghost use Rattle.commands.specs.declared.verb.Verb.TheVariants as verb;
 
 use crate::field::Field;
 use crate::given::GivenDate;
 use crate::row_command::RowCommand;
 use crate::verb::Verb;
-use record_fields::Sex;
+use record_fields::{Quality, Sex};
 use record_text::RefusalKind;
 use std::alloc::{AllocError, Global};
 
@@ -44,6 +44,18 @@ fn of_fields(alloc: Global, verb: Verb, fields: &[&str]) -> Result<RowCommand, R
         }
         (Verb::Amend, [event, value, date, place]) => amend(alloc, event, value, date, place),
         (Verb::Participant, [event, person, role]) => participant(alloc, event, person, role),
+        (Verb::Repo, [name]) => repo(alloc, name),
+        (Verb::Source, [title, author, publisher, repo, call_number]) => {
+            source(alloc, title, author, publisher, repo, call_number)
+        }
+        (Verb::Citation, [owner, source, page, quality]) => {
+            citation(alloc, owner, source, page, quality)
+        }
+        (Verb::Remove, [number]) => remove(number),
+        // An arm of their own: `auto` follows no more than sixteen ways into one.
+        (Verb::Repo | Verb::Source | Verb::Citation | Verb::Remove, _) => {
+            Err(RefusalKind::FieldCount)
+        }
         _ => Err(RefusalKind::FieldCount),
     }
 }
@@ -154,6 +166,67 @@ fn participant(
     })
 }
 
+fn repo(alloc: Global, name: &str) -> Result<RowCommand, RefusalKind>
+    ensures { Decided result (λ r. r ≡ read_fields given_of verb.Repo (name.now ∷ [])) }
+{
+    let name = words_in(alloc, name)?;
+    Ok(RowCommand::Repo { name })
+}
+
+fn source(
+    alloc: Global,
+    title: &str,
+    author: &str,
+    publisher: &str,
+    repo: &str,
+    call_number: &str,
+) -> Result<RowCommand, RefusalKind>
+    ensures { Decided result (λ r. r
+        ≡ read_fields given_of verb.Source (title.now ∷ author.now ∷ publisher.now ∷ repo.now ∷ call_number.now ∷ [])) }
+{
+    let repo = number_or_none(repo)?;
+    let title = words_in(alloc, title)?;
+    let author = words_in(alloc, author)?;
+    let publisher = words_in(alloc, publisher)?;
+    let call_number = words_in(alloc, call_number)?;
+    Ok(RowCommand::Source {
+        title,
+        author,
+        publisher,
+        repo,
+        call_number,
+    })
+}
+
+fn citation(
+    alloc: Global,
+    owner: &str,
+    source: &str,
+    page: &str,
+    quality: &str,
+) -> Result<RowCommand, RefusalKind>
+    ensures { Decided result (λ r. r
+        ≡ read_fields given_of verb.Citation (owner.now ∷ source.now ∷ page.now ∷ quality.now ∷ [])) }
+{
+    let owner = number_in(owner)?;
+    let source = number_in(source)?;
+    let quality = quality_or_none(quality)?;
+    let page = words_in(alloc, page)?;
+    Ok(RowCommand::Citation {
+        owner,
+        source,
+        page,
+        quality,
+    })
+}
+
+fn remove(number: &str) -> Result<RowCommand, RefusalKind>
+    ensures { result ≡ read_fields given_of verb.Remove (number.now ∷ []) }
+{
+    let number = number_in(number)?;
+    Ok(RowCommand::Remove { number })
+}
+
 /// The number of a field: 1 to 10 digits, of value 1 to 4,294,967,295.
 fn number_in(field: &str) -> Result<u32, RefusalKind>
     ensures { result ≡ number_in field.now }
@@ -202,6 +275,26 @@ fn sex_or_none(field: &str) -> Result<Option<Sex>, RefusalKind>
         return Ok(None);
     }
     Ok(Some(sex_in(field)?))
+}
+
+/// The quality of a digit.
+fn quality_in(field: &str) -> Result<Quality, RefusalKind>
+    ensures { result ≡ quality_in field.now }
+{
+    match Quality::from_word(field) {
+        Some(quality) => Ok(quality),
+        None => Err(RefusalKind::BadRow),
+    }
+}
+
+/// The quality of a digit, or none where the field is empty.
+fn quality_or_none(field: &str) -> Result<Option<Quality>, RefusalKind>
+    ensures { result ≡ or_none quality_in field.now }
+{
+    if field.is_empty() {
+        return Ok(None);
+    }
+    Ok(Some(quality_in(field)?))
 }
 
 /// The words of a field in memory of their own.

@@ -2,7 +2,7 @@
 
 use crate::field::Field;
 use crate::given::GivenDate;
-use record_fields::Sex;
+use record_fields::{Quality, Sex};
 
 /// A command of one row, with its fields in the order of the row.
 #[derive(Drop)]
@@ -52,5 +52,28 @@ pub enum RowCommand {
         event: u32,
         person: u32,
         role: Field,
+    },
+    /// A new repository.
+    Repo {
+        name: Field,
+    },
+    /// A new source. Author, publisher and call number are none where they are empty.
+    Source {
+        title: Field,
+        author: Field,
+        publisher: Field,
+        repo: Option<u32>,
+        call_number: Field,
+    },
+    /// A new citation of a source, for a person, a family or an event. The page is none where it is empty.
+    Citation {
+        owner: u32,
+        source: u32,
+        page: Field,
+        quality: Option<Quality>,
+    },
+    /// A record is taken out of the archive.
+    Remove {
+        number: u32,
     },
 }

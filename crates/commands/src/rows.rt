@@ -22,6 +22,19 @@ pub(crate) fn row_bytes(alloc: Global, fields: &[&[u8]]) -> Result<Vec<u8>, Allo
     }
 }
 
+/// The bytes of a row of a verb and a field.
+pub(crate) fn row_of_one<'a>(
+    alloc: Global,
+    verb: Verb,
+    only: &'a [u8],
+) -> Result<Vec<u8>, AllocError>
+    ensures { IfOk result (λ bytes. bytes.items
+        ≡ row_text default_writer (verb_word verb ∷ only.now ∷ [])) }
+{
+    let word: &'a [u8] = verb.as_str().as_bytes();
+    row_bytes(alloc, &[word, only])
+}
+
 /// The bytes of a row of a verb and two fields.
 pub(crate) fn row_of_two<'a>(
     alloc: Global,

@@ -22,6 +22,14 @@ pub enum Verb {
     Amend,
     /// A further participant of an event.
     Participant,
+    /// A new repository.
+    Repo,
+    /// A new source.
+    Source,
+    /// A new citation.
+    Citation,
+    /// A record is taken out.
+    Remove,
 }
 
 impl Verb {
@@ -38,6 +46,10 @@ impl Verb {
             Verb::Event => "event",
             Verb::Amend => "amend",
             Verb::Participant => "participant",
+            Verb::Repo => "repo",
+            Verb::Source => "source",
+            Verb::Citation => "citation",
+            Verb::Remove => "remove",
         }
     }
 
@@ -55,6 +67,10 @@ impl Verb {
             "event" => Some(Verb::Event),
             "amend" => Some(Verb::Amend),
             "participant" => Some(Verb::Participant),
+            "repo" => Some(Verb::Repo),
+            "source" => Some(Verb::Source),
+            "citation" => Some(Verb::Citation),
+            "remove" => Some(Verb::Remove),
             _ => None,
         }
     }

@@ -1,17 +1,18 @@
 """Requests over a view of which a look fails.
 
-A request looks for its receipt, at what its numbers name, at the places above a place that has no name, and at the
-next number; it stops at the look that fails, or at the check that refuses it.
+A request looks for its receipt, at what its numbers name, at the places above a place that has no name, for what names the
+record to remove, and at the next number; it stops at the look that fails, or at the check that refuses it.
 """
 
 from __future__ import annotations
 
-from table.making import FAMILY, LAST, Scenario, ask, looks, makes, next_is, next_set, place, scenario, shows
+from table.making import FAMILY, LAST, Scenario, ask, looks, makes, next_is, next_set, place, scenario, shows, source
 
 
 def among(count: int) -> Scenario:
     """Each verb in an archive of so many persons more, to whom none of its records points."""
-    tom, ann, family, event, town, part = range(count + 1, count + 7)
+    tom, ann, family, event, archive, register, cited = range(count + 1, count + 8)
+    town, part = count + 8, count + 9
     return scenario(
         f"a command looks so often among {count:,} others",
         [makes(number, f"other{number}", "person", f"Una /Kay {number}/", "F") for number in range(1, count + 1)],
@@ -19,6 +20,9 @@ def among(count: int) -> Scenario:
         makes(ann, "p2", "person", "Ann /Lee/", ""),
         makes(family, "f1", "family", "", tom),
         makes(event, "e1", "event", family, "DIV", "", "1700", ""),
+        makes(archive, "r1", "repo", "County archive"),
+        source(register, "s1", "Ashby register", repo=archive),
+        makes(cited, "c1", "citation", event, register, "", ""),
         place(town, "Kent"),
         place(part, "", town),
         looks(2, "p1", "person", "Tom /Lee/", ""),
@@ -30,7 +34,14 @@ def among(count: int) -> Scenario:
         looks(5, "x", "event", tom, "BIRT", "", "1700", part),
         looks(5, "x", "amend", event, "court", "", part),
         looks(4, "x", "participant", event, ann, "witness"),
-        next_is(event + 1),
+        looks(2, "x", "repo", "Parish chest"),
+        looks(2, "x", "source", "Deeds", "", "", "", ""),
+        looks(3, "x", "source", "Deeds", "", "", archive, "MS 4"),
+        looks(4, "x", "citation", tom, register, "f. 3", "2"),
+        looks(3, "x", "remove", register),
+        looks(4, "x", "remove", ann),
+        looks(4, "x", "remove", cited),
+        next_is(cited + 1),
     )
 
 
@@ -55,8 +66,21 @@ SCENARIOS = (
         looks(4, "x", "amend", 4, "court", "", 8),
         looks(5, "x", "amend", 4, "court", "", 9),
         looks(4, "x", "participant", 4, 2, "witness"),
+        looks(2, "x", "repo", ""),
+        looks(2, "x", "source", "", "", "", "", ""),
+        looks(4, "x", "remove", 2),
+        looks(4, "x", "remove", 9),
         next_is(5),
         shows(4, (0, "event", "-", 3), (1, "DIV", "", "-"), (1, "date", "1700", "-")),
+        shows(2, (0, "person", "-", "-"), (1, "name", "Ann /Lee/", "-")),
+        makes(5, "r1", "repo", "County archive"),
+        source(6, "s1", "Deeds", repo=5),
+        looks(3, "x", "source", "", "", "", 5, "MS 4"),
+        looks(4, "x", "citation", 1, 6, "", ""),
+        looks(4, "x", "citation", 4, 6, "f. 3", "2"),
+        looks(4, "x", "remove", 6),
+        next_is(7),
+        shows(6, (0, "source", "Deeds", "-"), (1, "holding", "-", 5)),
     ),
     scenario(
         "a request that comes again names nothing",
@@ -88,8 +112,22 @@ SCENARIOS = (
         looks(2, "x", "event", 1, "MARR", "", "", ""),
         looks(2, "x", "amend", 9, "", "", 8),
         looks(3, "x", "amend", 4, "", "", 9),
+        looks(1, "x", "repo", "\0"),
+        looks(1, "x", "source", "", "", "", 9, "\r"),
+        looks(1, "x", "source", "", "", "", "", "MS 4"),
+        looks(2, "x", "source", "", "", "", 9, ""),
+        looks(2, "x", "source", "", "", "", 1, ""),
+        looks(1, "x", "citation", 1, 9, "\r", ""),
+        looks(2, "x", "citation", 9, 1, "", ""),
+        looks(2, "x", "citation", 8, 9, "", ""),
+        looks(3, "x", "citation", 1, 9, "", ""),
+        looks(3, "x", "citation", 1, 2, "", ""),
+        looks(2, "x", "remove", 9),
+        looks(3, "x", "remove", 1),
         next_set(LAST + 1),
         looks(2, "x", "person", "", ""),
+        looks(2, "x", "repo", ""),
+        looks(4, "x", "remove", 2),
         looks(3, "x", "event", 1, "BIRT", "", "", ""),
         looks(3, "x", "name", 1, "a"),
         ask("! looks 80,x,frob", "x,refused,91,UnknownVerb"),

@@ -12,6 +12,7 @@ NAMES = {
     50: "NoSuch",
     51: "WrongKind",
     52: "TokenReused",
+    53: "StillNamed",
     54: "SamePerson",
     58: "BadText",
     59: "AlreadyInFamily",
@@ -140,6 +141,11 @@ def looks(number: int, *request: str | int) -> list[Step]:
         (row(f"! looks {failure}", *request).encode(), row("looks", number).encode())
         for failure in (40, 80)
     ]
+
+
+def source(number: int, token: str, title: str, author="", publisher="", repo: int | str = "", call="") -> Step:
+    """A request that makes a source at this number."""
+    return makes(number, token, "source", title, author, publisher, repo, call)
 
 
 # Persons 1 and 2, family 3 with person 1 as its wife, and event 4 of it.

@@ -1,7 +1,7 @@
 """The order of the checks of a command.
 
 52, then 58 for the texts, then for each number in the order of its field 50 and 51, then 58 for a place, then the
-command's own (54, 59, 62), and last 63.
+command's own (53, 54, 59, 62), and last 63. A call number without a repository is 58 too.
 """
 
 from __future__ import annotations
@@ -18,6 +18,7 @@ from table.making import (
     refuses,
     scenario,
     shows,
+    source,
 )
 
 # The events of a person and those of a family: docs/FORMATS.md, "What an archive holds".
@@ -35,6 +36,12 @@ NO_TEXTS = ("a\rb", "\r", "a\0b", "\0", "x" * (LONGEST + 1))
 def refused_each(number, *requests):
     """Requests of one token, each refused so."""
     return [refuses(number, "x", *request) for request in requests]
+
+
+def sources_with(text):
+    """Sources of a repository that is not there, with a text in each place that has one."""
+    empty = ("source", "", "", "", 9, "")
+    return [(*empty[:at], text, *empty[at + 1 :]) for at in (1, 2, 3, 5)]
 
 
 def tag_steps():
@@ -62,6 +69,9 @@ TEXTS = (
         [refuses(58, "t", "amend", 9, text, "", "") for text in NO_TEXTS],
         [refuses(58, "t", "amend", 9, "", text, "") for text in ("(\r)", "INT 1700 (\0)", *NO_TEXTS)],
         [refuses(58, "t", "participant", 9, 9, text) for text in NO_TEXTS],
+        [refuses(58, "t", "repo", text) for text in NO_TEXTS],
+        [refuses(58, "t", *command) for text in NO_TEXTS for command in sources_with(text)],
+        [refuses(58, "t", "citation", 9, 9, text, quality) for text in NO_TEXTS for quality in ("", "3")],
         makes(1, "t", "person", "", ""),
         [refuses(52, "t", "person", text, "") for text in NO_TEXTS],
         refuses(52, "t", "name", 9, "\r"),
@@ -80,9 +90,14 @@ TEXTS = (
             ("amend", 4, "", "\r", 9),
             ("participant", 1, 4, "\r"),
             ("participant", 4, 9, "\0"),
+            ("source", "", "\r", "", 1, ""),
+            ("source", "", "", "\0", "", "MS 4"),
+            ("citation", 1, 1, "\r", ""),
+            ("citation", 4, 9, "\0", "2"),
         ),
         next_set(LAST + 1),
         refused_each(58, ("person", "\r", ""), ("event", 1, "BIRT", "\r", "", "")),
+        refused_each(58, ("repo", "\0"), ("source", "\0", "", "", "", "")),
     ),
     scenario(
         "the longest texts",
@@ -99,6 +114,39 @@ TEXTS = (
             (1, "date", "1700", "-"),
             (1, "participant", "x" * LONGEST, 1),
         ),
+    ),
+    scenario(
+        "the longest texts of a repository, a source and a citation",
+        makes(1, "r", "repo", "x" * LONGEST),
+        source(2, "s", "a" * LONGEST, "b" * LONGEST, "c" * LONGEST, 1, "d" * LONGEST),
+        shows(
+            2,
+            (0, "source", "a" * LONGEST, "-"),
+            (1, "author", "b" * LONGEST, "-"),
+            (1, "publisher", "c" * LONGEST, "-"),
+            (1, "holding", "d" * LONGEST, 1),
+        ),
+        makes(3, "p", "person", "", ""),
+        makes(4, "c", "citation", 3, 2, "é" * (LONGEST // 2), ""),
+        shows(4, (0, "citation", "-", 3), (1, "source", "é" * (LONGEST // 2), 2)),
+    ),
+    scenario(
+        "a call number without a repository",
+        makes(1, "r", "repo", "County archive"),
+        refused_each(
+            58,
+            ("source", "Deeds", "", "", "", "MS 4"),
+            ("source", "", "Rev. Lee", "Ray", "", " "),
+            ("source", "", "", "", "", "\r"),
+        ),
+        next_is(2),
+        source(2, "x", "Deeds", repo=1, call=" "),
+        shows(2, (0, "source", "Deeds", "-"), (1, "holding", " ", 1)),
+        source(3, "y", "Deeds"),
+        refused_each(52, ("source", "Deeds", "", "", "", " ")),
+        next_set(LAST + 1),
+        refuses(58, "z", "source", "Deeds", "", "", "", "MS 4"),
+        refuses(63, "z", "source", "Deeds", "", "", 1, "MS 4"),
     ),
     scenario(
         "texts with line feeds, tabs and other characters",
@@ -142,6 +190,29 @@ NUMBERS = (
         shows(5),
     ),
     scenario(
+        "repositories, sources and what they are of, in the order of their fields",
+        FAMILY,
+        makes(5, "r", "repo", "County archive"),
+        source(6, "s", "Deeds", repo=5),
+        makes(7, "c", "citation", 1, 6, "", ""),
+        refused_each(50, ("source", "", "", "", 9, ""), ("source", "", "", "", LAST, "MS 4")),
+        refused_each(51, *(("source", "", "", "", number, "") for number in (1, 3, 4, 6, 7))),
+        refused_each(50, ("citation", 9, 9, "", ""), ("citation", 9, 1, "", ""), ("citation", 1, 9, "", "")),
+        refused_each(50, ("citation", 3, 9, "", ""), ("citation", 4, LAST, "", "2")),
+        refused_each(51, *(("citation", owner, 9, "", "") for owner in (5, 6, 7))),
+        refused_each(51, *(("citation", owner, 6, "", "") for owner in (5, 6, 7))),
+        refused_each(51, *(("citation", 1, number, "", "") for number in (1, 2, 3, 4, 5, 7))),
+        refused_each(51, ("citation", 3, 3, "", ""), ("citation", 4, 1, "", "1")),
+        refused_each(50, ("remove", 8), ("remove", 9), ("remove", LAST)),
+        refused_each(53, *(("remove", number) for number in (1, 3, 5, 6))),
+        refused_each(51, *(("name", number, "a") for number in (5, 6, 7))),
+        refused_each(51, *(("event", number, "BIRT", "", "", "") for number in (5, 6, 7))),
+        refused_each(51, ("child", 3, 6), ("family", 7, ""), ("participant", 4, 5, "")),
+        refused_each(51, ("event", 1, "BIRT", "", "", 5), ("amend", 4, "", "", 6), ("amend", 7, "", "", "")),
+        next_is(8),
+        makes(8, "x", "citation", 3, 6, "", ""),
+    ),
+    scenario(
         "a place that is of another kind than a place",
         FAMILY,
         place(5, "Kent"),
@@ -149,8 +220,13 @@ NUMBERS = (
         refused_each(51, ("name", 5, "a"), ("sex", 5, "M"), ("family", 5, ""), ("family", "", 5)),
         refused_each(51, ("child", 5, 1), ("child", 3, 5), ("event", 5, "BIRT", "", "", "")),
         refused_each(51, ("participant", 5, 1, ""), ("participant", 4, 5, ""), ("amend", 5, "", "", 5)),
+        refused_each(51, ("source", "", "", "", 5, ""), ("citation", 5, 9, "", ""), ("citation", 1, 5, "", "")),
         makes(6, "x", "event", 1, "BIRT", "", "", 5),
         shows(6, (0, "event", "-", 1), (1, "BIRT", "", "-"), (1, "date", "-", 5)),
+        refuses(53, "y", "remove", 5),
+        changes("z", "remove", 6),
+        changes("y", "remove", 5),
+        shows(5),
     ),
     scenario(
         "each tag is of persons, of families, of both or of neither",
@@ -166,6 +242,10 @@ NUMBERS = (
         next_is(LAST + 1),
         refused_each(63, ("person", "", ""), ("event", 1, "BIRT", "", "", ""), ("family", 1, 2)),
         refused_each(63, ("family", "", ""), ("event", 3, "MARR", "", "1700", "")),
+        refused_each(63, ("repo", ""), ("source", "", "", "", "", "")),
+        refused_each(50, ("source", "", "", "", 9, ""), ("citation", 1, 9, "", "")),
+        refused_each(51, ("source", "", "", "", 1, ""), ("citation", 1, 2, "", "")),
+        refused_each(53, ("remove", 1)),
         refused_each(62, ("event", 1, "DIV", "", "", "")),
         refused_each(54, ("family", 2, 2)),
         refused_each(50, ("family", 9, ""), ("event", 9, "BIRT", "", "", "")),
@@ -183,6 +263,22 @@ NUMBERS = (
             (1, "name", "Eva /Ray/", "-"),
             (1, "sex", "U", "-"),
         ),
+    ),
+    scenario(
+        "a number that was removed leaves no room",
+        FAMILY,
+        source(5, "s", "Deeds"),
+        next_set(LAST),
+        makes(LAST, "c", "citation", 2, 5, "", ""),
+        refuses(63, "x", "citation", 2, 5, "", ""),
+        changes("d", "remove", LAST),
+        shows(LAST),
+        next_is(LAST + 1),
+        refuses(63, "x", "citation", 2, 5, "", ""),
+        makes(LAST, "c", "citation", 2, 5, "", ""),
+        shows(LAST),
+        changes("e", "remove", 5),
+        refuses(50, "x", "citation", 2, 5, "", ""),
     ),
 )
 

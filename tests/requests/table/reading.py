@@ -31,6 +31,10 @@ GOOD = {
     "event": ("1", "BIRT", "", "1700", "1"),
     "amend": ("4", "court", "1700", "1"),
     "participant": ("4", "1", "witness"),
+    "repo": ("County archive",),
+    "source": ("Ashby register", "Rev. Lee", "Ray, Ashby", "6", "MS 4"),
+    "citation": ("1", "5", "f. 3", "2"),
+    "remove": ("7",),
 }
 # The places of the numbers in it, and of those that may be missing.
 NUMBERS = {
@@ -41,8 +45,11 @@ NUMBERS = {
     "event": (0, 4),
     "amend": (0, 3),
     "participant": (0, 1),
+    "source": (3,),
+    "citation": (0, 1),
+    "remove": (0,),
 }
-MAY_BE_MISSING = {"family": (0, 1), "event": (4,), "amend": (3,)}
+MAY_BE_MISSING = {"family": (0, 1), "event": (4,), "amend": (3,), "source": (3,)}
 
 NO_NUMBERS = (
     "0",
@@ -66,6 +73,11 @@ NO_NUMBERS = (
     "1\0",
     "1\n",
     "M",
+)
+QUALITIES = ("0", "1", "2", "3")
+NO_QUALITIES = (
+    *("4", "5", "9", "10", "33", "00", "02", "03", "-1", "+2", " 2", "2 ", "2.0", "2,", "2\0", "2\n", "a"),
+    *(" ", "primary", "\u0662", "\uff12", "\u00b2"),
 )
 NO_SEXES = ("X", "m", "f", "u", "MF", "M ", " M", "male", "\u039c", "M\n")
 
@@ -196,6 +208,33 @@ BYTES = (
         itself("amend", "3", "", " ", ""),
         itself("participant", "3", "1", "witness"),
         itself("participant", "3", "1", ""),
+        itself("repo", "County archive"),
+        itself("repo", ""),
+        itself("repo", 'The "old" archive, Ashby'),
+        itself("repo", "a\0b"),
+        itself("source", "Ashby register", "", "", "", ""),
+        itself("source", "", "", "", "", ""),
+        itself("source", "", "Rev. Lee", "", "", ""),
+        itself("source", "", "", "Rev. Lee", "", ""),
+        itself("source", "Deeds", "", "", "6", ""),
+        itself("source", "Deeds", "", "", "", "MS 4"),
+        itself("source", "Deeds, vol. 1", 'A. "Sandy" Ray', "two\nlines", "4294967295", "a\rb"),
+        ask(
+            "! bytes,source,Ashby register,Rev. Lee,,06,MS 4",
+            'bytes,"source,Ashby register,Rev. Lee,,6,MS 4\n"',
+            "digest,d7b6ba9346a27f48ed4b6f78ea46fee2f1cfc9de9049b6d3267572b73d414cc8",
+        ),
+        [step for quality in QUALITIES for step in itself("citation", "2", "1", "f. 3", quality)],
+        itself("citation", "2", "1", "", ""),
+        itself("citation", "2", "1", "", "0"),
+        itself("citation", "4294967295", "4294967294", "f. 3, verso", ""),
+        ask(
+            "! bytes,citation,002,0000000001,f. 3,2",
+            'bytes,"citation,2,1,f. 3,2\n"',
+            "digest,da892559a9df6052ce05ede7f8ed8b0ff47d629a4832395217e8a12f2882c2cb",
+        ),
+        itself("remove", "7"),
+        ask("! bytes,remove,0000000007", 'bytes,"remove,7\n"', "digest,8c85572a23a19208d983ab4123c61d717566d430b5b674a209d1a4a8d981690a"),
         next_is(1),
     ),
     scenario("numbers in other spellings", list(good_numbers())),
@@ -272,6 +311,14 @@ ROWS = (
                 ("perso", "John", "M"),
                 ("person\n", "John", "M"),
                 ("x", "person", "John", "M"),
+                ("repository", "County archive"),
+                ("Repo", "County archive"),
+                ("sources", "Deeds", "", "", "", ""),
+                ("sour", "Deeds", "", "", "", ""),
+                ("cite", "2", "1", "", ""),
+                ("citations", "2", "1", "", ""),
+                ("removed", "7"),
+                ("delete", "7"),
                 ("import",),
                 ("entries", "1"),
             )
@@ -283,6 +330,12 @@ ROWS = (
         "sexes that are none",
         [refuses(90, "x", "person", "John", sex) for sex in NO_SEXES],
         [refuses(90, "x", "sex", "1", sex) for sex in (*NO_SEXES, "")],
+    ),
+    scenario(
+        "qualities that are none",
+        [refuses(90, "x", "citation", "1", "5", page, quality) for quality in NO_QUALITIES for page in ("", "\r")],
+        refuses(50, "x", "citation", "1", "5", "", ""),
+        [refuses(50, "x", "citation", "1", "5", "f. 3", quality) for quality in QUALITIES],
     ),
     scenario(
         "the order of what is wrong with a row",
@@ -298,6 +351,13 @@ ROWS = (
         ask("x,event,2,MARR,,,nowhere", "x,refused,90,BadRow"),
         ask("x,name,0,\0", "x,refused,90,BadRow"),
         ask("x,participant,9,0,\0", "x,refused,90,BadRow"),
+        ask("x,repo,\0,", "x,refused,92,FieldCount"),
+        ask("x,source,\0,\0,\0,0,\0", "x,refused,90,BadRow"),
+        ask("x,source,,,,,MS 4,", "x,refused,92,FieldCount"),
+        ask("x,citation,0,0,,4,", "x,refused,92,FieldCount"),
+        ask("x,citation,9,9,\0,4", "x,refused,90,BadRow"),
+        ask("x,remove,", "x,refused,90,BadRow"),
+        ask("x,remove,0,0", "x,refused,92,FieldCount"),
         keeps_nothing("x"),
         next_is(1),
     ),

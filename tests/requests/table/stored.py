@@ -15,6 +15,7 @@ from table.making import (
     row,
     scenario,
     shows,
+    source,
 )
 
 SAME = ask("! stored", "same")
@@ -48,6 +49,33 @@ def spoils(statements: str, *told: str | int):
     """What is told of requests after statements changed the tables of an archive."""
     given = row("! spoil", statements, "z1", "name", 1, "Eva")
     return given.encode(), row("spoil", *told).encode()
+
+
+def lines(*values: str) -> str:
+    """Statements that put lines behind those that are there, each as number, place, depth, tag, text and target."""
+    return "; INSERT INTO line (no, pos, depth, tag, text, dst) VALUES " + ", ".join(f"({one})" for one in values)
+
+
+def with_made(statements: str, request: tuple[str | int, ...], *told: str | int):
+    """What is told of a request after statements put what no request makes: of it, of it again, of the state and the society."""
+    return row("! spoil", statements, "z1", *request).encode(), row("spoil", *told).encode()
+
+
+# What stands at number 6, where source 5 is the last record: an entry of source 5, another record that points to itself, one
+# that points to source 5, and slips.
+ENTRY = "INSERT INTO record VALUES (6, 'entry', 0); UPDATE meta SET next = 7" + lines(
+    "6, 0, 0, 'entry', 'BURIAL', NULL",
+    "6, 1, 1, 'page', 'f. 3', 5",
+    "6, 2, 1, 'item', '1', NULL",
+    "6, 3, 1, 'text', 'Ann', NULL",
+    "6, 4, 1, 'mention', 'Ann', NULL",
+    "6, 5, 2, 'role', 'buried', NULL",
+)
+OTHER = "INSERT INTO record VALUES (6, 'other', 0); UPDATE meta SET next = 7" + lines("6, 0, 0, 'other', NULL, NULL")
+OF_ITSELF = OTHER + lines("6, 1, 1, 'NOTE', NULL, 6")
+OF_A_SOURCE = OTHER + lines("6, 1, 1, 'NOTE', NULL, 5")
+CARRIED_BY_ANN = "UPDATE meta SET next = 7" + lines("2, 2, 1, 'carried', NULL, NULL", "2, 3, 2, 'NOTE', NULL, 5")
+SLIP = "INSERT INTO slip VALUES (6, 1, 2, 0); UPDATE meta SET next = 7"
 
 
 def in_files(one: Scenario) -> Scenario:
@@ -108,6 +136,15 @@ SCENARIOS = OTHERS + (
         refuses(50, "x7", "name", 9, "Eva"),
         refuses(54, "x8", "family", 1, 1),
         refuses(58, "x9", "person", "\0", ""),
+        makes(6, "x10", "repo", "Archiv, Köln"),
+        source(7, "x11", "Kirchenbuch", "Pfarrer \"Lee\"", "", 6, "MS 4"),
+        makes(8, "x12", "citation", 5, 7, "f. 3\nverso", "2"),
+        makes(9, "x13", "citation", 3, 7, "", ""),
+        refuses(53, "x14", "remove", 7),
+        changes("x15", "remove", 9),
+        changes("x16", "remove", 4),
+        refuses(50, "x17", "remove", 9),
+        refuses(51, "x18", "citation", 1, 6, "", ""),
         shows(
             2,
             (0, "person", "-", "-"),
@@ -115,6 +152,54 @@ SCENARIOS = OTHERS + (
             (1, "name", "Anna, \"Ann\"\nLee", "-"),
             (1, "sex", "F", "-"),
         ),
+        shows(
+            7,
+            (0, "source", "Kirchenbuch", "-"),
+            (1, "author", "Pfarrer \"Lee\"", "-"),
+            (1, "holding", "MS 4", 6),
+        ),
+        shows(8, (0, "citation", "-", 5), (1, "source", "f. 3\nverso", 7), (1, "quality", "2", "-")),
+        shows(4),
+        shows(9),
+        next_is(10),
+        SAME,
+    ),
+    scenario(
+        "records are removed in files, one after the other",
+        STORED,
+        changes("d1", "remove", 4),
+        SAME,
+        changes("d2", "remove", 3),
+        changes("d3", "remove", 1),
+        changes("d4", "remove", 2),
+        [shows(number) for number in (1, 2, 3, 4)],
+        next_is(5),
+        SAME,
+        changes("d1", "remove", 4),
+        refuses(50, "d5", "remove", 4),
+        makes(5, "p3", "person", "Eva", ""),
+        SAME,
+    ),
+    scenario(
+        "what no request makes is cited, removed and named",
+        STORED,
+        source(5, "s1", "Deeds"),
+        with_made(ENTRY, ("citation", 6, 5, "", ""), 51, 51, "ok", "ok"),
+        with_made(ENTRY, ("citation", 1, 6, "", ""), 51, 51, "ok", "ok"),
+        with_made(ENTRY, ("citation", 1, 5, "", ""), "ok", "ok", "ok", "ok"),
+        with_made(ENTRY, ("remove", 5), 53, 53, "ok", "ok"),
+        with_made(ENTRY, ("remove", 6), "ok", "ok", "ok", "ok"),
+        with_made(OTHER + lines("6, 1, 1, 'NOTE', 'x', NULL"), ("citation", 6, 5, "", ""), 51, 51, "ok", "ok"),
+        with_made(OF_ITSELF, ("remove", 6), "ok", "ok", "ok", "ok"),
+        with_made(OF_A_SOURCE, ("remove", 5), 53, 53, "ok", "ok"),
+        with_made(OF_A_SOURCE, ("remove", 6), "ok", "ok", "ok", "ok"),
+        with_made(CARRIED_BY_ANN, ("remove", 5), 53, 53, "ok", "ok"),
+        with_made(CARRIED_BY_ANN, ("remove", 2), "ok", "ok", "ok", "ok"),
+        with_made(SLIP, ("remove", 6), 50, 50, "ok", "ok"),
+        with_made(SLIP, ("citation", 6, 5, "", ""), 50, 50, "ok", "ok"),
+        with_made(SLIP, ("remove", 2), "ok", "ok", "ok", "ok"),
+        SAME,
+        changes("d1", "remove", 5),
         SAME,
     ),
     scenario(
@@ -133,6 +218,17 @@ SCENARIOS = OTHERS + (
         SAME,
         ask("r3,person,Eva,F", "r3,ok,5,1"),
         next_is(6),
+        ask(
+            "! run,r5|source|Deeds||||,r6|citation|4|6||2,r7|remove|6,r8|remove|7,r7|remove|6,r9|citation|4|6||",
+            "r5,ok,6,1",
+            "r6,ok,7,1",
+            "r7,refused,53,StillNamed",
+            "r8,ok,0,0",
+            "r7,ok,0,0",
+            "r9,refused,50,NoSuch",
+        ),
+        SAME,
+        next_is(8),
     ),
     scenario(
         "names of societies",

@@ -1,0 +1,6 @@
+pub mod Applied
+pub mod Checks
+pub mod Exact
+pub mod Numbers
+pub mod Steps
+pub mod Words

@@ -1,0 +1,24 @@
+//! What each command of one row makes of an archive: what it looks at over a view, in which order it is refused, and which
+//! records it puts.
+//!
+//! It uses `archive_view` and `archive_state` for the view of an archive and for what changes, `records` for what is in
+//! it, and `commands` for the commands.
+//!
+//! Callers may rely on: `decide_row` over any view answers the changes that, made, are the step of the definitions, or
+//! its refusal, and changes nothing itself; and the changes are of what differs alone.
+#![tactic(auto)]
+
+mod events;
+mod families;
+mod kinds;
+mod looks;
+mod making;
+mod persons;
+mod places;
+mod removal;
+mod rows;
+mod sources;
+mod words;
+
+pub use rows::decide_row;
+pub use words::tell_row;

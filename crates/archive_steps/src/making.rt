@@ -1,0 +1,205 @@
+//! The changes of one record, and what goes into records.
+
+ghost use Rattle.std.specs.Prelude.{◌≡◌, ◌≢◌, ◌+◌, ◌∷◌, [], IfErr, IfOk, None, Some, Err, Ok};
+ghost use Rattle.std.specs.FinMap as map;
+ghost use Rattle.archive_view.specs.Looks.{Agrees, CountsFailures, OnView, is_stop};
+ghost use Rattle.archive_steps.specs.Applied.{Plans};
+ghost use Rattle.archive_steps.specs.Checks as checks;
+ghost use Rattle.archive_steps.specs.Exact.{IsExact};
+ghost use Rattle.archive_steps.specs.Steps as steps;
+
+use archive_state::{Answer, Changes, Numbered};
+use archive_view::View;
+use records::{Record, RefusalKind};
+use std::alloc::{AllocError, Global};
+
+/// The answer of a command that makes no record.
+const NOTHING_MADE: Answer = Answer { first: 0, count: 0 };
+
+/// The next number, where one is left.
+fn next_free<V: View>(alloc: Global, view: &mut V) -> Result<u32, RefusalKind>
+    ensures decides { OnView V.is_honest V.shows V.content view.old view.new
+        (λ c. Agrees is_stop result (checks.next_free c)) }
+    ensures counts { CountsFailures (V.failed view.old) (V.failed view.new) result }
+{
+    let next = view.next(alloc)?;
+    if next > 4_294_967_295 {
+        return Err(RefusalKind::Full);
+    }
+    Ok(next as u32)
+}
+
+/// A new record at the next number, where one is left.
+#[tactic(auto, using(crate::proofs::Exactness::new_is_exact))]
+pub(crate) fn creates<V: View>(
+    alloc: Global,
+    view: &mut V,
+    value: Record,
+) -> Result<Changes, RefusalKind>
+    ensures decides { OnView V.is_honest V.shows V.content view.old view.new
+        (λ c. Plans c result (steps.creates c value)) }
+    ensures exact { OnView V.is_honest V.shows V.content view.old view.new
+        (λ c. IfOk result (IsExact c)) }
+    ensures counts { CountsFailures (V.failed view.old) (V.failed view.new) result }
+{
+    match next_free(alloc, view) {
+        Ok(number) => Ok(put_new(alloc, number, value)?),
+        Err(e) => {
+            drop(value);
+            Err(e)
+        }
+    }
+}
+
+fn put_new(alloc: Global, number: u32, value: Record) -> Result<Changes, AllocError>
+    ensures { IfOk result (λ c. c ≡ record {
+      puts = record { number = number; «record» = value } ∷ [];
+      removals = [];
+      next = number + 1;
+      answer = record { first = number; count = 1 };
+      kept = None;
+      slip = None;
+    }) }
+{
+    let answer = Answer {
+        first: number,
+        count: 1,
+    };
+    put(alloc, number, value, u64::from(number) + 1, answer)
+}
+
+/// Another record at a number, where another one is.
+#[tactic(auto, using(crate::proofs::Exactness::one_is_exact))]
+pub(crate) fn replaces<V: View>(
+    alloc: Global,
+    view: &mut V,
+    number: u32,
+    value: Record,
+) -> Result<Changes, RefusalKind>
+    ensures decides { OnView V.is_honest V.shows V.content view.old view.new
+        (λ c. Plans c result (steps.replaces c number value)) }
+    ensures exact { OnView V.is_honest V.shows V.content view.old view.new
+        (λ c. IfOk result (λ changes. map.get c.records number ≢ Some value → IsExact c changes)) }
+    ensures counts { CountsFailures (V.failed view.old) (V.failed view.new) result }
+{
+    match view.next(alloc) {
+        Ok(next) => Ok(put(alloc, number, value, next, NOTHING_MADE)?),
+        Err(e) => {
+            drop(value);
+            Err(e)
+        }
+    }
+}
+
+/// No record at a number, where one is.
+#[tactic(auto, using(crate::proofs::Exactness::removal_is_exact))]
+pub(crate) fn removes<V: View>(
+    alloc: Global,
+    view: &mut V,
+    number: u32,
+) -> Result<Changes, RefusalKind>
+    ensures decides { OnView V.is_honest V.shows V.content view.old view.new
+        (λ c. Plans c result (steps.removes c number)) }
+    ensures exact { OnView V.is_honest V.shows V.content view.old view.new
+        (λ c. IfOk result (λ changes. map.get c.records number ≢ None → IsExact c changes)) }
+    ensures counts { CountsFailures (V.failed view.old) (V.failed view.new) result }
+{
+    let next = view.next(alloc)?;
+    Ok(take_out(alloc, number, next)?)
+}
+
+/// Nothing, where what is asked for is there already.
+#[tactic(auto, using(crate::proofs::Exactness::none_is_exact))]
+pub(crate) fn unchanged<V: View>(alloc: Global, view: &mut V) -> Result<Changes, RefusalKind>
+    ensures decides { OnView V.is_honest V.shows V.content view.old view.new
+        (λ c. Plans c result (Ok (c, record { first = 0; count = 0 }))) }
+    ensures exact { OnView V.is_honest V.shows V.content view.old view.new
+        (λ c. IfOk result (IsExact c)) }
+    ensures counts { CountsFailures (V.failed view.old) (V.failed view.new) result }
+{
+    let next = view.next(alloc)?;
+    Ok(Changes {
+        puts: Vec::new(alloc),
+        removals: Vec::new(alloc),
+        next,
+        answer: NOTHING_MADE,
+        kept: None,
+        slip: None,
+    })
+}
+
+/// One record to put, and nothing else.
+fn put(
+    alloc: Global,
+    number: u32,
+    value: Record,
+    next: u64,
+    answer: Answer,
+) -> Result<Changes, AllocError>
+    ensures { IfOk result (λ c. c ≡ record {
+      puts = record { number = number; «record» = value } ∷ [];
+      removals = [];
+      next = next;
+      answer = answer;
+      kept = None;
+      slip = None;
+    }) }
+{
+    let put = Numbered {
+        number,
+        record: value,
+    };
+    Ok(Changes {
+        puts: one(alloc, put)?,
+        removals: Vec::new(alloc),
+        next,
+        answer,
+        kept: None,
+        slip: None,
+    })
+}
+
+/// One record to take out, and nothing else.
+fn take_out(alloc: Global, number: u32, next: u64) -> Result<Changes, AllocError>
+    ensures { IfOk result (λ c. c ≡ record {
+      puts = [];
+      removals = number ∷ [];
+      next = next;
+      answer = record { first = 0; count = 0 };
+      kept = None;
+      slip = None;
+    }) }
+{
+    Ok(Changes {
+        puts: Vec::new(alloc),
+        removals: one(alloc, number)?,
+        next,
+        answer: NOTHING_MADE,
+        kept: None,
+        slip: None,
+    })
+}
+
+/// The item where a check has passed. At a refusal it is given back here, once for all callers.
+pub(crate) fn kept_if<T: Drop, E>(item: T, check: Result<(), E>) -> Result<T, E>
+    ensures same { IfOk result (λ kept. kept ≡ item) }
+    ensures passed { IfOk result (λ kept. check ≡ Ok tt) }
+    ensures refused { IfErr result (λ e. check ≡ Err e) }
+{
+    match check {
+        Ok(()) => Ok(item),
+        Err(e) => {
+            drop(item);
+            Err(e)
+        }
+    }
+}
+
+/// A list of one.
+pub(crate) fn one<T: Drop>(alloc: Global, item: T) -> Result<Vec<T>, AllocError>
+    ensures { IfOk result (λ items. items.items ≡ item ∷ []) }
+{
+    let mut items = Vec::new(alloc);
+    items.push(item)?;
+    Ok(items)
+}

@@ -1,0 +1,72 @@
+//! What a command of one row changes.
+
+ghost use Rattle.std.specs.Prelude.{IfOk};
+ghost use Rattle.archive_view.specs.Looks.{CountsFailures, OnView};
+ghost use Rattle.archive_steps.specs.Applied.{Plans};
+ghost use Rattle.archive_steps.specs.Exact.{IsExact};
+ghost use Rattle.archive_steps.specs.Steps.{row_step};
+
+use crate::events::{add_participant, amend_event, new_event};
+use crate::families::{add_child, new_family};
+use crate::persons::{add_name, new_person, set_sex};
+use crate::removal::remove_record;
+use crate::sources::{new_citation, new_repo, new_source};
+use archive_state::Changes;
+use archive_view::View;
+use commands::RowCommand;
+use records::RefusalKind;
+use std::alloc::Global;
+
+/// What a command of one row changes.
+pub fn decide_row<V: View>(
+    alloc: Global,
+    view: &mut V,
+    row: &RowCommand,
+) -> Result<Changes, RefusalKind>
+    ensures decides { OnView V.is_honest V.shows V.content view.old view.new
+        (λ c. Plans c result (row_step c row.now)) }
+    ensures exact { OnView V.is_honest V.shows V.content view.old view.new
+        (λ c. IfOk result (IsExact c)) }
+    ensures counts { CountsFailures (V.failed view.old) (V.failed view.new) result }
+{
+    match row {
+        RowCommand::Person { name, sex } => new_person(alloc, view, name, *sex),
+        RowCommand::Name { person, name } => add_name(alloc, view, *person, name),
+        RowCommand::Sex { person, sex } => set_sex(alloc, view, *person, *sex),
+        RowCommand::Family { husband, wife } => new_family(alloc, view, *husband, *wife),
+        RowCommand::Child { family, person } => add_child(alloc, view, *family, *person),
+        RowCommand::Event {
+            owner,
+            tag,
+            value,
+            date,
+            place,
+        } => new_event(alloc, view, *owner, tag, value, date, *place),
+        RowCommand::Amend {
+            event,
+            value,
+            date,
+            place,
+        } => amend_event(alloc, view, *event, value, date, *place),
+        RowCommand::Participant {
+            event,
+            person,
+            role,
+        } => add_participant(alloc, view, *event, *person, role),
+        RowCommand::Repo { name } => new_repo(alloc, view, name),
+        RowCommand::Source {
+            title,
+            author,
+            publisher,
+            repo,
+            call_number,
+        } => new_source(alloc, view, title, author, publisher, *repo, call_number),
+        RowCommand::Citation {
+            owner,
+            source,
+            page,
+            quality,
+        } => new_citation(alloc, view, *owner, *source, page, *quality),
+        RowCommand::Remove { number } => remove_record(alloc, view, *number),
+    }
+}

@@ -1,0 +1,13 @@
+use Rattle.std.proofs.Common.{ap, Some, None}
+use Rattle.record_text.specs.declared.refusal.RefusalKind.TheVariants.{BadRow}
+use Rattle.record_fields.proofs.Worded.{quality_read}
+use Rattle.commands.specs.Rows.{ok_or, quality_in}
+use Rattle.commands.proofs.reading.quality_in.Goals as goal
+
+pub returns-in-Some : goal.returns-in-Some
+unfolding quality_in
+returns-in-Some c = ap (ok_or BadRow) (quality_read c.args.field.now (Some c.in-Some.quality) c.in-Some.ensures)
+
+pub returns-in-None : goal.returns-in-None
+unfolding quality_in
+returns-in-None c = ap (ok_or BadRow) (quality_read c.args.field.now None c.in-None.ensures)

@@ -1,0 +1,3 @@
+mod PartByPart
+mod Trimmed
+mod Within
