@@ -23,13 +23,14 @@ ROOT = pathlib.Path(__file__).resolve().parents[1]
 PARISH = ROOT / "crates/parish/out/parish"
 FEW, MANY, ROWS, RUNS = 10, 100, 10_000, 3
 LINE = "INSERT INTO line (no, pos, depth, tag, text, dst) VALUES (?1, ?2, ?3, ?4, ?5, ?6)"
-VERBS = ("person", "name", "sex", "family", "child", "event", "amend", "participant")
+VERBS = ("person", "name", "sex", "family", "child", "event", "amend", "participant", "repo", "source", "citation", "remove")
 
 
 def row(verb, k, persons):
     """The fields of the k-th row of a verb. It changes no record that another row of this verb changes."""
     husband, wife, child = ((k + n) % persons + 1 for n in range(3))
     family, event = persons + 1 + k, persons + 1 + MANY + k
+    source, unnamed = persons + 1 + 2 * MANY, persons + 2 + 2 * MANY + k
     match verb:
         case "person":
             return ("person", f"Ann /Lee {k}/", "F")
@@ -42,11 +43,19 @@ def row(verb, k, persons):
         case "child":
             return ("child", family, child)
         case "event":
-            return ("event", child, "BIRT", "", "3 MAY 1701", "Ashby, Kent")
+            return ("event", child, "BIRT", "", "3 MAY 1701", "")
         case "amend":
             return ("amend", event, "born at Mill Field", "4 MAY 1701", "")
         case "participant":
             return ("participant", event, wife, "witness")
+        case "repo":
+            return ("repo", f"Parish chest {k}")
+        case "source":
+            return ("source", f"Baptisms {k}", "", "", "", "")
+        case "citation":
+            return ("citation", child, source, f"f. {k}", "2")
+        case "remove":
+            return ("remove", unnamed)
 
 
 def text(rows, first=0):
@@ -65,7 +74,7 @@ def apply(file, rows):
 
 
 def made(file, persons):
-    """An archive of so many persons, and of MANY families and then as many events behind them."""
+    """An archive of so many persons, and behind them MANY families, as many events, a source, and MANY repositories that nothing names."""
     subprocess.run([str(PARISH), "init", str(file), "--society", "Ashby"], check=True)
     with sqlite3.connect(file) as conn:
         for number in range(1, persons + 1):
@@ -77,7 +86,9 @@ def made(file, persons):
     conn.close()
     families = [row("family", k, persons) for k in range(MANY)]
     events = [("event", persons + 1 + k, "MARR", "", "1 MAY 1700", "") for k in range(MANY)]
-    apply(file, text(families + events, 1_000_000))
+    source = [("source", "Baptisms", "", "", "", "")]
+    repos = [("repo", f"Chest {k}") for k in range(MANY)]
+    apply(file, text(families + events + source + repos, 1_000_000))
 
 
 def copied(file, folder):
@@ -109,7 +120,7 @@ def plan(file, rows):
             put = [number for number in named if lines_of(before, number) != lines_of(after, number)]
             put += [receipt[2]] * receipt[3]
             kinds = [after.execute("SELECT no, kind, batch FROM record WHERE no = ?1", (number,)).fetchone() for number in put]
-            found.append((named, [(kind, lines_of(after, kind[0])) for kind in kinds], receipt))
+            found.append((named, [(number, kind, lines_of(after, number)) for number, kind in zip(put, kinds)], receipt))
         before.close()
         after.close()
     return found
@@ -139,7 +150,10 @@ def perform(conn, named, put, receipt):
         lines_of(conn, number)
     conn.execute("SELECT next FROM meta").fetchall()
     conn.execute("BEGIN")
-    for kind, lines in put:
+    for number, kind, lines in put:
+        if kind is None:
+            remove(conn, number)
+            continue
         if conn.execute("UPDATE record SET kind = ?2, batch = ?3 WHERE no = ?1", kind).rowcount == 0:
             conn.execute("INSERT INTO record (no, kind, batch) VALUES (?1, ?2, ?3)", kind)
         conn.execute("DELETE FROM line WHERE no = ?1", kind[:1])
@@ -149,6 +163,13 @@ def perform(conn, named, put, receipt):
         conn.execute("UPDATE meta SET next = ?1", (receipt[2] + 1,))
     conn.execute("INSERT INTO receipt (token, digest, first, count) VALUES (?1, ?2, ?3, ?4)", receipt)
     conn.execute("COMMIT")
+
+
+def remove(conn, number):
+    """Takes a record out, where no line names it."""
+    assert not conn.execute("SELECT no FROM line WHERE dst = ?1 AND no <> ?1", (number,)).fetchall()
+    conn.execute("DELETE FROM line WHERE no = ?1", (number,))
+    conn.execute("DELETE FROM record WHERE no = ?1", (number,))
 
 
 def verbs(file, persons):
