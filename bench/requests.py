@@ -1,8 +1,9 @@
 """Times requests on an archive in a real file, beside sqlite3 (C): python3 bench/requests.py [PERSONS..].
 
 For archives of PERSONS persons (100, 10,000 and 100,000, written in one transaction of this script's own): how long `parish apply`
-takes to open and close the archive, and for each verb to do one row, with its commit. A row's time is that of a process that does 100 such rows,
-each changing a record that no other changes, less that of one that does 10, over 90. Then 10,000 rows of all verbs in turn on the smallest archive.
+takes to open and close the archive, and for each verb to do one row, with its commit. A row's time is what a process that does 100 such rows,
+each changing a record that no other changes, takes from the answer to the first until the answer to the last, over 99: so the opening is not in it. Then
+10,000 rows of all verbs in turn on the smallest archive.
 
 The peer is the C library through Python's module `sqlite3`, over a copy of the same file, with a log (WAL) and a sync at each commit
 (synchronous=FULL): for each row it looks up the token, the next number, and the records and lines that the row names, and then writes the same rows as
@@ -21,7 +22,7 @@ import time
 
 ROOT = pathlib.Path(__file__).resolve().parents[1]
 PARISH = ROOT / "crates/parish/out/parish"
-FEW, MANY, ROWS, RUNS = 10, 100, 10_000, 3
+MANY, ROWS, RUNS = 100, 10_000, 3
 LINE = "INSERT INTO line (no, pos, depth, tag, text, dst) VALUES (?1, ?2, ?3, ?4, ?5, ?6)"
 VERBS = ("person", "name", "sex", "family", "child", "event", "amend", "participant", "repo", "source", "citation", "remove")
 
@@ -71,6 +72,21 @@ def apply(file, rows):
     seconds = time.perf_counter() - start
     assert out.count(b",ok,") == rows.count("\n"), out[-200:]
     return seconds
+
+
+def between_answers(file, rows):
+    """Seconds from the answer to the first of these rows until that to the last. Each is answered once it is kept."""
+    with subprocess.Popen([str(PARISH), "apply", str(file)], stdin=subprocess.PIPE, stdout=subprocess.PIPE) as ended:
+        ended.stdin.write(rows.encode())
+        ended.stdin.close()
+        assert b",ok," in ended.stdout.readline()
+        start = time.perf_counter()
+        rest = ended.stdout.read(1)
+        seconds = start
+        while line := ended.stdout.readline():
+            rest, seconds = rest + line, time.perf_counter()
+    assert rest.count(b",ok,") == rows.count("\n") - 1, rest[-200:]
+    return seconds - start
 
 
 def made(file, persons):
@@ -174,18 +190,15 @@ def remove(conn, number):
 
 def verbs(file, persons):
     """A line for each verb: milliseconds a row of ours and of the peer."""
-    few_and_many = {verb: [[row(verb, k, persons) for k in range(count)] for count in (FEW, MANY)] for verb in VERBS}
-    plans = {verb: [plan(file, rows) for rows in both] for verb, both in few_and_many.items()}
-    for verb, both in few_and_many.items():
+    rows_of = {verb: [row(verb, k, persons) for k in range(MANY)] for verb in VERBS}
+    plans = {verb: plan(file, rows) for verb, rows in rows_of.items()}
+    for verb, rows in rows_of.items():
         own, peer = [], []
         for _ in range(RUNS):
-            own.append([ours(file, rows) for rows in both])
-            peer.append([theirs(file, steps)[1] for steps in plans[verb]])
-        cells = []
-        for times in (own, peer):
-            few, many = (min(run[n] for run in times) for n in range(2))
-            cells.append(f"{(many - few) / (MANY - FEW) * 1_000:.2f} ms")
-        print(f"| {persons:,} | {verb} | {' | '.join(cells)} |", flush=True)
+            with tempfile.TemporaryDirectory() as folder:
+                own.append(between_answers(copied(file, folder), text(rows)) / (MANY - 1))
+            peer.append(theirs(file, plans[verb])[1] / MANY)
+        print(f"| {persons:,} | {verb} | {min(own) * 1_000:.2f} ms | {min(peer) * 1_000:.2f} ms |", flush=True)
 
 
 def opening(file, persons):
