@@ -21,9 +21,10 @@ VALUES = ["", "", "at home", "two\nlines"]
 TITLES = ["Ashby register", "Wills", "", 'The "old" book, vol. 1', "two\nlines", " "]
 SHORT = ["", "", "Rev. Lee", "MS 4", "a,b"]  # authors, publishers, call numbers and pages
 QUALITIES = ["", "0", "1", "2", "3"]
-PLACE = ""  # no request makes a place yet
+PLACES = ["Kent", "Ashby", "Mill Lane, Ashby", "\u00e9, \u4e2d", "two\nlines", "The \"Mill\"", ", Kent"]
+DEEPEST = 8  # places within each other, so that no path passes the limits
 
-# The kinds of the fields of each verb: number, text, sex, tag, date or quality.
+# The kinds of the fields of each verb: number, text, sex, tag, date, quality or place's name.
 KINDS = {
     "person": "TS",
     "name": "NT",
@@ -33,6 +34,7 @@ KINDS = {
     "event": "NGTDN",
     "amend": "NTDN",
     "participant": "NNT",
+    "place": "PN",
     "repo": "T",
     "source": "TTTNT",
     "citation": "NNTQ",
@@ -45,6 +47,7 @@ ODD = {
     "G": ["birt", "NAME", "HUSB", "", "a\0b"],
     "D": ["a\rb", "a\0b", "(\r)"],
     "Q": ["4", "03", " 1", "q"],
+    "P": ["", " Kent", "Ashby,Kent", "Kent ", ",", "a\rb", ", ".join("A" * 33)],
 }
 ODD_VERBS = ["frob", "", "Person", "person ", "personal", "repository", "removed"]
 ODD_TOKENS = ["", "a b", "x" * 65, "\u00e9", "!", "~", "a,b", "x" * 64, "\x7f"]
@@ -57,7 +60,7 @@ class Rows:
         self.rng = rng
         self.removes = removes
         self.people, self.families, self.events = [], [], []
-        self.repos, self.sources, self.citations = [], [], []
+        self.places, self.repos, self.sources, self.citations = [], [], [], []
         self.names = {}  # the numbers that each record names
         self.next = 1
         self.given = []
@@ -78,6 +81,7 @@ class Rows:
             "person": self.people,
             "family": self.families,
             "event": self.events,
+            "place": self.places,
             "repo": self.repos,
             "source": self.sources,
             "citation": self.citations,
@@ -112,13 +116,25 @@ class Rows:
         kinds = [(self.people, PERSON_TAGS)] + [(self.families, FAMILY_TAGS)] * bool(self.families)
         numbers, tags = self.rng.choice(kinds)
         value, date = self.rng.choice(VALUES), self.rng.choice(DATES)
-        return [self.of(numbers), self.rng.choice(tags), value, date, PLACE]
+        return [self.of(numbers), self.rng.choice(tags), value, date, self.place_or_none()]
 
     def amend(self):
-        return [self.of(self.events), self.rng.choice(VALUES), self.rng.choice(DATES), PLACE]
+        value, date = self.rng.choice(VALUES), self.rng.choice(DATES)
+        return [self.of(self.events), value, date, self.place_or_none()]
 
     def participant(self):
         return [self.of(self.events), self.of(self.people), self.rng.choice(ROLES)]
+
+    def depth(self, number):
+        """How many places a place is within, with itself."""
+        return 1 + max((self.depth(parent) for parent in self.names[number]), default=0)
+
+    def place(self):
+        above = [number for number in self.places if self.depth(number) < DEEPEST]
+        return [self.rng.choice(PLACES), self.of(above) if above and self.chance(0.6) else ""]
+
+    def place_or_none(self):
+        return self.of(self.places) if self.places and self.chance(0.5) else ""
 
     def repo(self):
         return [self.rng.choice(TITLES)]
@@ -138,7 +154,7 @@ class Rows:
 
     def verbs(self):
         """The verbs for which there is what they name, those that make something more than once."""
-        found = ["person"] * 3 + ["repo", "source"]
+        found = ["person"] * 3 + ["place", "repo", "source"]
         if self.people:
             found += ["family"] * 2 + ["event"] * 3 + ["name", "sex"]
         if self.families:
@@ -196,8 +212,10 @@ class Rows:
         kind = KINDS[verb][at]
         if kind != "N" or self.chance(0.5):
             return self.rng.choice(ODD[kind])
-        if verb == "event":
-            others = self.events + self.sources
+        if verb == "event" and at == 0:
+            others = self.events + self.sources + self.places
+        elif verb == "place":
+            others = self.people + self.events
         elif verb == "source":
             others = self.people + self.sources
         elif verb == "citation" and at == 0:

@@ -35,10 +35,10 @@ use Rattle.archive_state.specs.Paths.{HasPath}
 use Rattle.record_shapes.specs.Lists.{EachOf, IsOnce}
 use Rattle.record_shapes.specs.Members.{members}
 use Rattle.archive_state.specs.Sound.{IsOfRecords, HasSaidPlace, HasEventTag, Stands, IsSound, owner_in}
-use Rattle.archive_steps.specs.Checks.{tags_of, is_tag_of}
+use Rattle.archive_looks.specs.Checks.{tags_of, is_tag_of}
 use Rattle.archive_steps.specs.Steps.{plain_name, plain_person, with_name, plain_partners, plain_child, with_child, is_same, is_partner, is_child, plain_place, plain_participant, with_participant, or_kept_date, or_kept_place, or_kept_text, with_fields}
-use Rattle.archive_steps.specs.declared.looks.Owner.{Owner}
-use Rattle.archive_steps.specs.declared.looks.Owner.TheVariants as owner
+use Rattle.archive_looks.specs.declared.looks.Owner.{Owner}
+use Rattle.archive_looks.specs.declared.looks.Owner.TheVariants as owner
 use Rattle.archive_state.proofs.Each.{each_both, each_front, each_back}
 use Rattle.archive_state.proofs.Keeping.{IsAlike}
 use Rattle.archive_steps.proofs.Keeping.{IsFit}

@@ -16,17 +16,22 @@ use Rattle.commands.specs.Rows.{and_then}
 use Rattle.commands.specs.Sound.{WhereSome}
 use Rattle.commands.specs.declared.row_command.RowCommand.{RowCommand}
 use Rattle.commands.specs.declared.row_command.RowCommand.TheVariants as row_command
-use Rattle.archive_steps.specs.Checks.{text_in, date_in, person_at, family_at, event_at, owner_at, place_at, tag_in, event_tag, is_tag_of, is_said, said_place_at, record_at, demanded_at, is_named, maybe_text_in, passed, each, need}
-use Rattle.archive_steps.specs.Steps.{RowStep, row_step, creates, replaces, removes, plain_repo, given_source, plain_citation, plain_person, plain_partners, plain_place, with_name, with_child, with_fields, with_participant, is_same, is_partner, is_child}
+use Rattle.archive_looks.specs.Checks.{text_in, date_in, person_at, family_at, event_at, owner_at, place_at, tag_in, event_tag, is_tag_of, is_said, said_place_at, record_at, demanded_at, is_named, maybe_text_in, passed, each, need, place_name, place_name_in}
+use Rattle.archive_steps.specs.Steps.{RowStep, place_within, row_step, creates, replaces, removes, plain_repo, given_source, plain_citation, plain_person, plain_partners, plain_place, with_name, with_child, with_fields, with_participant, is_same, is_partner, is_child}
+use Rattle.place_paths.specs.Fits.{new_path, is_fit}
+use Rattle.record_text.specs.Text.{IsText}
+use Rattle.record_shapes.specs.Paths.{IsNormal}
+use Rattle.archive_looks.proofs.PlaceNames.{name_taken}
+use Rattle.archive_steps.proofs.Placed.{PlacedAt, place_keeps}
 use Rattle.archive_steps.specs.Numbers.{Draws, UsesNoneAgain}
 use Rattle.archive_steps.specs.Words.{IsUtf8Date, IsUtf8Row}
-use Rattle.archive_steps.specs.declared.kinds.Demand.TheVariants as demand
-use Rattle.archive_steps.specs.declared.looks.Owner.{Owner}
+use Rattle.archive_looks.specs.declared.kinds.Demand.TheVariants as demand
+use Rattle.archive_looks.specs.declared.looks.Owner.{Owner}
 use Rattle.archive_state.proofs.Putting.{put_elsewhere, put_here}
 use Rattle.archive_steps.proofs.Keeping.{IsFit, put_keeps}
-use Rattle.archive_steps.proofs.Found.{person_found, family_found, event_found, owner_found, person_stands, place_stands, demanded_stands, passes}
+use Rattle.archive_looks.proofs.Found.{person_found, family_found, event_found, owner_found, person_stands, place_stands, demanded_stands, passes}
 use Rattle.archive_steps.proofs.Named.{gone_still, removed_sound}
-use Rattle.archive_steps.proofs.SaidPaths.{said_has_part}
+use Rattle.archive_looks.proofs.SaidPaths.{said_has_part}
 use Rattle.archive_steps.proofs.Sourced.{RepoAt, new_repo_fits, new_citation_fits, given_fits, source_found, maybe_text_found}
 use Rattle.archive_steps.proofs.Worded.{text_found, maybe_date}
 use Rattle.archive_steps.proofs.Fitting.{PersonAt, PlaceAt, new_person_fits, add_name_fits, set_sex_fits, new_family_fits, add_child_fits, new_event_fits, amend_event_fits, add_participant_fits}
@@ -108,6 +113,20 @@ creates_follows W c r fit = elim (nat_le c.next 4_294_967_295) as (λ b. nat_le 
   | false ↦ λ e. tt
 ] refl
 
+-- a place is made
+place_follows : (W : Type 0) (c : Content) (name : List ℕ) (parent : Option ℕ) → (W → IsSound c → IsText name × IsNormal name × PlacedAt c parent) → is_fit (new_path c.records name parent) ≡ true
+    → Follows W c (creates c (kind.Place (place_within name parent)))
+place_follows W c name parent given fit = elim (nat_le c.next 4_294_967_295) as (λ b. nat_le c.next 4_294_967_295 ≡ b → Follows W c (and_then (if b then Ok c.next else Err Full) (λ n. created c n (kind.Place (place_within name parent))))) [
+  | true ↦ λ e. (
+    refl,
+    refl,
+    creates_draws c (kind.Place (place_within name parent)),
+    creates_again c (kind.Place (place_within name parent)),
+    (λ w sound. let g = given w sound in place_keeps c name parent sound g.2 g.0 g.1 fit (one_more_free c.next e)),
+  )
+  | false ↦ λ e. tt
+] refl
+
 -- a record is taken out
 removes_draws : (c : Content) (n : ℕ) → Draws c (record { first = 0; count = 0 }) (record c { records = remove c.records n })
 removes_draws c n = (omega arith, inr (refl, refl), λ k low high. absurd (omega arith))
@@ -156,6 +175,19 @@ maybe_repo c None u e = tt
 maybe_repo c (Some n) u e =
     let p = passes (demanded_at c demand.Repo n) u (each_passed (demanded_at c demand.Repo n) u e) in
     demanded_stands demand.Repo (get c.records n) p.0 p.1
+
+maybe_parent : (c : Content) (n : Option ℕ) (u : Unit {0}) → passed (each (demanded_at c demand.Place) n) ≡ Ok u → PlacedAt c n
+maybe_parent c None u e = tt
+maybe_parent c (Some n) u e =
+    let p = passes (demanded_at c demand.Place n) u (each_passed (demanded_at c demand.Place n) u e) in
+    demanded_stands demand.Place (get c.records n) p.0 p.1
+
+-- words that are taken as the name of a place
+name_found : (words t : List ℕ) → IsUtf8 words → place_name_in words ≡ Ok t → IsText t × IsNormal t
+name_found words t utf8 e =
+    let b = both_passed (text_in words) place_name t e in
+    let n = name_taken b.0 t b.2 in
+    (subst IsText n.0 (text_found words b.0 utf8 b.1), n.1)
 
 -- the owner, and what is known of its place and its tag
 event_tag_found : (c : Content) (owner : ℕ) (place : Option ℕ) (t tag : List ℕ) → event_tag c owner place t ≡ Ok tag
@@ -215,6 +247,10 @@ row_follows c (row_command.Participant event person role) =
     let at : get c.records event ≡ Some (kind.Event e) = event_found (get c.records event) e found in
     replaces_follows (IsUtf8 role) c event (kind.Event e) (kind.Event (with_participant person r e)) at
     (λ w sound. add_participant_fits c event e person r sound at (one_person c person u there) (text_found role r w i)))))
+row_follows c (row_command.Place name parent) =
+    then_follows (IsUtf8 name) c (place_name_in name) _ (λ t e. then_follows (IsUtf8 name) c (passed (each (demanded_at c demand.Place) parent)) _ (λ u there.
+    need_follows (IsUtf8 name) c (is_fit (new_path c.records t parent)) BadText _ (λ fit.
+    place_follows (IsUtf8 name) c t parent (λ w sound. let n = name_found name t w e in (n.0, n.1, maybe_parent c parent u there)) fit)))
 row_follows c (row_command.Repo name) =
     then_follows (IsUtf8 name) c (text_in name) _ (λ t e. creates_follows (IsUtf8 name) c (kind.Repo (plain_repo t)) (λ w sound. new_repo_fits c t sound (text_found name t w e)))
 row_follows c (row_command.Source title author publisher repo call_number) =

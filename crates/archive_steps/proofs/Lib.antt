@@ -1,11 +1,9 @@
 pub mod Exactness
 mod Fitting
 pub mod Following
-mod Found
 mod Keeping
 mod Named
-mod Said
-pub mod SaidPaths
+mod Placed
 pub mod Same
 mod Sourced
 mod Worded

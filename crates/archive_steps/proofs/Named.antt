@@ -13,7 +13,7 @@ use Rattle.archive_state.specs.Content.{Content, Records}
 use Rattle.archive_state.specs.Referrers.{naming, referrers}
 use Rattle.archive_state.specs.Sound.{EachIn, IsSound}
 use Rattle.archive_state.proofs.Changing.{less_keeps}
-use Rattle.archive_steps.specs.Checks.{is_named}
+use Rattle.archive_looks.specs.Checks.{is_named}
 
 -- a number is another
 abbrev is_other : ℕ → ℕ → Bool

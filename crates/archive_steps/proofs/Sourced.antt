@@ -23,7 +23,7 @@ use Rattle.archive_state.specs.Texts.{own_texts, carried_texts}
 use Rattle.archive_state.specs.Texts as texts
 use Rattle.archive_state.proofs.Each.{each_both}
 use Rattle.commands.specs.Rows.{and_then}
-use Rattle.archive_steps.specs.Checks.{need, text_in, or_no_text, maybe_text_in}
+use Rattle.archive_looks.specs.Checks.{need, text_in, or_no_text, maybe_text_in}
 use Rattle.archive_steps.specs.Steps.{plain_repo, plain_holdings, plain_source, plain_citation, lacks_repo, given_source}
 use Rattle.archive_steps.proofs.Fitting.{no_slip_at_next, anew, none_within}
 use Rattle.archive_steps.proofs.Keeping.{IsFit}

@@ -1,5 +1,4 @@
 pub mod Applied
-pub mod Checks
 pub mod Exact
 pub mod Numbers
 pub mod Steps

@@ -19,8 +19,8 @@ use Rattle.commands.specs.Given.{GivenDate}
 use Rattle.commands.specs.Rows.{and_then}
 use Rattle.commands.specs.declared.row_command.RowCommand.{RowCommand}
 use Rattle.commands.specs.declared.row_command.RowCommand.TheVariants as row_command
-use Rattle.archive_steps.specs.Checks.{need, passed, each, text_in, maybe_text_in, date_in, person_at, family_at, event_at, record_at, demanded_at, is_named, event_tag, said_place_at, next_free}
-use Rattle.archive_steps.specs.declared.kinds.Demand.TheVariants as demand
+use Rattle.archive_looks.specs.Checks.{need, passed, each, place_name_in, path_fits, text_in, maybe_text_in, date_in, person_at, family_at, event_at, record_at, demanded_at, is_named, event_tag, said_place_at, next_free}
+use Rattle.archive_looks.specs.declared.kinds.Demand.TheVariants as demand
 
 -- what an accepted command of one row leaves, and its answer; or its refusal, which has no place
 abbrev pub RowStep : Type 0
@@ -106,6 +106,10 @@ with_fields value date place e = record e {
   date = or_kept_date date e.date;
   place = or_kept_place place e.place;
 }
+
+-- ---- places
+abbrev pub place_within : List ℕ → Option ℕ → model.Place
+place_within t parent = record { name = t; parent = parent; carried = [] }
 
 -- ---- repositories, sources and citations
 abbrev pub plain_repo : List ℕ → model.Repo
@@ -205,6 +209,13 @@ add_participant c n person role =
     and_then (passed (person_at c person)) (λ _.
     replaces c n (kind.Event (with_participant person r e)))))
 
+abbrev pub new_place : Content → List ℕ → Option ℕ → RowStep
+new_place c name parent =
+    and_then (place_name_in name) (λ t.
+    and_then (passed (each (demanded_at c demand.Place) parent)) (λ _.
+    and_then (path_fits c t parent) (λ _.
+    creates c (kind.Place (place_within t parent)))))
+
 abbrev pub new_repo : Content → List ℕ → RowStep
 new_repo c name =
     and_then (text_in name) (λ t.
@@ -239,6 +250,7 @@ row_step c (row_command.Child family person) = add_child c family person
 row_step c (row_command.Event owner tag value date place) = new_event c owner tag value date place
 row_step c (row_command.Amend event value date place) = amend_event c event value date place
 row_step c (row_command.Participant event person role) = add_participant c event person role
+row_step c (row_command.Place name parent) = new_place c name parent
 row_step c (row_command.Repo name) = new_repo c name
 row_step c (row_command.Source title author publisher repo call_number) = new_source c title author publisher repo call_number
 row_step c (row_command.Citation owner source page quality) = new_citation c owner source page quality

@@ -16,6 +16,7 @@ IsUtf8Row (row_command.Name person name) = IsUtf8 name
 IsUtf8Row (row_command.Event owner tag value date place) = IsUtf8 tag × IsUtf8 value × WhereSome IsUtf8Date date
 IsUtf8Row (row_command.Amend event value date place) = IsUtf8 value × WhereSome IsUtf8Date date
 IsUtf8Row (row_command.Participant event person role) = IsUtf8 role
+IsUtf8Row (row_command.Place name parent) = IsUtf8 name
 IsUtf8Row (row_command.Repo name) = IsUtf8 name
 IsUtf8Row (row_command.Source title author publisher repo call_number) = IsUtf8 title × IsUtf8 author × IsUtf8 publisher × IsUtf8 call_number
 IsUtf8Row (row_command.Citation owner source page quality) = IsUtf8 page

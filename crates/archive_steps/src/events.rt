@@ -1,38 +1,21 @@
 //! The commands on events.
 
 ghost use Rattle.std.specs.Prelude.{◌≡◌, ◌↔◌, [], IfOk, IfErr, IsTrue, false, option_map};
-ghost use Rattle.std.specs.List.{list_any};
-ghost use Rattle.std.specs.Str.{bytes_eq};
-ghost use Rattle.record_shapes.specs.Tags.{person_tags, family_tags};
 ghost use Rattle.archive_view.specs.Looks.{Agrees, CountsFailures, OnView, is_failure, is_stop};
 ghost use Rattle.record_kinds.specs.Model as model;
 ghost use Rattle.archive_steps.specs.Applied.{Plans};
-ghost use Rattle.archive_steps.specs.Checks as checks;
+ghost use Rattle.archive_looks.specs.Checks as checks;
 ghost use Rattle.archive_steps.specs.Exact.{IsExact};
 ghost use Rattle.archive_steps.specs.Steps as steps;
 
 use crate::families::check_person;
-use crate::looks::{Owner, date_in, event_at, owner_at, text_in};
 use crate::making::{creates, kept_if, replaces, unchanged};
-use crate::places::check_place;
+use archive_looks::{check_place, date_in, event_at, tag_of, text_in};
 use archive_state::Changes;
 use archive_view::View;
 use commands::{Field, GivenDate};
 use records::{Date, Event, EventPlace, Participant, Record, RefusalKind, Tag, Text};
 use std::alloc::{AllocError, Global};
-
-/// The tags of the events of persons: GEDCOM 5.5.1, chapter 2.
-const PERSON_TAGS: [&str; 37] = [
-    "BIRT", "CHR", "BAPM", "DEAT", "BURI", "CREM", "ADOP", "BARM", "BASM", "BLES", "CHRA", "CONF",
-    "FCOM", "ORDN", "NATU", "EMIG", "IMMI", "CENS", "PROB", "WILL", "GRAD", "RETI", "EVEN", "CAST",
-    "DSCR", "EDUC", "IDNO", "NATI", "NCHI", "NMR", "OCCU", "PROP", "RELI", "RESI", "SSN", "TITL",
-    "FACT",
-];
-
-/// The tags of the events of families: GEDCOM 5.5.1, chapter 2.
-const FAMILY_TAGS: [&str; 12] = [
-    "ANUL", "CENS", "DIV", "DIVF", "ENGA", "MARB", "MARC", "MARR", "MARL", "MARS", "RESI", "EVEN",
-];
 
 /// A new event of a person or a family.
 pub(crate) fn new_event<V: View>(
@@ -106,56 +89,6 @@ pub(crate) fn add_participant<V: View>(
     let event = kept_if(event, check_person(alloc, view, person))?;
     let event = with_participant(alloc, event, person, role)?;
     replaces(alloc, view, number, Record::Event(event))
-}
-
-/// The text as the tag of an event, whose owner may have it, and whose place an event may have.
-fn tag_of<V: View>(
-    alloc: Global,
-    view: &mut V,
-    owner: u32,
-    place: Option<u32>,
-    tag: &str,
-) -> Result<Tag, RefusalKind>
-    ensures decides { OnView V.is_honest V.shows V.content view.old view.new
-        (λ c. Agrees is_stop result (checks.event_tag c owner place tag.now)) }
-    ensures counts { CountsFailures (V.failed view.old) (V.failed view.new) result }
-{
-    let owner = owner_at(alloc, view, owner)?;
-    check_place(alloc, view, place)?;
-    tag_in(alloc, owner, tag)
-}
-
-/// The word as the tag of an event of such an owner.
-fn tag_in(alloc: Global, owner: Owner, word: &str) -> Result<Tag, RefusalKind>
-    ensures decides { Agrees is_stop result (checks.tag_in owner word.now) }
-    ensures memory { IfErr result (λ e. is_failure e ≡ false) }
-{
-    let is_one = match owner {
-        Owner::Person => is_person_tag(word),
-        Owner::Family => is_family_tag(word),
-    };
-    if !is_one {
-        return Err(RefusalKind::NotOfKind);
-    }
-    Ok(Tag::of_word(alloc, word)?)
-}
-
-fn is_person_tag(word: &str) -> bool
-    ensures { result ≡ list_any (bytes_eq word.now) person_tags }
-{
-    is_one_of(word, &PERSON_TAGS)
-}
-
-fn is_family_tag(word: &str) -> bool
-    ensures { result ≡ list_any (bytes_eq word.now) family_tags }
-{
-    is_one_of(word, &FAMILY_TAGS)
-}
-
-fn is_one_of(word: &str, tags: &[&str]) -> bool
-    ensures { result ≡ list_any (λ tag. bytes_eq word.now tag.now) tags.now }
-{
-    tags.iter().any(|tag| word == *tag)
 }
 
 fn plain_event(

@@ -5,12 +5,12 @@ ghost use Rattle.std.specs.List.{list_any};
 ghost use Rattle.archive_view.specs.Looks.{Agrees, CountsFailures, OnView, is_stop};
 ghost use Rattle.record_kinds.specs.Model as model;
 ghost use Rattle.archive_steps.specs.Applied.{Plans};
-ghost use Rattle.archive_steps.specs.Checks as checks;
+ghost use Rattle.archive_looks.specs.Checks as checks;
 ghost use Rattle.archive_steps.specs.Exact.{IsExact};
 ghost use Rattle.archive_steps.specs.Steps as steps;
 
-use crate::looks::{family_at, person_at};
 use crate::making::{creates, kept_if, replaces};
+use archive_looks::{family_at, person_at};
 use archive_state::Changes;
 use archive_view::View;
 use records::{Child, Family, Partner, Partnership, Record, RefusalKind};

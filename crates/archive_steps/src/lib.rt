@@ -10,8 +10,6 @@
 
 mod events;
 mod families;
-mod kinds;
-mod looks;
 mod making;
 mod persons;
 mod places;

@@ -4,7 +4,7 @@ ghost use Rattle.std.specs.Prelude.{◌≡◌, ◌≢◌, ◌+◌, ◌∷◌, []
 ghost use Rattle.std.specs.FinMap as map;
 ghost use Rattle.archive_view.specs.Looks.{Agrees, CountsFailures, OnView, is_stop};
 ghost use Rattle.archive_steps.specs.Applied.{Plans};
-ghost use Rattle.archive_steps.specs.Checks as checks;
+ghost use Rattle.archive_looks.specs.Checks as checks;
 ghost use Rattle.archive_steps.specs.Exact.{IsExact};
 ghost use Rattle.archive_steps.specs.Steps as steps;
 

@@ -6,8 +6,8 @@ ghost use Rattle.archive_steps.specs.Applied.{Plans};
 ghost use Rattle.archive_steps.specs.Exact.{IsExact};
 ghost use Rattle.archive_steps.specs.Steps as steps;
 
-use crate::looks::{person_at, text_in};
 use crate::making::{creates, one, replaces, unchanged};
+use archive_looks::{person_at, text_in};
 use archive_state::Changes;
 use archive_view::View;
 use commands::Field;

@@ -9,6 +9,7 @@ ghost use Rattle.archive_steps.specs.Steps.{row_step};
 use crate::events::{add_participant, amend_event, new_event};
 use crate::families::{add_child, new_family};
 use crate::persons::{add_name, new_person, set_sex};
+use crate::places::new_place;
 use crate::removal::remove_record;
 use crate::sources::{new_citation, new_repo, new_source};
 use archive_state::Changes;
@@ -53,6 +54,7 @@ pub fn decide_row<V: View>(
             person,
             role,
         } => add_participant(alloc, view, *event, *person, role),
+        RowCommand::Place { name, parent } => new_place(alloc, view, name, *parent),
         RowCommand::Repo { name } => new_repo(alloc, view, name),
         RowCommand::Source {
             title,

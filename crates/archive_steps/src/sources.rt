@@ -6,9 +6,8 @@ ghost use Rattle.archive_steps.specs.Applied.{Plans};
 ghost use Rattle.archive_steps.specs.Exact.{IsExact};
 ghost use Rattle.archive_steps.specs.Steps as steps;
 
-use crate::kinds::{Demand, check_demand, check_repo};
-use crate::looks::{maybe_text_in, text_in};
 use crate::making::{creates, kept_if};
+use archive_looks::{Demand, check_demand, check_optional, maybe_text_in, text_in};
 use archive_state::Changes;
 use archive_view::View;
 use commands::Field;
@@ -48,7 +47,7 @@ pub(crate) fn new_source<V: View>(
     ensures counts { CountsFailures (V.failed view.old) (V.failed view.new) result }
 {
     let source = given_source(alloc, title, author, publisher, repo, call_number)?;
-    let source = kept_if(source, check_repo(alloc, view, repo))?;
+    let source = kept_if(source, check_optional(alloc, view, Demand::Repo, repo))?;
     creates(alloc, view, Record::Source(source))
 }
 

@@ -12,6 +12,7 @@ pub fn tell_row(row: &RowCommand)
     match row {
         RowCommand::Person { name, .. }
         | RowCommand::Name { name, .. }
+        | RowCommand::Place { name, .. }
         | RowCommand::Repo { name } => {
             let _ = name.as_str();
         }

@@ -77,6 +77,7 @@ verb_back verb.Child = refl
 verb_back verb.Event = refl
 verb_back verb.Amend = refl
 verb_back verb.Participant = refl
+verb_back verb.Place = refl
 verb_back verb.Repo = refl
 verb_back verb.Source = refl
 verb_back verb.Citation = refl
@@ -102,6 +103,7 @@ row-again (row_command.Amend event value date place) h =
     ∙ rw (number_back event h.0.0 h.0.1, number-or-none place h.2, date-again date h.1) refl
 row-again (row_command.Participant event person role) h =
     by-verb verb.Participant (decimal event ∷ decimal person ∷ role ∷ []) ∙ rw (number_back event h.0.0 h.0.1, number_back person h.1.0 h.1.1) refl
+row-again (row_command.Place name parent) h = by-verb verb.Place (name ∷ or_empty decimal parent ∷ []) ∙ rw (number-or-none parent h) refl
 row-again (row_command.Repo name) h = by-verb verb.Repo (name ∷ [])
 row-again (row_command.Source title author publisher repo call_number) h =
     by-verb verb.Source (title ∷ author ∷ publisher ∷ or_empty decimal repo ∷ call_number ∷ []) ∙ rw (number-or-none repo h) refl
@@ -137,6 +139,7 @@ bytes_back (row_command.Amend event value date place) rest =
     read-write-many (verb_word verb.Amend) (decimal event) (value ∷ or_empty spelt date ∷ or_empty decimal place ∷ []) rest
 bytes_back (row_command.Participant event person role) rest =
     read-write-many (verb_word verb.Participant) (decimal event) (decimal person ∷ role ∷ []) rest
+bytes_back (row_command.Place name parent) rest = read-write-many (verb_word verb.Place) name (or_empty decimal parent ∷ []) rest
 bytes_back (row_command.Repo name) rest = read-write-many (verb_word verb.Repo) name [] rest
 bytes_back (row_command.Source title author publisher repo call_number) rest =
     read-write-many (verb_word verb.Source) title (author ∷ publisher ∷ or_empty decimal repo ∷ call_number ∷ []) rest

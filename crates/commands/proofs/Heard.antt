@@ -81,6 +81,9 @@ fields-sound given verb.Participant (event ∷ person ∷ role ∷ []) c dates e
     then-sound (number_in event) IsNumber (λ v. and_then (number_in person) (λ p. Ok (row_command.Participant v p role))) c (number-in event)
     (λ v x. then-sound (number_in person) IsNumber (λ p. Ok (row_command.Participant v p role)) c (number-in person)
     (λ p y same. is-that (row_command.Participant v p role) c same (x, y))) e
+fields-sound given verb.Place (name ∷ parent ∷ []) c dates e =
+    then-sound (or_none number_in parent) (WhereSome IsNumber) (λ p. Ok (row_command.Place name p)) c (number-or-none parent)
+    (λ p x same. is-that (row_command.Place name p) c same x) e
 fields-sound given verb.Repo (name ∷ []) c dates e = is-that (row_command.Repo name) c e tt
 fields-sound given verb.Source (title ∷ author ∷ publisher ∷ repo ∷ call_number ∷ []) c dates e =
     then-sound (or_none number_in repo) (WhereSome IsNumber) (λ r. Ok (row_command.Source title author publisher r call_number)) c (number-or-none repo)

@@ -35,6 +35,7 @@ row_of (row_command.Amend event value date place) =
     verb_word verb.Amend ∷ decimal event ∷ value ∷ or_empty spelt date ∷ or_empty decimal place ∷ []
 row_of (row_command.Participant event person role) =
     verb_word verb.Participant ∷ decimal event ∷ decimal person ∷ role ∷ []
+row_of (row_command.Place name parent) = verb_word verb.Place ∷ name ∷ or_empty decimal parent ∷ []
 row_of (row_command.Repo name) = verb_word verb.Repo ∷ name ∷ []
 row_of (row_command.Source title author publisher repo call_number) =
     verb_word verb.Source ∷ title ∷ author ∷ publisher ∷ or_empty decimal repo ∷ call_number ∷ []

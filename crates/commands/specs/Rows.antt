@@ -66,6 +66,8 @@ read_fields given verb.Amend (event ∷ value ∷ date ∷ place ∷ []) =
     and_then (number_in event) (λ e. and_then (or_none number_in place) (λ p. Ok (row_command.Amend e value (given date) p)))
 read_fields given verb.Participant (event ∷ person ∷ role ∷ []) =
     and_then (number_in event) (λ e. and_then (number_in person) (λ p. Ok (row_command.Participant e p role)))
+read_fields given verb.Place (name ∷ parent ∷ []) =
+    and_then (or_none number_in parent) (λ p. Ok (row_command.Place name p))
 read_fields given verb.Repo (name ∷ []) = Ok (row_command.Repo name)
 read_fields given verb.Source (title ∷ author ∷ publisher ∷ repo ∷ call_number ∷ []) =
     and_then (or_none number_in repo) (λ r. Ok (row_command.Source title author publisher r call_number))

@@ -32,6 +32,7 @@ IsSoundRow (row_command.Child family person) = IsNumber family × IsNumber perso
 IsSoundRow (row_command.Event owner tag value date place) = IsNumber owner × WhereSome IsDate date × WhereSome IsNumber place
 IsSoundRow (row_command.Amend event value date place) = IsNumber event × WhereSome IsDate date × WhereSome IsNumber place
 IsSoundRow (row_command.Participant event person role) = IsNumber event × IsNumber person
+IsSoundRow (row_command.Place name parent) = WhereSome IsNumber parent
 IsSoundRow (row_command.Repo name) = Unit {0}
 IsSoundRow (row_command.Source title author publisher repo call_number) = WhereSome IsNumber repo
 IsSoundRow (row_command.Citation owner source page quality) = IsNumber owner × IsNumber source

@@ -13,6 +13,7 @@ verb_word verb.Child = codes "child"
 verb_word verb.Event = codes "event"
 verb_word verb.Amend = codes "amend"
 verb_word verb.Participant = codes "participant"
+verb_word verb.Place = codes "place"
 verb_word verb.Repo = codes "repo"
 verb_word verb.Source = codes "source"
 verb_word verb.Citation = codes "citation"
@@ -21,7 +22,7 @@ verb_word verb.Remove = codes "remove"
 abbrev pub verbs : List Verb
 verbs =
     verb.Person ∷ verb.Name ∷ verb.Sex ∷ verb.Family ∷ verb.Child ∷ verb.Event ∷ verb.Amend ∷ verb.Participant
-    ∷ verb.Repo ∷ verb.Source ∷ verb.Citation ∷ verb.Remove ∷ []
+    ∷ verb.Place ∷ verb.Repo ∷ verb.Source ∷ verb.Citation ∷ verb.Remove ∷ []
 
 -- the verb of a word
 unfoldable pub verb_of : List ℕ → Option Verb

@@ -61,6 +61,7 @@ fn row_command_bytes(alloc: Global, row: &RowCommand) -> Result<Vec<u8>, AllocEr
             person,
             role,
         } => participant_bytes(alloc, *event, *person, role),
+        RowCommand::Place { name, parent } => place_bytes(alloc, name, *parent),
         RowCommand::Repo { name } => repo_bytes(alloc, name),
         RowCommand::Source {
             title,
@@ -185,6 +186,18 @@ fn participant_bytes(
         event.as_bytes(),
         person.as_bytes(),
         role.as_str().as_bytes(),
+    )
+}
+
+fn place_bytes(alloc: Global, name: &Field, parent: Option<u32>) -> Result<Vec<u8>, AllocError>
+    ensures { IfOk result (λ bytes. bytes.items ≡ bytes_of (command.Row (row_command.Place name.now parent))) }
+{
+    let parent = number_or_empty(alloc, parent)?;
+    row_of_two(
+        alloc,
+        Verb::Place,
+        name.as_str().as_bytes(),
+        parent.as_bytes(),
     )
 }
 

@@ -44,6 +44,7 @@ fn of_fields(alloc: Global, verb: Verb, fields: &[&str]) -> Result<RowCommand, R
         }
         (Verb::Amend, [event, value, date, place]) => amend(alloc, event, value, date, place),
         (Verb::Participant, [event, person, role]) => participant(alloc, event, person, role),
+        (Verb::Place, [name, parent]) => place(alloc, name, parent),
         (Verb::Repo, [name]) => repo(alloc, name),
         (Verb::Source, [title, author, publisher, repo, call_number]) => {
             source(alloc, title, author, publisher, repo, call_number)
@@ -53,7 +54,7 @@ fn of_fields(alloc: Global, verb: Verb, fields: &[&str]) -> Result<RowCommand, R
         }
         (Verb::Remove, [number]) => remove(number),
         // An arm of their own: `auto` follows no more than sixteen ways into one.
-        (Verb::Repo | Verb::Source | Verb::Citation | Verb::Remove, _) => {
+        (Verb::Place | Verb::Repo | Verb::Source | Verb::Citation | Verb::Remove, _) => {
             Err(RefusalKind::FieldCount)
         }
         _ => Err(RefusalKind::FieldCount),
@@ -164,6 +165,14 @@ fn participant(
         person,
         role,
     })
+}
+
+fn place(alloc: Global, name: &str, parent: &str) -> Result<RowCommand, RefusalKind>
+    ensures { Decided result (λ r. r ≡ read_fields given_of verb.Place (name.now ∷ parent.now ∷ [])) }
+{
+    let parent = number_or_none(parent)?;
+    let name = words_in(alloc, name)?;
+    Ok(RowCommand::Place { name, parent })
 }
 
 fn repo(alloc: Global, name: &str) -> Result<RowCommand, RefusalKind>

@@ -53,6 +53,11 @@ pub enum RowCommand {
         person: u32,
         role: Field,
     },
+    /// A new place, within another or none.
+    Place {
+        name: Field,
+        parent: Option<u32>,
+    },
     /// A new repository.
     Repo {
         name: Field,

@@ -22,6 +22,8 @@ pub enum Verb {
     Amend,
     /// A further participant of an event.
     Participant,
+    /// A new place.
+    Place,
     /// A new repository.
     Repo,
     /// A new source.
@@ -46,6 +48,7 @@ impl Verb {
             Verb::Event => "event",
             Verb::Amend => "amend",
             Verb::Participant => "participant",
+            Verb::Place => "place",
             Verb::Repo => "repo",
             Verb::Source => "source",
             Verb::Citation => "citation",
@@ -67,6 +70,7 @@ impl Verb {
             "event" => Some(Verb::Event),
             "amend" => Some(Verb::Amend),
             "participant" => Some(Verb::Participant),
+            "place" => Some(Verb::Place),
             "repo" => Some(Verb::Repo),
             "source" => Some(Verb::Source),
             "citation" => Some(Verb::Citation),

@@ -1,3 +1,3 @@
 mod PartByPart
 mod Trimmed
-mod Within
+pub mod Within

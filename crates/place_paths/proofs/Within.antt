@@ -85,7 +85,7 @@ enough (suc k) (suc j) m n h i = with_alike n (path_by k m) (path_by j m) (get m
 one_more : (n : ℕ) → n + 1 ≡ suc n
 one_more n = omega arith
 
-path_there : (m : Records) (n : ℕ) → path_of m n ≡ path_with n (path_of m) (get m n)
+pub path_there : (m : Records) (n : ℕ) → path_of m n ≡ path_with n (path_of m) (get m n)
 unfolding path_of
 path_there m n = ap (λ s. path_by s m n) (one_more n) ∙ with_alike n (path_by n m) (λ q. path_by (q + 1) m q) (get m n) (λ q less. enough n (q + 1) m q less (omega arith))
 

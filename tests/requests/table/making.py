@@ -143,7 +143,15 @@ def looks(number: int, *request: str | int) -> list[Step]:
     ]
 
 
-def source(number: int, token: str, title: str, author="", publisher="", repo: int | str = "", call="") -> Step:
+def source(
+    number: int,
+    token: str,
+    title: str,
+    author: str = "",
+    publisher: str = "",
+    repo: int | str = "",
+    call: str = "",
+) -> Step:
     """A request that makes a source at this number."""
     return makes(number, token, "source", title, author, publisher, repo, call)
 

@@ -1,7 +1,8 @@
 """The order of the checks of a command.
 
 52, then 58 for the texts, then for each number in the order of its field 50 and 51, then 58 for a place, then the
-command's own (53, 54, 59, 62), and last 63. A call number without a repository is 58 too.
+command's own (53, 54, 59, 62), and last 63. A call number without a repository is 58 too, and so is a place whose
+path passes the limits.
 """
 
 from __future__ import annotations
@@ -69,6 +70,7 @@ TEXTS = (
         [refuses(58, "t", "amend", 9, text, "", "") for text in NO_TEXTS],
         [refuses(58, "t", "amend", 9, "", text, "") for text in ("(\r)", "INT 1700 (\0)", *NO_TEXTS)],
         [refuses(58, "t", "participant", 9, 9, text) for text in NO_TEXTS],
+        [refuses(58, "t", "place", text, parent) for text in NO_TEXTS for parent in ("", 9)],
         [refuses(58, "t", "repo", text) for text in NO_TEXTS],
         [refuses(58, "t", *command) for text in NO_TEXTS for command in sources_with(text)],
         [refuses(58, "t", "citation", 9, 9, text, quality) for text in NO_TEXTS for quality in ("", "3")],
@@ -242,7 +244,10 @@ NUMBERS = (
         next_is(LAST + 1),
         refused_each(63, ("person", "", ""), ("event", 1, "BIRT", "", "", ""), ("family", 1, 2)),
         refused_each(63, ("family", "", ""), ("event", 3, "MARR", "", "1700", "")),
-        refused_each(63, ("repo", ""), ("source", "", "", "", "", "")),
+        refused_each(63, ("repo", ""), ("source", "", "", "", "", ""), ("place", "Kent", "")),
+        refused_each(58, ("place", "", ""), ("place", "x" * 4_097, "")),
+        refused_each(50, ("place", "Kent", 9)),
+        refused_each(51, ("place", "Kent", 1)),
         refused_each(50, ("source", "", "", "", 9, ""), ("citation", 1, 9, "", "")),
         refused_each(51, ("source", "", "", "", 1, ""), ("citation", 1, 2, "", "")),
         refused_each(53, ("remove", 1)),
@@ -339,4 +344,75 @@ AT_PLACES = (
     ),
 )
 
-SCENARIOS = TEXTS + NUMBERS + AT_PLACES
+# Names of places that are not normal, or empty.
+NO_PLACES = ("", " ", ",", ",,", " Kent", "Kent ", "Ashby,Kent", "Ashby , Kent", "Ashby,  Kent", "Ashby, Kent ", ", Kent,")
+
+
+def parts(count):
+    return ", ".join(["A"] * count)
+
+
+NEW_PLACES = (
+    scenario(
+        "names of places",
+        [refuses(58, "x", "place", name, parent) for name in NO_PLACES for parent in ("", 9)],
+        makes(1, "a", "place", "Kent", ""),
+        [refuses(58, "x", "place", name, 1) for name in NO_PLACES],
+        makes(2, "b", "place", ", ", ""),
+        makes(3, "c", "place", "Ashby, Kent", ""),
+        makes(4, "d", "place", ", Kent", 1),
+        makes(5, "e", "place", "Kent, ", ""),
+        makes(6, "f", "place", "\tKent\n", ""),
+        makes(7, "g", "place", "Kent", ""),
+        shows(2, (0, "place", ", ", "-")),
+        shows(6, (0, "place", "\tKent\n", "-")),
+        makes(8, "p", "person", "", ""),
+        refuses(58, "x", "event", 8, "BIRT", "", "", 2),
+        makes(9, "h", "place", ", ", 2),
+        refuses(58, "x", "event", 8, "BIRT", "", "", 9),
+        makes(10, "x", "event", 8, "BIRT", "", "", 4),
+    ),
+    scenario(
+        "the parent of a place comes before the limits of its path",
+        FAMILY,
+        refuses(58, "x", "place", parts(33), ""),
+        refuses(50, "x", "place", parts(33), 9),
+        refuses(51, "x", "place", parts(33), 1),
+        refuses(50, "x", "place", "x" * 4_097, 9),
+        refuses(51, "x", "place", "x" * 4_097, 3),
+        [refuses(51, "x", "place", "Kent", number) for number in (1, 3, 4)],
+        refuses(50, "x", "place", "Kent", 5),
+        refuses(50, "x", "place", "Kent", LAST),
+        next_is(5),
+    ),
+    scenario(
+        "the thirty-third place of a chain",
+        [makes(number, f"a{number}", "place", "A", number - 1 if number > 1 else "") for number in range(1, 33)],
+        refuses(58, "q1", "place", "A", 32),
+        refuses(50, "q2", "place", "A", 33),
+        makes(33, "q3", "person", "Ann /Lee/", ""),
+        refuses(51, "q4", "place", "A", 33),
+        refuses(58, "q5", "place", "A, B", 31),
+        makes(34, "q6", "place", "B", 31),
+        makes(35, "q7", "place", parts(31), 1),
+        refuses(58, "q8", "place", parts(32), 1),
+        makes(36, "q9", "place", parts(32), ""),
+        refuses(58, "q10", "place", "A", 36),
+    ),
+    scenario(
+        "a path of 4,096 bytes",
+        makes(1, "a", "place", "x" * 4_096, ""),
+        refuses(58, "b", "place", "x" * 4_097, ""),
+        makes(2, "c", "place", "é" * 2_048, ""),
+        refuses(58, "d", "place", "é" * 2_048 + "x", ""),
+        refuses(58, "e", "place", "A", 1),
+        makes(3, "f", "place", "y" * 2_000, ""),
+        refuses(58, "g", "place", "z" * 2_095, 3),
+        makes(4, "h", "place", "z" * 2_094, 3),
+        refuses(58, "i", "place", "A", 4),
+        shows(4, (0, "place", "z" * 2_094, 3)),
+        next_is(5),
+    ),
+)
+
+SCENARIOS = TEXTS + NUMBERS + AT_PLACES + NEW_PLACES

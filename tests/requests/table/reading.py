@@ -31,6 +31,7 @@ GOOD = {
     "event": ("1", "BIRT", "", "1700", "1"),
     "amend": ("4", "court", "1700", "1"),
     "participant": ("4", "1", "witness"),
+    "place": ("Mill, Ashby", "8"),
     "repo": ("County archive",),
     "source": ("Ashby register", "Rev. Lee", "Ray, Ashby", "6", "MS 4"),
     "citation": ("1", "5", "f. 3", "2"),
@@ -45,11 +46,12 @@ NUMBERS = {
     "event": (0, 4),
     "amend": (0, 3),
     "participant": (0, 1),
+    "place": (1,),
     "source": (3,),
     "citation": (0, 1),
     "remove": (0,),
 }
-MAY_BE_MISSING = {"family": (0, 1), "event": (4,), "amend": (3,), "source": (3,)}
+MAY_BE_MISSING = {"family": (0, 1), "event": (4,), "amend": (3,), "place": (1,), "source": (3,)}
 
 NO_NUMBERS = (
     "0",
@@ -208,6 +210,15 @@ BYTES = (
         itself("amend", "3", "", " ", ""),
         itself("participant", "3", "1", "witness"),
         itself("participant", "3", "1", ""),
+        itself("place", "Kent", ""),
+        itself("place", "Mill Lane, Ashby", "12"),
+        itself("place", " not normal,", "4294967295"),
+        itself("place", "", ""),
+        ask(
+            '! bytes,place,"Mill, Ashby",0008',
+            'bytes,"place,""Mill, Ashby"",8\n"',
+            "digest,53e770cf9dfca261201849804370bdc43b2f8898353e8801bed0233d4e14c4c2",
+        ),
         itself("repo", "County archive"),
         itself("repo", ""),
         itself("repo", 'The "old" archive, Ashby'),
@@ -311,6 +322,8 @@ ROWS = (
                 ("perso", "John", "M"),
                 ("person\n", "John", "M"),
                 ("x", "person", "John", "M"),
+                ("places", "Kent", ""),
+                ("Place", "Kent", ""),
                 ("repository", "County archive"),
                 ("Repo", "County archive"),
                 ("sources", "Deeds", "", "", "", ""),
@@ -351,6 +364,8 @@ ROWS = (
         ask("x,event,2,MARR,,,nowhere", "x,refused,90,BadRow"),
         ask("x,name,0,\0", "x,refused,90,BadRow"),
         ask("x,participant,9,0,\0", "x,refused,90,BadRow"),
+        ask("x,place,\0", "x,refused,92,FieldCount"),
+        ask("x,place,\0,0", "x,refused,90,BadRow"),
         ask("x,repo,\0,", "x,refused,92,FieldCount"),
         ask("x,source,\0,\0,\0,0,\0", "x,refused,90,BadRow"),
         ask("x,source,,,,,MS 4,", "x,refused,92,FieldCount"),

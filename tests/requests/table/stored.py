@@ -145,6 +145,11 @@ SCENARIOS = OTHERS + (
         changes("x16", "remove", 4),
         refuses(50, "x17", "remove", 9),
         refuses(51, "x18", "citation", 1, 6, "", ""),
+        makes(10, "x19", "place", "Rheinprovinz", ""),
+        makes(11, "x20", "place", "Köln, Altstadt", 10),
+        changes("x21", "amend", 5, "", "1700", 11),
+        refuses(53, "x22", "remove", 10),
+        refuses(58, "x23", "place", "Köln,Altstadt", 10),
         shows(
             2,
             (0, "person", "-", "-"),
@@ -161,7 +166,9 @@ SCENARIOS = OTHERS + (
         shows(8, (0, "citation", "-", 5), (1, "source", "f. 3\nverso", 7), (1, "quality", "2", "-")),
         shows(4),
         shows(9),
-        next_is(10),
+        shows(5, (0, "event", "-", 1), (1, "BIRT", "Köln", "-"), (1, "date", "1700", 11)),
+        shows(11, (0, "place", "Köln, Altstadt", 10)),
+        next_is(12),
         SAME,
     ),
     scenario(

@@ -2,7 +2,7 @@
 
 ghost use Rattle.std.specs.Prelude.{◌≡◌, IfErr, Err, Some, false};
 ghost use Rattle.archive_view.specs.Looks.{Agrees, CountsFailures, OnView, is_failure, is_stop};
-ghost use Rattle.archive_steps.specs.Checks as checks;
+ghost use Rattle.archive_looks.specs.Checks as checks;
 
 use archive_view::View;
 use commands::{Field, GivenDate};
@@ -17,7 +17,7 @@ pub enum Owner {
 }
 
 /// The text that a field is.
-pub(crate) fn text_in(alloc: Global, field: &Field) -> Result<Text, RefusalKind>
+pub fn text_in(alloc: Global, field: &Field) -> Result<Text, RefusalKind>
     ensures decides { Agrees is_stop result (checks.text_in field.now) }
     ensures memory { IfErr result (λ e. is_failure e ≡ false) }
 {
@@ -28,7 +28,7 @@ pub(crate) fn text_in(alloc: Global, field: &Field) -> Result<Text, RefusalKind>
 }
 
 /// The text that a field is, or none where it is empty.
-pub(crate) fn maybe_text_in(alloc: Global, field: &Field) -> Result<Option<Text>, RefusalKind>
+pub fn maybe_text_in(alloc: Global, field: &Field) -> Result<Option<Text>, RefusalKind>
     ensures decides { Agrees is_stop result (checks.maybe_text_in field.now) }
     ensures memory { IfErr result (λ e. is_failure e ≡ false) }
 {
@@ -46,7 +46,7 @@ fn or_no_text(text: Text) -> Option<Text>
 }
 
 /// The date that is given, where one is.
-pub(crate) fn date_in(alloc: Global, given: &Option<GivenDate>) -> Result<Option<Date>, RefusalKind>
+pub fn date_in(alloc: Global, given: &Option<GivenDate>) -> Result<Option<Date>, RefusalKind>
     ensures decides { Agrees is_stop result (checks.each checks.date_in given.now) }
     ensures memory { IfErr result (λ e. is_failure e ≡ false) }
 {
@@ -60,11 +60,7 @@ pub(crate) fn date_in(alloc: Global, given: &Option<GivenDate>) -> Result<Option
 }
 
 /// The person of a number.
-pub(crate) fn person_at<V: View>(
-    alloc: Global,
-    view: &mut V,
-    number: u32,
-) -> Result<Person, RefusalKind>
+pub fn person_at<V: View>(alloc: Global, view: &mut V, number: u32) -> Result<Person, RefusalKind>
     ensures decides { OnView V.is_honest V.shows V.content view.old view.new
         (λ c. Agrees is_stop result (checks.person_at c number)) }
     ensures counts { CountsFailures (V.failed view.old) (V.failed view.new) result }
@@ -83,11 +79,7 @@ fn person_in(found: Option<Record>) -> Result<Person, RefusalKind>
 }
 
 /// The family of a number.
-pub(crate) fn family_at<V: View>(
-    alloc: Global,
-    view: &mut V,
-    number: u32,
-) -> Result<Family, RefusalKind>
+pub fn family_at<V: View>(alloc: Global, view: &mut V, number: u32) -> Result<Family, RefusalKind>
     ensures decides { OnView V.is_honest V.shows V.content view.old view.new
         (λ c. Agrees is_stop result (checks.family_at c number)) }
     ensures counts { CountsFailures (V.failed view.old) (V.failed view.new) result }
@@ -106,11 +98,7 @@ fn family_in(found: Option<Record>) -> Result<Family, RefusalKind>
 }
 
 /// The event of a number.
-pub(crate) fn event_at<V: View>(
-    alloc: Global,
-    view: &mut V,
-    number: u32,
-) -> Result<Event, RefusalKind>
+pub fn event_at<V: View>(alloc: Global, view: &mut V, number: u32) -> Result<Event, RefusalKind>
     ensures decides { OnView V.is_honest V.shows V.content view.old view.new
         (λ c. Agrees is_stop result (checks.event_at c number)) }
     ensures counts { CountsFailures (V.failed view.old) (V.failed view.new) result }
@@ -129,11 +117,7 @@ fn event_in(found: Option<Record>) -> Result<Event, RefusalKind>
 }
 
 /// What the record of a number is, where an event may be of it.
-pub(crate) fn owner_at<V: View>(
-    alloc: Global,
-    view: &mut V,
-    number: u32,
-) -> Result<Owner, RefusalKind>
+pub fn owner_at<V: View>(alloc: Global, view: &mut V, number: u32) -> Result<Owner, RefusalKind>
     ensures decides { OnView V.is_honest V.shows V.content view.old view.new
         (λ c. Agrees is_stop result (checks.owner_at c number)) }
     ensures counts { CountsFailures (V.failed view.old) (V.failed view.new) result }
@@ -164,7 +148,7 @@ fn owner_of(value: &Record) -> Result<Owner, RefusalKind>
 }
 
 /// The refusal of a record of another kind, which is given back here.
-pub(crate) fn wrong_kind<T>(other: Record) -> Result<T, RefusalKind>
+pub fn wrong_kind<T>(other: Record) -> Result<T, RefusalKind>
     ensures { result ≡ Err RefusalKind.WrongKind }
 {
     drop(other);

@@ -11,8 +11,8 @@ use Rattle.archive_state.specs.Content.{Content, Records}
 use Rattle.record_shapes.specs.Paths.{joined, from_word, backwards, trimmed, parts, has_part}
 use Rattle.archive_state.specs.Paths.{IsPlaceAt, Climbs, HasPath}
 use Rattle.commands.specs.Rows.{and_then}
-use Rattle.archive_steps.specs.Checks.{says_something, is_said, place_in, need, said_place_at}
-use Rattle.archive_steps.proofs.Said.{is_below, said_here, said_alone, said_above}
+use Rattle.archive_looks.specs.Checks.{says_something, is_said, place_in, need, said_place_at}
+use Rattle.archive_looks.proofs.Said.{is_below, said_here, said_alone, said_above}
 
 -- a byte that is no space
 abbrev is_dark : ℕ → Bool

@@ -3,8 +3,8 @@
 ghost use Rattle.std.specs.Prelude.{◌≡◌};
 ghost use Rattle.record_links.specs.Links.{is_wanted};
 ghost use Rattle.archive_view.specs.Looks.{Agrees, CountsFailures, OnView, is_stop};
-ghost use Rattle.archive_steps.specs.Checks as checks;
-ghost use Rattle.archive_steps.specs.declared.kinds.Demand.TheVariants as demand;
+ghost use Rattle.archive_looks.specs.Checks as checks;
+ghost use Rattle.archive_looks.specs.declared.kinds.Demand.TheVariants as demand;
 
 use archive_view::View;
 use records::{Record, RefusalKind};
@@ -13,6 +13,7 @@ use std::alloc::Global;
 /// What a number of a command has to name.
 #[derive(Clone, Copy)]
 pub enum Demand {
+    Place,
     Repo,
     Source,
     /// What a citation may be of: a person, a family or an event.
@@ -20,7 +21,7 @@ pub enum Demand {
 }
 
 /// That a record of the kind that is demanded stands at the number.
-pub(crate) fn check_demand<V: View>(
+pub fn check_demand<V: View>(
     alloc: Global,
     view: &mut V,
     demand: Demand,
@@ -33,20 +34,21 @@ pub(crate) fn check_demand<V: View>(
     demanded_in(demand, view.record_at(alloc, number)?)
 }
 
-/// That a repository stands at the number, where there is one.
-pub(crate) fn check_repo<V: View>(
+/// The same, where a number is given.
+pub fn check_optional<V: View>(
     alloc: Global,
     view: &mut V,
+    demand: Demand,
     number: Option<u32>,
 ) -> Result<(), RefusalKind>
     ensures decides { OnView V.is_honest V.shows V.content view.old view.new
-        (λ c. Agrees is_stop result (checks.passed (checks.each (checks.demanded_at c demand.Repo) number))) }
+        (λ c. Agrees is_stop result (checks.passed (checks.each (checks.demanded_at c demand) number))) }
     ensures counts { CountsFailures (V.failed view.old) (V.failed view.new) result }
 {
     let Some(number) = number else {
         return Ok(());
     };
-    check_demand(alloc, view, Demand::Repo, number)
+    check_demand(alloc, view, demand, number)
 }
 
 fn demanded_in(demand: Demand, found: Option<Record>) -> Result<(), RefusalKind>
@@ -68,6 +70,7 @@ fn is_demanded(demand: Demand, value: &Record) -> bool
     ensures { result ≡ is_wanted (checks.wanted_of demand) value.now }
 {
     match (demand, value) {
+        (Demand::Place, Record::Place(_)) => true,
         (Demand::Repo, Record::Repo(_)) => true,
         (Demand::Source, Record::Source(_)) => true,
         (Demand::Cited, Record::Person(_) | Record::Family(_) | Record::Event(_)) => true,

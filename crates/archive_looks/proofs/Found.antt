@@ -8,10 +8,10 @@ use Rattle.record_kinds.specs.declared.record.Record.{Record}
 use Rattle.record_kinds.specs.declared.record.Record.TheVariants as kind
 use Rattle.record_links.specs.Links.{a_person, a_place, a_holder, is_wanted}
 use Rattle.record_shapes.specs.Tags.{event_tags}
-use Rattle.archive_steps.specs.Checks.{person_in, family_in, event_in, place_in, owner_in, need, wanted_of, demanded_in, passed, tags_of}
-use Rattle.archive_steps.specs.declared.kinds.Demand.{Demand}
-use Rattle.archive_steps.specs.declared.looks.Owner.{Owner}
-use Rattle.archive_steps.specs.declared.looks.Owner.TheVariants as owner
+use Rattle.archive_looks.specs.Checks.{person_in, family_in, event_in, place_in, owner_in, need, wanted_of, demanded_in, passed, tags_of}
+use Rattle.archive_looks.specs.declared.kinds.Demand.{Demand}
+use Rattle.archive_looks.specs.declared.looks.Owner.{Owner}
+use Rattle.archive_looks.specs.declared.looks.Owner.TheVariants as owner
 
 pub person_found : (o : Option Record) (x : model.Person) → person_in o ≡ Ok x → o ≡ Some (kind.Person x)
 person_found None x e = absurd cc

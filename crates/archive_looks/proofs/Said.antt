@@ -8,7 +8,7 @@ use Rattle.record_kinds.specs.Model as model
 use Rattle.record_kinds.specs.declared.record.Record.{Record}
 use Rattle.record_kinds.specs.declared.record.Record.TheVariants as kind
 use Rattle.archive_state.specs.Content.{Records}
-use Rattle.archive_steps.specs.Checks.{says_something, is_place_with, is_within_with, is_said, place_in}
+use Rattle.archive_looks.specs.Checks.{says_something, is_place_with, is_within_with, is_said, place_in}
 
 not_below : (q n : ℕ) → n ≤ q → nat_lt q n ≡ false
 not_below q n h = grind (arith, nat_tests)

@@ -5,7 +5,7 @@ use Rattle.std.specs.Str.{bytes_eq}
 use Rattle.std.specs.FinMap.{get}
 use Rattle.record_text.specs.declared.refusal.RefusalKind.{RefusalKind}
 use Rattle.record_text.specs.declared.refusal.RefusalKind.TheVariants.{NoSuch, WrongKind, BadText, NotOfKind, Full}
-use Rattle.record_links.specs.Links.{Wanted, a_repo, a_source, a_cited, is_wanted}
+use Rattle.record_links.specs.Links.{Wanted, a_place, a_repo, a_source, a_cited, is_wanted}
 use Rattle.archive_state.specs.Referrers.{referrers}
 use Rattle.record_fields.specs.declared.date.Date.{Date}
 use Rattle.record_kinds.specs.Model as model
@@ -13,13 +13,15 @@ use Rattle.record_kinds.specs.declared.record.Record.{Record}
 use Rattle.record_kinds.specs.declared.record.Record.TheVariants as kind
 use Rattle.archive_state.specs.Content.{Content, Records}
 use Rattle.record_shapes.specs.Tags.{person_tags, family_tags}
+use Rattle.record_shapes.specs.Paths.{normal}
+use Rattle.place_paths.specs.Fits.{new_path, is_fit}
 use Rattle.commands.specs.Fields.{text_of}
 use Rattle.commands.specs.Given.{GivenDate}
 use Rattle.commands.specs.Rows.{and_then, ok_or}
-use Rattle.archive_steps.specs.declared.kinds.Demand.{Demand}
-use Rattle.archive_steps.specs.declared.kinds.Demand.TheVariants as demand
-use Rattle.archive_steps.specs.declared.looks.Owner.{Owner}
-use Rattle.archive_steps.specs.declared.looks.Owner.TheVariants as owner
+use Rattle.archive_looks.specs.declared.kinds.Demand.{Demand}
+use Rattle.archive_looks.specs.declared.kinds.Demand.TheVariants as demand
+use Rattle.archive_looks.specs.declared.looks.Owner.{Owner}
+use Rattle.archive_looks.specs.declared.looks.Owner.TheVariants as owner
 
 -- a check without an answer
 abbrev pub need : Bool → RefusalKind → Result (Unit {0}) RefusalKind
@@ -107,6 +109,7 @@ record_at c n = record_in (get c.records n)
 
 -- a record of the kind that a link demands
 abbrev pub wanted_of : Demand → Wanted
+wanted_of demand.Place = a_place
 wanted_of demand.Repo = a_repo
 wanted_of demand.Source = a_source
 wanted_of demand.Cited = a_cited
@@ -118,6 +121,20 @@ demanded_in d (Some r) = need (is_wanted (wanted_of d) r) WrongKind
 abbrev pub demanded_at : Content → Demand → ℕ → Result (Unit {0}) RefusalKind
 demanded_at c d n = demanded_in d (get c.records n)
 
+-- ---- new places
+-- the name of a place is not empty, and normal
+abbrev pub place_name : List ℕ → Result (List ℕ) RefusalKind
+place_name [] = Err BadText
+place_name (b ∷ bs) = if bytes_eq (normal (b ∷ bs)) (b ∷ bs) then Ok (b ∷ bs) else Err BadText
+
+abbrev pub place_name_in : List ℕ → Result (List ℕ) RefusalKind
+place_name_in words = and_then (text_in words) place_name
+
+-- the path of a new place of that name is within the limits
+abbrev pub path_fits : Content → List ℕ → Option ℕ → Result (Unit {0}) RefusalKind
+path_fits c name parent = need (is_fit (new_path c.records name parent)) BadText
+
+-- ---- removal
 -- another record names the number; slips are not looked at
 abbrev pub is_named : Content → ℕ → Bool
 is_named c n = list_any (λ k. not (k == n)) (referrers c n)

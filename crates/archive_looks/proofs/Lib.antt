@@ -1,0 +1,4 @@
+pub mod Found
+pub mod PlaceNames
+mod Said
+pub mod SaidPaths

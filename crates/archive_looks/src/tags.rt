@@ -1,0 +1,77 @@
+//! The tag of an event, which its owner may have.
+
+ghost use Rattle.std.specs.Prelude.{◌≡◌, IfErr, false};
+ghost use Rattle.std.specs.List.{list_any};
+ghost use Rattle.std.specs.Str.{bytes_eq};
+ghost use Rattle.record_shapes.specs.Tags.{person_tags, family_tags};
+ghost use Rattle.archive_view.specs.Looks.{Agrees, CountsFailures, OnView, is_failure, is_stop};
+ghost use Rattle.archive_looks.specs.Checks as checks;
+
+use crate::looks::{Owner, owner_at};
+use crate::places::check_place;
+use archive_view::View;
+use records::{RefusalKind, Tag};
+use std::alloc::Global;
+
+/// The tags of the events of persons: GEDCOM 5.5.1, chapter 2.
+const PERSON_TAGS: [&str; 37] = [
+    "BIRT", "CHR", "BAPM", "DEAT", "BURI", "CREM", "ADOP", "BARM", "BASM", "BLES", "CHRA", "CONF",
+    "FCOM", "ORDN", "NATU", "EMIG", "IMMI", "CENS", "PROB", "WILL", "GRAD", "RETI", "EVEN", "CAST",
+    "DSCR", "EDUC", "IDNO", "NATI", "NCHI", "NMR", "OCCU", "PROP", "RELI", "RESI", "SSN", "TITL",
+    "FACT",
+];
+
+/// The tags of the events of families: GEDCOM 5.5.1, chapter 2.
+const FAMILY_TAGS: [&str; 12] = [
+    "ANUL", "CENS", "DIV", "DIVF", "ENGA", "MARB", "MARC", "MARR", "MARL", "MARS", "RESI", "EVEN",
+];
+
+/// The text as the tag of an event, whose owner may have it, and whose place an event may have.
+pub fn tag_of<V: View>(
+    alloc: Global,
+    view: &mut V,
+    owner: u32,
+    place: Option<u32>,
+    tag: &str,
+) -> Result<Tag, RefusalKind>
+    ensures decides { OnView V.is_honest V.shows V.content view.old view.new
+        (λ c. Agrees is_stop result (checks.event_tag c owner place tag.now)) }
+    ensures counts { CountsFailures (V.failed view.old) (V.failed view.new) result }
+{
+    let owner = owner_at(alloc, view, owner)?;
+    check_place(alloc, view, place)?;
+    tag_in(alloc, owner, tag)
+}
+
+/// The word as the tag of an event of such an owner.
+fn tag_in(alloc: Global, owner: Owner, word: &str) -> Result<Tag, RefusalKind>
+    ensures decides { Agrees is_stop result (checks.tag_in owner word.now) }
+    ensures memory { IfErr result (λ e. is_failure e ≡ false) }
+{
+    let is_one = match owner {
+        Owner::Person => is_person_tag(word),
+        Owner::Family => is_family_tag(word),
+    };
+    if !is_one {
+        return Err(RefusalKind::NotOfKind);
+    }
+    Ok(Tag::of_word(alloc, word)?)
+}
+
+fn is_person_tag(word: &str) -> bool
+    ensures { result ≡ list_any (bytes_eq word.now) person_tags }
+{
+    is_one_of(word, &PERSON_TAGS)
+}
+
+fn is_family_tag(word: &str) -> bool
+    ensures { result ≡ list_any (bytes_eq word.now) family_tags }
+{
+    is_one_of(word, &FAMILY_TAGS)
+}
+
+fn is_one_of(word: &str, tags: &[&str]) -> bool
+    ensures { result ≡ list_any (λ tag. bytes_eq word.now tag.now) tags.now }
+{
+    tags.iter().any(|tag| word == *tag)
+}
