@@ -1,7 +1,6 @@
 //! Places that an event may have.
 
 ghost use Rattle.std.specs.Prelude.{◌≡◌, not, ◌||◌, ◌==◌, true};
-ghost use Rattle.std.specs.List.{list_any};
 ghost use Rattle.archive_view.specs.Looks.{Agrees, CountsFailures, Looked, OnView, is_stop};
 ghost use Rattle.archive_looks.specs.Checks as checks;
 

@@ -5,12 +5,11 @@ use Rattle.std.specs.Cmp.{nat_cmp_total, ranked}
 use Rattle.std.specs.FinMap.{find, get, remove, entries, get-entries, get-remove}
 use Rattle.std.specs.List.{list_any, filter}
 use Rattle.std.specs.Ordering.{nat_cmp, eq_by_cmp, is_eq}
-use Rattle.std.specs.declared.cmp.Ordering.{Ordering}
 use Rattle.std.specs.declared.cmp.Ordering.TheVariants.{Less, Equal, Greater}
 use Rattle.record_kinds.specs.declared.record.Record.{Record}
 use Rattle.record_links.specs.Links.{links, is_among}
 use Rattle.archive_state.specs.Content.{Content, Records}
-use Rattle.archive_state.specs.Referrers.{naming, referrers}
+use Rattle.archive_state.specs.Referrers.{naming}
 use Rattle.archive_state.specs.Sound.{EachIn, IsSound}
 use Rattle.archive_state.proofs.Changing.{less_keeps}
 use Rattle.archive_looks.specs.Checks.{is_named}

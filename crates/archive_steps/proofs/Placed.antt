@@ -1,5 +1,5 @@
 -- A sound archive with a new place is sound.
-use Rattle.std.proofs.Common.{◌≡◌, ℕ, ◌+◌, ◌<◌, ◌≤◌, List, [], ◌∷◌, Bool, true, false, refl, nat_lt, sym, ap, ◌∙◌, inl, inr, subst, arith}
+use Rattle.std.proofs.Common.{◌≡◌, ℕ, ◌+◌, ◌<◌, ◌≤◌, List, [], true, refl, nat_lt, sym, ap, ◌∙◌, inl, inr, subst, arith}
 use Rattle.std.specs.Prelude.{Option, Some, None, option_map, IfSome, if◌then◌else◌}
 use Rattle.std.proofs.lemmas.Bool.Decides.{nat_tests}
 use Rattle.std.specs.FinMap.{get, insert}
@@ -15,7 +15,7 @@ use Rattle.archive_state.specs.Content.{Content, Records}
 use Rattle.archive_state.specs.Known.{path_under, path_with, path_of}
 use Rattle.archive_state.specs.Paths.{HasPath}
 use Rattle.archive_state.specs.Sound.{Stands, IsSound}
-use Rattle.archive_state.proofs.Changing.{Grows, more_keeps, path_within}
+use Rattle.archive_state.proofs.Changing.{more_keeps, path_within}
 use Rattle.archive_state.proofs.Each.{each_both}
 use Rattle.archive_state.proofs.Climbing.{stands_there}
 use Rattle.archive_state.proofs.Keeping.{KeepsRules, stands_as}

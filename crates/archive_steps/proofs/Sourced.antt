@@ -1,8 +1,7 @@
 -- Repositories, sources and citations that commands make are fit for a sound archive.
-use Rattle.std.proofs.Common.{◌≡◌, ℕ, List, [], ◌∷◌, ◌++◌, Bool, true, false, refl, subst}
+use Rattle.std.proofs.Common.{◌≡◌, ℕ, List, [], ◌∷◌, ◌++◌, refl, subst}
 use Rattle.std.specs.Prelude.{Option, Some, None, Result, Ok, Err, not}
 use Rattle.std.specs.FinMap.{get}
-use Rattle.std.specs.List.{flat_map}
 use Rattle.std.specs.Str.{IsUtf8}
 use Rattle.record_text.specs.Text.{IsText}
 use Rattle.record_text.specs.declared.refusal.RefusalKind.{RefusalKind}
@@ -24,7 +23,7 @@ use Rattle.archive_state.specs.Texts as texts
 use Rattle.archive_state.proofs.Each.{each_both}
 use Rattle.commands.specs.Rows.{and_then}
 use Rattle.archive_looks.specs.Checks.{need, text_in, or_no_text, maybe_text_in}
-use Rattle.archive_steps.specs.Steps.{plain_repo, plain_holdings, plain_source, plain_citation, lacks_repo, given_source}
+use Rattle.archive_steps.specs.Steps.{plain_repo, plain_source, plain_citation, lacks_repo, given_source}
 use Rattle.archive_steps.proofs.Fitting.{no_slip_at_next, anew, none_within}
 use Rattle.archive_steps.proofs.Keeping.{IsFit}
 use Rattle.archive_steps.proofs.Worded.{text_found}

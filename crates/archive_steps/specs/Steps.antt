@@ -1,6 +1,6 @@
 -- What each command makes of an archive, or the refusal that it gets: the texts are looked at first, then each number in
 -- the order of its field, then what is the command's own, and last whether a number is left. Rules of our own.
-use Rattle.std.specs.Prelude.{ℕ, ◌+◌, List, [], ◌∷◌, ◌++◌, Bool, true, false, not, ◌||◌, ◌==◌, Option, Some, None, option_map, Result, Ok, Err}
+use Rattle.std.specs.Prelude.{ℕ, ◌+◌, List, [], ◌∷◌, ◌++◌, Bool, true, false, not, ◌||◌, ◌==◌, Option, Some, None, option_map, Result, Ok}
 use Rattle.std.specs.List.{list_any}
 use Rattle.std.specs.FinMap.{insert, remove}
 use Rattle.record_text.specs.declared.refusal.RefusalKind.{RefusalKind}

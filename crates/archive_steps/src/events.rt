@@ -1,7 +1,7 @@
 //! The commands on events.
 
-ghost use Rattle.std.specs.Prelude.{◌≡◌, ◌↔◌, [], IfOk, IfErr, IsTrue, false, option_map};
-ghost use Rattle.archive_view.specs.Looks.{Agrees, CountsFailures, OnView, is_failure, is_stop};
+ghost use Rattle.std.specs.Prelude.{◌≡◌, ◌↔◌, [], IfOk, IsTrue, false, option_map};
+ghost use Rattle.archive_view.specs.Looks.{CountsFailures, OnView};
 ghost use Rattle.record_kinds.specs.Model as model;
 ghost use Rattle.archive_steps.specs.Applied.{Plans};
 ghost use Rattle.archive_looks.specs.Checks as checks;

@@ -1,6 +1,6 @@
 //! The command that makes a place.
 
-ghost use Rattle.std.specs.Prelude.{◌≡◌, [], IfOk};
+ghost use Rattle.std.specs.Prelude.{◌≡◌, IfOk};
 ghost use Rattle.archive_view.specs.Looks.{CountsFailures, OnView};
 ghost use Rattle.archive_steps.specs.Applied.{Plans};
 ghost use Rattle.archive_steps.specs.Exact.{IsExact};

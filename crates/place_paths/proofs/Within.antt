@@ -1,5 +1,5 @@
 -- What the limits leave for the places above a place, and what its path measures.
-use Rattle.std.proofs.Common.{◌≡◌, ℕ, zero, suc, ◌+◌, ◌-◌, ◌≤◌, ◌<◌, List, [], ◌∷◌, ◌++◌, length, Bool, true, false, ◌==◌, nat_le, nat_lt, refl, sym, ap, ◌∙◌, arith}
+use Rattle.std.proofs.Common.{◌≡◌, ℕ, zero, suc, ◌+◌, ◌-◌, ◌≤◌, ◌<◌, List, [], ◌++◌, length, true, false, nat_le, nat_lt, refl, sym, ap, ◌∙◌, arith}
 use Rattle.std.specs.Prelude.{Option, Some, None, option_map, codes, if◌then◌else◌, ◌&&◌}
 use Rattle.std.proofs.lemmas.Bool.Decides.{nat_tests}
 use Rattle.std.proofs.lemmas.List.{length-append}
@@ -12,7 +12,7 @@ use Rattle.record_shapes.specs.Fields.{path_below}
 use Rattle.archive_state.specs.Content.{Records}
 use Rattle.archive_state.specs.Known.{path_under, path_with, path_by, path_of}
 use Rattle.place_paths.proofs.PartByPart.{parts_below}
-use Rattle.place_paths.specs.Fits.{new_path, is_fit, is_within, measure_of, measured}
+use Rattle.place_paths.specs.Fits.{new_path, is_fit, is_within, measured}
 use Rattle.place_paths.specs.declared.paths.Measure.{Measure}
 
 -- ---- a path below another
