@@ -8,24 +8,29 @@ use Rattle.csv.specs.declared.parser.State.TheVariants as st
 use Rattle.csv.proofs.RoundTrip.{read-write-many}
 use Rattle.record_text.specs.declared.refusal.RefusalKind.{RefusalKind}
 use Rattle.record_text.specs.declared.refusal.RefusalKind.TheVariants.{BadRow}
-use Rattle.record_fields.specs.Words.{quality_word, sex_word}
+use Rattle.record_fields.specs.Words.{entry_kind_word, quality_word, sex_word}
+use Rattle.record_fields.specs.declared.entry_words.EntryKind.{EntryKind}
+use Rattle.record_fields.specs.declared.item.Item.{Item}
 use Rattle.record_fields.specs.declared.words.Quality.{Quality}
 use Rattle.record_fields.specs.declared.words.Quality.TheVariants as quality
 use Rattle.record_fields.specs.declared.words.Sex.{Sex}
 use Rattle.record_fields.specs.declared.words.Sex.TheVariants as sex
-use Rattle.record_fields.proofs.Worded.{quality_back, sex_back}
+use Rattle.record_fields.proofs.Worded.{entry_kind_back, quality_back, sex_back}
 use Rattle.csv.specs.Writing.{default_writer, row_text}
-use Rattle.commands.specs.Bytes.{or_empty, row_of, spelt}
+use Rattle.commands.specs.Bytes.{entry_fields, or_empty, row_of, spelt}
 use Rattle.commands.specs.Dated.{given_of}
 use Rattle.commands.specs.Given.{GivenDate, Gives}
-use Rattle.commands.specs.Rows.{Reads, and_then, number_in, ok_or, or_none, quality_in, read_fields, read_row, sex_in}
-use Rattle.commands.specs.Sound.{IsDate, IsNumber, IsSoundRow, WhereSome}
+use Rattle.commands.specs.Rows.{Reads, and_then, item_in, kind_in, number_in, ok_or, or_none, quality_in, read_entry, read_fields, read_row, sex_in}
+use Rattle.commands.specs.Sound.{IsDate, IsNumber, IsSoundEntry, IsSoundRow, WhereSome}
 use Rattle.commands.specs.Verbs.{verb_of, verb_word}
+use Rattle.commands.specs.declared.entry_row.EntryRow.{EntryRow}
 use Rattle.commands.specs.declared.row_command.RowCommand.{RowCommand}
 use Rattle.commands.specs.declared.row_command.RowCommand.TheVariants as row_command
 use Rattle.commands.specs.declared.verb.Verb.{Verb}
 use Rattle.commands.specs.declared.verb.Verb.TheVariants as verb
 use Rattle.commands.proofs.Dated.{gives_of, one_given}
+use Rattle.commands.proofs.Items.{item_back}
+use Rattle.commands.proofs.Mentions.{mentions_back}
 use Rattle.commands.proofs.Numbers.{number_back}
 use Rattle.commands.proofs.Outcomes.{is_reading}
 
@@ -66,6 +71,21 @@ date-again : (date : Option GivenDate) → WhereSome IsDate date → given_of (o
 date-again None h = one_given [] (given_of []) None (gives_of []) refl
 date-again (Some g) h = one_given g.spelling (given_of g.spelling) (Some g) (gives_of g.spelling) (h.some, h, h.written)
 
+kind-again : (k : EntryKind) → kind_in (entry_kind_word k) ≡ Ok k
+unfolding kind_in
+kind-again k = ap (ok_or BadRow) (entry_kind_back k)
+
+item-again : (i : Item) → item_in (decimal i.number) ≡ Ok i
+unfolding item_in
+item-again i = rw (number_back i.number i.in_range.0 (below i.number i.in_range.1)) (ap (ok_or BadRow) (item_back i))
+  where
+    below : (n : ℕ) → n ≤ 999999 → n ≤ 4294967295
+    below n h = omega arith
+
+pub entry_back : (e : EntryRow) → IsSoundEntry e → read_entry given_of (entry_fields e) ≡ Ok e
+entry_back e h =
+    rw (mentions_back e.mentions h.2, kind-again e.kind, item-again e.item, number-or-none e.place h.1, date-again e.date h.0) refl
+
 -- ---- verbs
 pub verb_back : (v : Verb) → verb_of (verb_word v) ≡ Some v
 unfolding verb_of
@@ -81,6 +101,9 @@ verb_back verb.Place = refl
 verb_back verb.Repo = refl
 verb_back verb.Source = refl
 verb_back verb.Citation = refl
+verb_back verb.Entry = refl
+verb_back verb.Link = refl
+verb_back verb.Unlink = refl
 verb_back verb.Remove = refl
 
 by-verb : (v : Verb) (fields : List (List ℕ)) → read_row given_of (verb_word v ∷ fields) ≡ read_fields given_of v fields
@@ -110,6 +133,13 @@ row-again (row_command.Source title author publisher repo call_number) h =
 row-again (row_command.Citation owner source page quality) h =
     by-verb verb.Citation (decimal owner ∷ decimal source ∷ page ∷ or_empty quality_word quality ∷ [])
     ∙ rw (number_back owner h.0.0 h.0.1, number_back source h.1.0 h.1.1, quality-or-none quality) refl
+row-again (row_command.Entry source entry) h =
+    by-verb verb.Entry (decimal source ∷ entry_fields entry) ∙ rw (entry_back entry h.1, number_back source h.0.0 h.0.1) refl
+row-again (row_command.Link entry mention person reason) h =
+    by-verb verb.Link (decimal entry ∷ decimal mention ∷ decimal person ∷ reason ∷ [])
+    ∙ rw (number_back entry h.0.0 h.0.1, number_back mention h.1.0 h.1.1, number_back person h.2.0 h.2.1) refl
+row-again (row_command.Unlink entry mention) h =
+    by-verb verb.Unlink (decimal entry ∷ decimal mention ∷ []) ∙ rw (number_back entry h.0.0 h.0.1, number_back mention h.1.0 h.1.1) refl
 row-again (row_command.Remove number) h = by-verb verb.Remove (decimal number ∷ []) ∙ rw (number_back number h.0 h.1) refl
 
 pub row_back : (c : RowCommand) → IsSoundRow c → Reads (row_of c) (Ok c)
@@ -145,6 +175,10 @@ bytes_back (row_command.Source title author publisher repo call_number) rest =
     read-write-many (verb_word verb.Source) title (author ∷ publisher ∷ or_empty decimal repo ∷ call_number ∷ []) rest
 bytes_back (row_command.Citation owner source page quality) rest =
     read-write-many (verb_word verb.Citation) (decimal owner) (decimal source ∷ page ∷ or_empty quality_word quality ∷ []) rest
+bytes_back (row_command.Entry source entry) rest = read-write-many (verb_word verb.Entry) (decimal source) (entry_fields entry) rest
+bytes_back (row_command.Link entry mention person reason) rest =
+    read-write-many (verb_word verb.Link) (decimal entry) (decimal mention ∷ decimal person ∷ reason ∷ []) rest
+bytes_back (row_command.Unlink entry mention) rest = read-write-many (verb_word verb.Unlink) (decimal entry) (decimal mention ∷ []) rest
 bytes_back (row_command.Remove number) rest = read-write-many (verb_word verb.Remove) (decimal number) [] rest
 
 -- row commands of one row are one
