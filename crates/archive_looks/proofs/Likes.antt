@@ -1,6 +1,6 @@
 -- Whether an entry of a key is among the records: what a look for the key answers is what the test on their list says.
 use Rattle.std.proofs.Common.{◌≡◌, ℕ, List, [], ◌∷◌, Bool, true, false, not, ◌&&◌, ◌||◌, ◌==◌, refl, sym, ap, subst, ◌∙◌, cond, eqb-true, eq-eqb}
-use Rattle.std.specs.Prelude.{Option, Some, None, Result, Ok, Err, T, nat_eq, bytes_eq}
+use Rattle.std.specs.Prelude.{Option, Some, None, Result, Ok, Err, T, bytes_eq}
 use Rattle.std.specs.Cmp.{nat_cmp_is, ranked}
 use Rattle.std.specs.FinMap.{find, get, entries, entries_sorted, get-entries, is_sorted}
 use Rattle.std.specs.FinMap.Entries.{below_all}

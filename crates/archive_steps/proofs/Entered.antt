@@ -1,6 +1,6 @@
 -- A register entry that is made, or a mention of which gets another link, is fit for a sound archive.
-use Rattle.std.proofs.Common.{◌≡◌, ℕ, ◌+◌, ◌-◌, ◌≤◌, List, [], ◌∷◌, ◌++◌, ◌<◌, length, take, drop, set, get_or, Bool, true, false, ◌&&◌, nat_le, refl, sym, ap, ◌∙◌, subst, arith}
-use Rattle.std.specs.Prelude.{◌≢◌, suc, Option, Some, None, Result, Ok, Err, if◌then◌else◌}
+use Rattle.std.proofs.Common.{◌≡◌, ℕ, ◌+◌, ◌-◌, ◌≤◌, List, [], ◌∷◌, ◌++◌, ◌<◌, length, take, drop, set, get_or, true, false, refl, sym, ap, ◌∙◌, subst}
+use Rattle.std.specs.Prelude.{suc, Option, Some, None, Result, Ok, Err, if◌then◌else◌}
 use Rattle.std.proofs.lemmas.Grind.{drop-set_at, flat_map-append}
 use Rattle.std.proofs.lemmas.List.{length-append, take-append-drop, take-set, drop_more}
 use Rattle.std.specs.FinMap.{get, insert}

@@ -1,4 +1,4 @@
-use Rattle.std.proofs.Common.{ap, sym, ◌∙◌, Some, None}
+use Rattle.std.proofs.Common.{ap, None}
 use Rattle.record_fields.proofs.Worded.{role_read}
 use Rattle.archive_looks.specs.Entries.{role_for}
 use Rattle.archive_looks.proofs.entries.role_in.Goals as goal
