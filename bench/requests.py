@@ -24,7 +24,8 @@ ROOT = pathlib.Path(__file__).resolve().parents[1]
 PARISH = ROOT / "crates/parish/out/parish"
 MANY, ROWS, RUNS = 100, 10_000, 3
 LINE = "INSERT INTO line (no, pos, depth, tag, text, dst) VALUES (?1, ?2, ?3, ?4, ?5, ?6)"
-VERBS = ("person", "name", "sex", "family", "child", "event", "amend", "participant", "repo", "source", "citation", "remove")
+VERBS = ("person", "name", "sex", "family", "child", "event", "amend", "participant", "place", "repo", "source", "citation",
+         "entry", "link", "unlink", "remove")
 
 
 def row(verb, k, persons):
@@ -32,6 +33,7 @@ def row(verb, k, persons):
     husband, wife, child = ((k + n) % persons + 1 for n in range(3))
     family, event = persons + 1 + k, persons + 1 + MANY + k
     source, unnamed = persons + 1 + 2 * MANY, persons + 2 + 2 * MANY + k
+    entry, linked = persons + 2 + 3 * MANY + k, persons + 2 + 4 * MANY + k
     match verb:
         case "person":
             return ("person", f"Ann /Lee {k}/", "F")
@@ -49,14 +51,28 @@ def row(verb, k, persons):
             return ("amend", event, "born at Mill Field", "4 MAY 1701", "")
         case "participant":
             return ("participant", event, wife, "witness")
+        case "place":
+            return ("place", f"Mill Field {k}", "")
         case "repo":
             return ("repo", f"Parish chest {k}")
         case "source":
             return ("source", f"Baptisms {k}", "", "", "", "")
         case "citation":
             return ("citation", child, source, f"f. {k}", "2")
+        case "entry":
+            return entry_row(source, "f. 13", k)
+        case "link":
+            return ("link", entry, "1", child, "same day and father")
+        case "unlink":
+            return ("unlink", linked, "2")
         case "remove":
             return ("remove", unnamed)
+
+
+def entry_row(source, page, k):
+    """The k-th entry of a page. What is no record's number is a string, so that the peer looks for no record of it."""
+    words = (f"John of Thos. Lee, Mill Field, {k}", "child", "John", "father", "Thos. Lee")
+    return ("entry", source, "BAPTISM", page, str(k + 1), "6 MAR 1757", "", *words)
 
 
 def text(rows, first=0):
@@ -90,7 +106,8 @@ def between_answers(file, rows):
 
 
 def made(file, persons):
-    """An archive of so many persons, and behind them MANY families, as many events, a source, and MANY repositories that nothing names."""
+    """An archive of so many persons, and behind them MANY families, as many events, a source, MANY repositories that nothing names,
+    and twice as many register entries, of which the latter half have a link."""
     subprocess.run([str(PARISH), "init", str(file), "--society", "Ashby"], check=True)
     with sqlite3.connect(file) as conn:
         for number in range(1, persons + 1):
@@ -104,7 +121,9 @@ def made(file, persons):
     events = [("event", persons + 1 + k, "MARR", "", "1 MAY 1700", "") for k in range(MANY)]
     source = [("source", "Baptisms", "", "", "", "")]
     repos = [("repo", f"Chest {k}") for k in range(MANY)]
-    apply(file, text(families + events + source + repos, 1_000_000))
+    entries = [entry_row(persons + 1 + 2 * MANY, "f. 12", k) for k in range(2 * MANY)]
+    links = [("link", persons + 2 + 4 * MANY + k, "2", k % persons + 1, "same name") for k in range(MANY)]
+    apply(file, text(families + events + source + repos + entries + links, 1_000_000))
 
 
 def copied(file, folder):
