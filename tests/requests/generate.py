@@ -20,11 +20,22 @@ ROLES = ["", "witness", "witness", "a,b", "priest"]
 VALUES = ["", "", "at home", "two\nlines"]
 TITLES = ["Ashby register", "Wills", "", 'The "old" book, vol. 1', "two\nlines", " "]
 SHORT = ["", "", "Rev. Lee", "MS 4", "a,b"]  # authors, publishers, call numbers and pages
+PAGES = ["f. 3", "f. 3", "f. 4", "", "MS 4", "two\nlines", "p. \u00e9, verso"]  # of registers
+REASONS = ["same farm", "same name, same year", "?", " ", 'says "of the Mill"\nhimself']
+ROLES_OF = {
+    "BAPTISM": ["child", "father", "mother", "godparent"],
+    "MARRIAGE": ["groom", "bride", "father-of-groom", "father-of-bride", "witness"],
+    "BURIAL": ["buried", "spouse", "father", "mother"],
+}
+MENTIONS = [1, 1, 2, 2, 3, 5]  # how many an entry has
+MOST = 100  # mentions of an entry
+ITEMS = 20  # items of a page that are drawn first
 QUALITIES = ["", "0", "1", "2", "3"]
 PLACES = ["Kent", "Ashby", "Mill Lane, Ashby", "\u00e9, \u4e2d", "two\nlines", "The \"Mill\"", ", Kent"]
 DEEPEST = 8  # places within each other, so that no path passes the limits
 
-# The kinds of the fields of each verb: number, text, sex, tag, date, quality or place's name.
+# The kinds of the fields of each verb: number, text, sex, tag, date, quality, place's name, kind of an entry, item, place of a
+# mention, or reason. Behind those of an entry come a role and a text for each mention.
 KINDS = {
     "person": "TS",
     "name": "NT",
@@ -38,8 +49,12 @@ KINDS = {
     "repo": "T",
     "source": "TTTNT",
     "citation": "NNTQ",
+    "entry": "NKTIDNT",
+    "link": "NMNW",
+    "unlink": "NM",
     "remove": "N",
 }
+OF_MENTION = "RT"
 ODD = {
     "N": ["0", "00000000001", str(LAST + 1), "+1", "1a", " 1", str(LAST), "1000", "1000", "1000"],
     "T": ["a\rb", "a\0b"],
@@ -48,8 +63,13 @@ ODD = {
     "D": ["a\rb", "a\0b", "(\r)"],
     "Q": ["4", "03", " 1", "q"],
     "P": ["", " Kent", "Ashby,Kent", "Kent ", ",", "a\rb", ", ".join("A" * 33)],
+    "K": ["", "baptism", "BURIAL ", "BIRT", "CHRISTENING"],
+    "I": ["0", "1000000", "00000000001", "", "+1", "9999999999", "0001000000", "x"],
+    "M": ["0", "00000000001", "", "-1", "101", str(LAST), str(LAST + 1)],
+    "R": ["", "Child", "widow", "father of groom", "a\rb", "a\0b"],
+    "W": ["", "", "a\rb", "a\0b"],
 }
-ODD_VERBS = ["frob", "", "Person", "person ", "personal", "repository", "removed"]
+ODD_VERBS = ["frob", "", "Person", "person ", "personal", "repository", "removed", "Entry", "links", "entries"]
 ODD_TOKENS = ["", "a b", "x" * 65, "\u00e9", "!", "~", "a,b", "x" * 64, "\x7f"]
 
 
@@ -61,10 +81,14 @@ class Rows:
         self.removes = removes
         self.people, self.families, self.events = [], [], []
         self.places, self.repos, self.sources, self.citations = [], [], [], []
+        self.entries = []
+        self.keys = {}  # source, kind, page and item of each entry
+        self.links = {}  # for each mention of an entry, the person that it is linked to, or none
         self.names = {}  # the numbers that each record names
         self.next = 1
         self.given = []
-        self.refused = {}  # the tokens of what was refused, with the number of a removal
+        self.doubled = set()  # the fields of entries that were there already
+        self.refused = {}  # the tokens of what was refused but may be accepted later: removals and doubled entries
 
     def chance(self, share):
         return self.rng.random() < share
@@ -85,6 +109,7 @@ class Rows:
             "repo": self.repos,
             "source": self.sources,
             "citation": self.citations,
+            "entry": self.entries,
         }
 
     def is_named(self, number):
@@ -92,6 +117,8 @@ class Rows:
 
     def take_out(self, number):
         del self.names[number]
+        self.keys.pop(number, None)
+        self.links.pop(number, None)
         for numbers in self.kinds().values():
             if number in numbers:
                 numbers.remove(number)
@@ -149,6 +176,29 @@ class Rows:
         owners = self.rng.choice([one for one in (self.people, self.families, self.events) if one])
         return [self.of(owners), self.of(self.sources), self.rng.choice(SHORT), self.rng.choice(QUALITIES)]
 
+    def entry(self):
+        """An entry that is not there yet."""
+        source, kind, page = self.rng.choice(self.sources), self.rng.choice(list(ROLES_OF)), self.rng.choice(PAGES)
+        item = self.rng.randrange(1, ITEMS)
+        while (source, kind, page, item) in self.keys.values():
+            item = self.rng.randrange(1, 1_000_000)
+        return self.entry_of(source, kind, page, item)
+
+    def entry_of(self, source, kind, page, item):
+        head = [self.spelt(source), kind, page, self.spelt(item), self.rng.choice(DATES), self.place_or_none()]
+        count = MOST if self.chance(0.02) else self.rng.choice(MENTIONS)
+        return [*head, self.rng.choice(VALUES), *self.mentions(kind, count)]
+
+    def mentions(self, kind, count):
+        return [word for _ in range(count) for word in (self.rng.choice(ROLES_OF[kind]), self.rng.choice(NAMES))]
+
+    def link(self):
+        return [*self.unlink(), self.of(self.people), self.rng.choice(REASONS)]
+
+    def unlink(self):
+        number = self.rng.choice(self.entries)
+        return [self.spelt(number), self.of(list(self.links[number]))]
+
     def remove(self):
         return [self.of([number for number in self.names if not self.is_named(number)])]
 
@@ -163,6 +213,10 @@ class Rows:
             found += ["amend", "participant", "participant"]
         if self.sources and (self.people or self.families or self.events):
             found += ["citation"] * 3
+        if self.sources:
+            found += ["entry"] * 4
+        if self.entries:
+            found += ["unlink"] + ["link"] * 3 * bool(self.people)
         if self.removes and not all(self.is_named(number) for number in self.names):
             found += ["remove"]
         return found
@@ -174,11 +228,25 @@ class Rows:
         if made is not None:
             made.append(self.next)
             self.names[self.next] = named
+            if verb == "entry":
+                self.keys[self.next] = key_of(fields)
+                self.links[self.next] = dict.fromkeys(range(1, mention_count(fields) + 1))
             self.next += 1
         elif verb == "remove":
             self.take_out(*named)
         else:
-            self.names[int(fields[0])] |= named - {int(fields[0])}
+            self.note_change(verb, int(fields[0]), fields, named)
+
+    def note_change(self, verb, number, fields, named):
+        """Keeps what a record names after a command that changes it: another place or person goes with the new one."""
+        before = self.names[number]
+        if verb in ("link", "unlink"):
+            self.links[number][int(fields[1])] = int(fields[2]) if verb == "link" else None
+            named = {one for one in self.links[number].values() if one is not None}
+            before = before - set(self.people)
+        elif verb == "amend" and fields[3]:
+            before = before - set(self.places)
+        self.names[number] = (before | named) - {number}
 
     def good(self):
         """A verb and its fields that are accepted, but for a child who is in the family already."""
@@ -188,8 +256,8 @@ class Rows:
         return [verb, *fields]
 
     def odd(self):
-        """A row that is refused: an unknown verb, a field more or less, one person twice, a call number alone, or a wrong
-        field."""
+        """A row that is refused: an unknown verb, a field more or less, one person twice, a call number alone, what is wrong
+        with an entry or a mention, or a wrong field."""
         verb = self.rng.choice(self.verbs())
         fields = getattr(self, verb)()
         form = self.rng.random()
@@ -203,23 +271,45 @@ class Rows:
             return [verb, str(self.people[0]), self.of(self.people[:1])]
         if verb == "source" and form < 0.5:
             return [verb, *fields[:3], "", "MS 4"]
+        if verb == "entry" and form < 0.7:
+            return [verb, *self.odd_entry(fields)]
+        if verb in ("link", "unlink") and form < 0.5:
+            return [verb, fields[0], self.spelt(len(self.links[int(fields[0])]) + self.rng.choice([1, 1, 2, 9])), *fields[2:]]
+        kinds = kinds_of(verb, fields)
         at = self.rng.randrange(len(fields))
-        fields[at] = self.wrong(verb, at)
+        fields[at] = self.wrong(verb, kinds[at], at)
         return [verb, *fields]
 
-    def wrong(self, verb, at):
+    def odd_entry(self, fields):
+        """One that is there already, with a role of another kind, with no mention, or with one too many."""
+        form = self.rng.random()
+        if self.keys and form < 0.5:
+            made = self.entry_of(*self.rng.choice(list(self.keys.values())))
+            self.doubled.add(tuple(made))
+            return made
+        if form < 0.8:
+            others = [role for kind in ROLES_OF if kind != fields[1] for role in ROLES_OF[kind]]
+            at = 7 + 2 * self.rng.randrange(mention_count(fields))
+            fields[at] = self.rng.choice([role for role in others if role not in ROLES_OF[fields[1]]])
+            return fields
+        return [*fields[:7], *self.mentions(fields[1], self.rng.choice([0, MOST + 1]))]
+
+    def wrong(self, verb, kind, at):
         """What is wrong for a field; of a number often one of another kind."""
-        kind = KINDS[verb][at]
         if kind != "N" or self.chance(0.5):
             return self.rng.choice(ODD[kind])
-        if verb == "event" and at == 0:
+        if verb == "entry":
+            others = self.people + self.events + self.citations + self.entries
+        elif verb in ("link", "unlink") and at == 0:
+            others = self.people + self.sources + self.citations
+        elif verb == "event" and at == 0:
             others = self.events + self.sources + self.places
         elif verb == "place":
             others = self.people + self.events
         elif verb == "source":
             others = self.people + self.sources
         elif verb == "citation" and at == 0:
-            others = self.repos + self.sources + self.citations
+            others = self.repos + self.sources + self.citations + self.entries
         elif verb == "citation":
             others = self.people + self.repos
         elif verb == "remove":
@@ -229,7 +319,7 @@ class Rows:
         elif verb in ("amend", "participant") and at == 0:
             others = self.people + self.families
         else:
-            others = self.families + self.events
+            others = self.families + self.events + self.entries
         return self.of(others or [1000])
 
     def row(self, place):
@@ -243,23 +333,49 @@ class Rows:
             return [self.rng.choice(ODD_TOKENS), *self.odd()]
         if self.chance(0.25):
             made = [f"t{place}", *self.odd()]
-            self.refused[made[0]] = self.named_by(made)
+            if self.may_be_accepted(*made[1:]):
+                self.refused[made[0]] = made[1:]
         else:
             made = [f"t{place}", *self.good()]
         self.given.append(made)
         return made
 
-    def named_by(self, given):
-        """The number of a removal that is well formed."""
-        is_removal = given[1] == "remove" and len(given) == 3 and re.fullmatch("[0-9]{1,10}", given[2])
-        return int(given[2]) if is_removal else None
+    def may_be_accepted(self, verb, *fields):
+        """Whether a row that is refused is a removal that is well formed, or an entry that is there already."""
+        is_removal = verb == "remove" and len(fields) == 1 and re.fullmatch("[0-9]{1,10}", fields[0])
+        return bool(is_removal) or (verb == "entry" and fields in self.doubled)
+
+    def is_accepted(self, verb, *fields):
+        """Whether such a row is accepted now."""
+        if verb == "remove":
+            return int(fields[0]) in self.names and not self.is_named(int(fields[0]))
+        source, *_ = key = key_of(fields)
+        has_place = fields[5] == "" or int(fields[5]) in self.places
+        return source in self.sources and has_place and key not in self.keys.values()
 
     def once_more(self, given):
-        """A row of before. A removal that was refused may be accepted now."""
-        number = self.refused.get(given[0])
-        if number in self.names and not self.is_named(number):
-            self.take_out(number)
+        """A row of before. One that was refused may be accepted now."""
+        refused = self.refused.get(given[0])
+        if refused is not None and self.is_accepted(*refused):
+            del self.refused[given[0]]
+            self.note(refused[0], refused[1:])
         return given
+
+
+def kinds_of(verb, fields):
+    """The kind of each field."""
+    return KINDS[verb] + (OF_MENTION * mention_count(fields) if verb == "entry" else "")
+
+
+def mention_count(fields):
+    """How many mentions the fields of an entry have."""
+    return (len(fields) - len(KINDS["entry"])) // len(OF_MENTION)
+
+
+def key_of(fields):
+    """Source, kind, page and item of the fields of an entry."""
+    source, kind, page, item, *_ = fields
+    return int(source), kind, page, int(item)
 
 
 def written(rng, fields):

@@ -17,14 +17,13 @@ import sys
 sys.dont_write_bytecode = True
 
 import stops  # noqa: E402
-from table import again, failing, many, order, reading, stored, worked  # noqa: E402
+from table import again, entries, entry_rows, failing, many, order, reading, stored, worked  # noqa: E402
 from table.making import LAST  # noqa: E402
 
 ROOT = pathlib.Path(__file__).resolve().parents[2]
 PROGRAM = ROOT / "crates/request_rows/out/request_rows"
-SCENARIOS = [
-    scenario for part in (worked, reading, order, again, failing, many, stored) for scenario in part.SCENARIOS
-]
+PARTS = (worked, reading, entry_rows, order, entries, again, failing, many, stored)
+SCENARIOS = [scenario for part in PARTS for scenario in part.SCENARIOS]
 LIMIT = 50  # seconds for one scenario
 SHOWN = 100  # bytes of a text in a message
 SHOW_ALL = b"".join(b"! show,%d\n" % number for number in (*range(1, 80), LAST)) + b"! next\n"

@@ -4,7 +4,8 @@
 
 For each file, and with the power going off at the end or not, the number of calls that go well rises from 0 until nothing is
 stopped any more. A case is one such number: what was answered, what is found when the files are opened again, and what is
-answered and found then when the same is asked once more. One line a case that fails, and last `N passed, M failed`; status 0 only if none failed and one passed. COMMAND as in run.py.
+answered and found then when the same is asked once more. One line a case that fails, and last `N passed, M failed`; status 0
+only if none failed and one passed. COMMAND as in run.py.
 """
 
 from __future__ import annotations
@@ -21,6 +22,7 @@ from typing import Callable
 
 sys.dont_write_bytecode = True
 
+from table import making  # noqa: E402
 from table.stored import STORED  # noqa: E402
 
 ROOT = pathlib.Path(__file__).resolve().parents[2]
@@ -106,11 +108,17 @@ class Trial:
 
 FILES = ("log", "db", "log off", "db off")
 LONG = 200_000  # bytes that 50 pages of a cache can't hold
-REQUESTS = b"".join(given for given, _ in STORED)
+REGISTER = [
+    making.source(5, "r1", "Ashby register"),
+    making.makes(6, "b1", *making.entry(5, mentions=("child", "John", "father", "Tom Lee"))),
+]
+REQUESTS = b"".join(given for given, _ in (*STORED, *REGISTER))
 PERFORMED = {
     "an event": 'event,3,MARR,"at home, ""late""",ABT 1750,',
     "an amendment": "amend,4,Köln,1800,",
     "a removal": "remove,4",
+    "an entry": 'entry,5,BURIAL,f. 3,1,1 MAY 1800,,"Ann, widow of Tom",buried,Ann Lee,spouse,Tom Lee',
+    "a link": 'link,6,2,1,"same farm, same age"',
     "a long name": "name,2," + "x" * 2 * LONG,
 }
 

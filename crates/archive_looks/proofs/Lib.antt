@@ -1,4 +1,6 @@
 pub mod Found
+pub mod Likes
+pub mod Mentions
 pub mod PlaceNames
 mod Said
 pub mod SaidPaths

@@ -6,12 +6,14 @@
 //! Callers may rely on: each look answers what its definition says of what the view shows, or its refusal, and changes nothing.
 #![tactic(auto)]
 
+mod entries;
 mod kinds;
 mod looks;
 mod names;
 mod places;
 mod tags;
 
+pub use entries::{check_key, check_texts, entry_at, push_mentions, reason_in};
 pub use kinds::{Demand, check_demand, check_optional};
 pub use looks::{Owner, date_in, event_at, family_at, maybe_text_in, owner_at, person_at, text_in};
 pub use names::{check_path, place_name_in};

@@ -117,7 +117,7 @@ events_alike a_cited p q = refl
 events_alike at_level_0 p q = refl
 
 -- a record of the kind of the one that is there
-over : (c : Content) (n : ℕ) (r new : Record) → get c.records n ≡ Some r → IsAlike r new → (old : Record) → get c.records n ≡ Some old → IsAlike old new
+pub over : (c : Content) (n : ℕ) (r new : Record) → get c.records n ≡ Some r → IsAlike r new → (old : Record) → get c.records n ≡ Some old → IsAlike old new
 over c n r new at alike old e = subst (λ x. IsAlike x new) (it_is c n r old at e) alike
 
 pub anew : (c : Content) (new : Record) → IsSound c → (old : Record) → get c.records c.next ≡ Some old → IsAlike old new
@@ -159,7 +159,7 @@ person_fits c n p alike free named carry written untaken levels = record {
   alike = alike;
   no_slip = free;
   no_place = λ q e. absurd cc;
-  no_entry = λ q e. absurd cc;
+  keys = λ q e k there. absurd cc;
   no_other = λ q e. absurd cc;
   named = named;
   parents = tt;
@@ -215,7 +215,7 @@ family_fits c n f alike free named once carry written untaken levels = record {
   alike = alike;
   no_slip = free;
   no_place = λ q e. absurd cc;
-  no_entry = λ q e. absurd cc;
+  keys = λ q e k there. absurd cc;
   no_other = λ q e. absurd cc;
   named = named;
   parents = tt;
@@ -329,7 +329,7 @@ event_fits c n e alike free named carry written place event untaken levels = rec
   alike = alike;
   no_slip = free;
   no_place = λ q e. absurd cc;
-  no_entry = λ q e. absurd cc;
+  keys = λ q e k there. absurd cc;
   no_other = λ q e. absurd cc;
   named = named;
   parents = tt;

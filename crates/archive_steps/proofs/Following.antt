@@ -1,10 +1,10 @@
 -- What an accepted step leaves beside its record: receipts, slips and the next number; and that it is sound.
-use Rattle.std.proofs.Common.{◌≡◌, ℕ, ◌+◌, ◌<◌, ◌≤◌, List, [], Bool, true, false, refl, sym, ap, ◌∙◌, inl, inr, nat_le, subst, arith}
+use Rattle.std.proofs.Common.{◌≡◌, ℕ, ◌+◌, ◌<◌, ◌≤◌, List, [], ◌∷◌, Bool, true, false, refl, sym, ap, ◌∙◌, inl, inr, nat_le, subst, arith}
 use Rattle.std.specs.Prelude.{Option, Some, None, Result, Ok, Err, if◌then◌else◌, not, ◌||◌, option_map}
 use Rattle.std.proofs.lemmas.Bool.Decides.{nat_tests}
 use Rattle.std.specs.FinMap.{get, insert, remove}
 use Rattle.record_text.specs.declared.refusal.RefusalKind.{RefusalKind}
-use Rattle.record_text.specs.declared.refusal.RefusalKind.TheVariants.{Full, SamePerson, AlreadyInFamily, BadText, NotOfKind, StillNamed}
+use Rattle.record_text.specs.declared.refusal.RefusalKind.TheVariants.{Full, SamePerson, AlreadyInFamily, BadText, NoSuchMention, NotOfKind, StillNamed}
 use Rattle.record_kinds.specs.Model as model
 use Rattle.record_kinds.specs.declared.record.Record.{Record}
 use Rattle.record_kinds.specs.declared.record.Record.TheVariants as kind
@@ -17,14 +17,17 @@ use Rattle.commands.specs.Sound.{WhereSome}
 use Rattle.commands.specs.declared.row_command.RowCommand.{RowCommand}
 use Rattle.commands.specs.declared.row_command.RowCommand.TheVariants as row_command
 use Rattle.archive_looks.specs.Checks.{text_in, date_in, person_at, family_at, event_at, owner_at, place_at, tag_in, event_tag, is_tag_of, is_said, said_place_at, record_at, demanded_at, is_named, maybe_text_in, passed, each, need, place_name, place_name_in}
-use Rattle.archive_steps.specs.Steps.{RowStep, place_within, row_step, creates, replaces, removes, plain_repo, given_source, plain_citation, plain_person, plain_partners, plain_place, with_name, with_child, with_fields, with_participant, is_same, is_partner, is_child}
+use Rattle.archive_looks.specs.Entries.{entry_at, key_is_free, not_empty, reason_in, texts_fit}
+use Rattle.archive_looks.proofs.Likes.{entry_is_found}
+use Rattle.archive_steps.proofs.Entered.{LinkAt, entry_found, new_entry_fits, relinked_fits}
+use Rattle.archive_steps.specs.Steps.{RowStep, entry_of, has_mention, relinked, with_link, place_within, row_step, creates, replaces, removes, plain_repo, given_source, plain_citation, plain_person, plain_partners, plain_place, with_name, with_child, with_fields, with_participant, is_same, is_partner, is_child}
 use Rattle.place_paths.specs.Fits.{new_path, is_fit}
 use Rattle.record_text.specs.Text.{IsText}
 use Rattle.record_shapes.specs.Paths.{IsNormal}
 use Rattle.archive_looks.proofs.PlaceNames.{name_taken}
 use Rattle.archive_steps.proofs.Placed.{PlacedAt, place_keeps}
 use Rattle.archive_steps.specs.Numbers.{Draws, UsesNoneAgain}
-use Rattle.archive_steps.specs.Words.{IsUtf8Date, IsUtf8Row}
+use Rattle.archive_steps.specs.Words.{IsUtf8Date, IsUtf8Entry, IsUtf8Row}
 use Rattle.archive_looks.specs.declared.kinds.Demand.TheVariants as demand
 use Rattle.archive_looks.specs.declared.looks.Owner.{Owner}
 use Rattle.archive_state.proofs.Putting.{put_elsewhere, put_here}
@@ -197,6 +200,21 @@ event_tag_found c owner place t tag e =
     let p = both_passed (passed (each (said_place_at c) place)) (λ _. tag_in o.0 t) tag o.2 in
     (o.0, o.1, maybe_place c place p.0 p.1, tag_found o.0 t tag p.2)
 
+-- why a mention is of a person
+reason_found : (words t : List ℕ) → IsUtf8 words → reason_in words ≡ Ok t → IsText t
+reason_found words t utf8 e =
+    let b = both_passed (text_in words) not_empty t e in
+    subst IsText (some_text b.0 t b.2) (text_found words b.0 utf8 b.1)
+  where
+    some_text : (x y : List ℕ) → not_empty x ≡ Ok y → x ≡ y
+    some_text [] y f = absurd cc
+    some_text (b ∷ bs) y f = cc
+
+-- another link of a mention
+relinked_follows : (W : Type 0) (c : Content) (n : ℕ) (e : model.Entry) (k : ℕ) (link : Option model.Link) → get c.records n ≡ Some (kind.Entry e) → (W → IsSound c → LinkAt c link) → Follows W c (relinked c n e k link)
+relinked_follows W c n e k link at there =
+    need_follows W c (has_mention k e) NoSuchMention _ (λ is. replaces_follows W c n (kind.Entry e) (kind.Entry (with_link k link e)) at (λ w sound. relinked_fits c n e k link sound at (there w sound)))
+
 -- ---- each command
 pub row_follows : (c : Content) (k : RowCommand) → Follows (IsUtf8Row k) c (row_step c k)
 row_follows c (row_command.Person name sex) =
@@ -262,6 +280,17 @@ row_follows c (row_command.Citation owner source page quality) =
     then_follows (IsUtf8 page) c (maybe_text_in page) _ (λ p i. then_follows (IsUtf8 page) c (demanded_at c demand.Cited owner) _ (λ u cited. then_follows (IsUtf8 page) c (demanded_at c demand.Source source) _ (λ v sourced.
     creates_follows (IsUtf8 page) c (kind.Citation (plain_citation owner source p quality))
     (λ w sound. new_citation_fits c owner source p quality sound (maybe_text_found page p w i) (demanded_stands demand.Cited (get c.records owner) u cited) (demanded_stands demand.Source (get c.records source) v sourced)))))
+row_follows c (row_command.Entry source row) =
+    then_follows (IsUtf8Entry row) c (texts_fit row) _ (λ t i. then_follows (IsUtf8Entry row) c (demanded_at c demand.Source source) _ (λ u sourced. then_follows (IsUtf8Entry row) c (passed (each (said_place_at c) row.place)) _ (λ v placed.
+    then_follows (IsUtf8Entry row) c (entry_of source row) _ (λ e given. then_follows (IsUtf8Entry row) c (key_is_free c.records source e.kind e.page e.item) _ (λ w free.
+    creates_follows (IsUtf8Entry row) c (kind.Entry e)
+    (λ utf8 sound. new_entry_fits c source row e w sound (entry_found source row e utf8 given) (demanded_stands demand.Source (get c.records source) u sourced) (maybe_place c row.place v placed) free))))))
+row_follows c (row_command.Link entry mention person reason) =
+    then_follows (IsUtf8 reason) c (reason_in reason) _ (λ t i. then_follows (IsUtf8 reason) c (entry_at c entry) _ (λ e found. then_follows (IsUtf8 reason) c (passed (person_at c person)) _ (λ u there.
+    relinked_follows (IsUtf8 reason) c entry e mention (Some (record { person = person; reason = t })) (entry_is_found (get c.records entry) e found)
+    (λ w sound. (one_person c person u there, reason_found reason t w i)))))
+row_follows c (row_command.Unlink entry mention) =
+    then_follows (Unit {0}) c (entry_at c entry) _ (λ e found. relinked_follows (Unit {0}) c entry e mention None (entry_is_found (get c.records entry) e found) (λ w sound. tt))
 row_follows c (row_command.Remove number) =
     then_follows (Unit {0}) c (record_at c number) _ (λ u there. need_follows (Unit {0}) c (not (is_named c number)) StillNamed _ (λ alone.
     removes_follows (Unit {0}) c number (not_true (is_named c number) alone)))

@@ -13,6 +13,7 @@ use Rattle.record_shapes.specs.Lists.{EachOf}
 use Rattle.record_shapes.specs.Levels.{HasRoom}
 use Rattle.record_shapes.specs.Untaken.{HasUntaken}
 use Rattle.archive_state.specs.Content.{Content, Records}
+use Rattle.archive_state.specs.Entries.{IsEntryAt}
 use Rattle.archive_state.specs.Known.{path_with, path_of, known_of, known_before}
 use Rattle.archive_state.specs.Texts.{own_texts, carried_texts}
 use Rattle.archive_state.specs.Sound.{IsNumber, HasSmallerParent, HasNormalName, HasMembersOnce, HasSaidPlace, HasEventTag, HasSoundMentions, IsNoTrailer, own_tags, IsOfRecords, HasOwnShape, owner_in, Stands, IsSound}
@@ -26,9 +27,9 @@ pub record IsFit (c : Content) (n : ℕ) (r : Record) : Type 0 where
   -- it is of the kind of what is there, and no slip is
   pub alike : (old : Record) → get c.records n ≡ Some old → IsAlike old r
   pub no_slip : get c.slips n ≡ None
-  -- it is no place, no entry and of no other kind
+  -- it is no place and of no other kind, and where it is an entry, no other one has its key
   pub no_place : (p : model.Place) → r ≡ kind.Place p → ⊥
-  pub no_entry : (e : model.Entry) → r ≡ kind.Entry e → ⊥
+  pub keys : (e : model.Entry) → r ≡ kind.Entry e → (k : ℕ) → IsEntryAt c.records e.source e.kind e.page e.item k → k ≡ n
   pub no_other : (o : model.Other) → r ≡ kind.Other o → ⊥
   -- it keeps the rules
   pub named : EachOf (Stands c.records) (links r)
@@ -105,11 +106,25 @@ module _ (m : Records) (n : ℕ) (r : Record) (alike : (old : Record) → get m 
   }
 
 -- ---- entries
-entry_before : (m : Records) (n : ℕ) (r : Record) → ((e : model.Entry) → r ≡ kind.Entry e → ⊥) → (k : ℕ) (e : model.Entry) → get (insert m n r) k ≡ Some (kind.Entry e) → get m k ≡ Some (kind.Entry e)
-entry_before m n r none k e h = elim (put_cases m n r k (Some (kind.Entry e)) h) as (λ _. get m k ≡ Some (kind.Entry e)) [
-  | inl q ↦ let same : r ≡ kind.Entry e = let f = q.1 in cc in absurd (none e same)
-  | inr q ↦ q.1
-]
+-- no two entries have one key, with one more that has another
+keys_put : (m : Records) (n : ℕ) (r : Record) → ((e : model.Entry) → r ≡ kind.Entry e → (k : ℕ) → IsEntryAt m e.source e.kind e.page e.item k → k ≡ n)
+    → ((k j : ℕ) (e : model.Entry) → get m k ≡ Some (kind.Entry e) → IsEntryAt m e.source e.kind e.page e.item j → k ≡ j)
+    → (k j : ℕ) (e : model.Entry) → get (insert m n r) k ≡ Some (kind.Entry e) → IsEntryAt (insert m n r) e.source e.kind e.page e.item j → k ≡ j
+keys_put m n r own old k j e h there =
+    elim (put_cases m n r k (Some (kind.Entry e)) h) as (λ _. k ≡ j) [
+      | inl p ↦
+          elim (put_cases m n r j (Some (kind.Entry there.0)) there.1) as (λ _. k ≡ j) [
+            | inl q ↦ p.0 ∙ sym q.0
+            | inr q ↦ let same : r ≡ kind.Entry e = let f = p.1 in cc in p.0 ∙ sym (own e same j (there.0, q.1, there.2))
+          ]
+      | inr p ↦
+          elim (put_cases m n r j (Some (kind.Entry there.0)) there.1) as (λ _. k ≡ j) [
+            | inl q ↦
+                let same : r ≡ kind.Entry there.0 = let f = q.1 in cc in
+                own there.0 same k (e, p.1, (sym there.2.0, sym there.2.1, sym there.2.2, sym there.2.3)) ∙ sym q.0
+            | inr q ↦ old k j e p.1 (there.0, q.1, there.2)
+          ]
+    ]
 
 -- ---- all rules
 rules_of : (c : Content) (n next : ℕ) (r : Record) → IsFit c n r → IsNumber next n → KeepsRules next c.records n r
@@ -151,6 +166,6 @@ put_keeps c n next r sound fit later bounded number =
         | inr h ↦ sound.distinct k x h.1
       ];
       paths = λ k path h. sound.rules.paths k path ((path_known m k path).1 ((alike k).path ∙ (path_known after k path).0 h));
-      keys = λ k j e h there. sound.rules.keys k j e (entry_before m n r fit.no_entry k e h) (there.0, entry_before m n r fit.no_entry j there.0 there.1, there.2);
+      keys = keys_put m n r fit.keys sound.rules.keys;
       slips = λ k s e. slip_later c.next next later k s (sound.slips k s e);
     })

@@ -1,3 +1,4 @@
+mod Entered
 pub mod Exactness
 mod Fitting
 pub mod Following

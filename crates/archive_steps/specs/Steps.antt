@@ -1,10 +1,10 @@
 -- What each command makes of an archive, or the refusal that it gets: the texts are looked at first, then each number in
 -- the order of its field, then what is the command's own, and last whether a number is left. Rules of our own.
-use Rattle.std.specs.Prelude.{ℕ, ◌+◌, List, [], ◌∷◌, ◌++◌, Bool, true, false, not, ◌||◌, ◌==◌, Option, Some, None, option_map, Result, Ok}
+use Rattle.std.specs.Prelude.{ℕ, ◌+◌, List, [], ◌∷◌, ◌++◌, Bool, true, false, not, ◌&&◌, ◌||◌, ◌==◌, ◌-◌, nat_le, length, take, drop, Option, Some, None, option_map, Result, Ok}
 use Rattle.std.specs.List.{list_any}
 use Rattle.std.specs.FinMap.{insert, remove}
 use Rattle.record_text.specs.declared.refusal.RefusalKind.{RefusalKind}
-use Rattle.record_text.specs.declared.refusal.RefusalKind.TheVariants.{SamePerson, AlreadyInFamily, BadText, StillNamed}
+use Rattle.record_text.specs.declared.refusal.RefusalKind.TheVariants.{SamePerson, AlreadyInFamily, BadText, NoSuchMention, StillNamed}
 use Rattle.record_fields.specs.declared.date.Date.{Date}
 use Rattle.record_fields.specs.declared.words.Quality.{Quality}
 use Rattle.record_fields.specs.declared.words.Sex.{Sex}
@@ -17,9 +17,11 @@ use Rattle.receipts.specs.declared.answer.Answer.{Answer}
 use Rattle.archive_state.specs.Content.{Content}
 use Rattle.commands.specs.Given.{GivenDate}
 use Rattle.commands.specs.Rows.{and_then}
+use Rattle.commands.specs.declared.entry_row.EntryRow.{EntryRow}
 use Rattle.commands.specs.declared.row_command.RowCommand.{RowCommand}
 use Rattle.commands.specs.declared.row_command.RowCommand.TheVariants as row_command
 use Rattle.archive_looks.specs.Checks.{need, passed, each, place_name_in, path_fits, text_in, maybe_text_in, date_in, person_at, family_at, event_at, record_at, demanded_at, is_named, event_tag, said_place_at, next_free}
+use Rattle.archive_looks.specs.Entries.{texts_fit, reason_in, mentions_in, entry_at, key_is_free}
 use Rattle.archive_looks.specs.declared.kinds.Demand.TheVariants as demand
 
 -- what an accepted command of one row leaves, and its answer; or its refusal, which has no place
@@ -147,6 +149,29 @@ given_source title author publisher repo call_number =
 abbrev pub plain_citation : ℕ → ℕ → Option (List ℕ) → Option Quality → model.Citation
 plain_citation owner source page quality = record { owner = owner; source = source; page = page; quality = quality; carried = [] }
 
+-- ---- register entries
+-- the entry that a row gives of a source; its mentions are of no person yet
+abbrev pub entry_of : ℕ → EntryRow → Result model.Entry RefusalKind
+entry_of source e =
+    and_then (text_in e.page) (λ p.
+    and_then (text_in e.text) (λ t.
+    and_then (each date_in e.date) (λ d.
+    and_then (mentions_in e.kind e.mentions) (λ ms.
+    Ok (record { source = source; kind = e.kind; page = p; item = e.item; date = d; place = e.place; text = t; mentions = ms })))))
+
+-- a mention of that place, from 1, is there
+abbrev pub has_mention : ℕ → model.Entry → Bool
+has_mention k e = nat_le 1 k && nat_le k (length e.mentions)
+
+-- the first of these mentions has that link, or none
+abbrev pub linked : Option model.Link → List model.Mention → List model.Mention
+linked link [] = []
+linked link (m ∷ ms) = record m { link = link } ∷ ms
+
+-- the mention of that place has it
+abbrev pub with_link : ℕ → Option model.Link → model.Entry → model.Entry
+with_link k link e = record e { mentions = take (k - 1) e.mentions ++ linked link (drop (k - 1) e.mentions) }
+
 -- ---- the commands
 abbrev pub new_person : Content → List ℕ → Option Sex → RowStep
 new_person c name sex =
@@ -234,6 +259,34 @@ new_citation c owner source page quality =
     and_then (demanded_at c demand.Source source) (λ _.
     creates c (kind.Citation (plain_citation owner source p quality)))))
 
+-- the words are looked at first, and the roles of mentions and the key behind source and place
+abbrev pub new_entry : Content → ℕ → EntryRow → RowStep
+new_entry c source row =
+    and_then (texts_fit row) (λ _.
+    and_then (demanded_at c demand.Source source) (λ _.
+    and_then (passed (each (said_place_at c) row.place)) (λ _.
+    and_then (entry_of source row) (λ e.
+    and_then (key_is_free c.records source e.kind e.page e.item) (λ _.
+    creates c (kind.Entry e))))))
+
+-- the entry of a number, with another link of a mention, or none
+abbrev pub relinked : Content → ℕ → model.Entry → ℕ → Option model.Link → RowStep
+relinked c n e k link =
+    and_then (need (has_mention k e) NoSuchMention) (λ _.
+    replaces c n (kind.Entry (with_link k link e)))
+
+abbrev pub link_mention : Content → ℕ → ℕ → ℕ → List ℕ → RowStep
+link_mention c n k person reason =
+    and_then (reason_in reason) (λ t.
+    and_then (entry_at c n) (λ e.
+    and_then (passed (person_at c person)) (λ _.
+    relinked c n e k (Some (record { person = person; reason = t })))))
+
+abbrev pub unlink_mention : Content → ℕ → ℕ → RowStep
+unlink_mention c n k =
+    and_then (entry_at c n) (λ e.
+    relinked c n e k None)
+
 -- one that names itself alone can be removed
 abbrev pub remove_record : Content → ℕ → RowStep
 remove_record c n =
@@ -254,4 +307,7 @@ row_step c (row_command.Place name parent) = new_place c name parent
 row_step c (row_command.Repo name) = new_repo c name
 row_step c (row_command.Source title author publisher repo call_number) = new_source c title author publisher repo call_number
 row_step c (row_command.Citation owner source page quality) = new_citation c owner source page quality
+row_step c (row_command.Entry source entry) = new_entry c source entry
+row_step c (row_command.Link entry mention person reason) = link_mention c entry mention person reason
+row_step c (row_command.Unlink entry mention) = unlink_mention c entry mention
 row_step c (row_command.Remove number) = remove_record c number

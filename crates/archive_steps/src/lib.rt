@@ -8,6 +8,7 @@
 //! its refusal, and changes nothing itself; and the changes are of what differs alone.
 #![tactic(auto)]
 
+mod entries;
 mod events;
 mod families;
 mod making;

@@ -6,6 +6,7 @@ ghost use Rattle.archive_steps.specs.Applied.{Plans};
 ghost use Rattle.archive_steps.specs.Exact.{IsExact};
 ghost use Rattle.archive_steps.specs.Steps.{row_step};
 
+use crate::entries::{link_mention, new_entry, unlink_mention};
 use crate::events::{add_participant, amend_event, new_event};
 use crate::families::{add_child, new_family};
 use crate::persons::{add_name, new_person, set_sex};
@@ -69,6 +70,14 @@ pub fn decide_row<V: View>(
             page,
             quality,
         } => new_citation(alloc, view, *owner, *source, page, *quality),
+        RowCommand::Entry { source, entry } => new_entry(alloc, view, *source, entry),
+        RowCommand::Link {
+            entry,
+            mention,
+            person,
+            reason,
+        } => link_mention(alloc, view, *entry, *mention, *person, reason),
+        RowCommand::Unlink { entry, mention } => unlink_mention(alloc, view, *entry, *mention),
         RowCommand::Remove { number } => remove_record(alloc, view, *number),
     }
 }

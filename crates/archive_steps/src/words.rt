@@ -1,9 +1,10 @@
 //! The words of commands.
 
 ghost use Rattle.commands.specs.Sound.{WhereSome};
-ghost use Rattle.archive_steps.specs.Words.{IsUtf8Date, IsUtf8Row};
+ghost use Rattle.record_shapes.specs.Lists.{EachOf};
+ghost use Rattle.archive_steps.specs.Words.{IsUtf8Date, IsUtf8Entry, IsUtf8Mention, IsUtf8Row};
 
-use commands::{GivenDate, RowCommand};
+use commands::{EntryRow, GivenDate, GivenMention, RowCommand};
 
 /// Does nothing: it tells a proof that the words of a row are UTF-8.
 pub fn tell_row(row: &RowCommand)
@@ -48,10 +49,35 @@ pub fn tell_row(row: &RowCommand)
         RowCommand::Citation { page, .. } => {
             let _ = page.as_str();
         }
+        RowCommand::Entry { entry, .. } => tell_entry(entry),
+        RowCommand::Link { reason, .. } => {
+            let _ = reason.as_str();
+        }
         RowCommand::Sex { .. }
         | RowCommand::Family { .. }
         | RowCommand::Child { .. }
+        | RowCommand::Unlink { .. }
         | RowCommand::Remove { .. } => {}
+    }
+}
+
+/// The same of a register entry, and that it has 1 to 100 mentions.
+fn tell_entry(entry: &EntryRow)
+    ensures { IsUtf8Entry entry.now }
+{
+    let _ = entry.page.as_str();
+    let _ = entry.text.as_str();
+    tell_date(&entry.date);
+    tell_mentions(entry.mentions.as_slice());
+}
+
+/// The same of mentions, which are at most 100, so that the calls are not deep.
+fn tell_mentions(mentions: &[GivenMention])
+    ensures { EachOf IsUtf8Mention mentions.now }
+{
+    if let [first, more @ ..] = mentions {
+        let _ = first.name.as_str();
+        tell_mentions(more);
     }
 }
 

@@ -1,6 +1,8 @@
 -- The row of a command is read as that command.
-use Rattle.std.specs.Prelude.{◌≡◌, ◌<◌, ◌≤◌, ◌^◌, ◌++◌, ℕ, List, [], ◌∷◌, length, Option, Some, None, Result, Ok, refl, decimal}
+use Rattle.std.specs.Prelude.{map, ◌≡◌, ◌<◌, ◌≤◌, ◌^◌, ◌++◌, ℕ, List, [], ◌∷◌, length, Option, Some, None, Result, Ok, refl, decimal}
+use Rattle.std.specs.List.{All}
 use Rattle.std.proofs.Common.{ap, sym, ◌∙◌, arith}
+use Rattle.std.proofs.lemmas.List.Elements.{All-head, All-tail}
 use Rattle.std.proofs.lemmas.Fmt.{decimal_is_IsNumeral}
 use Rattle.csv.specs.Machine.{next_record}
 use Rattle.csv.specs.Reading.{default_config}
@@ -8,26 +10,31 @@ use Rattle.csv.specs.declared.parser.State.TheVariants as st
 use Rattle.csv.proofs.RoundTrip.{read-write-many}
 use Rattle.record_text.specs.declared.refusal.RefusalKind.{RefusalKind}
 use Rattle.record_text.specs.declared.refusal.RefusalKind.TheVariants.{BadRow}
-use Rattle.record_fields.specs.Words.{quality_word, sex_word}
+use Rattle.record_fields.specs.Words.{entry_kind_word, quality_word, sex_word}
+use Rattle.record_fields.specs.declared.entry_words.EntryKind.{EntryKind}
+use Rattle.record_fields.specs.declared.item.Item.{Item}
 use Rattle.record_fields.specs.declared.words.Quality.{Quality}
 use Rattle.record_fields.specs.declared.words.Quality.TheVariants as quality
 use Rattle.record_fields.specs.declared.words.Sex.{Sex}
 use Rattle.record_fields.specs.declared.words.Sex.TheVariants as sex
-use Rattle.record_fields.proofs.Worded.{quality_back, sex_back}
+use Rattle.record_fields.proofs.Worded.{entry_kind_back, quality_back, sex_back}
 use Rattle.csv.specs.Writing.{default_writer, row_text}
-use Rattle.commands.specs.Bytes.{or_empty, row_of, spelt}
+use Rattle.commands.specs.Bytes.{entry_fields, or_empty, row_of, spelt}
 use Rattle.commands.specs.Dated.{given_of}
 use Rattle.commands.specs.Given.{GivenDate, Gives}
-use Rattle.commands.specs.Rows.{Reads, and_then, number_in, ok_or, or_none, quality_in, read_fields, read_row, sex_in}
-use Rattle.commands.specs.Sound.{IsDate, IsNumber, IsSoundRow, WhereSome}
+use Rattle.commands.specs.Rows.{Reads, ReadsEntry, and_then, item_in, kind_in, number_in, ok_or, or_none, quality_in, read_entry, read_fields, read_row, sex_in}
+use Rattle.commands.specs.Sound.{IsDate, IsNumber, IsSoundEntry, IsSoundRow, WhereSome}
 use Rattle.commands.specs.Verbs.{verb_of, verb_word}
+use Rattle.commands.specs.declared.entry_row.EntryRow.{EntryRow}
 use Rattle.commands.specs.declared.row_command.RowCommand.{RowCommand}
 use Rattle.commands.specs.declared.row_command.RowCommand.TheVariants as row_command
 use Rattle.commands.specs.declared.verb.Verb.{Verb}
 use Rattle.commands.specs.declared.verb.Verb.TheVariants as verb
 use Rattle.commands.proofs.Dated.{gives_of, one_given}
+use Rattle.commands.proofs.Items.{item_back}
+use Rattle.commands.proofs.Mentions.{mentions_back}
 use Rattle.commands.proofs.Numbers.{number_back}
-use Rattle.commands.proofs.Outcomes.{is_reading}
+use Rattle.commands.proofs.Outcomes.{is_entry, is_reading}
 
 -- ---- fields
 some-read : {A : Type 0} (read : List ℕ → Result A RefusalKind) (field : List ℕ) (a : A) → 1 ≤ length field → read field ≡ Ok a → or_none read field ≡ Ok (Some a)
@@ -66,6 +73,21 @@ date-again : (date : Option GivenDate) → WhereSome IsDate date → given_of (o
 date-again None h = one_given [] (given_of []) None (gives_of []) refl
 date-again (Some g) h = one_given g.spelling (given_of g.spelling) (Some g) (gives_of g.spelling) (h.some, h, h.written)
 
+kind-again : (k : EntryKind) → kind_in (entry_kind_word k) ≡ Ok k
+unfolding kind_in
+kind-again k = ap (ok_or BadRow) (entry_kind_back k)
+
+item-again : (i : Item) → item_in (decimal i.number) ≡ Ok i
+unfolding item_in
+item-again i = rw (number_back i.number i.in_range.0 (below i.number i.in_range.1)) (ap (ok_or BadRow) (item_back i))
+  where
+    below : (n : ℕ) → n ≤ 999999 → n ≤ 4294967295
+    below n h = omega arith
+
+entry-again : (e : EntryRow) → IsSoundEntry e → read_entry given_of (entry_fields e) ≡ Ok e
+entry-again e h =
+    rw (mentions_back e.mentions h.2, kind-again e.kind, item-again e.item, number-or-none e.place h.1, date-again e.date h.0) refl
+
 -- ---- verbs
 pub verb_back : (v : Verb) → verb_of (verb_word v) ≡ Some v
 unfolding verb_of
@@ -81,6 +103,9 @@ verb_back verb.Place = refl
 verb_back verb.Repo = refl
 verb_back verb.Source = refl
 verb_back verb.Citation = refl
+verb_back verb.Entry = refl
+verb_back verb.Link = refl
+verb_back verb.Unlink = refl
 verb_back verb.Remove = refl
 
 by-verb : (v : Verb) (fields : List (List ℕ)) → read_row given_of (verb_word v ∷ fields) ≡ read_fields given_of v fields
@@ -110,6 +135,13 @@ row-again (row_command.Source title author publisher repo call_number) h =
 row-again (row_command.Citation owner source page quality) h =
     by-verb verb.Citation (decimal owner ∷ decimal source ∷ page ∷ or_empty quality_word quality ∷ [])
     ∙ rw (number_back owner h.0.0 h.0.1, number_back source h.1.0 h.1.1, quality-or-none quality) refl
+row-again (row_command.Entry source entry) h =
+    by-verb verb.Entry (decimal source ∷ entry_fields entry) ∙ rw (entry-again entry h.1, number_back source h.0.0 h.0.1) refl
+row-again (row_command.Link entry mention person reason) h =
+    by-verb verb.Link (decimal entry ∷ decimal mention ∷ decimal person ∷ reason ∷ [])
+    ∙ rw (number_back entry h.0.0 h.0.1, number_back mention h.1.0 h.1.1, number_back person h.2.0 h.2.1) refl
+row-again (row_command.Unlink entry mention) h =
+    by-verb verb.Unlink (decimal entry ∷ decimal mention ∷ []) ∙ rw (number_back entry h.0.0 h.0.1, number_back mention h.1.0 h.1.1) refl
 row-again (row_command.Remove number) h = by-verb verb.Remove (decimal number ∷ []) ∙ rw (number_back number h.0 h.1) refl
 
 pub row_back : (c : RowCommand) → IsSoundRow c → Reads (row_of c) (Ok c)
@@ -125,6 +157,16 @@ same-dates g h x y = λ i words. one_given words (g words) (h words) (x words) (
 
 pub one_outcome : (row : List (List ℕ)) (r s : Result RowCommand RefusalKind) → Reads row r → Reads row s → r ≡ s
 one_outcome row r s x y = x.2 ∙ ap (λ g. read_row g row) (same-dates x.0 y.0 x.1 y.1) ∙ sym y.2
+
+-- ---- rows of a batch
+pub fields_back : (e : EntryRow) → IsSoundEntry e → ReadsEntry (entry_fields e) (Ok e)
+fields_back e h = is_entry (entry_fields e) (Ok e) (sym (entry-again e h))
+
+pub some_entry : (row : List (List ℕ)) → (r : Result EntryRow RefusalKind) × ReadsEntry row r
+some_entry row = (read_entry given_of row, is_entry row (read_entry given_of row) refl)
+
+pub one_entry_outcome : (row : List (List ℕ)) (r s : Result EntryRow RefusalKind) → ReadsEntry row r → ReadsEntry row s → r ≡ s
+one_entry_outcome row r s x y = x.2 ∙ ap (λ g. read_entry g row) (same-dates x.0 y.0 x.1 y.1) ∙ sym y.2
 
 -- ---- bytes
 pub bytes_back : (c : RowCommand) (rest : List ℕ) → next_record default_config st.StartRecord [] [] (row_text default_writer (row_of c) ++ rest) ≡ Some (row_of c, st.StartRecord, rest)
@@ -145,6 +187,10 @@ bytes_back (row_command.Source title author publisher repo call_number) rest =
     read-write-many (verb_word verb.Source) title (author ∷ publisher ∷ or_empty decimal repo ∷ call_number ∷ []) rest
 bytes_back (row_command.Citation owner source page quality) rest =
     read-write-many (verb_word verb.Citation) (decimal owner) (decimal source ∷ page ∷ or_empty quality_word quality ∷ []) rest
+bytes_back (row_command.Entry source entry) rest = read-write-many (verb_word verb.Entry) (decimal source) (entry_fields entry) rest
+bytes_back (row_command.Link entry mention person reason) rest =
+    read-write-many (verb_word verb.Link) (decimal entry) (decimal mention ∷ decimal person ∷ reason ∷ []) rest
+bytes_back (row_command.Unlink entry mention) rest = read-write-many (verb_word verb.Unlink) (decimal entry) (decimal mention ∷ []) rest
 bytes_back (row_command.Remove number) rest = read-write-many (verb_word verb.Remove) (decimal number) [] rest
 
 -- row commands of one row are one
@@ -152,3 +198,19 @@ pub one_row : (c d : RowCommand) → IsSoundRow c → IsSoundRow d → row_of c 
 one_row c d x y e =
     let same : ◌≡◌ {A = Result RowCommand RefusalKind} (Ok c) (Ok d) = sym (row-again c x) ∙ ap (read_row given_of) e ∙ row-again d y in
     cc
+
+-- entries of the same fields are one
+one-entry : (e f : EntryRow) → IsSoundEntry e → IsSoundEntry f → entry_fields e ≡ entry_fields f → e ≡ f
+one-entry e f x y same =
+    let read : ◌≡◌ {A = Result EntryRow RefusalKind} (Ok e) (Ok f) = sym (entry-again e x) ∙ ap (read_entry given_of) same ∙ entry-again f y in
+    cc
+
+pub one_batch : (es fs : List EntryRow) → All IsSoundEntry es → All IsSoundEntry fs → map entry_fields es ≡ map entry_fields fs → es ≡ fs
+one_batch [] [] x y same = refl
+one_batch [] (f ∷ fs) x y same = absurd cc
+one_batch (e ∷ es) [] x y same = absurd cc
+one_batch (e ∷ es) (f ∷ fs) x y same =
+    let row : entry_fields e ≡ entry_fields f = cc in
+    let rows : map entry_fields es ≡ map entry_fields fs = cc in
+    ap (λ (z : EntryRow). z ∷ es) (one-entry e f (All-head IsSoundEntry e es x) (All-head IsSoundEntry f fs y) row)
+    ∙ ap (λ (zs : List EntryRow). f ∷ zs) (one_batch es fs (All-tail IsSoundEntry e es x) (All-tail IsSoundEntry f fs y) rows)

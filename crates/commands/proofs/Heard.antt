@@ -7,14 +7,20 @@ use Rattle.std.proofs.Common.{sym, subst, arith}
 use Rattle.std.proofs.lemmas.Bool.Decides.{nat_tests}
 use Rattle.record_text.specs.declared.refusal.RefusalKind.{RefusalKind}
 use Rattle.record_text.specs.declared.refusal.RefusalKind.TheVariants.{BadRow, UnknownVerb}
+use Rattle.record_fields.specs.declared.entry_words.EntryKind.{EntryKind}
+use Rattle.record_fields.specs.declared.item.Item.{Item}
 use Rattle.commands.specs.Given.{GivenDate, Gives}
-use Rattle.commands.specs.Rows.{Reads, and_then, is_number, number_in, ok_or, or_none, quality_in, read_fields, read_row, sex_in}
-use Rattle.commands.specs.Sound.{IsDate, IsNumber, IsSoundRow, WhereSome}
+use Rattle.commands.specs.Mentions.{IsCount}
+use Rattle.commands.specs.Rows.{Reads, ReadsEntry, and_then, is_number, item_in, kind_in, mentions_in, number_in, ok_or, or_none, quality_in, read_entry, read_fields, read_row, sex_in}
+use Rattle.commands.specs.Sound.{IsDate, IsNumber, IsSoundEntry, IsSoundRow, WhereSome}
 use Rattle.commands.specs.Verbs.{verb_of}
+use Rattle.commands.specs.declared.entry_row.EntryRow.{EntryRow}
+use Rattle.commands.specs.declared.entry_row.GivenMention.{GivenMention}
 use Rattle.commands.specs.declared.row_command.RowCommand.{RowCommand}
 use Rattle.commands.specs.declared.row_command.RowCommand.TheVariants as row_command
 use Rattle.commands.specs.declared.verb.Verb.{Verb}
 use Rattle.commands.specs.declared.verb.Verb.TheVariants as verb
+use Rattle.commands.proofs.Mentions.{mentions_bound}
 
 -- ---- fields
 ok-is : {A : Type 0} (a b : A) → ◌≡◌ {A = Result A RefusalKind} (Ok a) (Ok b) → a ≡ b
@@ -43,11 +49,33 @@ date-sound : (words : List ℕ) (found : Option GivenDate) → Gives words found
 date-sound words None h = tt
 date-sound words (Some g) h = h.1
 
+-- what is read in two steps
+then-is : {A B : Type 0} (r : Result A RefusalKind) (P : A → Type 0) (f : A → Result B RefusalKind) (Q : B → Type 0) (b : B)
+    → ((a : A) → r ≡ Ok a → P a) → ((a : A) → P a → f a ≡ Ok b → Q b) → and_then r f ≡ Ok b → Q b
+then-is (Ok a) P f Q b h k e = k a (h a refl) e
+then-is (Err x) P f Q b h k e = absurd cc
+
+-- ---- register entries
+entry-sound : (given : List ℕ → Option GivenDate) (fields : List (List ℕ)) (entry : EntryRow)
+    → ((words : List ℕ) → WhereSome IsDate (given words)) → read_entry given fields ≡ Ok entry → IsSoundEntry entry
+entry-sound given (kind ∷ page ∷ item ∷ date ∷ place ∷ text ∷ fields) entry dates e =
+    let made : List GivenMention → EntryKind → Item → Option ℕ → EntryRow =
+    λ ms k i p. record { kind = k; page = page; item = i; date = given date; place = p; text = text; mentions = ms } in
+    then-is (mentions_in fields) (λ ms. IsCount ms)
+    (λ ms. and_then (kind_in kind) (λ k. and_then (item_in item) (λ i. and_then (or_none number_in place) (λ p. Ok (made ms k i p)))))
+    IsSoundEntry entry (mentions_bound fields)
+    (λ ms few. then-is (kind_in kind) (λ k. Unit {0})
+    (λ k. and_then (item_in item) (λ i. and_then (or_none number_in place) (λ p. Ok (made ms k i p)))) IsSoundEntry entry (λ k h. tt)
+    (λ k h. then-is (item_in item) (λ i. Unit {0})
+    (λ i. and_then (or_none number_in place) (λ p. Ok (made ms k i p))) IsSoundEntry entry (λ i x. tt)
+    (λ i x. then-is (or_none number_in place) (WhereSome IsNumber) (λ p. Ok (made ms k i p)) IsSoundEntry entry (number-or-none place)
+    (λ p number same. subst IsSoundEntry (ok-is (made ms k i p) entry same) (dates date, number, few))))) e
+entry-sound given _ entry dates e = absurd cc
+
 -- ---- rows
 then-sound : {A : Type 0} (r : Result A RefusalKind) (P : A → Type 0) (f : A → Result RowCommand RefusalKind) (c : RowCommand)
     → ((a : A) → r ≡ Ok a → P a) → ((a : A) → P a → f a ≡ Ok c → IsSoundRow c) → and_then r f ≡ Ok c → IsSoundRow c
-then-sound (Ok a) P f c h k e = k a (h a refl) e
-then-sound (Err x) P f c h k e = absurd cc
+then-sound r P f c h k e = then-is r P f IsSoundRow c h k e
 
 is-that : (d c : RowCommand) → ◌≡◌ {A = Result RowCommand RefusalKind} (Ok d) (Ok c) → IsSoundRow d → IsSoundRow c
 is-that d c e h = subst IsSoundRow (ok-is d c e) h
@@ -93,6 +121,19 @@ fields-sound given verb.Citation (owner ∷ source ∷ page ∷ quality ∷ []) 
     (λ o x. then-sound (number_in source) IsNumber (λ s. and_then (or_none quality_in quality) (λ q. Ok (row_command.Citation o s page q))) c (number-in source)
     (λ s y. then-sound (or_none quality_in quality) (λ q. Unit {0}) (λ q. Ok (row_command.Citation o s page q)) c (λ q i. tt)
     (λ q i same. is-that (row_command.Citation o s page q) c same (x, y)))) e
+fields-sound given verb.Entry (source ∷ fields) c dates e =
+    then-sound (read_entry given fields) IsSoundEntry (λ r. and_then (number_in source) (λ s. Ok (row_command.Entry s r))) c (λ r. entry-sound given fields r dates)
+    (λ r x. then-sound (number_in source) IsNumber (λ s. Ok (row_command.Entry s r)) c (number-in source)
+    (λ s y same. is-that (row_command.Entry s r) c same (y, x))) e
+fields-sound given verb.Link (entry ∷ mention ∷ person ∷ reason ∷ []) c dates e =
+    then-sound (number_in entry) IsNumber (λ r. and_then (number_in mention) (λ m. and_then (number_in person) (λ p. Ok (row_command.Link r m p reason)))) c (number-in entry)
+    (λ r x. then-sound (number_in mention) IsNumber (λ m. and_then (number_in person) (λ p. Ok (row_command.Link r m p reason))) c (number-in mention)
+    (λ m y. then-sound (number_in person) IsNumber (λ p. Ok (row_command.Link r m p reason)) c (number-in person)
+    (λ p z same. is-that (row_command.Link r m p reason) c same (x, y, z)))) e
+fields-sound given verb.Unlink (entry ∷ mention ∷ []) c dates e =
+    then-sound (number_in entry) IsNumber (λ r. and_then (number_in mention) (λ m. Ok (row_command.Unlink r m))) c (number-in entry)
+    (λ r x. then-sound (number_in mention) IsNumber (λ m. Ok (row_command.Unlink r m)) c (number-in mention)
+    (λ m y same. is-that (row_command.Unlink r m) c same (x, y))) e
 fields-sound given verb.Remove (number ∷ []) c dates e =
     then-sound (number_in number) IsNumber (λ n. Ok (row_command.Remove n)) c (number-in number) (λ n h same. is-that (row_command.Remove n) c same h) e
 fields-sound given _ _ c dates e = absurd cc
@@ -105,3 +146,6 @@ row-sound given (word ∷ fields) c dates e =
 
 pub read_sound : (row : List (List ℕ)) (c : RowCommand) → Reads row (Ok c) → IsSoundRow c
 read_sound row c x = row-sound x.0 row c (λ words. date-sound words (x.0 words) (x.1 words)) (sym x.2)
+
+pub entry_sound : (row : List (List ℕ)) (e : EntryRow) → ReadsEntry row (Ok e) → IsSoundEntry e
+entry_sound row e x = entry-sound x.0 row e (λ words. date-sound words (x.0 words) (x.1 words)) (sym x.2)

@@ -1,12 +1,14 @@
 -- The bytes of a command, of which a digest is kept under the token: rows of CSV (RFC 4180, section 2) as the default
 -- writer writes them, and their SHA-256 (FIPS 180-4). A rule of our own.
-use Rattle.std.specs.Prelude.{ℕ, List, [], ◌∷◌, ◌++◌, codes, Option, Some, None, decimal}
+use Rattle.std.specs.Prelude.{ℕ, List, [], ◌∷◌, ◌++◌, map, codes, Option, Some, None, decimal}
 use Rattle.std.specs.List.{flat_map}
 use Rattle.csv.specs.Writing.{default_writer, row_text}
 use Rattle.sha2.specs.Sha256.{sha256}
-use Rattle.record_fields.specs.Words.{quality_word, sex_word}
+use Rattle.record_fields.specs.Words.{entry_kind_word, quality_word, sex_word}
 use Rattle.commands.specs.Given.{GivenDate}
 use Rattle.commands.specs.Verbs.{verb_word}
+use Rattle.commands.specs.declared.entry_row.GivenMention.{GivenMention}
+use Rattle.commands.specs.declared.entry_row.EntryRow.{EntryRow}
 use Rattle.commands.specs.declared.command.Command.{Command}
 use Rattle.commands.specs.declared.command.Command.TheVariants as command
 use Rattle.commands.specs.declared.row_command.RowCommand.{RowCommand}
@@ -20,6 +22,16 @@ or_empty text (Some a) = text a
 
 abbrev pub spelt : GivenDate → List ℕ
 spelt given = given.spelling
+
+-- role and name of each mention
+abbrev pub mention_fields : List GivenMention → List (List ℕ)
+mention_fields mentions = flat_map (λ (m : GivenMention). m.role ∷ m.name ∷ []) mentions
+
+-- the fields of a register entry, its source apart
+abbrev pub entry_fields : EntryRow → List (List ℕ)
+entry_fields e =
+    entry_kind_word e.kind ∷ e.page ∷ decimal e.item.number ∷ or_empty spelt e.date ∷ or_empty decimal e.place ∷ e.text
+    ∷ mention_fields e.mentions
 
 -- the verb and the fields, in the order of a row
 abbrev pub row_of : RowCommand → List (List ℕ)
@@ -41,6 +53,10 @@ row_of (row_command.Source title author publisher repo call_number) =
     verb_word verb.Source ∷ title ∷ author ∷ publisher ∷ or_empty decimal repo ∷ call_number ∷ []
 row_of (row_command.Citation owner source page quality) =
     verb_word verb.Citation ∷ decimal owner ∷ decimal source ∷ page ∷ or_empty quality_word quality ∷ []
+row_of (row_command.Entry source entry) = verb_word verb.Entry ∷ decimal source ∷ entry_fields entry
+row_of (row_command.Link entry mention person reason) =
+    verb_word verb.Link ∷ decimal entry ∷ decimal mention ∷ decimal person ∷ reason ∷ []
+row_of (row_command.Unlink entry mention) = verb_word verb.Unlink ∷ decimal entry ∷ decimal mention ∷ []
 row_of (row_command.Remove number) = verb_word verb.Remove ∷ decimal number ∷ []
 
 -- ---- bytes
@@ -59,6 +75,7 @@ written (Import text) = codes "import" ++ 10 ∷ text
 
 abbrev pub wording_of : Command → Wording
 wording_of (command.Row c) = Row (row_of c)
+wording_of (command.Entries source rows) = Batch source (map entry_fields rows)
 
 abbrev pub bytes_of : Command → List ℕ
 bytes_of c = written (wording_of c)

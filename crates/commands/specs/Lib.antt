@@ -2,6 +2,8 @@ pub mod Bytes
 pub mod Dated
 pub mod Fields
 pub mod Given
+pub mod Items
+pub mod Mentions
 pub mod Rows
 pub mod Sound
 pub mod Verbs

@@ -1,15 +1,21 @@
 -- How a row of a request is read as a command: its verb and its fields, without the token. A rule of our own.
-use Rattle.std.specs.Prelude.{◌≡◌, ℕ, List, [], ◌∷◌, length, Bool, true, false, ◌&&◌, nat_le, Option, Some, None, Result, Ok, Err, if◌then◌else◌}
+use Rattle.std.specs.Prelude.{◌≡◌, ℕ, List, [], ◌∷◌, length, Bool, true, false, ◌&&◌, nat_le, Option, Some, None, option_map, Result, Ok, Err, if◌then◌else◌}
 use Rattle.std.specs.Char.{is_ascii_digit}
 use Rattle.std.specs.List.{list_all}
 use Rattle.std.specs.Str.Parse.{digits_value}
 use Rattle.record_text.specs.declared.refusal.RefusalKind.{RefusalKind}
 use Rattle.record_text.specs.declared.refusal.RefusalKind.TheVariants.{OutOfMemory, BadRow, UnknownVerb, FieldCount}
-use Rattle.record_fields.specs.Words.{quality_of, sex_of}
+use Rattle.record_fields.specs.Words.{entry_kind_of, quality_of, sex_of}
+use Rattle.record_fields.specs.declared.entry_words.EntryKind.{EntryKind}
+use Rattle.record_fields.specs.declared.item.Item.{Item}
 use Rattle.record_fields.specs.declared.words.Quality.{Quality}
 use Rattle.record_fields.specs.declared.words.Sex.{Sex}
 use Rattle.commands.specs.Given.{GivenDate, Gives}
+use Rattle.commands.specs.Items.{item_at}
+use Rattle.commands.specs.Mentions.{is_count}
 use Rattle.commands.specs.Verbs.{verb_of}
+use Rattle.commands.specs.declared.entry_row.EntryRow.{EntryRow}
+use Rattle.commands.specs.declared.entry_row.GivenMention.{GivenMention}
 use Rattle.commands.specs.declared.row_command.RowCommand.{RowCommand}
 use Rattle.commands.specs.declared.row_command.RowCommand.TheVariants as row_command
 use Rattle.commands.specs.declared.verb.Verb.{Verb}
@@ -43,14 +49,46 @@ sex_in field = ok_or BadRow (sex_of field)
 unfoldable pub quality_in : List ℕ → Result Quality RefusalKind
 quality_in field = ok_or BadRow (quality_of field)
 
+-- the word BAPTISM, MARRIAGE or BURIAL
+unfoldable pub kind_in : List ℕ → Result EntryKind RefusalKind
+kind_in field = ok_or BadRow (entry_kind_of field)
+
+-- a number from 1 to 999,999
+unfoldable pub item_in : List ℕ → Result Item RefusalKind
+item_in field = and_then (number_in field) (λ n. ok_or BadRow (item_at n))
+
 -- an empty field is none
 abbrev pub or_none : {A : Type 0} → (List ℕ → Result A RefusalKind) → List ℕ → Result (Option A) RefusalKind
 or_none read [] = Ok None
 or_none read (b ∷ more) = and_then (read (b ∷ more)) (λ a. Ok (Some a))
 
+-- ---- mentions
+-- a role and a name for each
+abbrev pub pairs : List (List ℕ) → Option (List GivenMention)
+pairs [] = Some []
+pairs (role ∷ []) = None
+pairs (role ∷ name ∷ more) = option_map (λ ms. record { role = role; name = name } ∷ ms) (pairs more)
+
+-- 1 to 100 of them
+abbrev pub counted : List GivenMention → Result (List GivenMention) RefusalKind
+counted ms = if is_count ms then Ok ms else Err FieldCount
+
+abbrev pub mentions_in : List (List ℕ) → Result (List GivenMention) RefusalKind
+mentions_in fields = and_then (ok_or FieldCount (pairs fields)) counted
+
 -- ---- rows
--- the fields of each verb in their order; names, tags, values, roles, titles, authors, publishers, call numbers and pages
--- are any words, and so are dates
+-- a register entry, its source apart: the count of the fields is judged before them
+abbrev pub read_entry : (List ℕ → Option GivenDate) → List (List ℕ) → Result EntryRow RefusalKind
+read_entry given (kind ∷ page ∷ item ∷ date ∷ place ∷ text ∷ fields) =
+    and_then (mentions_in fields) (λ ms.
+    and_then (kind_in kind) (λ k.
+    and_then (item_in item) (λ i.
+    and_then (or_none number_in place) (λ p.
+    Ok (record { kind = k; page = page; item = i; date = given date; place = p; text = text; mentions = ms })))))
+read_entry given _ = Err FieldCount
+
+-- the fields of each verb in their order; names, tags, values, roles, titles, authors, publishers, call numbers, pages,
+-- texts and reasons are any words, and so are dates
 abbrev pub read_fields : (List ℕ → Option GivenDate) → Verb → List (List ℕ) → Result RowCommand RefusalKind
 read_fields given verb.Person (name ∷ sex ∷ []) = and_then (or_none sex_in sex) (λ s. Ok (row_command.Person name s))
 read_fields given verb.Name (person ∷ name ∷ []) = and_then (number_in person) (λ p. Ok (row_command.Name p name))
@@ -74,6 +112,13 @@ read_fields given verb.Source (title ∷ author ∷ publisher ∷ repo ∷ call_
 read_fields given verb.Citation (owner ∷ source ∷ page ∷ quality ∷ []) =
     and_then (number_in owner) (λ o. and_then (number_in source) (λ s.
     and_then (or_none quality_in quality) (λ q. Ok (row_command.Citation o s page q))))
+read_fields given verb.Entry (source ∷ fields) =
+    and_then (read_entry given fields) (λ e. and_then (number_in source) (λ s. Ok (row_command.Entry s e)))
+read_fields given verb.Link (entry ∷ mention ∷ person ∷ reason ∷ []) =
+    and_then (number_in entry) (λ e. and_then (number_in mention) (λ m. and_then (number_in person) (λ p.
+    Ok (row_command.Link e m p reason))))
+read_fields given verb.Unlink (entry ∷ mention ∷ []) =
+    and_then (number_in entry) (λ e. and_then (number_in mention) (λ m. Ok (row_command.Unlink e m)))
 read_fields given verb.Remove (number ∷ []) = and_then (number_in number) (λ n. Ok (row_command.Remove n))
 read_fields given _ _ = Err FieldCount
 
@@ -86,6 +131,11 @@ read_row given (word ∷ fields) = and_then (ok_or UnknownVerb (verb_of word)) (
 abbrev pub Reads : List (List ℕ) → Result RowCommand RefusalKind → Type 0
 Reads row outcome =
     (given : List ℕ → Option GivenDate) × ((words : List ℕ) → Gives words (given words)) × (outcome ≡ read_row given row)
+
+-- the same of a row of a batch, which is a register entry without its source
+abbrev pub ReadsEntry : List (List ℕ) → Result EntryRow RefusalKind → Type 0
+ReadsEntry row outcome =
+    (given : List ℕ → Option GivenDate) × ((words : List ℕ) → Gives words (given words)) × (outcome ≡ read_entry given row)
 
 -- ---- want of memory
 abbrev pub is_want : RefusalKind → Bool

@@ -1,8 +1,11 @@
 -- Commands as rows have them, and what bytes are written from. A rule of our own.
 use Rattle.std.specs.Prelude.{◌≡◌, ◌≢◌, ℕ, ◌≤◌, List, [], ◌∷◌, Option, Some, None}
+use Rattle.std.specs.List.{All}
 use Rattle.commands.specs.Bytes.{Wording, Row, Batch, Import}
 use Rattle.commands.specs.Given.{GivenDate, IsGiven}
+use Rattle.commands.specs.Mentions.{IsCount}
 use Rattle.commands.specs.Verbs.{verb_word}
+use Rattle.commands.specs.declared.entry_row.EntryRow.{EntryRow}
 use Rattle.commands.specs.declared.command.Command.{Command}
 use Rattle.commands.specs.declared.command.Command.TheVariants as command
 use Rattle.commands.specs.declared.row_command.RowCommand.{RowCommand}
@@ -22,6 +25,10 @@ abbrev pub WhereSome : {A : Type 0} → (A → Type 0) → Option A → Type 0
 WhereSome P None = Unit {0}
 WhereSome P (Some a) = P a
 
+-- the same of a register entry as a row gives it: it has 1 to 100 mentions
+abbrev pub IsSoundEntry : EntryRow → Type 0
+IsSoundEntry e = WhereSome IsDate e.date × WhereSome IsNumber e.place × IsCount e.mentions
+
 -- the numbers of a row are in range, and its dates as their type keeps them
 abbrev pub IsSoundRow : RowCommand → Type 0
 IsSoundRow (row_command.Person name sex) = Unit {0}
@@ -36,11 +43,15 @@ IsSoundRow (row_command.Place name parent) = WhereSome IsNumber parent
 IsSoundRow (row_command.Repo name) = Unit {0}
 IsSoundRow (row_command.Source title author publisher repo call_number) = WhereSome IsNumber repo
 IsSoundRow (row_command.Citation owner source page quality) = IsNumber owner × IsNumber source
+IsSoundRow (row_command.Entry source entry) = IsNumber source × IsSoundEntry entry
+IsSoundRow (row_command.Link entry mention person reason) = IsNumber entry × IsNumber mention × IsNumber person
+IsSoundRow (row_command.Unlink entry mention) = IsNumber entry × IsNumber mention
 IsSoundRow (row_command.Remove number) = IsNumber number
 
--- the same of any command
+-- the same of any command: of a batch of entries, of its source and of each row
 abbrev pub IsSound : Command → Type 0
 IsSound (command.Row c) = IsSoundRow c
+IsSound (command.Entries source rows) = IsNumber source × All IsSoundEntry rows
 
 -- a row begins with the word of a verb
 abbrev pub BeginsWithVerb : List (List ℕ) → Type 0

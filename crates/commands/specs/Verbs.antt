@@ -17,12 +17,16 @@ verb_word verb.Place = codes "place"
 verb_word verb.Repo = codes "repo"
 verb_word verb.Source = codes "source"
 verb_word verb.Citation = codes "citation"
+verb_word verb.Entry = codes "entry"
+verb_word verb.Link = codes "link"
+verb_word verb.Unlink = codes "unlink"
 verb_word verb.Remove = codes "remove"
 
 abbrev pub verbs : List Verb
 verbs =
     verb.Person ∷ verb.Name ∷ verb.Sex ∷ verb.Family ∷ verb.Child ∷ verb.Event ∷ verb.Amend ∷ verb.Participant
-    ∷ verb.Place ∷ verb.Repo ∷ verb.Source ∷ verb.Citation ∷ verb.Remove ∷ []
+    ∷ verb.Place ∷ verb.Repo ∷ verb.Source ∷ verb.Citation
+    ∷ verb.Entry ∷ verb.Link ∷ verb.Unlink ∷ verb.Remove ∷ []
 
 -- the verb of a word
 unfoldable pub verb_of : List ℕ → Option Verb

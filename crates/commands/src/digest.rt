@@ -7,10 +7,11 @@ ghost use Rattle.commands.specs.declared.command.Command.TheVariants as command;
 ghost use Rattle.commands.specs.declared.row_command.RowCommand.TheVariants as row_command;
 
 use crate::command::Command;
+use crate::entry_bytes::{entries_bytes, entry_bytes};
 use crate::field::Field;
 use crate::given::GivenDate;
 use crate::row_command::RowCommand;
-use crate::rows::{row_of_five, row_of_four, row_of_one, row_of_three, row_of_two};
+use crate::rows::verb_row;
 use crate::verb::Verb;
 use record_fields::{Quality, Sex};
 use sha2::{Digest, Sha256};
@@ -25,12 +26,14 @@ pub fn command_digest(alloc: Global, command: &Command) -> Result<[u8; 32], Allo
 }
 
 /// The bytes of a command: of one row, its verb and its fields as a row of CSV, numbers without leading zeros and
-/// dates in canonical spelling. Refused only for want of memory.
+/// dates in canonical spelling; of a batch of entries, `entries,`, the number of its source, LF, and then each row
+/// so, without verb and source. Refused only for want of memory.
 pub fn command_bytes(alloc: Global, command: &Command) -> Result<Vec<u8>, AllocError>
     ensures { IfOk result (λ bytes. bytes.items ≡ bytes_of command.now) }
 {
     match command {
         Command::Row(row) => row_command_bytes(alloc, row),
+        Command::Entries { source, rows } => entries_bytes(alloc, *source, rows),
     }
 }
 
@@ -76,6 +79,14 @@ fn row_command_bytes(alloc: Global, row: &RowCommand) -> Result<Vec<u8>, AllocEr
             page,
             quality,
         } => citation_bytes(alloc, *owner, *source, page, *quality),
+        RowCommand::Entry { source, entry } => entry_bytes(alloc, *source, entry),
+        RowCommand::Link {
+            entry,
+            mention,
+            person,
+            reason,
+        } => link_bytes(alloc, *entry, *mention, *person, reason),
+        RowCommand::Unlink { entry, mention } => unlink_bytes(alloc, *entry, *mention),
         RowCommand::Remove { number } => remove_bytes(alloc, *number),
     }
 }
@@ -83,27 +94,21 @@ fn row_command_bytes(alloc: Global, row: &RowCommand) -> Result<Vec<u8>, AllocEr
 fn person_bytes(alloc: Global, name: &Field, sex: Option<Sex>) -> Result<Vec<u8>, AllocError>
     ensures { IfOk result (λ bytes. bytes.items ≡ bytes_of (command.Row (row_command.Person name.now sex))) }
 {
-    row_of_two(
-        alloc,
-        Verb::Person,
-        name.as_str().as_bytes(),
-        letter_or_empty(sex).as_bytes(),
-    )
+    verb_row(alloc, Verb::Person, &[name.as_str(), letter_or_empty(sex)])
 }
 
 fn name_bytes(alloc: Global, person: u32, name: &Field) -> Result<Vec<u8>, AllocError>
     ensures { IfOk result (λ bytes. bytes.items ≡ bytes_of (command.Row (row_command.Name person name.now))) }
 {
     let person = person.to_string(alloc)?;
-    let name = name.as_str().as_bytes();
-    row_of_two(alloc, Verb::Name, person.as_bytes(), name)
+    verb_row(alloc, Verb::Name, &[person.as_str(), name.as_str()])
 }
 
 fn sex_bytes(alloc: Global, person: u32, sex: Sex) -> Result<Vec<u8>, AllocError>
     ensures { IfOk result (λ bytes. bytes.items ≡ bytes_of (command.Row (row_command.Sex person sex))) }
 {
     let person = person.to_string(alloc)?;
-    row_of_two(alloc, Verb::Sex, person.as_bytes(), sex.as_str().as_bytes())
+    verb_row(alloc, Verb::Sex, &[person.as_str(), sex.as_str()])
 }
 
 fn family_bytes(
@@ -115,7 +120,7 @@ fn family_bytes(
 {
     let husband = number_or_empty(alloc, husband)?;
     let wife = number_or_empty(alloc, wife)?;
-    row_of_two(alloc, Verb::Family, husband.as_bytes(), wife.as_bytes())
+    verb_row(alloc, Verb::Family, &[husband.as_str(), wife.as_str()])
 }
 
 fn child_bytes(alloc: Global, family: u32, person: u32) -> Result<Vec<u8>, AllocError>
@@ -123,30 +128,29 @@ fn child_bytes(alloc: Global, family: u32, person: u32) -> Result<Vec<u8>, Alloc
 {
     let family = family.to_string(alloc)?;
     let person = person.to_string(alloc)?;
-    row_of_two(alloc, Verb::Child, family.as_bytes(), person.as_bytes())
+    verb_row(alloc, Verb::Child, &[family.as_str(), person.as_str()])
 }
 
-fn event_bytes(
+fn event_bytes<'a>(
     alloc: Global,
     owner: u32,
-    tag: &Field,
-    value: &Field,
-    date: &Option<GivenDate>,
+    tag: &'a Field,
+    value: &'a Field,
+    date: &'a Option<GivenDate>,
     place: Option<u32>,
 ) -> Result<Vec<u8>, AllocError>
     ensures { IfOk result (λ bytes. bytes.items ≡ bytes_of (command.Row (row_command.Event owner tag.now value.now date.now place))) }
 {
     let owner = owner.to_string(alloc)?;
     let place = number_or_empty(alloc, place)?;
-    row_of_five(
-        alloc,
-        Verb::Event,
-        owner.as_bytes(),
-        tag.as_str().as_bytes(),
-        value.as_str().as_bytes(),
-        date_or_empty(date).as_bytes(),
-        place.as_bytes(),
-    )
+    let fields = [
+        owner.as_str(),
+        tag.as_str(),
+        value.as_str(),
+        date_or_empty(date),
+        place.as_str(),
+    ];
+    verb_row(alloc, Verb::Event, &fields)
 }
 
 fn amend_bytes(
@@ -160,14 +164,13 @@ fn amend_bytes(
 {
     let event = event.to_string(alloc)?;
     let place = number_or_empty(alloc, place)?;
-    row_of_four(
-        alloc,
-        Verb::Amend,
-        event.as_bytes(),
-        value.as_str().as_bytes(),
-        date_or_empty(date).as_bytes(),
-        place.as_bytes(),
-    )
+    let fields = [
+        event.as_str(),
+        value.as_str(),
+        date_or_empty(date),
+        place.as_str(),
+    ];
+    verb_row(alloc, Verb::Amend, &fields)
 }
 
 fn participant_bytes(
@@ -180,54 +183,43 @@ fn participant_bytes(
 {
     let event = event.to_string(alloc)?;
     let person = person.to_string(alloc)?;
-    row_of_three(
-        alloc,
-        Verb::Participant,
-        event.as_bytes(),
-        person.as_bytes(),
-        role.as_str().as_bytes(),
-    )
+    let fields = [event.as_str(), person.as_str(), role.as_str()];
+    verb_row(alloc, Verb::Participant, &fields)
 }
 
 fn place_bytes(alloc: Global, name: &Field, parent: Option<u32>) -> Result<Vec<u8>, AllocError>
     ensures { IfOk result (λ bytes. bytes.items ≡ bytes_of (command.Row (row_command.Place name.now parent))) }
 {
     let parent = number_or_empty(alloc, parent)?;
-    row_of_two(
-        alloc,
-        Verb::Place,
-        name.as_str().as_bytes(),
-        parent.as_bytes(),
-    )
+    verb_row(alloc, Verb::Place, &[name.as_str(), parent.as_str()])
 }
 
 fn repo_bytes(alloc: Global, name: &Field) -> Result<Vec<u8>, AllocError>
     ensures { IfOk result (λ bytes. bytes.items ≡ bytes_of (command.Row (row_command.Repo name.now))) }
 {
-    row_of_one(alloc, Verb::Repo, name.as_str().as_bytes())
+    verb_row(alloc, Verb::Repo, &[name.as_str()])
 }
 
-fn source_bytes(
+fn source_bytes<'a>(
     alloc: Global,
-    title: &Field,
-    author: &Field,
-    publisher: &Field,
+    title: &'a Field,
+    author: &'a Field,
+    publisher: &'a Field,
     repo: Option<u32>,
-    call_number: &Field,
+    call_number: &'a Field,
 ) -> Result<Vec<u8>, AllocError>
     ensures { IfOk result (λ bytes. bytes.items
         ≡ bytes_of (command.Row (row_command.Source title.now author.now publisher.now repo call_number.now))) }
 {
     let repo = number_or_empty(alloc, repo)?;
-    row_of_five(
-        alloc,
-        Verb::Source,
-        title.as_str().as_bytes(),
-        author.as_str().as_bytes(),
-        publisher.as_str().as_bytes(),
-        repo.as_bytes(),
-        call_number.as_str().as_bytes(),
-    )
+    let fields = [
+        title.as_str(),
+        author.as_str(),
+        publisher.as_str(),
+        repo.as_str(),
+        call_number.as_str(),
+    ];
+    verb_row(alloc, Verb::Source, &fields)
 }
 
 fn citation_bytes(
@@ -241,25 +233,53 @@ fn citation_bytes(
 {
     let owner = owner.to_string(alloc)?;
     let source = source.to_string(alloc)?;
-    row_of_four(
-        alloc,
-        Verb::Citation,
-        owner.as_bytes(),
-        source.as_bytes(),
-        page.as_str().as_bytes(),
-        digit_or_empty(quality).as_bytes(),
-    )
+    let fields = [
+        owner.as_str(),
+        source.as_str(),
+        page.as_str(),
+        digit_or_empty(quality),
+    ];
+    verb_row(alloc, Verb::Citation, &fields)
+}
+
+fn link_bytes(
+    alloc: Global,
+    entry: u32,
+    mention: u32,
+    person: u32,
+    reason: &Field,
+) -> Result<Vec<u8>, AllocError>
+    ensures { IfOk result (λ bytes. bytes.items ≡ bytes_of (command.Row (row_command.Link entry mention person reason.now))) }
+{
+    let entry = entry.to_string(alloc)?;
+    let mention = mention.to_string(alloc)?;
+    let person = person.to_string(alloc)?;
+    let fields = [
+        entry.as_str(),
+        mention.as_str(),
+        person.as_str(),
+        reason.as_str(),
+    ];
+    verb_row(alloc, Verb::Link, &fields)
+}
+
+fn unlink_bytes(alloc: Global, entry: u32, mention: u32) -> Result<Vec<u8>, AllocError>
+    ensures { IfOk result (λ bytes. bytes.items ≡ bytes_of (command.Row (row_command.Unlink entry mention))) }
+{
+    let entry = entry.to_string(alloc)?;
+    let mention = mention.to_string(alloc)?;
+    verb_row(alloc, Verb::Unlink, &[entry.as_str(), mention.as_str()])
 }
 
 fn remove_bytes(alloc: Global, number: u32) -> Result<Vec<u8>, AllocError>
     ensures { IfOk result (λ bytes. bytes.items ≡ bytes_of (command.Row (row_command.Remove number))) }
 {
     let number = number.to_string(alloc)?;
-    row_of_one(alloc, Verb::Remove, number.as_bytes())
+    verb_row(alloc, Verb::Remove, &[number.as_str()])
 }
 
 /// A number as digits, or nothing.
-fn number_or_empty(alloc: Global, number: Option<u32>) -> Result<String, AllocError>
+pub(crate) fn number_or_empty(alloc: Global, number: Option<u32>) -> Result<String, AllocError>
     ensures { IfOk result (λ digits. string_bytes digits ≡ or_empty decimal number) }
 {
     match number {
@@ -269,7 +289,7 @@ fn number_or_empty(alloc: Global, number: Option<u32>) -> Result<String, AllocEr
 }
 
 /// The letter of a sex, or nothing.
-fn letter_or_empty(sex: Option<Sex>) -> &'static str
+fn letter_or_empty<'a>(sex: Option<Sex>) -> &'a str
     ensures { result.now ≡ or_empty sex_word sex }
 {
     match sex {
@@ -279,7 +299,7 @@ fn letter_or_empty(sex: Option<Sex>) -> &'static str
 }
 
 /// The digit of a quality, or nothing.
-fn digit_or_empty(quality: Option<Quality>) -> &'static str
+fn digit_or_empty<'a>(quality: Option<Quality>) -> &'a str
     ensures { result.now ≡ or_empty quality_word quality }
 {
     match quality {
@@ -289,7 +309,7 @@ fn digit_or_empty(quality: Option<Quality>) -> &'static str
 }
 
 /// The canonical spelling of a date, or nothing.
-fn date_or_empty(date: &Option<GivenDate>) -> &str
+pub(crate) fn date_or_empty(date: &Option<GivenDate>) -> &str
     ensures { result.now ≡ or_empty spelt date.now }
 {
     match date {

@@ -13,6 +13,9 @@
 mod batch;
 mod command;
 mod digest;
+mod entry_bytes;
+mod entry_reading;
+mod entry_row;
 mod field;
 mod given;
 pub mod laws;
@@ -24,6 +27,7 @@ mod verb;
 pub use batch::{batch_bytes, import_bytes};
 pub use command::Command;
 pub use digest::{command_bytes, command_digest};
+pub use entry_row::{EntryRow, EntryRows, GivenMention, GivenMentions};
 pub use field::{Field, FieldRow};
 pub use given::GivenDate;
 pub use row_command::RowCommand;

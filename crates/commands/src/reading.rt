@@ -7,6 +7,7 @@ ghost use Rattle.commands.specs.Dated.{given_of};
 ghost use Rattle.commands.specs.Rows.{Decided, Reads, number_in, or_none, quality_in, read_fields, sex_in};
 ghost use Rattle.commands.specs.declared.verb.Verb.TheVariants as verb;
 
+use crate::entry_reading::entry_of_fields;
 use crate::field::Field;
 use crate::given::GivenDate;
 use crate::row_command::RowCommand;
@@ -52,9 +53,17 @@ fn of_fields(alloc: Global, verb: Verb, fields: &[&str]) -> Result<RowCommand, R
         (Verb::Citation, [owner, source, page, quality]) => {
             citation(alloc, owner, source, page, quality)
         }
+        (Verb::Entry, [source, fields @ ..]) => entry(alloc, source, fields),
+        (Verb::Link, [entry, mention, person, reason]) => {
+            link(alloc, entry, mention, person, reason)
+        }
+        (Verb::Unlink, [entry, mention]) => unlink(entry, mention),
         (Verb::Remove, [number]) => remove(number),
         // An arm of their own: `auto` follows no more than sixteen ways into one.
-        (Verb::Place | Verb::Repo | Verb::Source | Verb::Citation | Verb::Remove, _) => {
+        (Verb::Place | Verb::Repo | Verb::Source | Verb::Citation, _) => Err(
+            RefusalKind::FieldCount,
+        ),
+        (Verb::Entry | Verb::Link | Verb::Unlink | Verb::Remove, _) => {
             Err(RefusalKind::FieldCount)
         }
         _ => Err(RefusalKind::FieldCount),
@@ -229,6 +238,44 @@ fn citation(
     })
 }
 
+fn entry(alloc: Global, source: &str, fields: &[&str]) -> Result<RowCommand, RefusalKind>
+    ensures { Decided result (λ r. r ≡ read_fields given_of verb.Entry (source.now ∷ map (λ f. f.now) fields.now)) }
+{
+    let entry = entry_of_fields(alloc, fields)?;
+    let source = number_in(source)?;
+    Ok(RowCommand::Entry { source, entry })
+}
+
+fn link(
+    alloc: Global,
+    entry: &str,
+    mention: &str,
+    person: &str,
+    reason: &str,
+) -> Result<RowCommand, RefusalKind>
+    ensures { Decided result (λ r. r
+        ≡ read_fields given_of verb.Link (entry.now ∷ mention.now ∷ person.now ∷ reason.now ∷ [])) }
+{
+    let entry = number_in(entry)?;
+    let mention = number_in(mention)?;
+    let person = number_in(person)?;
+    let reason = words_in(alloc, reason)?;
+    Ok(RowCommand::Link {
+        entry,
+        mention,
+        person,
+        reason,
+    })
+}
+
+fn unlink(entry: &str, mention: &str) -> Result<RowCommand, RefusalKind>
+    ensures { result ≡ read_fields given_of verb.Unlink (entry.now ∷ mention.now ∷ []) }
+{
+    let entry = number_in(entry)?;
+    let mention = number_in(mention)?;
+    Ok(RowCommand::Unlink { entry, mention })
+}
+
 fn remove(number: &str) -> Result<RowCommand, RefusalKind>
     ensures { result ≡ read_fields given_of verb.Remove (number.now ∷ []) }
 {
@@ -237,7 +284,7 @@ fn remove(number: &str) -> Result<RowCommand, RefusalKind>
 }
 
 /// The number of a field: 1 to 10 digits, of value 1 to 4,294,967,295.
-fn number_in(field: &str) -> Result<u32, RefusalKind>
+pub(crate) fn number_in(field: &str) -> Result<u32, RefusalKind>
     ensures { result ≡ number_in field.now }
 {
     if field.len() > 10 || !is_digits(field) {
@@ -257,7 +304,7 @@ fn is_digits(field: &str) -> bool
 }
 
 /// The number of a field, or none where it is empty.
-fn number_or_none(field: &str) -> Result<Option<u32>, RefusalKind>
+pub(crate) fn number_or_none(field: &str) -> Result<Option<u32>, RefusalKind>
     ensures { result ≡ or_none number_in field.now }
 {
     if field.is_empty() {
@@ -307,7 +354,7 @@ fn quality_or_none(field: &str) -> Result<Option<Quality>, RefusalKind>
 }
 
 /// The words of a field in memory of their own.
-fn words_in(alloc: Global, field: &str) -> Result<Field, AllocError>
+pub(crate) fn words_in(alloc: Global, field: &str) -> Result<Field, AllocError>
     ensures { IfOk result (λ words. words ≡ field.now) }
 {
     let words = String::from_str(alloc, field)?;
@@ -315,7 +362,7 @@ fn words_in(alloc: Global, field: &str) -> Result<Field, AllocError>
 }
 
 /// The date that the words of a field give, or none where it is empty.
-fn date_or_none(alloc: Global, field: &str) -> Result<Option<GivenDate>, AllocError>
+pub(crate) fn date_or_none(alloc: Global, field: &str) -> Result<Option<GivenDate>, AllocError>
     ensures { IfOk result (λ found. found ≡ given_of field.now) }
 {
     GivenDate::of_words(alloc, field)

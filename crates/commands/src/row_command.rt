@@ -1,5 +1,6 @@
 //! The commands of one row.
 
+use crate::entry_row::EntryRow;
 use crate::field::Field;
 use crate::given::GivenDate;
 use record_fields::{Quality, Sex};
@@ -76,6 +77,23 @@ pub enum RowCommand {
         source: u32,
         page: Field,
         quality: Option<Quality>,
+    },
+    /// A new register entry of a source.
+    Entry {
+        source: u32,
+        entry: EntryRow,
+    },
+    /// A mention of an entry, from 1, is of that person, for that reason.
+    Link {
+        entry: u32,
+        mention: u32,
+        person: u32,
+        reason: Field,
+    },
+    /// A mention of an entry, from 1, is of no person.
+    Unlink {
+        entry: u32,
+        mention: u32,
     },
     /// A record is taken out of the archive.
     Remove {

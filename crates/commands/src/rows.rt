@@ -1,6 +1,6 @@
 //! Rows of a verb and its fields in CSV: RFC 4180, section 2, as the default writer of `csv` writes them.
 
-ghost use Rattle.std.specs.Prelude.{◌≡◌, ◌∷◌, [], IfOk, map};
+ghost use Rattle.std.specs.Prelude.{◌≡◌, ◌∷◌, IfOk, map};
 ghost use Rattle.csv.specs.Writing.{default_writer, row_text};
 ghost use Rattle.commands.specs.Verbs.{verb_word};
 
@@ -22,77 +22,14 @@ pub(crate) fn row_bytes(alloc: Global, fields: &[&[u8]]) -> Result<Vec<u8>, Allo
     }
 }
 
-/// The bytes of a row of a verb and a field.
-pub(crate) fn row_of_one<'a>(
-    alloc: Global,
-    verb: Verb,
-    only: &'a [u8],
-) -> Result<Vec<u8>, AllocError>
-    ensures { IfOk result (λ bytes. bytes.items
-        ≡ row_text default_writer (verb_word verb ∷ only.now ∷ [])) }
+/// The bytes of a row of a verb and its fields.
+pub(crate) fn verb_row(alloc: Global, verb: Verb, fields: &[&str]) -> Result<Vec<u8>, AllocError>
+    ensures { IfOk result (λ bytes. bytes.items ≡ row_text default_writer (verb_word verb ∷ map (λ f. f.now) fields.now)) }
 {
-    let word: &'a [u8] = verb.as_str().as_bytes();
-    row_bytes(alloc, &[word, only])
-}
-
-/// The bytes of a row of a verb and two fields.
-pub(crate) fn row_of_two<'a>(
-    alloc: Global,
-    verb: Verb,
-    first: &'a [u8],
-    second: &'a [u8],
-) -> Result<Vec<u8>, AllocError>
-    ensures { IfOk result (λ bytes. bytes.items
-        ≡ row_text default_writer (verb_word verb ∷ first.now ∷ second.now ∷ [])) }
-{
-    let word: &'a [u8] = verb.as_str().as_bytes();
-    row_bytes(alloc, &[word, first, second])
-}
-
-/// The bytes of a row of a verb and three fields.
-pub(crate) fn row_of_three<'a>(
-    alloc: Global,
-    verb: Verb,
-    first: &'a [u8],
-    second: &'a [u8],
-    third: &'a [u8],
-) -> Result<Vec<u8>, AllocError>
-    ensures { IfOk result (λ bytes. bytes.items
-        ≡ row_text default_writer (verb_word verb ∷ first.now ∷ second.now ∷ third.now ∷ [])) }
-{
-    let word: &'a [u8] = verb.as_str().as_bytes();
-    row_bytes(alloc, &[word, first, second, third])
-}
-
-/// The bytes of a row of a verb and four fields.
-pub(crate) fn row_of_four<'a>(
-    alloc: Global,
-    verb: Verb,
-    first: &'a [u8],
-    second: &'a [u8],
-    third: &'a [u8],
-    fourth: &'a [u8],
-) -> Result<Vec<u8>, AllocError>
-    ensures { IfOk result (λ bytes. bytes.items
-        ≡ row_text default_writer (verb_word verb ∷ first.now ∷ second.now ∷ third.now ∷ fourth.now ∷ [])) }
-{
-    let word: &'a [u8] = verb.as_str().as_bytes();
-    row_bytes(alloc, &[word, first, second, third, fourth])
-}
-
-/// The bytes of a row of a verb and five fields.
-pub(crate) fn row_of_five<'a>(
-    alloc: Global,
-    verb: Verb,
-    first: &'a [u8],
-    second: &'a [u8],
-    third: &'a [u8],
-    fourth: &'a [u8],
-    fifth: &'a [u8],
-) -> Result<Vec<u8>, AllocError>
-    ensures { IfOk result (λ bytes. bytes.items
-        ≡ row_text default_writer (verb_word verb ∷ first.now ∷ second.now ∷ third.now ∷ fourth.now ∷ fifth.now ∷ [])) }
-{
-    let word: &'a [u8] = verb.as_str().as_bytes();
-    row_bytes(alloc, &[word, first, second, third, fourth, fifth])
+    let mut words: Vec<&[u8]> = Vec::new(alloc);
+    words.push(verb.as_str().as_bytes())?;
+    for field in fields {
+        words.push(field.as_bytes())?;
+    }
+    row_bytes(alloc, words.as_slice())
 }

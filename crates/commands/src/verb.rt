@@ -30,6 +30,12 @@ pub enum Verb {
     Source,
     /// A new citation.
     Citation,
+    /// A new register entry.
+    Entry,
+    /// A mention of an entry is of a person.
+    Link,
+    /// A mention of an entry is of no person.
+    Unlink,
     /// A record is taken out.
     Remove,
 }
@@ -52,6 +58,9 @@ impl Verb {
             Verb::Repo => "repo",
             Verb::Source => "source",
             Verb::Citation => "citation",
+            Verb::Entry => "entry",
+            Verb::Link => "link",
+            Verb::Unlink => "unlink",
             Verb::Remove => "remove",
         }
     }
@@ -74,6 +83,9 @@ impl Verb {
             "repo" => Some(Verb::Repo),
             "source" => Some(Verb::Source),
             "citation" => Some(Verb::Citation),
+            "entry" => Some(Verb::Entry),
+            "link" => Some(Verb::Link),
+            "unlink" => Some(Verb::Unlink),
             "remove" => Some(Verb::Remove),
             _ => None,
         }

@@ -18,6 +18,7 @@ from table.making import (
     refuses,
     scenario,
     shows,
+    shows_entry,
     source,
 )
 
@@ -36,6 +37,10 @@ EACH = (
     (14, "citation", "4", "13", "f. 3", "2"),
     (0, "remove", "14"),
     (15, "place", "Mill, Ashby", "8"),
+    (16, "entry", "13", "BAPTISM", "f. 3", "1", "1 MAY 1700", "8", "John", "child", "John", "father", "Tom Lee"),
+    (0, "link", "16", "2", "1", "same farm"),
+    (0, "link", "16", "1", "2", "same name"),
+    (0, "unlink", "16", "1"),
 )
 
 
@@ -64,6 +69,21 @@ def others():
     ]
 
 
+# Another value for each field of the entry and of the first link.
+OTHER_FIELDS = {
+    "entry": ("1", "BURIAL", "f. 4", "2", "1700", "", "Jon", "mother", "Jon", "mother", "Tom"),
+    "link": ("13", "1", "2", "same name"),
+}
+
+
+def near(verb, *fields):
+    """The command with each of its fields otherwise, and an entry with a mention less and more, and in another order."""
+    commands = [(verb, *fields[:at], value, *fields[at + 1 :]) for at, value in enumerate(OTHER_FIELDS[verb])]
+    if verb == "entry":
+        commands += [(verb, *fields[:-2]), (verb, *fields, "", ""), (verb, *fields[:7], *fields[9:], *fields[7:9])]
+    return commands
+
+
 WHOLE = [*FAMILY, place(8, "Kent"), next_set(9)]
 EVENT_4 = shows(
     4,
@@ -79,24 +99,33 @@ SOURCE_13 = shows(
     (1, "holding", "MS 4", 12),
 )
 
+ENTRY_16 = shows_entry(
+    *(16, "BAPTISM", ("f. 3", 13), 1, "John"),
+    ("child", "John"),
+    ("father", "Tom Lee", 1, "same farm"),
+    when=("1 MAY 1700", 8),
+)
+
 SCENARIOS = (
     scenario(
         "each command once, again, and another under its token",
         WHOLE,
         firsts(),
-        next_is(16),
+        next_is(17),
         firsts(),
-        next_is(16),
+        next_is(17),
         EVENT_4,
         SOURCE_13,
+        ENTRY_16,
         shows(14),
         kept(),
         others(),
-        next_is(16),
+        next_is(17),
         firsts(),
         kept(),
         EVENT_4,
         SOURCE_13,
+        ENTRY_16,
         shows(14),
     ),
     scenario(
@@ -117,6 +146,14 @@ SCENARIOS = (
         refuses(52, "t11", "remove", 13),
         refuses(52, "t11", "remove", 99),
         refuses(52, "t12", "place", "", 99),
+        refuses(52, "t13", "entry", 99, "BURIAL", "\r", 1, "", 99, "", "child", "Ann"),
+        refuses(52, "t13", "entry", 13, "BAPTISM", "f. 3", 1, "", "", "", "child", "John"),
+        refuses(52, "t14", "link", 16, 2, 1, ""),
+        refuses(52, "t14", "link", 16, 3, 99, "same farm"),
+        refuses(52, "t16", "unlink", 16, 3),
+        refuses(52, "t16", "unlink", 99, 1),
+        refuses(60, "u", "entry", 13, "BAPTISM", "f. 3", 1, "", "", "", "child", "John"),
+        refuses(61, "u", "unlink", 16, 3),
         refuses(59, "u", "child", 3, 2),
         refuses(53, "v", "remove", 12),
         refuses(50, "v", "remove", 14),
@@ -137,6 +174,20 @@ SCENARIOS = (
         makes(14, "t10", "citation", "0000000004", "013", "f. 3", "2"),
         changes("t11", "remove", "014"),
         makes(15, "t12", "place", "Mill, Ashby", "0008"),
+        makes(
+            *(16, "t13", "entry", "013", "BAPTISM", "f. 3", "0000000001", " 01  may 1700", "08", "John"),
+            *("child", "John", "father", "Tom Lee"),
+        ),
+        makes(
+            *(16, "t13", "entry", "13", "BAPTISM", "f. 3", "001", "@#dgregorian@ 1 May 1700", "8", "John"),
+            *("child", "John", "father", "Tom Lee"),
+        ),
+        changes("t14", "link", "016", "0000000002", "01", "same farm"),
+        changes("t15", "link", "0016", "1", "02", "same name"),
+        changes("t16", "unlink", "00016", "001"),
+        [refuses(52, "t13", *command) for command in near(*EACH[13][1:])],
+        [refuses(52, "t14", *command) for command in near(*EACH[14][1:])],
+        refuses(52, "t16", "unlink", "16", "2"),
         refuses(52, "t12", "place", "Mill, Ashby", ""),
         refuses(52, "t12", "place", "Mill,Ashby", "8"),
         refuses(52, "t1", "name", "1", "thomas"),
@@ -152,9 +203,10 @@ SCENARIOS = (
         refuses(52, "t10", "citation", "4", "13", "f. 3", ""),
         refuses(52, "t10", "citation", "4", "13", "f. 3", "3"),
         refuses(52, "t10", "citation", "4", "13", "", "2"),
-        next_is(16),
+        next_is(17),
         EVENT_4,
         SOURCE_13,
+        ENTRY_16,
     ),
     scenario(
         "fields that are joined otherwise",
@@ -186,6 +238,10 @@ SCENARIOS = (
         refuses(58, "x", "source", "", "", "", "", "MS 4"),
         refuses(51, "x", "citation", 1, 2, "", ""),
         refuses(53, "x", "remove", 1),
+        refuses(50, "x", "entry", 9, "BURIAL", "f. 3", 1, "", "", "", "buried", "Ann"),
+        refuses(51, "x", "entry", 1, "BURIAL", "f. 3", 1, "", "", "", "child", "Ann"),
+        refuses(58, "x", "link", 9, 1, 1, ""),
+        refuses(51, "x", "unlink", 1, 1),
         keeps_nothing("x"),
         next_is(5),
         makes(5, "x", "person", "Eva", ""),
@@ -207,7 +263,19 @@ SCENARIOS = (
         changes("d", "remove", 4),
         source(5, "s", "Deeds", repo=4, call="MS 4"),
         refuses(53, "g", "remove", 2),
-        next_is(6),
+        refuses(50, "b", "entry", 6, "BURIAL", "f. 3", 1, "", "", "", "buried", "Ann"),
+        refuses(50, "l", "link", 7, 1, 2, "same age"),
+        source(6, "w", "Wills"),
+        makes(7, "b", "entry", 6, "BURIAL", "f. 3", 1, "", "", "", "buried", "Ann"),
+        refuses(60, "c", "entry", 6, "BURIAL", "f. 3", 1, "", "", "", "buried", "Eva"),
+        changes("l", "link", 7, 1, 2, "same age"),
+        changes("k", "remove", 7),
+        makes(8, "c", "entry", 6, "BURIAL", "f. 3", 1, "", "", "", "buried", "Eva"),
+        makes(7, "b", "entry", 6, "BURIAL", "f. 3", 1, "", "", "", "buried", "Ann"),
+        changes("l", "link", 7, 1, 2, "same age"),
+        shows_entry(8, "BURIAL", ("f. 3", 6), 1, "", ("buried", "Eva")),
+        shows(7),
+        next_is(9),
     ),
     scenario(
         "the same command under two tokens is done twice",

@@ -1,18 +1,35 @@
 """Requests over a view of which a look fails.
 
-A request looks for its receipt, at what its numbers name, at the places above a place that has no name, for what names the
-record to remove, and at the next number; it stops at the look that fails, or at the check that refuses it.
+A request looks for its receipt, at what its numbers name, at the places above a place that has no name, for an entry of the
+same key, for what names the record to remove, and at the next number; it stops at the look that fails, or at the check that
+refuses it.
 """
 
 from __future__ import annotations
 
-from table.making import FAMILY, LAST, Scenario, ask, looks, makes, next_is, next_set, place, scenario, shows, source
+from table.making import (
+    FAMILY,
+    LAST,
+    Scenario,
+    ask,
+    changes,
+    entry,
+    looks,
+    makes,
+    next_is,
+    next_set,
+    place,
+    scenario,
+    shows,
+    shows_entry,
+    source,
+)
 
 
 def among(count: int) -> Scenario:
     """Each verb in an archive of so many persons more, to whom none of its records points."""
     tom, ann, family, event, archive, register, cited = range(count + 1, count + 8)
-    town, part = count + 8, count + 9
+    baptism, town, part = count + 8, count + 9, count + 10
     return scenario(
         f"a command looks so often among {count:,} others",
         [makes(number, f"other{number}", "person", f"Una /Kay {number}/", "F") for number in range(1, count + 1)],
@@ -23,6 +40,7 @@ def among(count: int) -> Scenario:
         makes(archive, "r1", "repo", "County archive"),
         source(register, "s1", "Ashby register", repo=archive),
         makes(cited, "c1", "citation", event, register, "", ""),
+        makes(baptism, "b1", *entry(register)),
         place(town, "Kent"),
         place(part, "", town),
         looks(2, "p1", "person", "Tom /Lee/", ""),
@@ -40,10 +58,16 @@ def among(count: int) -> Scenario:
         looks(2, "x", "source", "Deeds", "", "", "", ""),
         looks(3, "x", "source", "Deeds", "", "", archive, "MS 4"),
         looks(4, "x", "citation", tom, register, "f. 3", "2"),
+        looks(4, "x", *entry(register, item=2)),
+        looks(6, "x", *entry(register, item=2, place=part)),
+        looks(3, "x", *entry(register)),
+        looks(4, "x", "link", baptism, 1, tom, "same farm"),
+        looks(3, "x", "unlink", baptism, 1),
+        looks(4, "x", "remove", baptism),
         looks(3, "x", "remove", register),
         looks(4, "x", "remove", ann),
         looks(4, "x", "remove", cited),
-        next_is(cited + 1),
+        next_is(baptism + 1),
     )
 
 
@@ -86,6 +110,20 @@ SCENARIOS = (
         looks(4, "x", "remove", 6),
         next_is(7),
         shows(6, (0, "source", "Deeds", "-"), (1, "holding", "-", 5)),
+        looks(4, "x", *entry(6)),
+        looks(4, "x", *entry(6, "MARRIAGE", mentions=("groom", "Tom", "bride", "Ann", "witness", "Eva"))),
+        looks(5, "x", *entry(6, place=8)),
+        looks(6, "x", *entry(6, place=9)),
+        makes(7, "b1", *entry(6, mentions=("child", "John", "father", "Tom"))),
+        looks(4, "x", *entry(6, item=2)),
+        looks(4, "x", "link", 7, 1, 1, "same farm"),
+        looks(3, "x", "unlink", 7, 1),
+        changes("l1", "link", 7, 2, 1, "same farm"),
+        looks(4, "x", "link", 7, 2, 1, "same farm"),
+        looks(4, "x", "link", 7, 2, 2, "same name"),
+        looks(3, "x", "unlink", 7, 2),
+        next_is(8),
+        shows_entry(7, "BAPTISM", ("f. 3", 6), 1, "", ("child", "John"), ("father", "Tom", 1, "same farm")),
     ),
     scenario(
         "a request that comes again names nothing",
@@ -93,6 +131,12 @@ SCENARIOS = (
         looks(2, "p1", "person", "Tom /Lee/", ""),
         looks(2, "f1", "family", "", 1),
         looks(2, "e1", "event", 3, "DIV", "", "1700", ""),
+        source(5, "s1", "Deeds"),
+        makes(6, "b1", *entry(5)),
+        changes("l1", "link", 6, 1, 1, "same farm"),
+        looks(2, "b1", *entry(5)),
+        looks(2, "l1", "link", 6, 1, 1, "same farm"),
+        looks(1, "l1", "link", 6, 1, 2, "same farm"),
         looks(1, "p1", "person", "Tom", ""),
         looks(1, "p1", "name", 9, "Tom"),
     ),
@@ -133,7 +177,34 @@ SCENARIOS = (
         looks(3, "x", "citation", 1, 2, "", ""),
         looks(2, "x", "remove", 9),
         looks(3, "x", "remove", 1),
+        source(5, "s1", "Deeds"),
+        makes(6, "b1", *entry(5)),
+        looks(1, "x", *entry(99, page="\r")),
+        looks(1, "x", *entry(5, place=8, text="\0")),
+        looks(1, "x", *entry(5, mentions=("child", "\r"))),
+        looks(1, "x", *entry(5, date="(\0)")),
+        looks(2, "x", *entry(99, place=8)),
+        looks(2, "x", *entry(1, place=99)),
+        looks(3, "x", *entry(5, place=99)),
+        looks(3, "x", *entry(5, place=1)),
+        looks(3, "x", *entry(5, place=8)),
+        looks(2, "x", *entry(5, mentions=("groom", "Tom"))),
+        looks(2, "x", *entry(5, item=2, mentions=("child", "Ann", "Child", "Tom"))),
+        looks(3, "x", *entry(5)),
+        looks(1, "x", "link", 6, 1, 1, ""),
+        looks(1, "x", "link", 99, 1, 1, "\r"),
+        looks(2, "x", "link", 99, 1, 1, "same farm"),
+        looks(2, "x", "link", 1, 1, 99, "same farm"),
+        looks(3, "x", "link", 6, 1, 99, "same farm"),
+        looks(3, "x", "link", 6, 1, 3, "same farm"),
+        looks(3, "x", "link", 6, 2, 1, "same farm"),
+        looks(2, "x", "unlink", 99, 1),
+        looks(2, "x", "unlink", 1, 1),
+        looks(2, "x", "unlink", 6, 2),
         next_set(LAST + 1),
+        looks(4, "x", *entry(5, item=2)),
+        looks(4, "x", "link", 6, 1, 1, "same farm"),
+        looks(3, "x", "unlink", 6, 1),
         looks(2, "x", "person", "", ""),
         looks(2, "x", "repo", ""),
         looks(4, "x", "remove", 2),

@@ -16,6 +16,8 @@ NAMES = {
     54: "SamePerson",
     58: "BadText",
     59: "AlreadyInFamily",
+    60: "DuplicateEntry",
+    61: "NoSuchMention",
     62: "NotOfKind",
     63: "Full",
     90: "BadRow",
@@ -92,7 +94,7 @@ def next_set(number: int) -> Step:
 
 
 def place(number: int, name: str, parent: int | str = "") -> Step:
-    """Puts a place at a number, which no request can do yet."""
+    """Puts a place at a number, as no request does."""
     given = row("! place", number, name, parent)
     return given.encode(), row(0, "place", name, parent or "-").encode()
 
@@ -154,6 +156,45 @@ def source(
 ) -> Step:
     """A request that makes a source at this number."""
     return makes(number, token, "source", title, author, publisher, repo, call)
+
+
+# A mention that an entry of a kind may have.
+FIRST = {"BAPTISM": ("child", "John"), "MARRIAGE": ("groom", "John"), "BURIAL": ("buried", "John")}
+
+
+def entry(
+    source: int | str,
+    kind: str = "BAPTISM",
+    page: str = "f. 3",
+    item: int | str = 1,
+    date: str = "",
+    place: int | str = "",
+    text: str = "",
+    mentions: tuple[str, ...] = (),
+) -> tuple[str | int, ...]:
+    """The verb and the fields of a register entry; mentions are roles and names, one after the other."""
+    return ("entry", source, kind, page, item, date, place, text, *(mentions or FIRST[kind]))
+
+
+def shows_entry(
+    number: int,
+    kind: str,
+    page: tuple[str, int],
+    item: int,
+    text: str,
+    *mentions: tuple[str | int, ...],
+    when: tuple[str, int | str] | None = None,
+) -> Step:
+    """The stored lines of a register entry: its page and source, its date and place, and the role, name, person and reason
+    of each mention."""
+    lines = [(0, "entry", kind, "-"), (1, "page", *page), (1, "item", item, "-")]
+    if when is not None:
+        lines.append((1, "date", *when))
+    lines.append((1, "text", text, "-"))
+    for role, name, *link in mentions:
+        lines += [(1, "mention", name, link[0] if link else "-"), (2, "role", role, "-")]
+        lines += [(2, "reason", link[1], "-")] if link else []
+    return shows(number, *lines)
 
 
 # Persons 1 and 2, family 3 with person 1 as its wife, and event 4 of it.

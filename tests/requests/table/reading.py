@@ -21,7 +21,7 @@ from table.making import (
     spells,
 )
 
-# A row of each verb that is well formed.
+# A row of each verb that is well formed; register entries are in entry_rows.py.
 GOOD = {
     "person": ("John /Smith/", "M"),
     "name": ("1", "John"),
@@ -35,6 +35,8 @@ GOOD = {
     "repo": ("County archive",),
     "source": ("Ashby register", "Rev. Lee", "Ray, Ashby", "6", "MS 4"),
     "citation": ("1", "5", "f. 3", "2"),
+    "link": ("9", "2", "1", "same farm"),
+    "unlink": ("9", "2"),
     "remove": ("7",),
 }
 # The places of the numbers in it, and of those that may be missing.
@@ -49,6 +51,8 @@ NUMBERS = {
     "place": (1,),
     "source": (3,),
     "citation": (0, 1),
+    "link": (0, 1, 2),
+    "unlink": (0, 1),
     "remove": (0,),
 }
 MAY_BE_MISSING = {"family": (0, 1), "event": (4,), "amend": (3,), "place": (1,), "source": (3,)}
@@ -332,6 +336,14 @@ ROWS = (
                 ("citations", "2", "1", "", ""),
                 ("removed", "7"),
                 ("delete", "7"),
+                ("Entry", "7", "BURIAL", "f. 3", "1", "", "", "", "buried", "Ann Lee"),
+                ("entry ", "7", "BURIAL", "f. 3", "1", "", "", "", "buried", "Ann Lee"),
+                ("register", "7", "BURIAL", "f. 3", "1", "", "", "", "buried", "Ann Lee"),
+                ("BURIAL", "f. 3", "1", "", "", "", "buried", "Ann Lee"),
+                ("Link", "9", "2", "1", "same farm"),
+                ("links", "9", "2", "1", "same farm"),
+                ("unlinked", "9", "2"),
+                ("unlink ", "9", "2"),
                 ("import",),
                 ("entries", "1"),
             )
@@ -373,6 +385,10 @@ ROWS = (
         ask("x,citation,9,9,\0,4", "x,refused,90,BadRow"),
         ask("x,remove,", "x,refused,90,BadRow"),
         ask("x,remove,0,0", "x,refused,92,FieldCount"),
+        ask("x,link,0,0,0", "x,refused,92,FieldCount"),
+        ask("x,link,9,0,9,\0", "x,refused,90,BadRow"),
+        ask("x,unlink,0,0,", "x,refused,92,FieldCount"),
+        ask("x,unlink,9,0", "x,refused,90,BadRow"),
         keeps_nothing("x"),
         next_is(1),
     ),

@@ -2,12 +2,13 @@
 
 from __future__ import annotations
 
-from table import again, order, worked
+from table import again, entries, order, worked
 from table.making import (
     FAMILY,
     Scenario,
     ask,
     changes,
+    entry,
     keeps,
     makes,
     next_is,
@@ -15,6 +16,7 @@ from table.making import (
     row,
     scenario,
     shows,
+    shows_entry,
     source,
 )
 
@@ -61,16 +63,18 @@ def with_made(statements: str, request: tuple[str | int, ...], *told: str | int)
     return row("! spoil", statements, "z1", *request).encode(), row("spoil", *told).encode()
 
 
-# What stands at number 6, where source 5 is the last record: an entry of source 5, another record that points to itself, one
-# that points to source 5, and slips.
+# What stands at number 6, where source 5 is the last record: an entry of source 5 that is linked to person 2 for no reason, the
+# same with a word that is no role, another record that points to itself, one that points to source 5, and slips.
 ENTRY = "INSERT INTO record VALUES (6, 'entry', 0); UPDATE meta SET next = 7" + lines(
     "6, 0, 0, 'entry', 'BURIAL', NULL",
     "6, 1, 1, 'page', 'f. 3', 5",
     "6, 2, 1, 'item', '1', NULL",
     "6, 3, 1, 'text', 'Ann', NULL",
-    "6, 4, 1, 'mention', 'Ann', NULL",
+    "6, 4, 1, 'mention', 'Ann', 2",
     "6, 5, 2, 'role', 'buried', NULL",
+    "6, 6, 2, 'reason', '', NULL",
 )
+NO_ENTRY = ENTRY + "; UPDATE line SET text = 'widow' WHERE tag = 'role'"
 OTHER = "INSERT INTO record VALUES (6, 'other', 0); UPDATE meta SET next = 7" + lines("6, 0, 0, 'other', NULL, NULL")
 OF_ITSELF = OTHER + lines("6, 1, 1, 'NOTE', NULL, 6")
 OF_A_SOURCE = OTHER + lines("6, 1, 1, 'NOTE', NULL, 5")
@@ -90,7 +94,7 @@ def has_requests_alone(one: Scenario) -> bool:
 
 OTHERS = tuple(
     in_files(one)
-    for part in (worked, order, again)
+    for part in (worked, order, entries, again)
     for one in part.SCENARIOS
     if has_requests_alone(one)
 )
@@ -170,6 +174,32 @@ SCENARIOS = OTHERS + (
         shows(11, (0, "place", "Köln, Altstadt", 10)),
         next_is(12),
         SAME,
+        makes(
+            *(12, "x24", "entry", 7, "MARRIAGE", "f. 3\nverso", "007", "1 may 1700", 11, "Getraut \"in der Stille\""),
+            *("groom", "Tom, Bürger", "bride", "Ann\nLee", "witness", ""),
+        ),
+        makes(13, "x25", *entry(7, "BURIAL", "", 7)),
+        refuses(60, "x26", *entry(7, "MARRIAGE", "f. 3\nverso", 7)),
+        refuses(62, "x26", *entry(7, "MARRIAGE", "f. 3\nverso", 7, mentions=("widow", "Ann"))),
+        changes("x27", "link", 12, 2, 2, "gleicher Hof, \"Mühle\""),
+        changes("x28", "link", 12, 3, 2, "?"),
+        changes("x29", "link", 12, 2, 1, "gleicher Name"),
+        changes("x30", "unlink", 12, 3),
+        changes("x31", "unlink", 13, 1),
+        refuses(61, "x32", "link", 12, 4, 2, "x"),
+        refuses(58, "x32", "link", 12, 1, 2, ""),
+        shows_entry(
+            *(12, "MARRIAGE", ("f. 3\nverso", 7), 7, "Getraut \"in der Stille\""),
+            ("groom", "Tom, Bürger"),
+            ("bride", "Ann\nLee", 1, "gleicher Name"),
+            ("witness", ""),
+            when=("1 MAY 1700", 11),
+        ),
+        shows_entry(13, "BURIAL", ("", 7), 7, "", ("buried", "John")),
+        changes("x33", "remove", 13),
+        shows(13),
+        next_is(14),
+        SAME,
     ),
     scenario(
         "records are removed in files, one after the other",
@@ -195,8 +225,25 @@ SCENARIOS = OTHERS + (
         with_made(ENTRY, ("citation", 1, 6, "", ""), 51, 51, "ok", "ok"),
         with_made(ENTRY, ("citation", 1, 5, "", ""), "ok", "ok", "ok", "ok"),
         with_made(ENTRY, ("remove", 5), 53, 53, "ok", "ok"),
+        with_made(ENTRY, ("remove", 2), 53, 53, "ok", "ok"),
         with_made(ENTRY, ("remove", 6), "ok", "ok", "ok", "ok"),
+        with_made(ENTRY, ("link", 6, 1, 2, "same age"), "ok", "ok", "ok", "ok"),
+        with_made(ENTRY, ("link", 6, 1, 1, ""), 58, 58, "ok", "ok"),
+        with_made(ENTRY, ("link", 6, 2, 1, "same age"), 61, 61, "ok", "ok"),
+        with_made(ENTRY, ("unlink", 6, 1), "ok", "ok", "ok", "ok"),
+        with_made(ENTRY, ("unlink", 6, 2), 61, 61, "ok", "ok"),
+        with_made(ENTRY, entry(5, "BURIAL"), 60, 60, "ok", "ok"),
+        with_made(ENTRY, entry(5, "BURIAL", item=2), "ok", "ok", "ok", "ok"),
+        with_made(ENTRY, entry(5), "ok", "ok", "ok", "ok"),
+        with_made(ENTRY, entry(6, "BURIAL"), 51, 51, "ok", "ok"),
+        with_made(NO_ENTRY, ("link", 6, 1, 1, "same age"), 40, 40, 40, "ok"),
+        with_made(NO_ENTRY, ("unlink", 6, 1), 40, 40, 40, "ok"),
+        with_made(NO_ENTRY, entry(5, "BURIAL"), 40, 40, 40, "ok"),
+        with_made(NO_ENTRY, entry(5, "BURIAL", "f. 4"), "ok", "ok", 40, "ok"),
         with_made(OTHER + lines("6, 1, 1, 'NOTE', 'x', NULL"), ("citation", 6, 5, "", ""), 51, 51, "ok", "ok"),
+        with_made(OF_ITSELF, ("link", 6, 1, 1, "same age"), 51, 51, "ok", "ok"),
+        with_made(OF_ITSELF, ("unlink", 6, 1), 51, 51, "ok", "ok"),
+        with_made(OF_ITSELF, entry(6), 51, 51, "ok", "ok"),
         with_made(OF_ITSELF, ("remove", 6), "ok", "ok", "ok", "ok"),
         with_made(OF_A_SOURCE, ("remove", 5), 53, 53, "ok", "ok"),
         with_made(OF_A_SOURCE, ("remove", 6), "ok", "ok", "ok", "ok"),
@@ -204,6 +251,9 @@ SCENARIOS = OTHERS + (
         with_made(CARRIED_BY_ANN, ("remove", 2), "ok", "ok", "ok", "ok"),
         with_made(SLIP, ("remove", 6), 50, 50, "ok", "ok"),
         with_made(SLIP, ("citation", 6, 5, "", ""), 50, 50, "ok", "ok"),
+        with_made(SLIP, entry(6), 50, 50, "ok", "ok"),
+        with_made(SLIP, ("link", 6, 1, 1, "same age"), 50, 50, "ok", "ok"),
+        with_made(SLIP, ("unlink", 6, 1), 50, 50, "ok", "ok"),
         with_made(SLIP, ("remove", 2), "ok", "ok", "ok", "ok"),
         SAME,
         changes("d1", "remove", 5),
@@ -236,6 +286,22 @@ SCENARIOS = OTHERS + (
         ),
         SAME,
         next_is(8),
+        ask(
+            "! run,r10|source|Ashby register||||,r11|entry|8|BURIAL|f. 3|1||||buried|Ann,r12|entry|8|BURIAL|f. 3|1||||buried|Eva,"
+            "r13|link|9|1|2|same age,r14|remove|9,r12|entry|8|BURIAL|f. 3|1||||buried|Eva,r15|link|10|2|2|same age,"
+            "r16|unlink|10|1,r17|unlink|9|1",
+            "r10,ok,8,1",
+            "r11,ok,9,1",
+            "r12,refused,60,DuplicateEntry",
+            "r13,ok,0,0",
+            "r14,ok,0,0",
+            "r12,ok,10,1",
+            "r15,refused,61,NoSuchMention",
+            "r16,ok,0,0",
+            "r17,refused,50,NoSuch",
+        ),
+        SAME,
+        next_is(11),
     ),
     scenario(
         "names of societies",
