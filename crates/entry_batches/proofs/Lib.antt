@@ -1,0 +1,4 @@
+mod Behind
+pub mod Commands
+mod Keyed
+mod Rows

@@ -1,11 +1,13 @@
 -- What a batch of register entries of one source makes of an archive, or its refusal with the place of the row: the source
 -- is looked at first, then each row as the command of one entry would be behind the rows before it. Rules of our own.
-use Rattle.std.specs.Prelude.{ℕ, ◌+◌, List, [], ◌∷◌, ◌++◌, length, Bool, true, false, not, ◌&&◌, nat_le, nat_lt, Option, Some, None, Result, Ok, Err, if◌then◌else◌}
+use Rattle.std.specs.Prelude.{ℕ, ◌+◌, List, [], ◌∷◌, ◌++◌, length, Bool, true, false, not, ◌&&◌, ◌==◌, bytes_eq, nat_le, nat_lt, Option, Some, None, Result, Ok, Err, if◌then◌else◌}
 use Rattle.std.specs.List.{list_any}
 use Rattle.record_text.specs.declared.refusal.Refusal.{Refusal}
 use Rattle.record_text.specs.declared.refusal.RefusalKind.{RefusalKind}
 use Rattle.record_text.specs.declared.refusal.RefusalKind.TheVariants.{DuplicateEntry, Full, WrongKind}
+use Rattle.record_fields.specs.Words.{entry_kind_word}
 use Rattle.record_kinds.specs.Model as model
+use Rattle.record_kinds.specs.declared.record.Record.{Record}
 use Rattle.record_kinds.specs.declared.record.Record.TheVariants as kind
 use Rattle.archive_state.specs.Applied.{with_puts}
 use Rattle.archive_state.specs.Content.{Content}
@@ -13,7 +15,7 @@ use Rattle.archive_state.specs.declared.changes.Numbered.{Numbered}
 use Rattle.commands.specs.Rows.{and_then}
 use Rattle.commands.specs.declared.entry_row.EntryRow.{EntryRow}
 use Rattle.archive_looks.specs.Checks.{demanded_at, each, need, passed, said_place_at}
-use Rattle.archive_looks.specs.Entries.{is_like, key_is_free, texts_fit}
+use Rattle.archive_looks.specs.Entries.{key_is_free, texts_fit}
 use Rattle.archive_looks.specs.declared.kinds.Demand.TheVariants as demand
 use Rattle.archive_steps.specs.Steps.{entry_of}
 use Rattle.entry_batches.specs.Placed.{Step, onward, placed}
@@ -27,9 +29,15 @@ is_drawn next count n = nat_le next n && nat_lt n (next + count)
 abbrev pub place_behind : Content → ℕ → ℕ → Result (Unit {0}) RefusalKind
 place_behind c count n = if is_drawn c.next count n then Err WrongKind else said_place_at c n
 
--- none of the rows before has made an entry of the same source, kind, page and item
+-- an entry of the same kind, page and item; all that a batch makes are of one source
+abbrev pub is_like_row : model.Entry → Record → Bool
+is_like_row e (kind.Entry f) =
+    bytes_eq (entry_kind_word f.kind) (entry_kind_word e.kind) && (bytes_eq f.page e.page && f.item.number == e.item.number)
+is_like_row e _ = false
+
+-- none of the rows before has made one
 abbrev pub key_is_new : List Numbered → model.Entry → Result (Unit {0}) RefusalKind
-key_is_new made e = need (not (list_any (λ (p : Numbered). is_like e.source e.kind e.page e.item p.«record») made)) DuplicateEntry
+key_is_new made e = need (not (list_any (λ (p : Numbered). is_like_row e p.«record») made)) DuplicateEntry
 
 -- behind so many rows a number is left. The second half says nothing of a sound archive, where the next number is above that
 -- of a source, and so 2 at least
