@@ -92,14 +92,14 @@ module _ (f : Record → Bool) where
       ] refl h
 
 module _ (source : ℕ) (k : EntryKind) (page : List ℕ) (item : Item) where
-  pub has_key : (e : model.Entry) → HasKey source k page item e → is_like source k page item (kind.Entry e) ≡ true
+  has_key : (e : model.Entry) → HasKey source k page item e → is_like source k page item (kind.Entry e) ≡ true
   has_key e (is, same, on, of) =
       ap (λ b. b && (bytes_eq (entry_kind_word e.kind) (entry_kind_word k) && (bytes_eq e.page page && e.item.number == item.number))) (eq-eqb e.source source is)
       ∙ ap (λ b. b && (bytes_eq e.page page && e.item.number == item.number)) (bytes_same (entry_kind_word e.kind) (entry_kind_word k) (ap entry_kind_word same))
       ∙ ap (λ b. b && e.item.number == item.number) (bytes_same e.page page on)
       ∙ eq-eqb e.item.number item.number (ap (λ (x : Item). x.number) of)
 
-  pub key_of : (e : model.Entry) → is_like source k page item (kind.Entry e) ≡ true → HasKey source k page item e
+  key_of : (e : model.Entry) → is_like source k page item (kind.Entry e) ≡ true → HasKey source k page item e
   key_of e h =
       let rest = second (e.source == source) (bytes_eq (entry_kind_word e.kind) (entry_kind_word k) && (bytes_eq e.page page && e.item.number == item.number)) h in
       let last = second (bytes_eq (entry_kind_word e.kind) (entry_kind_word k)) (bytes_eq e.page page && e.item.number == item.number) rest in (

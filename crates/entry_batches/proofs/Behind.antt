@@ -7,7 +7,10 @@ use Rattle.std.specs.List.{list_any}
 use Rattle.record_text.specs.declared.refusal.Refusal.{Refusal}
 use Rattle.record_text.specs.declared.refusal.RefusalKind.{RefusalKind}
 use Rattle.record_text.specs.declared.refusal.RefusalKind.TheVariants.{BadText, DuplicateEntry, Full, NoSuch, WrongKind}
-use Rattle.record_fields.specs.Words.{entry_kind_word}
+use Rattle.record_fields.proofs.Items.{same_item}
+use Rattle.record_fields.proofs.Worded.{entry_kind_back}
+use Rattle.record_fields.specs.Bytes.{bytes_are, bytes_same}
+use Rattle.record_fields.specs.Words.{entry_kind_of, entry_kind_word}
 use Rattle.record_fields.specs.declared.entry_words.EntryKind.{EntryKind}
 use Rattle.record_fields.specs.declared.item.Item.{Item}
 use Rattle.record_kinds.specs.Model as model
@@ -22,7 +25,7 @@ use Rattle.archive_state.specs.Sound.{IsSound}
 use Rattle.archive_state.specs.declared.changes.Numbered.{Numbered}
 use Rattle.commands.specs.Rows.{and_then}
 use Rattle.commands.specs.declared.entry_row.EntryRow.{EntryRow}
-use Rattle.archive_looks.proofs.Likes.{has_key, key_free, key_of, none_there}
+use Rattle.archive_looks.proofs.Likes.{key_free, none_there}
 use Rattle.archive_looks.specs.Checks.{date_in, demanded_at, demanded_in, each, is_place_with, is_said, is_within_with, need, next_free, passed, place_at, place_in, said_place_at, says_something, text_in}
 use Rattle.archive_looks.specs.Entries.{is_like, key_is_free, mentions_in, texts_fit}
 use Rattle.archive_looks.specs.declared.kinds.Demand.TheVariants as demand
@@ -83,6 +86,36 @@ none_before m n (p ∷ ps) none h = (
 pub puts_behind : (m : Records) (ps : List Numbered) (p : Numbered) → with_puts m (ps ++ (p ∷ [])) ≡ insert (with_puts m ps) p.number p.«record»
 puts_behind m [] p = refl
 puts_behind m (q ∷ ps) p = puts_behind (insert m q.number q.«record») ps p
+
+-- ---- the test for a key is that for its parts
+first_yes : (a b : Bool) → (a && b) ≡ true → a ≡ true
+first_yes true b e = refl
+first_yes false b e = absurd cc
+
+second_yes : (a b : Bool) → (a && b) ≡ true → b ≡ true
+second_yes true b e = e
+second_yes false b e = absurd cc
+
+same_kind : (a b : EntryKind) → entry_kind_word a ≡ entry_kind_word b → a ≡ b
+same_kind a b e = let both : Some a ≡ Some b = sym (entry_kind_back a) ∙ ap entry_kind_of e ∙ entry_kind_back b in cc
+
+module _ (source : ℕ) (k : EntryKind) (page : List ℕ) (item : Item) where
+  has_key : (e : model.Entry) → HasKey source k page item e → is_like source k page item (kind.Entry e) ≡ true
+  has_key e (is, same, on, of) =
+      ap (λ b. b && (bytes_eq (entry_kind_word e.kind) (entry_kind_word k) && (bytes_eq e.page page && e.item.number == item.number))) (eq-eqb e.source source is)
+      ∙ ap (λ b. b && (bytes_eq e.page page && e.item.number == item.number)) (bytes_same (entry_kind_word e.kind) (entry_kind_word k) (ap entry_kind_word same))
+      ∙ ap (λ b. b && e.item.number == item.number) (bytes_same e.page page on)
+      ∙ eq-eqb e.item.number item.number (ap (λ (x : Item). x.number) of)
+
+  key_of : (e : model.Entry) → is_like source k page item (kind.Entry e) ≡ true → HasKey source k page item e
+  key_of e h =
+      let rest = second_yes (e.source == source) (bytes_eq (entry_kind_word e.kind) (entry_kind_word k) && (bytes_eq e.page page && e.item.number == item.number)) h in
+      let last = second_yes (bytes_eq (entry_kind_word e.kind) (entry_kind_word k)) (bytes_eq e.page page && e.item.number == item.number) rest in (
+        eqb-true e.source source (first_yes (e.source == source) (bytes_eq (entry_kind_word e.kind) (entry_kind_word k) && (bytes_eq e.page page && e.item.number == item.number)) h),
+        same_kind e.kind k (bytes_are (entry_kind_word e.kind) (entry_kind_word k) (first_yes (bytes_eq (entry_kind_word e.kind) (entry_kind_word k)) (bytes_eq e.page page && e.item.number == item.number) rest)),
+        bytes_are e.page page (first_yes (bytes_eq e.page page) (e.item.number == item.number) last),
+        same_item e.item item (eqb-true e.item.number item.number (second_yes (bytes_eq e.page page) (e.item.number == item.number) last)),
+      )
 
 -- ---- a record in place of none
 module _ (m : Records) (n : ℕ) (e : model.Entry) (free : get m n ≡ None) where

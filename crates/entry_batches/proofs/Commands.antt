@@ -278,3 +278,16 @@ made_is_exact c source rows made next a changes e is =
       there = tt;
       slip = tt;
     })
+
+-- ---- the laws
+pub batch_sound : (c after : Content) (source : ℕ) (rows : List EntryRow) (a : Answer) → AreUtf8Entries rows → IsSound c → batch_step c source rows ≡ Ok (after, a) → IsSound after
+batch_sound c after source rows a words sound e =
+    let f : Follows {E = Refusal} (AreUtf8Entries rows) c (Ok (after, a)) = subst (Follows (AreUtf8Entries rows) c) e (batch_follows c source rows) in f.4 words sound
+
+pub batch_draws : (c after : Content) (source : ℕ) (rows : List EntryRow) (a : Answer) → batch_step c source rows ≡ Ok (after, a) → Draws c a after
+batch_draws c after source rows a e =
+    let f : Follows {E = Refusal} (AreUtf8Entries rows) c (Ok (after, a)) = subst (Follows (AreUtf8Entries rows) c) e (batch_follows c source rows) in f.2
+
+pub batch_again : (c after : Content) (source : ℕ) (rows : List EntryRow) (a : Answer) → batch_step c source rows ≡ Ok (after, a) → UsesNoneAgain c after
+batch_again c after source rows a e =
+    let f : Follows {E = Refusal} (AreUtf8Entries rows) c (Ok (after, a)) = subst (Follows (AreUtf8Entries rows) c) e (batch_follows c source rows) in f.3
