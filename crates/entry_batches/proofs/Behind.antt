@@ -1,5 +1,5 @@
 -- What an archive is behind rows that have made entries: the look at one row is the command of one entry there.
-use Rattle.std.proofs.Common.{◌≡◌, ◌⊎◌, ℕ, ◌+◌, ◌<◌, ◌≤◌, List, [], ◌∷◌, ◌++◌, length, Bool, true, false, not, ◌&&◌, ◌||◌, ◌==◌, refl, sym, ap, ◌∙◌, inl, inr, nat_le, subst, arith, eqb, eqb-true, eq-eqb, length-append}
+use Rattle.std.proofs.Common.{◌≡◌, ◌⊎◌, ℕ, ◌+◌, ◌<◌, ◌≤◌, List, [], ◌∷◌, ◌++◌, length, Bool, true, false, not, ◌&&◌, ◌||◌, ◌==◌, refl, sym, ap, ◌∙◌, inl, inr, nat_le, subst, arith, eqb, eqb-true, eq-eqb}
 use Rattle.std.specs.Prelude.{◌≢◌, zero, suc, Option, Some, None, Result, Ok, Err, if◌then◌else◌, nat_lt, bytes_eq, map}
 use Rattle.std.proofs.lemmas.Bool.Decides.{nat_tests}
 use Rattle.std.specs.FinMap.{get, insert, entries}
@@ -40,8 +40,8 @@ IsFrom n [] = Unit {0}
 IsFrom n (p ∷ ps) = (p.number ≡ n) × IsFrom (n + 1) ps
 
 pub one_behind : (n : ℕ) (ps : List Numbered) (p : Numbered) → IsFrom n ps → p.number ≡ n + length ps → IsFrom n (ps ++ (p ∷ []))
-one_behind n [] p h e = (e ∙ omega arith, tt)
-one_behind n (q ∷ ps) p h e = (h.0, one_behind (n + 1) ps p h.1 (e ∙ omega arith))
+one_behind n [] p h e = let here : p.number ≡ n + 0 = e in (omega (arith, here), tt)
+one_behind n (q ∷ ps) p h e = let here : p.number ≡ n + suc (length ps) = e in (h.0, one_behind (n + 1) ps p h.1 (omega (arith, here)))
 
 -- what stands below them stays
 pub untouched : (m : Records) (n : ℕ) (ps : List Numbered) (k : ℕ) → IsFrom n ps → k < n → get (with_puts m ps) k ≡ get m k
@@ -52,7 +52,7 @@ untouched m n (p ∷ ps) k h less =
 
 -- each of them has a record then
 pub taken : (m : Records) (n : ℕ) (ps : List Numbered) (k : ℕ) → IsFrom n ps → n ≤ k → k < n + length ps → get (with_puts m ps) k ≢ None
-taken m n [] k h low high = λ e. absurd (omega arith)
+taken m n [] k h low high = λ e. let top : k < n + 0 = high in absurd (omega (arith, low, top))
 taken m n (p ∷ ps) k h low high =
     elim (eqb k n) as (λ b. eqb k n ≡ b → get (with_puts (insert m p.number p.«record») ps) k ≢ None) [
       | true ↦ λ q e.
@@ -62,8 +62,9 @@ taken m n (p ∷ ps) k h low high =
           let both : Some p.«record» ≡ None = sym here ∙ e in absurd cc
       | false ↦ λ q.
           let other : k ≡ n → ⊥ = λ same. let wrong : true ≡ false = sym (eq-eqb k n same) ∙ q in absurd cc in
-          let more : n + 1 ≤ k = grind (arith, other) in
-          taken (insert m p.number p.«record») (n + 1) ps k h.1 more (omega arith)
+          let more : n + 1 ≤ k = grind (arith, other, low) in
+          let top : k < n + suc (length ps) = high in
+          taken (insert m p.number p.«record») (n + 1) ps k h.1 more (omega (arith, top))
     ] refl
 
 -- they ascend
@@ -139,12 +140,12 @@ module _ (m : Records) (n : ℕ) (e : model.Entry) (free : get m n ≡ None) whe
 
   pub said_still : (steps k : ℕ) (p : model.Place) → is_said steps (insert m n (kind.Entry e)) k p ≡ is_said steps m k p
   said_still zero k p = refl
-  said_still (suc steps) k p = ap (λ b. says_something p.name || b) (by p.parent)
-    where
-      by : (parent : Option ℕ) → is_within_with (insert m n (kind.Entry e)) k (λ q r. is_said steps (insert m n (kind.Entry e)) q r) parent ≡ is_within_with m k (λ q r. is_said steps m q r) parent
-      by None = refl
-      by (Some q) = ap (λ b. nat_lt q k && b)
-          (place_with (λ r. is_said steps (insert m n (kind.Entry e)) q r) (λ r. is_said steps m q r) (λ r. said_still steps q r) (get (insert m n (kind.Entry e)) q) ∙ same_place (λ r. is_said steps m q r) q)
+  said_still (suc steps) k p = ap (λ b. says_something p.name || b)
+      (elim p.parent as (λ parent. is_within_with (insert m n (kind.Entry e)) k (λ q r. is_said steps (insert m n (kind.Entry e)) q r) parent ≡ is_within_with m k (λ q r. is_said steps m q r) parent) [
+        | None ↦ refl
+        | Some q ↦ ap (λ b. nat_lt q k && b)
+            (place_with (λ r. is_said steps (insert m n (kind.Entry e)) q r) (λ r. is_said steps m q r) (λ r. said_still steps q r) (get (insert m n (kind.Entry e)) q) ∙ same_place (λ r. is_said steps m q r) q)
+      ])
 
   -- the key is free where it was, and the entry has another
   module _ (source : ℕ) (k : EntryKind) (page : List ℕ) (item : Item) where
@@ -253,11 +254,14 @@ both_needed (Ok u) true b = refl
 both_needed (Ok u) false b = refl
 both_needed (Err k) a b = refl
 
-one_more : {A : Type 0} (xs : List A) (x : A) → length (xs ++ (x ∷ [])) ≡ length xs + 1
+pub one_more : {A : Type 0} (xs : List A) (x : A) → length (xs ++ (x ∷ [])) ≡ length xs + 1
 one_more [] x = refl
-one_more (y ∷ xs) x = ap suc (one_more xs x)
+one_more (y ∷ xs) x = let more : length (xs ++ (x ∷ [])) ≡ length xs + 1 = one_more xs x in ap suc more ∙ moved (length xs)
+  where
+    moved : (n : ℕ) → suc (n + 1) ≡ suc n + 1
+    moved n = omega arith
 
-abbrev put_of : Content → List Numbered → model.Entry → Numbered
+abbrev pub put_of : Content → List Numbered → model.Entry → Numbered
 put_of c made e = record { number = c.next + length made; «record» = kind.Entry e }
 
 module _ (c : Content) (source : ℕ) (made : List Numbered) (e : model.Entry) (same : e.source ≡ source) (is : IsBehind c source made) where

@@ -82,21 +82,21 @@ checked d source row =
     and_then (key_is_free d.records source e.kind e.page e.item) (λ _.
     Ok e))))
 
+last_kept : (d : Content) (e : model.Entry) (q : Result (Unit {0}) RefusalKind) → and_then q (λ _. creates d (kind.Entry e)) ≡ and_then (and_then q (λ _. Ok e)) (λ x. creates d (kind.Entry x))
+last_kept d e (Ok w) = refl
+last_kept d e (Err x) = refl
+
+chain : (d : Content) (t p : Result (Unit {0}) RefusalKind) (r : Result model.Entry RefusalKind) (k : model.Entry → Result (Unit {0}) RefusalKind)
+    → and_then t (λ _. and_then p (λ _. and_then r (λ e. and_then (k e) (λ _. creates d (kind.Entry e))))) ≡ and_then (and_then t (λ _. and_then p (λ _. and_then r (λ e. and_then (k e) (λ _. Ok e))))) (λ e. creates d (kind.Entry e))
+chain d (Err x) p r k = refl
+chain d (Ok u) (Err x) r k = refl
+chain d (Ok u) (Ok v) (Err x) k = refl
+chain d (Ok u) (Ok v) (Ok e) k = last_kept d e (k e)
+
 grouped : (d : Content) (source : ℕ) (row : EntryRow) → demanded_at d demand.Source source ≡ Ok tt → new_entry d source row ≡ and_then (checked d source row) (λ e. creates d (kind.Entry e))
 grouped d source row there =
     ap (λ r. and_then (texts_fit row) (λ _. and_then r (λ _. and_then (passed (each (said_place_at d) row.place)) (λ _. and_then (entry_of source row) (λ e. and_then (key_is_free d.records source e.kind e.page e.item) (λ _. creates d (kind.Entry e))))))) there
-    ∙ by (texts_fit row) (passed (each (said_place_at d) row.place)) (entry_of source row) (λ e. key_is_free d.records source e.kind e.page e.item)
-  where
-    by : (t p : Result (Unit {0}) RefusalKind) (r : Result model.Entry RefusalKind) (k : model.Entry → Result (Unit {0}) RefusalKind)
-        → and_then t (λ _. and_then p (λ _. and_then r (λ e. and_then (k e) (λ _. creates d (kind.Entry e))))) ≡ and_then (and_then t (λ _. and_then p (λ _. and_then r (λ e. and_then (k e) (λ _. Ok e))))) (λ e. creates d (kind.Entry e))
-    by (Err x) p r k = refl
-    by (Ok u) (Err x) r k = refl
-    by (Ok u) (Ok v) (Err x) k = refl
-    by (Ok u) (Ok v) (Ok e) k = last (k e)
-      where
-        last : (q : Result (Unit {0}) RefusalKind) → and_then q (λ _. creates d (kind.Entry e)) ≡ and_then (and_then q (λ _. Ok e)) (λ x. creates d (kind.Entry x))
-        last (Ok w) = refl
-        last (Err x) = refl
+    ∙ chain d (texts_fit row) (passed (each (said_place_at d) row.place)) (entry_of source row) (λ e. key_is_free d.records source e.kind e.page e.item)
 
 same_checks : (c : Content) (source : ℕ) (made : List Numbered) (row : EntryRow) → IsBehind c source made → checked (with_made c made) source row ≡ row_entry c source made row
 same_checks c source made row is =
@@ -131,61 +131,80 @@ made_more c made e =
     ap (λ (m : Records). record c { records = m; next = c.next + length made + 1 }) (sym (puts_behind c.records made (put_of c made e)))
     ∙ ap (λ n. record c { records = with_puts c.records (made ++ (put_of c made e ∷ [])); next = n }) count
 
+-- what is to be shown of one row, whose look has answered so
+abbrev RowIs : Content → ℕ → List Numbered → List EntryRow → Result model.Entry RefusalKind → Type 0
+RowIs c source made rows r =
+    onward (placed (Some (length made + 1)) (and_then r (λ e. creates (with_made c made) (kind.Entry e)))) (λ (done : Content × Answer). one_by_one source (length made + 1 + 1) done.0 rows)
+    ≡ left c (onward (placed (Some (length made + 1)) (and_then r (with_entry c.next made))) (λ more. with_rows c source more rows))
+
+-- the same of its number
+abbrev commands_from : Content → ℕ → List Numbered → List EntryRow → model.Entry → Result ℕ RefusalKind → Result Content Refusal
+commands_from c source made rows e o =
+    onward (placed (Some (length made + 1)) (and_then o (λ n. Ok (record (with_made c made) { records = insert (with_puts c.records made) n (kind.Entry e); next = n + 1 }, record { first = n; count = 1 }))))
+    (λ (done : Content × Answer). one_by_one source (length made + 1 + 1) done.0 rows)
+
+abbrev rows_from : Content → ℕ → List Numbered → List EntryRow → model.Entry → Result ℕ RefusalKind → Result Content Refusal
+rows_from c source made rows e o =
+    left c (onward (placed (Some (length made + 1)) (and_then o (λ n. Ok (made ++ (record { number = n; «record» = kind.Entry e } ∷ []))))) (λ more. with_rows c source more rows))
+
+number_is : (m n : ℕ) (b : Bool) → ◌≡◌ {A = Result ℕ RefusalKind} (if b then Ok m else Err Full) (Ok n) → m ≡ n
+number_is m n true e = cc
+number_is m n false e = absurd cc
+
+one_numbered : (c : Content) (source : ℕ) (made : List Numbered) (rows : List EntryRow) (e : model.Entry) (n : ℕ) → c.next + length made ≡ n
+    → one_by_one source (length (made ++ (put_of c made e ∷ [])) + 1) (with_made c (made ++ (put_of c made e ∷ []))) rows ≡ left c (with_rows c source (made ++ (put_of c made e ∷ [])) rows)
+    → commands_from c source made rows e (Ok n) ≡ rows_from c source made rows e (Ok n)
+one_numbered c source made rows e n here again =
+    let count : length made + 1 + 1 ≡ length (made ++ (put_of c made e ∷ [])) + 1 = ap (λ k. k + 1) (sym (one_more made (put_of c made e))) in
+    ap (λ k. one_by_one source (length made + 1 + 1) (record (with_made c made) { records = insert (with_puts c.records made) k (kind.Entry e); next = k + 1 }) rows) (sym here)
+    ∙ ap (λ (d : Content). one_by_one source (length made + 1 + 1) d rows) (made_more c made e)
+    ∙ ap (λ k. one_by_one source k (with_made c (made ++ (put_of c made e ∷ []))) rows) count
+    ∙ again
+    ∙ ap (λ k. left c (with_rows c source (made ++ (record { number = k; «record» = kind.Entry e } ∷ [])) rows)) here
+
+numbered_row : (c : Content) (source : ℕ) (made : List Numbered) (rows : List EntryRow) (e : model.Entry) (o : Result ℕ RefusalKind) → next_free (with_made c made) ≡ o
+    → one_by_one source (length (made ++ (put_of c made e ∷ [])) + 1) (with_made c (made ++ (put_of c made e ∷ []))) rows ≡ left c (with_rows c source (made ++ (put_of c made e ∷ [])) rows)
+    → commands_from c source made rows e o ≡ rows_from c source made rows e o
+numbered_row c source made rows e (Err k) f again = refl
+numbered_row c source made rows e (Ok n) f again = one_numbered c source made rows e n (number_is (c.next + length made) n (nat_le (c.next + length made) 4_294_967_295) f) again
+
 rows_are : (c : Content) (source : ℕ) (made : List Numbered) (rows : List EntryRow) → 2 ≤ c.next → IsBehind c source made → one_by_one source (length made + 1) (with_made c made) rows ≡ left c (with_rows c source made rows)
 rows_are c source made [] two is = refl
 rows_are c source made (row ∷ rows) two is =
-    ap (λ r. onward (placed (Some (length made + 1)) r) next) (one_entry c source made row is) ∙ by (row_entry c source made row) refl
-  where
-    next : Content × Answer → Result Content Refusal
-    next = λ done. one_by_one source (length made + 1 + 1) done.0 rows
-
-    goal : Result model.Entry RefusalKind → Type 0
-    goal r = onward (placed (Some (length made + 1)) (and_then r (λ e. creates (with_made c made) (kind.Entry e)))) next ≡ left c (onward (placed (Some (length made + 1)) (and_then r (with_entry c.next made))) (λ more. with_rows c source more rows))
-
-    numbered : (e : model.Entry) → e.source ≡ source → (o : Result ℕ RefusalKind) → next_free (with_made c made) ≡ o → number_behind c.next (length made) ≡ o → goal (Ok e)
-    numbered e same (Err k) f g =
-        ap (λ r. onward (placed (Some (length made + 1)) (and_then r (λ n. Ok (record (with_made c made) { records = insert (with_puts c.records made) n (kind.Entry e); next = n + 1 }, record { first = n; count = 1 })))) next) f
-        ∙ sym (ap (λ r. left c (onward (placed (Some (length made + 1)) (and_then r (λ n. Ok (made ++ (record { number = n; «record» = kind.Entry e } ∷ []))))) (λ more. with_rows c source more rows))) g)
-    numbered e same (Ok n) f g =
-        let here : c.next + length made ≡ n = number_is (nat_le (c.next + length made) 4_294_967_295) f in
-        let count : length made + 1 + 1 ≡ length (made ++ (put_of c made e ∷ [])) + 1 = omega (arith, one_more made (put_of c made e)) in
-        ap (λ r. onward (placed (Some (length made + 1)) (and_then r (λ n. Ok (record (with_made c made) { records = insert (with_puts c.records made) n (kind.Entry e); next = n + 1 }, record { first = n; count = 1 })))) next) f
-        ∙ ap (λ n. one_by_one source (length made + 1 + 1) (record (with_made c made) { records = insert (with_puts c.records made) n (kind.Entry e); next = n + 1 }) rows) (sym here)
-        ∙ ap (λ (d : Content). one_by_one source (length made + 1 + 1) d rows) (made_more c made e)
-        ∙ ap (λ k. one_by_one source k (with_made c (made ++ (put_of c made e ∷ []))) rows) count
-        ∙ rows_are c source (made ++ (put_of c made e ∷ [])) rows two (behind_one c source made e same is)
-        ∙ ap (λ n. left c (with_rows c source (made ++ (record { number = n; «record» = kind.Entry e } ∷ [])) rows)) here
-        ∙ sym (ap (λ r. left c (onward (placed (Some (length made + 1)) (and_then r (λ n. Ok (made ++ (record { number = n; «record» = kind.Entry e } ∷ []))))) (λ more. with_rows c source more rows))) g)
-      where
-        number_is : (b : Bool) → ◌≡◌ {A = Result ℕ RefusalKind} (if b then Ok (c.next + length made) else Err Full) (Ok n) → c.next + length made ≡ n
-        number_is true e = cc
-        number_is false e = absurd cc
-
-    by : (r : Result model.Entry RefusalKind) → row_entry c source made row ≡ r → goal r
-    by (Err k) h = refl
-    by (Ok e) h = numbered e (row_source c source made row e h) (next_free (with_made c made)) refl (left_number c made two)
+    ap (λ r. onward (placed (Some (length made + 1)) r) (λ (done : Content × Answer). one_by_one source (length made + 1 + 1) done.0 rows)) (one_entry c source made row is)
+    ∙ elim (row_entry c source made row) as (λ r. row_entry c source made row ≡ r → RowIs c source made rows r) [
+      | Ok e ↦ λ h.
+          numbered_row c source made rows e (next_free (with_made c made)) refl (rows_are c source (made ++ (put_of c made e ∷ [])) rows two (behind_one c source made e (row_source c source made row e h) is))
+          ∙ ap (rows_from c source made rows e) (sym (left_number c made two))
+      | Err k ↦ λ h. refl
+    ] refl
 
 same_content : (c : Content) → with_made c [] ≡ c
-same_content c = ap (λ n. record c { next = n }) (none_added c.next)
-  where
-    none_added : (n : ℕ) → n + 0 ≡ n
-    none_added n = omega arith
+same_content c = let none : c.next + 0 ≡ c.next = omega arith in ap (λ n. record c { next = n }) none
 
--- as many are made as rows are
-row_count : (c : Content) (source : ℕ) (made : List Numbered) (rows : List EntryRow) (all : List Numbered) → with_rows c source made rows ≡ Ok all → IsFrom c.next made → IsFrom c.next all × (length all ≡ length made + length rows)
-row_count c source made [] all h from = let same : made ≡ all = cc in (subst (IsFrom c.next) same from, ap length (sym same) ∙ omega arith)
-row_count c source made (row ∷ rows) all h from = by (row_entry c source made row) h
-  where
-    added : (e : model.Entry) (b : Bool) → is_left c.next (length made) ≡ b → onward (placed (Some (length made + 1)) (and_then (if b then Ok (c.next + length made) else Err Full) (λ n. Ok (made ++ (record { number = n; «record» = kind.Entry e } ∷ []))))) (λ more. with_rows c source more rows) ≡ Ok all
-        → IsFrom c.next all × (length all ≡ length made + (length rows + 1))
-    added e true q g =
-        let more = row_count c source (made ++ (put_of c made e ∷ [])) rows all g (one_behind c.next made (put_of c made e) from refl) in
-        (more.0, more.1 ∙ omega (arith, one_more made (put_of c made e)))
-    added e false q g = absurd cc
+-- as many are made as rows are, with numbers that follow each other
+abbrev Counted : Content → List Numbered → ℕ → List Numbered → Type 0
+Counted c made count all = IsFrom c.next all × (length all ≡ length made + count)
 
-    by : (r : Result model.Entry RefusalKind) → onward (placed (Some (length made + 1)) (and_then r (with_entry c.next made))) (λ more. with_rows c source more rows) ≡ Ok all → IsFrom c.next all × (length all ≡ length made + (length rows + 1))
-    by (Ok e) g = added e (is_left c.next (length made)) refl g
-    by (Err k) g = absurd cc
+count_more : (c : Content) (made all : List Numbered) (e : model.Entry) (count : ℕ) → Counted c (made ++ (put_of c made e ∷ [])) count all → Counted c made (suc count) all
+count_more c made all e count h =
+    let more : length (made ++ (put_of c made e ∷ [])) ≡ length made + 1 = one_more made (put_of c made e) in
+    let total : length all ≡ length (made ++ (put_of c made e ∷ [])) + count = h.1 in
+    (h.0, omega (arith, more, total))
+
+row_count : (c : Content) (source : ℕ) (made : List Numbered) (rows : List EntryRow) (all : List Numbered) → with_rows c source made rows ≡ Ok all → IsFrom c.next made → Counted c made (length rows) all
+row_count c source made [] all h from =
+    let same : made ≡ all = cc in
+    let none : length made ≡ length made + 0 = omega arith in
+    (subst (IsFrom c.next) same from, ap length (sym same) ∙ none)
+row_count c source made (row ∷ rows) all h from =
+    elim (row_entry c source made row) as (λ r. onward (placed (Some (length made + 1)) (and_then r (with_entry c.next made))) (λ more. with_rows c source more rows) ≡ Ok all → Counted c made (suc (length rows)) all) [
+      | Ok e ↦ elim (is_left c.next (length made)) as (λ b. onward (placed (Some (length made + 1)) (and_then (if b then Ok (c.next + length made) else Err Full) (λ n. Ok (made ++ (record { number = n; «record» = kind.Entry e } ∷ []))))) (λ more. with_rows c source more rows) ≡ Ok all → Counted c made (suc (length rows)) all) [
+        | true ↦ λ g. count_more c made all e (length rows) (row_count c source (made ++ (put_of c made e ∷ [])) rows all g (one_behind c.next made (put_of c made e) from refl))
+        | false ↦ λ g. absurd cc
+      ]
+      | Err k ↦ λ g. absurd cc
+    ] h
 
 -- ---- the law
 demanded_is : (c : Content) (source : ℕ) (u : Unit {0}) → demanded_at c demand.Source source ≡ Ok u → (r : Record) × (get c.records source ≡ Some r)
@@ -211,31 +230,33 @@ begun c source rows u sound e =
     ap (λ (d : Content). one_by_one source 1 d rows) (sym (same_content c))
     ∙ rows_are c source [] rows (at_two c source sound one.0 one.1) (behind_none c source (none_later c sound) e)
 
+abbrev answered : Content → Content → ℕ → Step
+answered c d count = onward (placed None (first_number c.next)) (λ n. Ok (d, record { first = n; count = count }))
+
 pub batch_is_commands : (c : Content) (source : ℕ) (rows : List EntryRow) → IsSound c → batch_step c source rows ≡ all_commands c source rows
 batch_is_commands c source rows sound = by (demanded_at c demand.Source source) refl
   where
-    abbrev answered : Content → ℕ → Step
-    answered d count = onward (placed None (first_number c.next)) (λ n. Ok (d, record { first = n; count = count }))
-
-    each_row : (r : Result (List Numbered) Refusal) → with_rows c source [] rows ≡ r → onward r (λ made. answered (with_made c made) (length made)) ≡ onward (left c r) (λ after. answered after (length rows))
+    each_row : (r : Result (List Numbered) Refusal) → with_rows c source [] rows ≡ r → onward r (λ made. answered c (with_made c made) (length made)) ≡ onward (left c r) (λ after. answered c after (length rows))
     each_row (Err k) q = refl
     each_row (Ok made) q =
-        let count = row_count c source [] rows made q tt in
-        ap (answered (with_made c made)) (count.1 ∙ omega arith)
+        let counted = row_count c source [] rows made q tt in
+        let count : length made ≡ 0 + length rows = counted.1 in
+        let same : length made ≡ length rows = omega (arith, count) in
+        ap (answered c (with_made c made)) same
 
     by : (r : Result (Unit {0}) RefusalKind) → demanded_at c demand.Source source ≡ r
-        → onward (placed None r) (λ _. onward (with_rows c source [] rows) (λ made. answered (with_made c made) (length made))) ≡ onward (placed None r) (λ _. onward (one_by_one source 1 c rows) (λ after. answered after (length rows)))
+        → onward (placed None r) (λ _. onward (with_rows c source [] rows) (λ made. answered c (with_made c made) (length made))) ≡ onward (placed None r) (λ _. onward (one_by_one source 1 c rows) (λ after. answered c after (length rows)))
     by (Err k) q = refl
-    by (Ok u) q = each_row (with_rows c source [] rows) refl ∙ sym (ap (λ r. onward r (λ after. answered after (length rows))) (begun c source rows u sound q))
+    by (Ok u) q = each_row (with_rows c source [] rows) refl ∙ sym (ap (λ r. onward r (λ after. answered c after (length rows))) (begun c source rows u sound q))
 
 -- ---- what a batch leaves
 one_sound : (source place : ℕ) (c : Content) (rows : List EntryRow) (after : Content) → AreUtf8Entries rows → IsSound c → one_by_one source place c rows ≡ Ok after → IsSound after
 one_sound source place c [] after words sound e = let same : c ≡ after = cc in subst IsSound same sound
-one_sound source place c (row ∷ rows) after words sound e = by (new_entry c source row) (row_follows c (row_command.Entry source row)) e
-  where
-    by : (r : RowStep) → Follows (IsUtf8Entry row) c r → onward (placed (Some place) r) (λ (done : Content × Answer). one_by_one source (place + 1) done.0 rows) ≡ Ok after → IsSound after
-    by (Ok done) f g = one_sound source (place + 1) done.0 rows after words.1 (f.4 words.0 sound) g
-    by (Err k) f g = absurd cc
+one_sound source place c (row ∷ rows) after words sound e =
+    elim (new_entry c source row) as (λ r. Follows (IsUtf8Entry row) c r → onward (placed (Some place) r) (λ (done : Content × Answer). one_by_one source (place + 1) done.0 rows) ≡ Ok after → IsSound after) [
+      | Ok done ↦ λ f g. one_sound source (place + 1) done.0 rows after words.1 (f.4 words.0 sound) g
+      | Err k ↦ λ f g. absurd cc
+    ] (row_follows c (row_command.Entry source row)) e
 
 made_follows : (c : Content) (source : ℕ) (rows : List EntryRow) (made : List Numbered) (u : Unit {0}) → demanded_at c demand.Source source ≡ Ok u → with_rows c source [] rows ≡ Ok made → Follows {E = Refusal} (AreUtf8Entries rows) c (Ok (with_made c made, record { first = c.next; count = length made }))
 made_follows c source rows made u there e =
