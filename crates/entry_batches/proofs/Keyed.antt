@@ -1,7 +1,10 @@
 -- Two entries have one key text where they have one kind, page and item.
-use Rattle.std.proofs.Common.{◌≡◌, ℕ, List, [], ◌∷◌, ◌++◌, Bool, true, false, not, ◌&&◌, ◌||◌, ◌==◌, refl, sym, ap, ◌∙◌, subst, eqb, eqb-true, eq-eqb, cond}
+use Rattle.std.proofs.Common.{◌≡◌, ℕ, List, [], ◌∷◌, ◌++◌, Bool, true, false, not, ◌&&◌, ◌||◌, ◌==◌, refl, sym, ap, ◌∙◌, subst, eqb-true, eq-eqb, cond, append_assoc}
 use Rattle.std.specs.Prelude.{Result, Ok, Err, Option, Some, decimal, bytes_eq}
+use Rattle.std.specs.BTreeSet.{BTreeSet, contains_text}
 use Rattle.std.specs.List.{list_any}
+use Rattle.std.specs.declared.string.String.{String}
+use Rattle.record_text.specs.declared.refusal.RefusalKind.TheVariants.{DuplicateEntry}
 use Rattle.record_fields.specs.Bytes.{bytes_are, bytes_same}
 use Rattle.record_fields.specs.Words.{entry_kind_of, entry_kind_word}
 use Rattle.record_fields.specs.declared.entry_words.EntryKind.{EntryKind}
@@ -14,8 +17,9 @@ use Rattle.record_kinds.specs.Model as model
 use Rattle.record_kinds.specs.declared.record.Record.{Record}
 use Rattle.record_kinds.specs.declared.record.Record.TheVariants as kind
 use Rattle.archive_state.specs.declared.changes.Numbered.{Numbered}
-use Rattle.entry_batches.specs.Batches.{is_like_row}
-use Rattle.entry_batches.specs.Keys.{has_words, key_words}
+use Rattle.archive_looks.specs.Checks.{need}
+use Rattle.entry_batches.specs.Batches.{is_like_row, key_is_new}
+use Rattle.entry_batches.specs.Keys.{IsKeyed, has_words, key_words}
 
 -- ---- what stands before the first zero, and behind it
 head_same : (a b : ℕ) (xs ys : List ℕ) → a ∷ xs ≡ b ∷ ys → a ≡ b
@@ -136,3 +140,23 @@ added x w new old e = e ∙ by (bytes_eq w x) (bytes_eq x w) old (one_test (byte
     by false false false e = refl
     by true false o e = absurd cc
     by false true o e = absurd cc
+
+-- ---- what a look for the key of an entry has found
+pub is_taken : (e : model.Entry) (made : List Numbered) (words : List ℕ) (b : Bool) → words ≡ key_words e → b ≡ list_any (λ (p : Numbered). has_words words p.«record») made → b ≡ true → key_is_new made e ≡ Err DuplicateEntry
+is_taken e made words b same is h =
+    ap (λ x. need (not x) DuplicateEntry) (sym (is ∙ ap (λ w. list_any (λ (p : Numbered). has_words w p.«record») made) same ∙ all_words e made) ∙ h)
+
+pub is_free : (e : model.Entry) (made : List Numbered) (words : List ℕ) (b : Bool) → words ≡ key_words e → b ≡ list_any (λ (p : Numbered). has_words words p.«record») made → b ≡ false → key_is_new made e ≡ Ok tt
+is_free e made words b same is h =
+    ap (λ x. need (not x) DuplicateEntry) (sym (is ∙ ap (λ w. list_any (λ (p : Numbered). has_words w p.«record») made) same ∙ all_words e made) ∙ h)
+
+-- ---- the keys with that of one entry more
+pub keyed_more : {Y : Type 0} (old new : BTreeSet (String Y)) (made : List Numbered) (e : model.Entry) (n : ℕ) → IsKeyed old made
+    → ((x : List ℕ) → contains_text new x ≡ (contains_text old x || bytes_eq x (key_words e))) → IsKeyed new (made ++ (record { number = n; «record» = kind.Entry e } ∷ []))
+keyed_more old new made e n keyed adds = λ x.
+    adds x ∙ ap (λ b. b || bytes_eq x (key_words e)) (keyed x) ∙ sym (any_behind (λ (p : Numbered). has_words x p.«record») made (record { number = n; «record» = kind.Entry e }))
+
+-- the parts of a key, put together one after the other
+pub joined : (k i p : List ℕ) → (((k ++ (0 ∷ [])) ++ i) ++ (0 ∷ [])) ++ p ≡ k ++ 0 ∷ i ++ 0 ∷ p
+joined k i p =
+    append_assoc ((k ++ (0 ∷ [])) ++ i) (0 ∷ []) p ∙ append_assoc (k ++ (0 ∷ [])) i (0 ∷ p) ∙ append_assoc k (0 ∷ []) (i ++ 0 ∷ p)
