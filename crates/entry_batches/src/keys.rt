@@ -10,6 +10,7 @@ use std::alloc::{AllocError, Global};
 use std::collections::BTreeSet;
 
 /// Kind, item and page of an entry, parted by U+0000. Refused only for want of memory.
+#[tactic(auto, using(crate::proofs::Keyed::joined))]
 pub(crate) fn key_words(alloc: Global, entry: &Entry) -> Result<String, AllocError>
     ensures { IfOk result (λ words. string_bytes words ≡ keys.key_words entry.now) }
 {

@@ -56,12 +56,14 @@ impl Made {
 
     /// How many there are.
     pub(crate) fn count(&self) -> u32
-        ensures { result ≡ length self.now }
+        ensures length { result ≡ length self.now }
+        ensures few { result ≤ 4_294_967_294 }
     {
         self.puts.len() as u32
     }
 
     /// That none of them has the key of an entry (else `DuplicateEntry`).
+    #[tactic(auto, using(crate::proofs::Keyed::is_taken, crate::proofs::Keyed::is_free))]
     pub(crate) fn check_new(&self, alloc: Global, entry: &Entry) -> Result<(), RefusalKind>
         ensures decides { Agrees is_stop result (batches.key_is_new self.now entry.now) }
         ensures memory { IfErr result (λ e. is_failure e ≡ false) }
@@ -75,6 +77,7 @@ impl Made {
     }
 
     /// With an entry more, at the number behind these where one is left (else `Full`).
+    #[tactic(auto, using(crate::proofs::Looked::left_behind_few))]
     pub(crate) fn with_entry(self, alloc: Global, next: u64, entry: Entry) -> Result<Made, RefusalKind>
         ensures decides { Agrees is_stop result (batches.with_entry next self entry) }
         ensures memory { IfErr result (λ e. is_failure e ≡ false) }
@@ -90,6 +93,7 @@ impl Made {
     }
 
     /// With an entry more, at that number.
+    #[tactic(auto, using(crate::proofs::Keyed::keyed_more))]
     fn with_put(self, alloc: Global, number: u32, entry: Entry) -> Result<Made, AllocError>
         requires { length self ≤ 4_294_967_293 }
         ensures { IfOk result (λ made. made ≡ self ++ (record { number = number; «record» = kind.Entry entry } ∷ [])) }
@@ -134,6 +138,7 @@ impl Made {
 }
 
 /// The number behind so many entries, where one is left (else `Full`).
+#[tactic(auto, using(crate::proofs::Looked::left_is))]
 fn number_behind(next: u64, count: u32) -> Result<u32, RefusalKind>
     ensures { result ≡ batches.number_behind next count }
 {

@@ -104,6 +104,7 @@ fn row_entry<V: View>(
 }
 
 /// That an entry may have the place, where there is one. What a row before has made is no place.
+#[tactic(auto, using(crate::proofs::Looked::drawn_refused, crate::proofs::Looked::drawn_by_none))]
 fn check_place_behind<V: View>(
     alloc: Global,
     view: &mut V,
@@ -131,6 +132,7 @@ fn is_drawn_by(next: u64, count: u32, number: Option<u32>) -> bool
     }
 }
 
+#[tactic(auto, using(crate::proofs::Looked::drawn_is))]
 fn is_drawn(next: u64, count: u32, number: u32) -> bool
     ensures { result ≡ batches.is_drawn next count number }
 {
