@@ -1,14 +1,17 @@
 -- Rows one after the other over a view, and refusals at their places.
-use Rattle.std.proofs.Common.{◌≡◌, ℕ, ◌+◌, ◌≤◌, List, [], ◌∷◌, drop, Bool, true, false, refl, sym, ap, ◌∙◌, subst, arith}
+use Rattle.std.proofs.Common.{◌≡◌, ℕ, ◌+◌, ◌<◌, ◌≤◌, List, [], ◌∷◌, drop, get_or, length, Bool, true, false, refl, sym, ap, ◌∙◌, subst, arith}
 use Rattle.std.specs.Prelude.{Option, Some, None, Result, Ok, Err, IfErr, if◌then◌else◌}
+use Rattle.std.proofs.lemmas.List.{drop_more}
 use Rattle.record_text.specs.declared.refusal.Refusal.{Refusal}
 use Rattle.record_text.specs.declared.refusal.RefusalKind.{RefusalKind}
 use Rattle.devices.specs.Devices.{Rose}
+use Rattle.record_kinds.specs.Model as model
 use Rattle.archive_state.specs.Content.{Content}
 use Rattle.archive_state.specs.declared.changes.Numbered.{Numbered}
-use Rattle.archive_view.specs.Looks.{Agrees, CountsStops, OnView, is_failure, is_stop}
+use Rattle.archive_view.specs.Looks.{Agrees, CountsFailures, CountsStops, OnView, is_failure, is_stop}
+use Rattle.commands.specs.Rows.{and_then}
 use Rattle.commands.specs.declared.entry_row.EntryRow.{EntryRow}
-use Rattle.entry_batches.specs.Batches.{with_row, with_rows}
+use Rattle.entry_batches.specs.Batches.{row_entry, with_entry, with_row, with_rows}
 use Rattle.entry_batches.specs.Placed.{onward, placed, placed_unless_stopped, refused_at}
 
 -- ---- views
@@ -67,3 +70,35 @@ row_added c source rows row made more i here way e =
 pub row_refused : (c : Content) (source : ℕ) (rows : List EntryRow) (row : EntryRow) (made : List Numbered) (i : ℕ) (k : Refusal) → drop i rows ≡ row ∷ drop (i + 1) rows → LeadsOn c source rows made i → with_row c source made row ≡ Err k → with_rows c source [] rows ≡ Err k
 row_refused c source rows row made i k here way e =
     way ∙ ap (with_rows c source made) here ∙ ap (λ r. onward r (λ x. with_rows c source x (drop (i + 1) rows))) e
+
+-- the row that the turn looks at, and what is left behind it
+pub item_here : {A : Type 0} (xs : List A) (i : ℕ) (x : A) → i < length xs → x ≡ get_or xs i x → drop i xs ≡ x ∷ drop (i + 1) xs
+item_here xs i x low is = drop_more xs i x low ∙ ap (λ y. y ∷ drop (i + 1) xs) (sym is)
+
+-- a refusal ends it
+pub refused_right : (c : Content) (source : ℕ) (rows : List EntryRow) (row : EntryRow) (made : List Numbered) (i : ℕ) (k : Refusal) (result : Result (List Numbered) Refusal) → result ≡ Err k → drop i rows ≡ row ∷ drop (i + 1) rows → LeadsOn c source rows made i
+    → (stops k ≡ false → with_row c source made row ≡ Err k) → Agrees stops result (with_rows c source [] rows)
+refused_right c source rows row made i k result is here way refused =
+    subst (λ z. Agrees stops z (with_rows c source [] rows)) (sym is) (λ s. row_refused c source rows row made i k here way (refused s))
+
+-- and so does the last row
+pub all_made : (c : Content) (source : ℕ) (rows : List EntryRow) (made : List Numbered) (i : ℕ) → drop i rows ≡ [] → LeadsOn c source rows made i → with_rows c source [] rows ≡ Ok made
+all_made c source rows made i none way = way ∙ ap (with_rows c source made) none
+
+-- ---- the entry of a row, and its number, at its place
+pub row_right : (c : Content) (source next place : ℕ) (made : List Numbered) (row : EntryRow) (r : Result (List Numbered) RefusalKind) (result : Result (List Numbered) Refusal) → c.next ≡ next → place ≡ length made + 1
+    → Agrees is_stop r (and_then (row_entry c source made row) (with_entry next made)) → result ≡ placed_unless_stopped place r → Agrees stops result (with_row c source made row)
+row_right c source next place made row r result same at right is =
+    subst (λ z. Agrees stops z (with_row c source made row)) (sym is)
+    (subst (λ k. Agrees stops (placed_unless_stopped place r) (placed (Some k) (and_then (row_entry c source made row) (with_entry c.next made)))) at
+    (placed_right place r (and_then (row_entry c source made row) (with_entry c.next made))
+    (subst (λ n. Agrees is_stop r (and_then (row_entry c source made row) (with_entry n made))) (sym same) right)))
+
+failed_so : (before after : ℕ) (entry : Result model.Entry RefusalKind) (r : Result (List Numbered) RefusalKind) → IfErr entry (λ e. is_failure e ≡ true → Rose before after) → IfErr r (λ e. is_failure e ≡ true → entry ≡ Err e) → IfErr r (λ e. is_failure e ≡ true → Rose before after)
+failed_so before after entry (Ok made) h k = tt
+failed_so before after entry (Err e) h k = λ f. subst (λ z. IfErr z (λ x. is_failure x ≡ true → Rose before after)) (k f) h f
+
+pub row_counts : (place before after : ℕ) (entry : Result model.Entry RefusalKind) (r : Result (List Numbered) RefusalKind) (result : Result (List Numbered) Refusal) → CountsFailures before after entry → IfErr r (λ e. is_failure e ≡ true → entry ≡ Err e)
+    → result ≡ placed_unless_stopped place r → CountsStops before after result
+row_counts place before after entry r result counts memory is =
+    subst (CountsStops before after) (sym is) (placed_counts place before after r counts.0 (failed_so before after entry r counts.1 memory))
