@@ -1,0 +1,2 @@
+mod OnTheWay
+pub mod Taking
