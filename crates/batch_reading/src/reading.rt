@@ -108,11 +108,19 @@ fn add_row(
         ⊎ (ReadsRow (fields_of row.now) (Err e.kind) × (e.at ≡ Some number))) }
 {
     match entry_of(alloc, row) {
-        Ok(entry) => {
-            entries.push(entry)?;
-            Ok(())
-        }
+        Ok(entry) => add(entry, entries),
         Err(kind) => Err(refused_row(kind, number)),
+    }
+}
+
+/// Puts an entry behind those that are there. Refused only for want of memory.
+fn add(entry: EntryRow, entries: &mut Vec<EntryRow>) -> Result<(), Refusal>
+    ensures added { OnOk result (entries.new.items ≡ entries.old.items ++ entry ∷ []) }
+    ensures refused { IfErr result (λ e. e ≡ placeless refusal.OutOfMemory) }
+{
+    match entries.push(entry) {
+        Ok(()) => Ok(()),
+        Err(_) => Err(Refusal::from(RefusalKind::OutOfMemory)),
     }
 }
 

@@ -94,6 +94,11 @@ HasWords found _ = ⊤
 abbrev pub IsTaken : List Text → Type 0
 IsTaken words = fault_of program words ≡ []
 
+-- the example in the help of `entries`, under any name of the program
+abbrev pub batch_words : Text → List Text
+batch_words name =
+    name ∷ codes "entries" ∷ codes "ashby.db" ∷ codes "--source" ∷ codes "3" ∷ codes "--token" ∷ codes "page-12" ∷ []
+
 -- work is asked for only by words that are taken, that name its command, and that it has
 abbrev pub Asks : List Text → Asked → Type 0
 Asks words asked = IfSome (name_of asked) (λ name. IsTaken words × (command_named words ≡ Some name)) × HasWords (subcommand_of program words) asked

@@ -36,13 +36,31 @@ fn the_first_refused_row_is_named(rt: HostRuntime) {
     let rows: [(&[u8], Result<usize, Refusal>); 10] = [
         (b"".as_slice(), Ok(2)),
         (b"\n\nMARRIAGE,,999999,,,,groom,".as_slice(), Ok(3)),
-        (b"BURIAL,f. 3,1,,,Ann".as_slice(), third(RefusalKind::FieldCount)),
-        (b"BURIAL,f. 3,1,,,Ann,buried".as_slice(), third(RefusalKind::FieldCount)),
+        (
+            b"BURIAL,f. 3,1,,,Ann".as_slice(),
+            third(RefusalKind::FieldCount),
+        ),
+        (
+            b"BURIAL,f. 3,1,,,Ann,buried".as_slice(),
+            third(RefusalKind::FieldCount),
+        ),
         (b"BURIAL\nBIRTH".as_slice(), third(RefusalKind::FieldCount)),
-        (b"BIRTH,f. 3,1,,,Ann,buried,Ann".as_slice(), third(RefusalKind::BadRow)),
-        (b"BURIAL,f. 3,0,,,Ann,buried,Ann".as_slice(), third(RefusalKind::BadRow)),
-        (b"BURIAL,f. 3,1000000,,,Ann,buried,Ann".as_slice(), third(RefusalKind::BadRow)),
-        (b"BURIAL,f. 3,1,,0,Ann,buried,Ann".as_slice(), third(RefusalKind::BadRow)),
+        (
+            b"BIRTH,f. 3,1,,,Ann,buried,Ann".as_slice(),
+            third(RefusalKind::BadRow),
+        ),
+        (
+            b"BURIAL,f. 3,0,,,Ann,buried,Ann".as_slice(),
+            third(RefusalKind::BadRow),
+        ),
+        (
+            b"BURIAL,f. 3,1000000,,,Ann,buried,Ann".as_slice(),
+            third(RefusalKind::BadRow),
+        ),
+        (
+            b"BURIAL,f. 3,1,,0,Ann,buried,Ann".as_slice(),
+            third(RefusalKind::BadRow),
+        ),
         (b"BURIAL,\xff,1".as_slice(), third(RefusalKind::BadRow)),
     ];
     for (row, want) in rows {
@@ -54,7 +72,11 @@ fn the_first_refused_row_is_named(rt: HostRuntime) {
 fn each_read_of_rows_fails_in_turn(rt: HostRuntime) {
     let failed = Refusal::from(RefusalKind::ReadFailed);
     for fails_at in 1..=10u64 {
-        assert_eq!(rt; read(rt.alloc(), BAPTISM.as_bytes(), fails_at), Err(failed), "at {fails_at}");
+        assert_eq!(rt;
+            read(rt.alloc(), BAPTISM.as_bytes(), fails_at),
+            Err(failed),
+            "at {fails_at}"
+        );
     }
     assert_eq!(rt; read(rt.alloc(), BAPTISM.as_bytes(), NEVER), Ok(1));
 }
