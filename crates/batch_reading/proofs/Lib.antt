@@ -1,2 +1,3 @@
+mod Added
 mod OnTheWay
 pub mod Taking

@@ -17,9 +17,14 @@ pub enum Asked<'a> {
     /// `check`: the number of records of standard input's forest, on standard output.
     Check,
     /// `init`: a new archive of a society in a file.
-    Init { file: &'a str, society: &'a str },
+    Init {
+        file: &'a str,
+        society: &'a str,
+    },
     /// `apply`: the requests of the rows of standard input on the archive in a file, their answers on standard output.
-    Apply { file: &'a str },
+    Apply {
+        file: &'a str,
+    },
     /// `entries`: the rows of standard input as new register entries of a source of the archive in a file, under a token. The
     /// token may be any word.
     Entries {
@@ -28,7 +33,9 @@ pub enum Asked<'a> {
         token: &'a str,
     },
     /// `--help` or `--version`, of the program or of a command: the text for standard output.
-    Show { text: String },
+    Show {
+        text: String,
+    },
 }
 
 /// Why a command line asks for nothing.
