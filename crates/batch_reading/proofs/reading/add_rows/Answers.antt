@@ -50,4 +50,4 @@ returns-in-Ok-false-clause-read g c =
     all_read _ _ _ _ _ v.way (took_all g.R.Read.remaining c.rows.rows c.read_byte_record.new.self f v.way.rows v.config _ r v.way.took)
 
 pub returns-in-Err-clause-refused : goal.returns-in-Err-clause-refused
-returns-in-Err-clause-refused g c = unread _ _ c.reading_failed.result c.from-Refusal.ensures c.reading_failed.ensures
+returns-in-Err-clause-refused g c = unread _ _ c.reading_failed.result c.from.ensures c.reading_failed.ensures
