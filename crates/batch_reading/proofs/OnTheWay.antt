@@ -1,5 +1,5 @@
 -- What is kept while rows are read one after the other, and what follows of it where a call ends.
-use Rattle.std.proofs.Common.{◌≡◌, ◌∙◌, ◌⊎◌, ◌+◌, ◌++◌, ◌∷◌, ℕ, List, [], Option, None, Some, Result, Ok, Err, inl, inr, refl, ap, sym, subst, arith, length, length-append}
+use Rattle.std.proofs.Common.{◌≡◌, ◌∙◌, ◌⊎◌, ◌+◌, ◌++◌, ◌∷◌, ℕ, List, [], Option, Some, Result, Ok, Err, inl, inr, refl, ap, sym, subst, length, length-append}
 use Rattle.csv.specs.declared.parser.State.{State}
 use Rattle.csv.specs.declared.parser.State.TheVariants as st
 use Rattle.record_text.specs.declared.refusal.Refusal.{Refusal}
@@ -7,7 +7,7 @@ use Rattle.record_text.specs.declared.refusal.RefusalKind.{RefusalKind}
 use Rattle.record_text.specs.declared.refusal.RefusalKind.TheVariants.{OutOfMemory, ReadFailed}
 use Rattle.commands.proofs.Again.{one_entry_outcome}
 use Rattle.commands.specs.declared.entry_row.EntryRow.{EntryRow}
-use Rattle.batch_reading.specs.Batches.{AreEntries, IsRefused, ReadsBatch, ReadsRow, RefusesRow, placeless}
+use Rattle.batch_reading.specs.Batches.{AreEntries, IsRefused, ReadsBatch, ReadsRow, placeless}
 use Rattle.batch_reading.specs.Input.{AreRows, Row}
 use Rattle.batch_reading.proofs.Taking.{Took, took_first, took_none}
 

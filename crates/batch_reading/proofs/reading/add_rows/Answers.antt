@@ -1,8 +1,7 @@
-use Rattle.std.proofs.Common.{◌∙◌, inl, inr, refl, sym, subst}
+use Rattle.std.proofs.Common.{◌∙◌, inl, sym, subst}
 use Rattle.csv.specs.Reading.{source_of}
 use Rattle.csv.specs.Records.{fields_of}
 use Rattle.csv.specs.declared.parser.State.{State}
-use Rattle.record_text.specs.declared.refusal.RefusalKind.TheVariants as refusal
 use Rattle.batch_reading.proofs.OnTheWay.{OnTheWay, all_read, at_start, one_more, row_refused, unread}
 use Rattle.batch_reading.proofs.Taking.{took_all, took_more}
 use Rattle.batch_reading.proofs.reading.add_rows.Goals as goal
