@@ -1,3 +1,4 @@
 mod Added
 mod OnTheWay
+mod OneBatch
 pub mod Taking
