@@ -154,7 +154,7 @@ step_again : (c : Content) (k : Command) (done : Content × Answer) → step c k
 step_again c k done e = let f : Follows {E = Refusal} (HasUtf8Words k) c (Ok done) = subst (Follows (HasUtf8Words k) c) e (step_follows c k) in f.3
 
 sound_blind : (d : Content) (receipts : Receipts) → IsSound d → IsSound (record d { receipts = receipts })
-sound_blind d receipts h = record { begun = h.begun; bounded = h.bounded; distinct = h.distinct; named = h.named; rules = h.rules; slips = h.slips }
+sound_blind d receipts h = record { begun = h.begun; bounded = h.bounded; distinct = h.distinct; named = h.named; rules = h.rules; slips = h.slips; stayed = h.stayed; free = h.free }
 
 pub request_sound : (c after : Content) (r : Request) (o : Result Answer Refusal) → HasUtf8Words r.command → IsSound c → Does c r o after → IsSound after
 request_sound c after r o words sound does = through IsSound sound_blind c after r o sound (step_sound c r.command words sound) does
