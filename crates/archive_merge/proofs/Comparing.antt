@@ -6,7 +6,7 @@ use Rattle.std.specs.FinMap.{get}
 use Rattle.stored_lines.specs.Line.{Label}
 use Rattle.record_fields.specs.Bytes.{bytes_are, bytes_same}
 use Rattle.records.specs.Stored.{stored}
-use Rattle.records.proofs.Back.{stored_one}
+use Rattle.records.proofs.Shallow.{stored_one}
 use Rattle.record_kinds.specs.declared.record.Record.{Record}
 use Rattle.archive_state.specs.Content.{Records}
 use Rattle.archive_state.specs.declared.slip.Change.{Change}
