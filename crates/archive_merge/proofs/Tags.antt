@@ -1,6 +1,6 @@
 -- The tags of carried lines after a merge.
 use Rattle.std.proofs.Common.{◌≡◌, ℕ, List, [], ◌∷◌, ◌++◌, refl, sym, ap, ◌∙◌, subst, arith}
-use Rattle.std.specs.Prelude.{codes, Option, Some, None}
+use Rattle.std.specs.Prelude.{codes, length, Option, Some, None}
 use Rattle.std.specs.List.{flat_map}
 use Rattle.stored_lines.specs.Tree.{Tree, Forest, node, none, more, relabel, relabel_all}
 use Rattle.stored_lines.specs.Line.{Line, Lines}
@@ -75,7 +75,7 @@ first_code (b ∷ bs) = b
 sex_tag : IsOfRecords (codes "SEX")
 unfolding first_code
 sex_tag = (
-  record { some = omega arith; short = omega arith; words = refl },
+  (let long : length (codes "SEX") ≡ 3 = refl in record { some = omega arith; short = omega arith; words = refl }),
   (λ (same : codes "SEX" ≡ codes "CONC"). let e : 83 ≡ 67 = ap first_code same in absurd (omega arith)),
   (λ (same : codes "SEX" ≡ codes "CONT"). let e : 83 ≡ 67 = ap first_code same in absurd (omega arith)),
 )
