@@ -16,7 +16,7 @@ use Rattle.record_shapes.specs.Roles.{is_role_of}
 use Rattle.record_shapes.specs.Tags.{is_event_tag}
 use Rattle.record_shapes.specs.Untaken.{HasUntaken}
 use Rattle.archive_state.specs.Content.{Content, Records}
-use Rattle.archive_state.specs.Known.{tag_at, path_under, path_with, path_by, path_of, known_of, known_before}
+use Rattle.archive_state.specs.Known.{tag_at, path_under, path_with, path_of, known_of, known_before}
 use Rattle.archive_state.specs.Merging.{merged, merged_record, merged_person, joined_person, person_with, place_with, family_with, entry_with, mention_with, event_place_with, renamed, record_with, once_in, clashes}
 use Rattle.archive_state.specs.Paths.{HasPath}
 use Rattle.archive_state.specs.Sound.{EachIn, HasSmallerParent, HasNormalName, HasMembersOnce, HasSaidPlace, HasEventTag, HasOwnShape, HasSoundMentions, IsNoTrailer, Stands, IsSound, owner_in, place_of}
@@ -32,6 +32,7 @@ use Rattle.archive_merge.proofs.Lists.{each_to_map}
 use Rattle.archive_merge.proofs.Members.{merged_once}
 use Rattle.archive_merge.proofs.Merged.{renamed_gone, renamed_other, at_gone, at_keep, at_other, which, map_some}
 use Rattle.archive_merge.proofs.Once.{join_links, once_into}
+use Rattle.archive_merge.proofs.PathsKept.{no_person_path}
 use Rattle.archive_merge.proofs.Renaming.{moved, links_moved}
 use Rattle.archive_merge.proofs.Rooms.{room_with, room_once, room_joined}
 use Rattle.archive_merge.proofs.Tags.{of_records_with, of_records_once, of_records_joined}
@@ -295,14 +296,9 @@ module _ (c : Content) (next keep gone : ℕ) (k g : model.Person) (sound : IsSo
       let new = like_after n old.0 old.1 in
       ap tag_at old.1 ∙ new.2.written ∙ sym (ap tag_at new.1)
 
-  -- a person has no path
-  no_person_path : (n : ℕ) (p : model.Person) → get m n ≡ Some (kind.Person p) → path_of m n ≡ None
-  unfolding path_of
-  no_person_path n p at = ap (path_with n (path_by n m)) at
-
   path_moved : (n : ℕ) → path_of m n ≡ path_of after (f n)
   path_moved n = elim (which keep gone n) as (λ _. path_of m n ≡ path_of after (f n)) [
-    | inl h ↦ no_person_path n g (ap (get m) h ∙ at_g) ∙ sym (paths_same (f n) ∙ no_person_path (f n) k (ap (λ i. get m (f i)) h ∙ ap (get m) (renamed_gone keep gone) ∙ at_k))
+    | inl h ↦ no_person_path m n g (ap (get m) h ∙ at_g) ∙ sym (paths_same (f n) ∙ no_person_path m (f n) k (ap (λ i. get m (f i)) h ∙ ap (get m) (renamed_gone keep gone) ∙ at_k))
     | inr h ↦ elim h as (λ _. path_of m n ≡ path_of after (f n)) [
       | inl i ↦ sym (ap (path_of after) (renamed_other keep gone n i.0) ∙ paths_same n)
       | inr i ↦ sym (ap (path_of after) (renamed_other keep gone n i.0) ∙ paths_same n)
@@ -316,7 +312,7 @@ module _ (c : Content) (next keep gone : ℕ) (k g : model.Person) (sound : IsSo
   before_moved : (j n : ℕ) → (if nat_lt n j then path_of m n else None) ≡ (if nat_lt (f n) j then path_of after (f n) else None)
   before_moved j n = elim (which keep gone n) as (λ _. (if nat_lt n j then path_of m n else None) ≡ (if nat_lt (f n) j then path_of after (f n) else None)) [
     | inl h ↦
-        let none : path_of m n ≡ None = no_person_path n g (ap (get m) h ∙ at_g) in
+        let none : path_of m n ≡ None = no_person_path m n g (ap (get m) h ∙ at_g) in
         either_none (nat_lt n j) (path_of m n) none ∙ sym (either_none (nat_lt (f n) j) (path_of after (f n)) (sym (path_moved n) ∙ none))
     | inr h ↦
         let other : n ≡ gone → ⊥ = elim h as (λ _. n ≡ gone → ⊥) [| inl i ↦ i.0 | inr i ↦ i.0] in
@@ -336,14 +332,14 @@ module _ (c : Content) (next keep gone : ℕ) (k g : model.Person) (sound : IsSo
       let none : get m 0 ≡ None = nothing_at_zero c sound in
       let keeps : 0 ≡ keep → ⊥ = λ same. let more : 0 < keep = (sound.rules.numbered keep (kind.Person k) at_k).0 in absurd (omega arith) in
       let goes : 0 ≡ gone → ⊥ = λ same. let more : 0 < gone = (sound.rules.numbered gone (kind.Person g) at_g).0 in absurd (omega arith) in
-      let then : get after 0 ≡ None = made 0 ∙ at_other keep gone (get m) 0 goes keeps ∙ ap (option_map (merged_record keep gone)) none in
-      record { tag = ap tag_at none ∙ sym (ap tag_at (ap (get after) zero_stays ∙ then)); path = path_moved 0 }
+      let left : get after 0 ≡ None = made 0 ∙ at_other keep gone (get m) 0 goes keeps ∙ ap (option_map (merged_record keep gone)) none in
+      record { tag = ap tag_at none ∙ sym (ap tag_at (ap (get after) zero_stays ∙ left)); path = path_moved 0 }
 
   shape_moved : (n : ℕ) (r : Record) → get m n ≡ Some r → HasOwnShape after (merged_record keep gone r)
   shape_moved n (kind.Other o) at =
       let old = sound.rules.shapes n (kind.Other o) at in record {
         own = old.own;
-        no_entry = λ e. no_entry_with f (known_of after) zero_stays o.value o.carried
+        no_entry = λ e. no_entry_with f (known_of after) o.value o.carried
             (sym (entry_same (Stands m) (known_of m) (through f (known_of after)) known_moved zero_moved o.value o.carried
             (each_back (Stands m) (value_links o.value) (carried_links o.carried) (sound.named n (kind.Other o) at))) ∙ old.no_entry e);
       }
