@@ -2,7 +2,7 @@
 use Rattle.std.proofs.Common.{◌≡◌, ℕ, ◌+◌, ◌<◌, ◌≤◌, List, [], ◌∷◌, ◌++◌, Bool, true, false, cond, refl, sym, ap, ◌∙◌, inl, inr, subst, arith}
 use Rattle.std.specs.Prelude.{Option, Some, None, map, option_map, not, ◌&&◌, ◌||◌, ◌==◌, IfSome, MatchOption}
 use Rattle.std.specs.List.{filter, list_any}
-use Rattle.std.specs.FinMap.{FinMap, get, find, entries, get-entries}
+use Rattle.std.specs.FinMap.{FinMap, get, find, insert, entries, get-entries}
 use Rattle.std.specs.Ordering.{nat_cmp, eq_by_cmp}
 use Rattle.record_kinds.specs.Model as model
 use Rattle.record_fields.specs.declared.words.Sex.{Sex}
@@ -13,21 +13,27 @@ use Rattle.archive_state.specs.Content.{Content, Records}
 use Rattle.record_shapes.specs.Tags.{is_event_tag}
 use Rattle.archive_state.specs.Merging.{merged, merged_record, merged_person, joined_person, person_with, name_with, lines_with, sex_of_two, second_sex, renamed, once_in, clashes}
 use Rattle.archive_state.specs.declared.slip.Change.{Change}
-use Rattle.archive_state.specs.Sound.{EachIn, IsNumber, HasEventTag, HasSoundRecords, Stands, StandsIfThere, IsPerson, IsEmptyPerson, new_names, change_names, old_records, IsSoundSlip, IsSound}
+use Rattle.archive_state.specs.Sound.{EachIn, IsNumber, HasEventTag, HasSaidPlace, place_of, HasSoundRecords, Stands, StandsIfThere, IsPerson, IsEmptyPerson, new_names, change_names, old_records, IsSoundSlip, IsSound}
 use Rattle.record_shapes.specs.Lists.{EachOf, Ascends}
 use Rattle.archive_merge.specs.Merges.{is_empty, is_none, adds_nothing, is_changed, change_at, merge_changes, is_clash, merged_records, slip_of, with_merge}
 use Rattle.archive_merge.proofs.Lists.{append_nothing, each_to_map, each_to_flat, each_mapped}
 use Rattle.archive_state.proofs.Each.{each_more, each_both, each_zip}
-use Rattle.archive_merge.proofs.Merged.{at_gone, at_keep, at_other, which}
+use Rattle.archive_merge.proofs.Merged.{at_gone, at_keep, at_other, which, alike_before}
 use Rattle.archive_merge.proofs.Once.{number_itself}
 use Rattle.archive_merge.proofs.Same.{first_no, second_no, all_fixed, record_same, once_in_same}
 use Rattle.archive_merge.proofs.Picking.{key, entries_rise}
-use Rattle.archive_state.proofs.Putting.{one_number, itself, put_cases}
+use Rattle.archive_state.proofs.Putting.{one_number, itself, put_cases, put_elsewhere}
 use Rattle.archive_merge.proofs.Changing.{changes_rise, old_none, old_there, old_left, made_none, made_there, made_left, no_gone, each_found}
-use Rattle.archive_merge.proofs.Keeps.{IsFit, keys_still, path_before, said_with, number_later, WasPlace, WasEntry}
 use Rattle.archive_state.proofs.Keeping.{slip_later, keeps_sound}
-use Rattle.archive_merge.proofs.Joining.{merge_fit, merge_path, was_entry}
 use Rattle.archive_merge.proofs.PutBack.{IsNow}
+use Rattle.record_shapes.specs.Paths.{has_part}
+use Rattle.archive_state.specs.Paths.{HasPath}
+use Rattle.archive_state.specs.Slips.{Slip}
+use Rattle.archive_state.proofs.Keeping.{KeepsRules, keeps_sound, slip_later, if_there, person_alike, stayed_at}
+use Rattle.archive_merge.proofs.Joining.{merge_keeps, merge_path, was_entry}
+use Rattle.archive_merge.proofs.Keys.{WasEntry, keys_still}
+use Rattle.archive_merge.proofs.Part.{part_untaken, part_shape, part_room}
+use Rattle.archive_merge.proofs.PathsKept.{path_within}
 
 -- ---- a person who adds nothing
 null_list : {A : Type 0} (xs : List A) → is_empty xs ≡ true → xs ≡ []
@@ -63,6 +69,13 @@ joined_nothing f k g (names, sex, lines) =
     let d : k.carried ++ (lines_with f g.carried ++ second_sex k.sex g.sex) ≡ k.carried =
     ap (λ l. k.carried ++ (lines_with f l ++ second_sex k.sex g.sex)) lines ∙ ap (λ s. k.carried ++ second_sex k.sex s) sex ∙ ap (λ l. k.carried ++ l) (no_second k.sex) ∙ append_nothing k.carried in
     λ i. record { names = a i; sex = b i; carried = d i }
+
+some_more : {A : Type 0} (P Q : A → Type 0) → ((a : A) → P a → Q a) → (o : Option A) → IfSome o P → IfSome o Q
+some_more P Q f None h = tt
+some_more P Q f (Some a) h = f a h
+
+number_later : (a b : ℕ) → a ≤ b → (n : ℕ) → IsNumber a n → IsNumber b n
+number_later a b h n k = let less : n < a = k.1 in (k.0, omega arith)
 
 -- ---- entries stand
 module _ {X : Type 0} where
@@ -156,8 +169,8 @@ module _ (c : Content) (keep gone : ℕ) (k g : model.Person) (sound : IsSound c
   later : c.next ≤ c.next + 1
   later = omega arith
 
-  fit_after : EachIn after (IsFit (c.next + 1) after)
-  fit_after = merge_fit c (c.next + 1) keep gone k g sound later at_k at_g apart free after made_merged
+  keeps_after : EachIn after (KeepsRules (c.next + 1) after)
+  keeps_after = merge_keeps c (c.next + 1) keep gone k g sound later at_k at_g apart free after made_merged
 
   -- ---- the slip
   -- the old records are among those of the archive
@@ -175,9 +188,6 @@ module _ (c : Content) (keep gone : ℕ) (k g : model.Person) (sound : IsSound c
 
   old_gone : get o gone ≡ Some (kind.Person g)
   old_gone = old_there keep gone m gone (kind.Person g) at_g (gone_changes (kind.Person g))
-
-  was_place : (n : ℕ) → WasPlace m o n
-  was_place n p at = (p, sub n (kind.Place p) at, refl, refl)
 
   was_entry_old : (n : ℕ) → WasEntry m o n
   was_entry_old n e at = (e, sub n (kind.Entry e) at, refl, refl, refl, refl)
@@ -199,18 +209,26 @@ module _ (c : Content) (keep gone : ℕ) (k g : model.Person) (sound : IsSound c
   old_events (kind.Entry p) h = tt
   old_events (kind.Other p) h = tt
 
+  old_said : (r : Record) → HasSaidPlace m r → HasSaidPlace o r
+  old_said r said = some_more (λ p. (path : List ℕ) → HasPath m p path → has_part path ≡ true) (λ p. (path : List ℕ) → HasPath o p path → has_part path ≡ true)
+      (λ p k path h. k path (path_within o m sub p path h)) (place_of r) said
+
   old_rules : HasSoundRecords (c.next + 1) o
   old_rules = record {
     numbered = λ n r e. number_later c.next (c.next + 1) later n (sound.rules.numbered n r (sub n r e));
     parents = λ n r e. sound.rules.parents n r (sub n r e);
     normal = λ n r e. sound.rules.normal n r (sub n r e);
-    paths = λ n path h. sound.rules.paths n path (path_before m o was_place n path h);
+    paths = λ n path h. sound.rules.paths n path (path_within o m sub n path h);
     once = λ n r e. sound.rules.once n r (sub n r e);
     tags = λ n r e. sound.rules.tags n r (sub n r e);
     trailers = λ n r e. sound.rules.trailers n r (sub n r e);
-    places = λ n r e. said_with m o (λ p path h. path_before m o was_place p path h) r (sound.rules.places n r (sub n r e));
+    places = λ n r e. old_said r (sound.rules.places n r (sub n r e));
     events = λ n r e. old_events r (sound.rules.events n r (sub n r e));
     mentions = λ n r e. sound.rules.mentions n r (sub n r e);
+    texts = λ n r e. sound.rules.texts n r (sub n r e);
+    untaken = λ n r e. part_untaken o m sub n r (sound.rules.untaken n r (sub n r e));
+    shapes = λ n r e. part_shape o m sub r (sound.rules.shapes n r (sub n r e));
+    levels = λ n r e. part_room o m sub r (sound.rules.levels n r (sub n r e));
     keys = keys_still m o was_entry_old sound.rules.keys;
   }
 
@@ -242,12 +260,12 @@ module _ (c : Content) (keep gone : ℕ) (k g : model.Person) (sound : IsSound c
   new_number : (l : Link) → Stands after l → IsNumber (c.next + 1) l.0
   new_number l h = elim (get after l.0) as (λ x. get after l.0 ≡ x → option_map (is_wanted l.1) x ≡ Some true → IsNumber (c.next + 1) l.0) [
     | None ↦ λ e q. absurd cc
-    | Some r ↦ λ e q. (fit_after l.0 r e).number
+    | Some r ↦ λ e q. (keeps_after l.0 r e).number
   ] refl h
 
   names_of_new : (n : ℕ) (x : Option Record) → get after n ≡ x → EachOf (IsNumber (c.next + 1)) (new_names x)
   names_of_new n None e = tt
-  names_of_new n (Some r) e = each_to_map (IsNumber (c.next + 1)) (λ (l : Link). l.0) (links r) (each_more (Stands after) (λ l. IsNumber (c.next + 1) l.0) new_number (links r) (fit_after n r e).named)
+  names_of_new n (Some r) e = each_to_map (IsNumber (c.next + 1)) (λ (l : Link). l.0) (links r) (each_more (Stands after) (λ l. IsNumber (c.next + 1) l.0) new_number (links r) (keeps_after n r e).named)
 
   numbers_of : (n : ℕ) (r : Record) → get m n ≡ Some r → is_changed keep gone m n r ≡ true → EachOf (IsNumber (c.next + 1)) (change_names (change_at keep gone m (n, r)))
   numbers_of n r at t = (
@@ -296,14 +314,42 @@ module _ (c : Content) (keep gone : ℕ) (k g : model.Person) (sound : IsSound c
   pub now_new : IsNow after (merge_changes keep gone m)
   now_new = each_change (λ x. get after x.number ≡ x.new) (λ n r at t. made_merged n)
 
-  pub merge_sound : IsSound (with_merge keep gone c (c.next + 1))
-  merge_sound = keeps_sound c (with_merge keep gone c (c.next + 1)) sound (record {
-    later = later;
-    records = λ n r e. inr (fit_after n r e);
-    paths = λ n path h. sound.rules.paths n path (merge_path c (c.next + 1) keep gone k g sound later at_k at_g apart free after made_merged n path h);
-    keys = keys_still m after (was_entry c (c.next + 1) keep gone k g sound later at_k at_g apart free after made_merged) sound.rules.keys;
-    slips = λ n x e. elim (put_cases c.slips c.next (slip_of keep gone m) n (Some x) e) as (λ _. IsSoundSlip (c.next + 1) n x) [
-      | inl h ↦ let same : slip_of keep gone m ≡ x = let q = h.1 in cc in subst (λ i. IsSoundSlip (c.next + 1) i x) (sym h.0) (subst (IsSoundSlip (c.next + 1) c.next) same slip_sound)
-      | inr h ↦ slip_later c.next (c.next + 1) later n x (sound.slips n x h.1)
-    ];
-  })
+  -- no number of a record is that of a slip, the new one included
+  slip_apart : (n : ℕ) → IsNumber c.next n → get c.slips n ≡ None → get (insert c.slips c.next (slip_of keep gone m)) n ≡ None
+  slip_apart n number none = put_elsewhere c.slips c.next (slip_of keep gone m) n (λ same. let less : n < c.next = number.1 in absurd (omega arith)) ∙ none
+
+  merged_number : (n : ℕ) (r : Record) → get after n ≡ Some r → IsNumber c.next n × (get c.slips n ≡ None)
+  merged_number n r e =
+      let old = alike_before keep gone (get m) n r (sym (made_merged n) ∙ e) in
+      (sound.rules.numbered n old.0 old.1, sound.distinct n old.0 old.1)
+
+  pub merge_sound : c.next ≤ 4294967295 → IsSound (with_merge keep gone c (c.next + 1))
+  merge_sound room =
+      let s : Slip = slip_of keep gone m in
+      keeps_sound c (with_merge keep gone c (c.next + 1)) sound (record {
+        later = later;
+        bounded = omega arith;
+        records = λ n r e. inr (keeps_after n r e);
+        distinct = λ n r e. let x = merged_number n r e in slip_apart n x.0 x.1;
+        paths = λ n path h. sound.rules.paths n path (merge_path c (c.next + 1) keep gone k g sound later at_k at_g apart free after made_merged n path h);
+        keys = keys_still m after (was_entry c (c.next + 1) keep gone k g sound later at_k at_g apart free after made_merged) sound.rules.keys;
+        slips = λ n x e. elim (put_cases c.slips c.next s n (Some x) e) as (λ _. IsSoundSlip (c.next + 1) n x) [
+          | inl h ↦ let same : s ≡ x = let q = h.1 in cc in subst (λ i. IsSoundSlip (c.next + 1) i x) (sym h.0) (subst (IsSoundSlip (c.next + 1) c.next) same slip_sound)
+          | inr h ↦ slip_later c.next (c.next + 1) later n x (sound.slips n x h.1)
+        ];
+        stayed = λ n x e. if_there (get after x.keep) IsPerson (λ r at.
+            let old = alike_before keep gone (get m) x.keep r (sym (made_merged x.keep) ∙ at) in
+            person_alike old.0 r old.2 (elim (put_cases c.slips c.next s n (Some x) e) as (λ _. IsPerson old.0) [
+              | inl h ↦
+                  let same : s ≡ x = let q = h.1 in cc in
+                  let is : kind.Person k ≡ old.0 = let q : Some (kind.Person k) ≡ Some old.0 = sym at_k ∙ ap (λ (y : Slip). get m y.keep) same ∙ old.1 in cc in
+                  subst IsPerson is tt
+              | inr h ↦ stayed_at c n x.keep x old.0 sound h.1 refl old.1
+            ]));
+        free = λ n x e. elim (put_cases c.slips c.next s n (Some x) e) as (λ _. get (insert c.slips c.next s) x.gone ≡ None) [
+          | inl h ↦
+              let same : s ≡ x = let q = h.1 in cc in
+              ap (λ (y : Slip). get (insert c.slips c.next s) y.gone) (sym same) ∙ slip_apart gone (sound.rules.numbered gone (kind.Person g) at_g) (sound.distinct gone (kind.Person g) at_g)
+          | inr h ↦ slip_apart x.gone (sound.slips n x h.1).numbered.1.1.0 (sound.free n x h.1)
+        ];
+      })
