@@ -293,10 +293,12 @@ module _ (f : ℕ → ℕ) where
         let c = both_true (same_forest (forest_of (lines_with f ts)) (forest_of (entry_lines (around known) g))) (is_entry known g) b.1 in
         let was = lines_from g ts (lines_are (lines_with f ts) (entry_lines (around known) g) c.0) in
         let keeps : is_entry (through f known) was.old ≡ true = sym (entry_before was.old) ∙ ap (is_entry known) was.same ∙ c.1 in
-        let called : entry_kind_word was.old.kind ≡ word = ap (λ (x : model.Entry). entry_kind_word x.kind) was.same ∙ sym (kind_is word (entry_kind_of word) refl b.0) in
-        (was.old, subst (λ us. entry_of (through f known) (value.Text word) us ≡ Some was.old) was.whole
-            (subst (λ w. entry_of (through f known) (value.Text w) (entry_lines (around (through f known)) was.old) ≡ Some was.old) called
-            (entry_back (through f known) (around (through f known)) was.old keeps (place_known was.old keeps))))
+        let called : entry_kind_word was.old.kind ≡ word = ap (λ (x : model.Entry). entry_kind_word x.kind) was.same ∙ sym (kind_is word (entry_kind_of word) refl b.0) in (
+          was.old,
+          subst (λ us. entry_of (through f known) (value.Text word) us ≡ Some was.old) was.whole
+              (subst (λ w. entry_of (through f known) (value.Text w) (entry_lines (around (through f known)) was.old) ≡ Some was.old) called
+              (entry_back (through f known) (around (through f known)) was.old keeps (place_known was.old keeps))),
+        )
 
     none_of_number : (n : ℕ) (ts : Lines) → entry_of known (value.Ref n) ts ≡ None
     unfolding entry_of

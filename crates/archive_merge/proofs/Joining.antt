@@ -315,7 +315,7 @@ module _ (c : Content) (next keep gone : ℕ) (k g : model.Person) (sound : IsSo
         let none : path_of m n ≡ None = no_person_path m n g (ap (get m) h ∙ at_g) in
         either_none (nat_lt n j) (path_of m n) none ∙ sym (either_none (nat_lt (f n) j) (path_of after (f n)) (sym (path_moved n) ∙ none))
     | inr h ↦
-        let other : n ≡ gone → ⊥ = elim h as (λ _. n ≡ gone → ⊥) [| inl i ↦ i.0 | inr i ↦ i.0] in
+        let other : n ≡ gone → ⊥ = elim h as (λ _. n ≡ gone → ⊥) [ | inl i ↦ i.0 | inr i ↦ i.0] in
         ap (λ x. if nat_lt n j then x else None) (path_moved n) ∙ ap (λ i. if nat_lt i j then path_of after (f n) else None) (sym (renamed_other keep gone n other))
   ]
 

@@ -187,7 +187,7 @@ module _ (next number : ℕ) (s : Slip) (slip : IsSoundSlip next number s) where
                 alike = persons_alike person.0 gone_there.0;
               }
           | inr other ↦
-              let apart : l.0 ≡ s.gone → ⊥ = elim other as (λ _. l.0 ≡ s.gone → ⊥) [| inl i ↦ i.0 | inr i ↦ i.0] in
+              let apart : l.0 ≡ s.gone → ⊥ = elim other as (λ _. l.0 ≡ s.gone → ⊥) [ | inl i ↦ i.0 | inr i ↦ i.0] in
               let y = like l.0 is.0 (ap (get m) (sym (renamed_other s.keep s.gone l.0 apart)) ∙ is.1) in
               record { x = is.0; y = y.0; now = is.1; then_there = y.1; alike = y.2 }
         ]
@@ -356,7 +356,7 @@ module _ (next number : ℕ) (s : Slip) (slip : IsSoundSlip next number s) where
           let person = person_is is.0 (there_is (get m s.keep) IsPerson stayed is.0 (ap (get m) (sym (ap f gone ∙ renamed_gone s.keep s.gone)) ∙ is.1)) in
           no_person_path m (f k) person.0 (is.1 ∙ ap Some person.1) ∙ sym (no_person_path after k gone_there.0 (ap (get after) gone ∙ put_old s.gone (kind.Person gone_there.0) gone_there.1))
       | inr other ↦
-          let apart : k ≡ s.gone → ⊥ = elim other as (λ _. k ≡ s.gone → ⊥) [| inl i ↦ i.0 | inr i ↦ i.0] in
+          let apart : k ≡ s.gone → ⊥ = elim other as (λ _. k ≡ s.gone → ⊥) [ | inl i ↦ i.0 | inr i ↦ i.0] in
           ap (path_of m) (renamed_other s.keep s.gone k apart) ∙ sym (paths_same k)
     ]
 
@@ -371,7 +371,7 @@ module _ (next number : ℕ) (s : Slip) (slip : IsSoundSlip next number s) where
           let none : path_of after k ≡ None = no_person_path after k gone_there.0 (ap (get after) gone ∙ put_old s.gone (kind.Person gone_there.0) gone_there.1) in
           either_none (nat_lt (f k) j) (path_of m (f k)) (path_back k h ∙ none) ∙ sym (either_none (nat_lt k j) (path_of after k) none)
       | inr other ↦
-          let apart : k ≡ s.gone → ⊥ = elim other as (λ _. k ≡ s.gone → ⊥) [| inl i ↦ i.0 | inr i ↦ i.0] in
+          let apart : k ≡ s.gone → ⊥ = elim other as (λ _. k ≡ s.gone → ⊥) [ | inl i ↦ i.0 | inr i ↦ i.0] in
           ap (λ x. if nat_lt (f k) j then x else None) (path_back k h) ∙ ap (λ i. if nat_lt i j then path_of after k else None) (renamed_other s.keep s.gone k apart)
     ]
 
@@ -455,14 +455,14 @@ module _ (next number : ℕ) (s : Slip) (slip : IsSoundSlip next number s) where
         shape_back (kind.Entry p) h k = tt
 
         -- ---- levels
+        within_back : (n : ℕ) (ts : Lines) → AreWithin n (lines_with f ts) → AreWithin n ts
+        within_back n ts w = omega (arith, levels-map (line_with f) ts)
+
         room_back : (r : Record) → EachOf Named (links r) → HasRoom (owner_in o r) r → HasRoom (owner_in m (merged_record s.keep s.gone r)) (merged_record s.keep s.gone r) → HasRoom (owner_in after r) r
         room_back (kind.Citation c) h old k =
             let b = back (c.owner, a_cited) h.0 in
             let same : room_below (get m (f c.owner)) ≡ room_below (get after c.owner) = ap room_below b.now ∙ b.alike.room ∙ sym (ap room_below b.then_there) in
             subst (λ n. AreWithin n c.carried) same (within_back (room_below (get m (f c.owner))) c.carried k)
-          where
-            within_back : (n : ℕ) (ts : Lines) → AreWithin n (lines_with f ts) → AreWithin n ts
-            within_back n ts w = omega (arith, levels-map (line_with f) ts)
         room_back (kind.Place p) h old k = old
         room_back (kind.Repo p) h old k = old
         room_back (kind.Source p) h old k = old
