@@ -58,6 +58,53 @@ listed (t ∷ ts) = ap (λ us. t ∷ us) (listed ts)
 lines_are : (ts us : Lines) → same_forest (forest_of ts) (forest_of us) ≡ true → ts ≡ us
 lines_are ts us e = sym (listed ts) ∙ ap list_of (forest_is (forest_of ts) (forest_of us) e) ∙ listed us
 
+-- ---- what is an entry
+said_path : (o : Option (List ℕ)) → is_said_path o ≡ true → o ≡ Some (unwrap_or o [])
+said_path None e = absurd cc
+said_path (Some path) e = refl
+
+-- the path of the place of an entry is known
+place_known : (known : Known) (e : model.Entry) → is_entry known e ≡ true → (n : ℕ) → e.place ≡ Some n → known.path n ≡ Some (unwrap_or (known.path n) [])
+place_known known e h n at =
+    let x = both_true (bytes_eq (known.tag e.source) (codes "SOUR")) _ h in
+    let y = both_true (is_said known e.place) _ x.1 in
+    said_path (known.path n) (ap (is_said known) (sym at) ∙ y.0)
+
+if_entry : (b : Bool) (g e : model.Entry) → entry_if b g ≡ Some e → (b ≡ true) × (g ≡ e)
+if_entry true g e h = let same : g ≡ e = cc in (refl, same)
+if_entry false g e h = absurd cc
+
+kind_is : (word : List ℕ) (o : Option EntryKind) → entry_kind_of word ≡ o → is_some o ≡ true → word ≡ entry_kind_word (unwrap_or o entry_kind.Baptism)
+kind_is word None at e = absurd cc
+kind_is word (Some k) at e = entry_kind_exact word (Some k) (sym at)
+
+-- what is guessed from the lines of an entry has its lines, its word and keeps the rules
+record IsOf (known : Known) (word : List ℕ) (ts : Lines) : Type 0 where
+  e : model.Entry
+  lines : ts ≡ entry_lines (around known) e
+  rules : is_entry known e ≡ true
+  called : entry_kind_word e.kind ≡ word
+
+is_of : (known : Known) (word : List ℕ) (ts : Lines) (e : model.Entry) → entry_of known (value.Text word) ts ≡ Some e → IsOf known word ts
+unfolding entry_of
+is_of known word ts e is =
+    let g : model.Entry = entry_on word ts in
+    let a = if_entry (has_its_lines known (value.Text word) ts g) g e is in
+    let b = both_true (is_some (entry_kind_of word)) (same_forest (forest_of ts) (forest_of (entry_lines (around known) g)) && is_entry known g) a.0 in
+    let c = both_true (same_forest (forest_of ts) (forest_of (entry_lines (around known) g))) (is_entry known g) b.1 in
+    record { e = g; lines = lines_are ts (entry_lines (around known) g) c.0; rules = c.1; called = sym (kind_is word (entry_kind_of word) refl b.0) }
+
+-- lines of an entry that keeps the rules are one
+of_lines : (known : Known) (e : model.Entry) (word : List ℕ) (ts : Lines) → is_entry known e ≡ true → entry_kind_word e.kind ≡ word → entry_lines (around known) e ≡ ts → entry_of known (value.Text word) ts ≡ Some e
+of_lines known e word ts keeps called whole =
+    subst (λ us. entry_of known (value.Text word) us ≡ Some e) whole
+    (subst (λ w. entry_of known (value.Text w) (entry_lines (around known) e) ≡ Some e) called
+    (entry_back known (around known) e keeps (place_known known e keeps)))
+
+none_of_number : (known : Known) (n : ℕ) (ts : Lines) → entry_of known (value.Ref n) ts ≡ None
+unfolding entry_of
+none_of_number known n ts = refl
+
 module _ (f : ℕ → ℕ) where
   -- ---- what lines were before their numbers were changed
   record CameFrom (ts : Lines) (first : Tree Line) (rest : Lines) : Type 0 where
@@ -264,50 +311,57 @@ module _ (f : ℕ → ℕ) where
     entry_before e = λ i. bytes_eq (known.tag (f e.source)) (codes "SOUR") && (said_with e.place i
         && (nat_le 1 (length_with e.mentions i) && (nat_le (length_with e.mentions i) 100 && mentions_with e.kind e.mentions i)))
 
-    said_path : (o : Option (List ℕ)) → is_said_path o ≡ true → o ≡ Some (unwrap_or o [])
-    said_path None e = absurd cc
-    said_path (Some path) e = refl
-
-    -- the path of the place of an entry is known
-    place_known : (e : model.Entry) → is_entry (through f known) e ≡ true → (n : ℕ) → e.place ≡ Some n → known.path (f n) ≡ Some (unwrap_or (known.path (f n)) [])
-    place_known e h n at =
-        let x = both_true (bytes_eq (known.tag (f e.source)) (codes "SOUR")) _ h in
-        let y = both_true (is_said (through f known) e.place) _ x.1 in
-        said_path (known.path (f n)) (ap (is_said (through f known)) (sym at) ∙ y.0)
-
-    -- ---- an entry then was one before
-    if_entry : (b : Bool) (g e : model.Entry) → entry_if b g ≡ Some e → (b ≡ true) × (g ≡ e)
-    if_entry true g e h = let same : g ≡ e = cc in (refl, same)
-    if_entry false g e h = absurd cc
-
-    kind_is : (word : List ℕ) (o : Option EntryKind) → entry_kind_of word ≡ o → is_some o ≡ true → word ≡ entry_kind_word (unwrap_or o entry_kind.Baptism)
-    kind_is word None at e = absurd cc
-    kind_is word (Some k) at e = entry_kind_exact word (Some k) (sym at)
-
     was_entry : (word : List ℕ) (ts : Lines) (e : model.Entry) → entry_of known (value.Text word) (lines_with f ts) ≡ Some e → (old : model.Entry) × (entry_of (through f known) (value.Text word) ts ≡ Some old)
-    unfolding entry_of
     was_entry word ts e is =
-        let g : model.Entry = entry_on word (lines_with f ts) in
-        let a = if_entry (has_its_lines known (value.Text word) (lines_with f ts) g) g e is in
-        let b = both_true (is_some (entry_kind_of word)) (same_forest (forest_of (lines_with f ts)) (forest_of (entry_lines (around known) g)) && is_entry known g) a.0 in
-        let c = both_true (same_forest (forest_of (lines_with f ts)) (forest_of (entry_lines (around known) g))) (is_entry known g) b.1 in
-        let was = lines_from g ts (lines_are (lines_with f ts) (entry_lines (around known) g) c.0) in
-        let keeps : is_entry (through f known) was.old ≡ true = sym (entry_before was.old) ∙ ap (is_entry known) was.same ∙ c.1 in
-        let called : entry_kind_word was.old.kind ≡ word = ap (λ (x : model.Entry). entry_kind_word x.kind) was.same ∙ sym (kind_is word (entry_kind_of word) refl b.0) in (
-          was.old,
-          subst (λ us. entry_of (through f known) (value.Text word) us ≡ Some was.old) was.whole
-              (subst (λ w. entry_of (through f known) (value.Text w) (entry_lines (around (through f known)) was.old) ≡ Some was.old) called
-              (entry_back (through f known) (around (through f known)) was.old keeps (place_known was.old keeps))),
-        )
+        let new = is_of known word (lines_with f ts) e is in
+        let was = lines_from new.e ts new.lines in
+        let keeps : is_entry (through f known) was.old ≡ true = sym (entry_before was.old) ∙ ap (is_entry known) was.same ∙ new.rules in
+        (was.old, of_lines (through f known) was.old word ts keeps (ap (λ (x : model.Entry). entry_kind_word x.kind) was.same ∙ new.called) was.whole)
 
-    none_of_number : (n : ℕ) (ts : Lines) → entry_of known (value.Ref n) ts ≡ None
-    unfolding entry_of
-    none_of_number n ts = refl
+    -- ---- and the other way round
+    mention_renamed : (m : model.Mention) → relabel (line_with f) (mention_line m) ≡ mention_line (mention_with f m)
+    mention_renamed m = by m.link
+      where
+        by : (l : Option model.Link) → relabel (line_with f) (mention_line (record { role = m.role; name = m.name; link = l })) ≡ mention_line (mention_with f (record { role = m.role; name = m.name; link = l }))
+        by None = refl
+        by (Some l) = refl
+
+    mentions_renamed : (ms : List model.Mention) → lines_with f (map mention_line ms) ≡ map mention_line (map (mention_with f) ms)
+    mentions_renamed [] = refl
+    mentions_renamed (m ∷ ms) = λ i. mention_renamed m i ∷ mentions_renamed ms i
+
+    text_renamed : (text : List ℕ) (ms : List model.Mention) → lines_with f (Text text ms) ≡ Text text (map (mention_with f) ms)
+    text_renamed text ms = λ i. text_line (codes "TEXT") text ∷ mentions_renamed ms i
+
+    place_renamed : (place : Option ℕ) (text : List ℕ) (ms : List model.Mention) → lines_with f (entry_place_lines (around (through f known)) place ++ Text text ms) ≡ entry_place_lines (around known) (option_map f place) ++ Text text (map (mention_with f) ms)
+    place_renamed None text ms = text_renamed text ms
+    place_renamed (Some n) text ms = ap (λ ts. node (record { tag = codes "PLAC"; value = value.Text (unwrap_or (known.path (f n)) []) }) (more (pointer_line (codes "_LOC") (f n) []) none) ∷ ts) (text_renamed text ms)
+
+    date_renamed : (d : Option Date) (place : Option ℕ) (text : List ℕ) (ms : List model.Mention) → lines_with f (Dated d (entry_place_lines (around (through f known)) place ++ Text text ms)) ≡ Dated d (entry_place_lines (around known) (option_map f place) ++ Text text (map (mention_with f) ms))
+    date_renamed None place text ms = place_renamed place text ms
+    date_renamed (Some d) place text ms = ap (λ ts. text_line (codes "DATE") (date_text d) ∷ ts) (place_renamed place text ms)
+
+    lines_renamed : (e : model.Entry) → lines_with f (entry_lines (around (through f known)) e) ≡ entry_lines (around known) (entry_with f e)
+    lines_renamed e = ap (λ ts. pointer_line (codes "SOUR") (f e.source) [] ∷ (text_line (codes "PAGE") e.page ∷ (text_line (codes "_ITEM") (decimal e.item.number) ∷ ts))) (date_renamed e.date e.place e.text e.mentions)
+
+    is_entry_then : (word : List ℕ) (ts : Lines) (e : model.Entry) → entry_of (through f known) (value.Text word) ts ≡ Some e → (new : model.Entry) × (entry_of known (value.Text word) (lines_with f ts) ≡ Some new)
+    is_entry_then word ts e is =
+        let old = is_of (through f known) word ts e is in
+        (entry_with f old.e, of_lines known (entry_with f old.e) word (lines_with f ts) (entry_before old.e ∙ old.rules) old.called (sym (lines_renamed old.e) ∙ ap (lines_with f) (sym old.lines)))
+
+    -- ---- what is none
+    none_with : (word : List ℕ) (ts : Lines) → entry_of (through f known) (value.Text word) ts ≡ None → (o : Option model.Entry) → entry_of known (value.Text word) (lines_with f ts) ≡ o → o ≡ None
+    none_with word ts before None e = refl
+    none_with word ts before (Some x) e = let was = was_entry word ts x e in let both : None ≡ Some was.0 = sym before ∙ was.1 in absurd cc
+
+    none_back : (word : List ℕ) (ts : Lines) → entry_of known (value.Text word) (lines_with f ts) ≡ None → (o : Option model.Entry) → entry_of (through f known) (value.Text word) ts ≡ o → o ≡ None
+    none_back word ts after None e = refl
+    none_back word ts after (Some x) e = let new = is_entry_then word ts x e in let both : None ≡ Some new.0 = sym after ∙ new.1 in absurd cc
 
     pub no_entry_with : (v : Value) (ts : Lines) → entry_of (through f known) v ts ≡ None → entry_of known (value_with f v) (lines_with f ts) ≡ None
-    no_entry_with (value.Ref n) ts none_before = none_of_number (f n) (lines_with f ts)
-    no_entry_with (value.Text word) ts none_before = by (entry_of known (value.Text word) (lines_with f ts)) refl
-      where
-        by : (o : Option model.Entry) → entry_of known (value.Text word) (lines_with f ts) ≡ o → entry_of known (value.Text word) (lines_with f ts) ≡ None
-        by None e = e
-        by (Some x) e = let was = was_entry word ts x e in let both : None ≡ Some was.0 = sym none_before ∙ was.1 in absurd cc
+    no_entry_with (value.Ref n) ts before = none_of_number known (f n) (lines_with f ts)
+    no_entry_with (value.Text word) ts before = none_with word ts before (entry_of known (value.Text word) (lines_with f ts)) refl
+
+    pub no_entry_back : (v : Value) (ts : Lines) → entry_of known (value_with f v) (lines_with f ts) ≡ None → entry_of (through f known) v ts ≡ None
+    no_entry_back (value.Ref n) ts after = none_of_number (through f known) n ts
+    no_entry_back (value.Text word) ts after = none_back word ts after (entry_of (through f known) (value.Text word) ts) refl

@@ -30,7 +30,7 @@ use Rattle.archive_merge.proofs.EntryShapes.{no_entry_with}
 use Rattle.archive_merge.proofs.Keys.{WasEntry}
 use Rattle.archive_merge.proofs.Lists.{each_to_map}
 use Rattle.archive_merge.proofs.Members.{merged_once}
-use Rattle.archive_merge.proofs.Merged.{renamed_gone, renamed_other, at_gone, at_keep, at_other, which, map_some}
+use Rattle.archive_merge.proofs.Merged.{renamed_gone, renamed_other, at_gone, at_keep, at_other, which, not_gone, map_some}
 use Rattle.archive_merge.proofs.Once.{join_links, once_into}
 use Rattle.archive_merge.proofs.PathsKept.{no_person_path}
 use Rattle.archive_merge.proofs.Renaming.{moved, links_moved}
@@ -315,7 +315,7 @@ module _ (c : Content) (next keep gone : ℕ) (k g : model.Person) (sound : IsSo
         let none : path_of m n ≡ None = no_person_path m n g (ap (get m) h ∙ at_g) in
         either_none (nat_lt n j) (path_of m n) none ∙ sym (either_none (nat_lt (f n) j) (path_of after (f n)) (sym (path_moved n) ∙ none))
     | inr h ↦
-        let other : n ≡ gone → ⊥ = elim h as (λ _. n ≡ gone → ⊥) [ | inl i ↦ i.0 | inr i ↦ i.0] in
+        let other : n ≡ gone → ⊥ = not_gone keep gone n h in
         ap (λ x. if nat_lt n j then x else None) (path_moved n) ∙ ap (λ i. if nat_lt i j then path_of after (f n) else None) (sym (renamed_other keep gone n other))
   ]
 

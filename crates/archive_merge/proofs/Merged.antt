@@ -41,6 +41,10 @@ which keep gone n = elim (n == gone) as (λ b. (n == gone) ≡ b → (n ≡ gone
   ] refl
 ] refl
 
+pub not_gone : (keep gone n : ℕ) → ((n ≡ gone → ⊥) × (n ≡ keep)) ⊎ ((n ≡ gone → ⊥) × (n ≡ keep → ⊥)) → n ≡ gone → ⊥
+not_gone keep gone n (inl i) = i.0
+not_gone keep gone n (inr i) = i.0
+
 -- the person that stays is a record of the kind of before
 like_two : (keep gone : ℕ) (k g : Option Record) (x : Record) → merged_person keep gone k g ≡ Some x → (old : Record) × (k ≡ Some old) × IsAlike old x
 like_two keep gone None g x e = (x, e, alike_itself x)

@@ -38,7 +38,7 @@ use Rattle.archive_merge.proofs.Alike.{alike_back, persons_alike}
 use Rattle.archive_merge.proofs.EntryShapes.{no_entry_back}
 use Rattle.archive_merge.proofs.Keys.{WasEntry}
 use Rattle.archive_merge.proofs.Lists.{each_mapped}
-use Rattle.archive_merge.proofs.Merged.{renamed_gone, renamed_other, at_gone, at_keep, at_other, which, alike_before}
+use Rattle.archive_merge.proofs.Merged.{renamed_gone, renamed_other, at_gone, at_keep, at_other, which, not_gone, alike_before}
 use Rattle.archive_merge.proofs.Once.{joined_links, once_out}
 use Rattle.archive_merge.proofs.PathsKept.{no_person_path}
 use Rattle.archive_merge.proofs.Renaming.{moved, links_moved}
@@ -187,7 +187,7 @@ module _ (next number : ℕ) (s : Slip) (slip : IsSoundSlip next number s) where
                 alike = persons_alike person.0 gone_there.0;
               }
           | inr other ↦
-              let apart : l.0 ≡ s.gone → ⊥ = elim other as (λ _. l.0 ≡ s.gone → ⊥) [ | inl i ↦ i.0 | inr i ↦ i.0] in
+              let apart : l.0 ≡ s.gone → ⊥ = not_gone s.keep s.gone l.0 other in
               let y = like l.0 is.0 (ap (get m) (sym (renamed_other s.keep s.gone l.0 apart)) ∙ is.1) in
               record { x = is.0; y = y.0; now = is.1; then_there = y.1; alike = y.2 }
         ]
@@ -356,7 +356,7 @@ module _ (next number : ℕ) (s : Slip) (slip : IsSoundSlip next number s) where
           let person = person_is is.0 (there_is (get m s.keep) IsPerson stayed is.0 (ap (get m) (sym (ap f gone ∙ renamed_gone s.keep s.gone)) ∙ is.1)) in
           no_person_path m (f k) person.0 (is.1 ∙ ap Some person.1) ∙ sym (no_person_path after k gone_there.0 (ap (get after) gone ∙ put_old s.gone (kind.Person gone_there.0) gone_there.1))
       | inr other ↦
-          let apart : k ≡ s.gone → ⊥ = elim other as (λ _. k ≡ s.gone → ⊥) [ | inl i ↦ i.0 | inr i ↦ i.0] in
+          let apart : k ≡ s.gone → ⊥ = not_gone s.keep s.gone k other in
           ap (path_of m) (renamed_other s.keep s.gone k apart) ∙ sym (paths_same k)
     ]
 
@@ -371,7 +371,7 @@ module _ (next number : ℕ) (s : Slip) (slip : IsSoundSlip next number s) where
           let none : path_of after k ≡ None = no_person_path after k gone_there.0 (ap (get after) gone ∙ put_old s.gone (kind.Person gone_there.0) gone_there.1) in
           either_none (nat_lt (f k) j) (path_of m (f k)) (path_back k h ∙ none) ∙ sym (either_none (nat_lt k j) (path_of after k) none)
       | inr other ↦
-          let apart : k ≡ s.gone → ⊥ = elim other as (λ _. k ≡ s.gone → ⊥) [ | inl i ↦ i.0 | inr i ↦ i.0] in
+          let apart : k ≡ s.gone → ⊥ = not_gone s.keep s.gone k other in
           ap (λ x. if nat_lt (f k) j then x else None) (path_back k h) ∙ ap (λ i. if nat_lt i j then path_of after k else None) (renamed_other s.keep s.gone k apart)
     ]
 

@@ -1,6 +1,6 @@
 -- Carried lines with their numbers changed: no field would take one that took none before, where of each number that it becomes
 -- the same is known.
-use Rattle.std.proofs.Common.{◌≡◌, ℕ, List, [], ◌∷◌, ◌++◌, Bool, true, false, refl, ap, ◌∙◌}
+use Rattle.std.proofs.Common.{◌≡◌, ℕ, List, [], ◌∷◌, ◌++◌, Bool, true, false, refl, sym, ap, ◌∙◌}
 use Rattle.std.specs.Prelude.{Option, Some, None, option_map, ◌&&◌}
 use Rattle.std.specs.List.{list_all}
 use Rattle.stored_lines.specs.Tree.{Tree, Forest, node, none, more, relabel, relabel_all}
@@ -20,7 +20,7 @@ use Rattle.record_shapes.specs.Lists.{EachOf}
 use Rattle.record_shapes.specs.Untaken.{AreUntaken, HasUntaken, event_leaves, family_leaves, holding_leaves, participant_leaves, person_leaves, place_leaves, repo_leaves, source_leaves, citation_leaves}
 use Rattle.archive_state.specs.Merging.{value_with, line_with, lines_with, holding_with, person_with, place_with, source_with, event_with, event_place_with, participant_with, record_with, sex_of_two, second_sex, joined_person}
 use Rattle.archive_state.proofs.Each.{each_more}
-use Rattle.archive_merge.proofs.Lists.{each_to_map}
+use Rattle.archive_merge.proofs.Lists.{each_to_map, each_mapped}
 
 -- what is known of the numbers that these become
 abbrev pub through : (ℕ → ℕ) → Known → Known
@@ -28,10 +28,10 @@ through f known = record { tag = λ n. known.tag (f n); path = λ n. known.path 
 
 module _ (f : ℕ → ℕ) where
   -- ---- fields
-  abbrev with_value : List ℕ → Value → Forest Line → Tree Line
+  abbrev pub with_value : List ℕ → Value → Forest Line → Tree Line
   with_value tag v ts = node (record { tag = tag; value = v }) ts
 
-  abbrev then_value : List ℕ → Value → Forest Line → Tree Line
+  abbrev pub then_value : List ℕ → Value → Forest Line → Tree Line
   then_value tag v ts = node (record { tag = tag; value = value_with f v }) (relabel_all (line_with f) ts)
 
   repo_by : (tag : List ℕ) (v : Value) (ts : Forest Line) → part.repo_field (then_value tag v ts) ≡ part.repo_field (with_value tag v ts)
@@ -65,7 +65,7 @@ module _ (f : ℕ → ℕ) where
     source_by tag (value.Ref n) none = refl
     source_by tag (value.Ref n) (more u us) = refl
 
-    person_by : (tag : List ℕ) (v : Value) (ts : Forest Line) → part.person_field known (then_value tag v ts) ≡ part.person_field (through f known) (with_value tag v ts)
+    pub person_by : (tag : List ℕ) (v : Value) (ts : Forest Line) → part.person_field known (then_value tag v ts) ≡ part.person_field (through f known) (with_value tag v ts)
     person_by tag (value.Text t) none = refl
     person_by tag (value.Text t) (more u us) = refl
     person_by tag (value.Ref n) none = refl
@@ -90,17 +90,22 @@ module _ (f : ℕ → ℕ) where
     parent_by name tag (value.Ref n) (more u us) = refl
 
   -- ---- lines
-  by_tree : (g h : Tree Line → Field) → ((tag : List ℕ) (v : Value) (ts : Forest Line) → g (then_value tag v ts) ≡ h (with_value tag v ts)) → (t : Tree Line) → g (relabel (line_with f) t) ≡ h t
+  pub by_tree : (g h : Tree Line → Field) → ((tag : List ℕ) (v : Value) (ts : Forest Line) → g (then_value tag v ts) ≡ h (with_value tag v ts)) → (t : Tree Line) → g (relabel (line_with f) t) ≡ h t
   by_tree g h e (node l ts) = e l.tag l.value ts
 
   -- lines of which the other field leaves as much
+  lines_same : (g h : Tree Line → Field) → ((tag : List ℕ) (v : Value) (ts : Forest Line) → g (then_value tag v ts) ≡ h (with_value tag v ts))
+      → (old new : Field → Bool) → ((x : Field) → new x ≡ old x) → (ts : Lines) → list_all (λ t. new (g t)) (lines_with f ts) ≡ list_all (λ t. old (h t)) ts
+  lines_same g h e old new leave [] = refl
+  lines_same g h e old new leave (t ∷ ts) = λ i. (ap new (by_tree g h e t) ∙ leave (h t)) i && lines_same g h e old new leave ts i
+
   untaken_lines : (g h : Tree Line → Field) → ((tag : List ℕ) (v : Value) (ts : Forest Line) → g (then_value tag v ts) ≡ h (with_value tag v ts))
       → (old new : Field → Bool) → ((x : Field) → new x ≡ old x) → (ts : Lines) → AreUntaken h old ts → AreUntaken g new (lines_with f ts)
-  untaken_lines g h e old new leave ts u = by ts ∙ u
-    where
-      by : (us : Lines) → list_all (λ t. new (g t)) (lines_with f us) ≡ list_all (λ t. old (h t)) us
-      by [] = refl
-      by (t ∷ us) = λ i. (ap new (by_tree g h e t) ∙ leave (h t)) i && by us i
+  untaken_lines g h e old new leave ts u = lines_same g h e old new leave ts ∙ u
+
+  lines_back : (g h : Tree Line → Field) → ((tag : List ℕ) (v : Value) (ts : Forest Line) → g (then_value tag v ts) ≡ h (with_value tag v ts))
+      → (old new : Field → Bool) → ((x : Field) → new x ≡ old x) → (ts : Lines) → AreUntaken g new (lines_with f ts) → AreUntaken h old ts
+  lines_back g h e old new leave ts u = sym (lines_same g h e old new leave ts) ∙ u
 
   -- ---- the fields that leave a line
   option_still : {A B : Type 0} (k : A → B) (o : Option A) → is_some (option_map k o) ≡ is_some o
@@ -181,6 +186,33 @@ module _ (f : ℕ → ℕ) where
       )
   untaken_with earlier known (kind.Entry e) u = tt
   untaken_with earlier known (kind.Other o) u = tt
+
+  pub untaken_back : (earlier known : Known) (r : Record) → HasUntaken earlier known (record_with f r) → HasUntaken (through f earlier) (through f known) r
+  untaken_back earlier known (kind.Place p) u =
+      lines_back (part.parent_field earlier p.name) (part.parent_field (through f earlier) p.name) (parent_by earlier p.name) (place_leaves p) (place_leaves (place_with f p)) (place_leave p) p.carried u
+  untaken_back earlier known (kind.Repo r) u =
+      lines_back part.repo_field part.repo_field repo_by (repo_leaves r) (repo_leaves (record r { carried = lines_with f r.carried })) (repo_leave r (lines_with f r.carried)) r.carried u
+  untaken_back earlier known (kind.Source s) u =
+      let P : model.Holding → Type 0 = λ h. AreUntaken part.holding_field (holding_leaves h) h.carried in (
+        each_more (λ h. P (holding_with f h)) P
+            (λ h k. lines_back part.holding_field part.holding_field holding_by (holding_leaves h) (holding_leaves (holding_with f h)) (holding_leave h (holding_with f h) refl) h.carried k) s.holdings (each_mapped P (holding_with f) s.holdings u.0),
+        lines_back (part.source_field known) (part.source_field (through f known)) (source_by known) (source_leaves s) (source_leaves (source_with f s)) (source_leave s) s.carried u.1,
+      )
+  untaken_back earlier known (kind.Person p) u =
+      lines_back (part.person_field known) (part.person_field (through f known)) (person_by known) (person_leaves p) (person_leaves (person_with f p)) (person_leave p) p.carried u
+  untaken_back earlier known (kind.Family x) u =
+      lines_back (part.family_field known) (part.family_field (through f known)) (family_by known) (λ y. family_leaves y) (λ y. family_leaves y) same_leaves x.carried u
+  untaken_back earlier known (kind.Citation c) u =
+      let d : model.Citation = record c { owner = f c.owner; source = f c.source; carried = lines_with f c.carried } in
+      lines_back part.citation_field part.citation_field citation_by (citation_leaves c) (citation_leaves d) (citation_leave c d refl refl) c.carried u
+  untaken_back earlier known (kind.Event e) u =
+      let P : model.Participant → Type 0 = λ p. AreUntaken part.participant_field (participant_leaves p) p.carried in (
+        each_more (λ p. P (participant_with f p)) P
+            (λ p k. lines_back part.participant_field part.participant_field participant_by (participant_leaves p) (participant_leaves (participant_with f p)) (participant_leave p) p.carried k) e.participants (each_mapped P (participant_with f) e.participants u.0),
+        lines_back (part.event_field known) (part.event_field (through f known)) (event_by known) (event_leaves e) (event_leaves (event_with f e)) (event_leave e) e.carried u.1,
+      )
+  untaken_back earlier known (kind.Entry e) u = tt
+  untaken_back earlier known (kind.Other o) u = tt
 
 -- ---- two persons
 both_true : (a b : Bool) → (a && b) ≡ true → (a ≡ true) × (b ≡ true)
