@@ -125,7 +125,7 @@ module _ (next number : ℕ) (s : Slip) (slip : IsSoundSlip next number s) where
   f = renamed s.keep s.gone
 
   -- the person that is gone stands among the old ones
-  gone_there : (p : model.Person) × (get o s.gone ≡ Some (kind.Person p))
+  pub gone_there : (p : model.Person) × (get o s.gone ≡ Some (kind.Person p))
   gone_there = let p = person_is slip.gone.0 slip.gone.2 in (p.0, slip.gone.1 ∙ ap Some p.1)
 
   keep_there : (r : Record) → get o s.keep ≡ Some r → (p : model.Person) × (get o s.keep ≡ Some (kind.Person p))
@@ -252,6 +252,22 @@ module _ (next number : ℕ) (s : Slip) (slip : IsSoundSlip next number s) where
         | inr i ↦ is_other (other_now n r at i.0 i.1)
       ]
     ]
+
+    -- where a record stands then, one stands now, but for the person that is gone
+    pub gone_or_there : (n : ℕ) (r : Record) → get after n ≡ Some r → (n ≡ s.gone) ⊎ ((x : Record) × (get m n ≡ Some x))
+    gone_or_there n r at = elim (cases n r at) as (λ _. (n ≡ s.gone) ⊎ ((x : Record) × (get m n ≡ Some x))) [
+      | inl old ↦ by (old_as n r old)
+      | inr now ↦ inr (r, now.1)
+    ]
+      where
+        by : Old n r → (n ≡ s.gone) ⊎ ((x : Record) × (get m n ≡ Some x))
+        by (is_gone h e) = inl h
+        by (is_keep k h there e) = inr (kind.Person (both k there), ap (get m) h ∙ both_now k there)
+        by (is_other now) = inr (merged_record s.keep s.gone r, now)
+
+    -- and the person that is gone stands then
+    pub person_then : get after s.gone ≡ Some (kind.Person gone_there.0)
+    person_then = put_old s.gone (kind.Person gone_there.0) gone_there.1
 
     old_named : (n : ℕ) (r : Record) → Old n r → EachOf Named (links r)
     old_named n r (is_gone h e) = elim (cases_of o s.keep) as (λ _. EachOf Named (links r)) [
