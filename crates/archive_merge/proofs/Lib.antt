@@ -17,6 +17,11 @@ mod Keys
 mod PathsKept
 mod Part
 mod Untaken
+mod EntryShapes
+mod Joining
+mod Merge
+mod Undoing
+mod Undo
 mod Differs
 mod Numbers
 mod Rows

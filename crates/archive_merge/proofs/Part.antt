@@ -55,9 +55,9 @@ at_most (Some (kind.Entry p)) = omega arith
 at_most (Some (kind.Other p)) = omega arith
 
 -- of a number nothing is known, or the same
-record IsLess (a b : Known) (n : ℕ) : Type 0 where
-  tag : (a.tag n ≡ []) ⊎ (a.tag n ≡ b.tag n)
-  path : (a.path n ≡ None) ⊎ (a.path n ≡ b.path n)
+pub record IsLess (a b : Known) (n : ℕ) : Type 0 where
+  pub tag : (a.tag n ≡ []) ⊎ (a.tag n ≡ b.tag n)
+  pub path : (a.path n ≡ None) ⊎ (a.path n ≡ b.path n)
 
 -- ---- rows that do not fit
 abbrev chain : List (Bool × Field) → Field
@@ -101,7 +101,7 @@ fewer g h leaves leave same (t ∷ ts) u =
     let both = both_true (leaves (h t)) (list_all (λ v. leaves (h v)) ts) u in
     yes_both (leaves (g t)) (list_all (λ v. leaves (g v)) ts)
     (elim (same t) as (λ _. leaves (g t) ≡ true) [
-      | inl none ↦ ap leaves none ∙ leave
+      | inl nothing ↦ ap leaves nothing ∙ leave
       | inr is ↦ ap leaves is ∙ both.0
     ])
     (fewer g h leaves leave same ts both.1)
@@ -231,7 +231,7 @@ module _ (some all : Records) (within : (n : ℕ) (r : Record) → get some n �
   tag_less : (n : ℕ) → (tag_at (get some n) ≡ []) ⊎ (tag_at (get some n) ≡ tag_at (get all n))
   tag_less n = elim (cases_of some n) as (λ _. (tag_at (get some n) ≡ []) ⊎ (tag_at (get some n) ≡ tag_at (get all n))) [
     | inl there ↦ inr (ap tag_at there.1 ∙ sym (ap tag_at (within n there.0 there.1)))
-    | inr none ↦ inl (ap tag_at none)
+    | inr nothing ↦ inl (ap tag_at nothing)
   ]
 
   known_less : (n : ℕ) → IsLess (known_of some) (known_of all) n
@@ -241,7 +241,7 @@ module _ (some all : Records) (within : (n : ℕ) (r : Record) → get some n �
   before_less k n = record {
     tag = tag_less n;
     path = elim (path_or_none some all within n) as (λ _. ((if nat_lt n k then path_of some n else None) ≡ None) ⊎ ((if nat_lt n k then path_of some n else None) ≡ (if nat_lt n k then path_of all n else None))) [
-      | inl none ↦ inl (either_none (nat_lt n k) (path_of some n) none)
+      | inl nothing ↦ inl (either_none (nat_lt n k) (path_of some n) nothing)
       | inr same ↦ inr (ap (λ x. if nat_lt n k then x else None) same)
     ];
   }
@@ -263,7 +263,7 @@ module _ (some all : Records) (within : (n : ℕ) (r : Record) → get some n �
   pub part_room : (r : Record) → HasRoom (owner_in all r) r → HasRoom (owner_in some r) r
   part_room (kind.Citation c) h = elim (cases_of some c.owner) as (λ _. AreWithin (room_below (get some c.owner)) c.carried) [
     | inl there ↦ subst (λ o. AreWithin (room_below o) c.carried) (within c.owner there.0 there.1 ∙ sym there.1) h
-    | inr none ↦ subst (λ o. AreWithin (room_below o) c.carried) (sym none) (let most : room_below (get all c.owner) ≤ 97 = at_most (get all c.owner) in omega arith)
+    | inr nothing ↦ subst (λ o. AreWithin (room_below o) c.carried) (sym nothing) (let most : room_below (get all c.owner) ≤ 97 = at_most (get all c.owner) in omega arith)
   ]
   part_room (kind.Event e) h = h
   part_room (kind.Place p) h = h

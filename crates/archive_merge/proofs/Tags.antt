@@ -30,7 +30,7 @@ module _ (f : ℕ → ℕ) where
   all_tags (t ∷ ts) = λ i. line_tags t i ++ all_tags ts i
 
   tags_moved : (r : Record) → carried_tags (record_with f r) ≡ carried_tags r
-  tags_moved r = ap (flat_map tags) (carried_moved r) ∙ all_tags (carried r)
+  tags_moved r = ap (flat_map tags) (carried_moved f r) ∙ all_tags (carried r)
 
   own_moved : (r : Record) → own_tags (record_with f r) ≡ own_tags r
   own_moved (kind.Place x) = refl

@@ -225,11 +225,9 @@ untaken_any one other known p u = u
 
 all_both : (q : Tree Line → Bool) (ts us : Lines) → list_all q ts ≡ true → list_all q us ≡ true → list_all q (ts ++ us) ≡ true
 all_both q [] us h k = k
-all_both q (t ∷ ts) us h k = by (q t) h
-  where
-    by : (b : Bool) → (b && list_all q ts) ≡ true → (b && list_all q (ts ++ us)) ≡ true
-    by true e = all_both q ts us e k
-    by false e = absurd cc
+all_both q (t ∷ ts) us h k =
+    let both = both_true (q t) (list_all q ts) h in
+    ap (λ x. x && list_all q (ts ++ us)) both.0 ∙ all_both q ts us both.1 k
 
 -- a field that leaves a line of one of the two leaves it where both are one
 sex_some : (s t : Option Sex) → is_some s ≡ true → is_some (sex_of_two s t) ≡ true
