@@ -1,6 +1,7 @@
 -- What accepted merges and undoings leave.
-use Rattle.std.proofs.Common.{◌≡◌, ℕ, ◌+◌, Bool, true, false, refl, sym, ap, ◌∙◌, subst}
+use Rattle.std.proofs.Common.{◌≡◌, ℕ, ◌+◌, Bool, true, false, refl, sym, ap, ◌∙◌, ◌≤◌, subst, arith}
 use Rattle.std.specs.Prelude.{Option, Some, None, not, ◌==◌, nat_le, Result, Ok, Err, if◌then◌else◌}
+use Rattle.std.proofs.lemmas.Bool.Decides.{nat_tests}
 use Rattle.std.specs.List.{filter}
 use Rattle.std.specs.FinMap.{get, entries}
 use Rattle.record_text.specs.declared.refusal.RefusalKind.{RefusalKind}
@@ -41,6 +42,9 @@ turned : (b : Bool) → not b ≡ true → b ≡ false
 turned true e = absurd cc
 turned false e = refl
 
+within : (n : ℕ) → nat_le n 4_294_967_295 ≡ true → n ≤ 4294967295
+within n e = grind (arith, nat_tests)
+
 a_person : (o : Option Record) (p : model.Person) → person_in o ≡ Ok p → o ≡ Some (kind.Person p)
 a_person None p e = absurd cc
 a_person (Some (kind.Person q)) p e = let same : q ≡ p = cc in ap (λ x. Some (kind.Person x)) same
@@ -58,11 +62,12 @@ a_slip (Some t) r s e = let same : t ≡ s = cc in ap Some same
 a_slip None None s e = absurd cc
 a_slip None (Some r) s e = absurd cc
 
-the_next : (c : Content) (n : ℕ) → next_free c ≡ Ok n → c.next ≡ n
-the_next c n e = elim (nat_le c.next 4_294_967_295) as (λ b. (if b then Ok c.next else Err Full) ≡ Ok n → c.next ≡ n) [
-  | true ↦ λ q. cc
-  | false ↦ λ q. absurd cc
-] e
+-- a number is left
+the_next : (c : Content) (n : ℕ) → next_free c ≡ Ok n → (c.next ≡ n) × (c.next ≤ 4294967295)
+the_next c n e = elim (nat_le c.next 4_294_967_295) as (λ b. nat_le c.next 4_294_967_295 ≡ b → (if b then Ok c.next else Err Full) ≡ Ok n → (c.next ≡ n) × (c.next ≤ 4294967295)) [
+  | true ↦ λ less q. (cc, within c.next less)
+  | false ↦ λ less q. absurd cc
+] refl e
 
 -- what an accepted merge was of
 pub record Merged (c : Content) (keep gone : ℕ) (after : Content) (a : Answer) : Type 0 where
@@ -74,6 +79,7 @@ pub record Merged (c : Content) (keep gone : ℕ) (after : Content) (a : Answer)
   pub free : is_clash keep gone c.records ≡ false
   pub left : with_merge keep gone c (c.next + 1) ≡ after
   pub first : c.next ≡ a.first
+  pub room : c.next ≤ 4294967295
 
 pub merged_by : (c after : Content) (keep gone : ℕ) (a : Answer) → merge_step c keep gone ≡ Ok (after, a) → Merged c keep gone after a
 merged_by c after keep gone a e =
@@ -87,7 +93,8 @@ merged_by c after keep gone a e =
     let h3 = passed (need (not (keep == gone)) SamePerson) rest3 (after, a) h2.2 in
     let h4 = passed (need (not (is_clash keep gone c.records)) MergeWithinFamily) rest4 (after, a) h3.2 in
     let h5 = passed (next_free c) rest5 (after, a) h4.2 in
-    let next : c.next ≡ h5.0 = the_next c h5.0 h5.1 in
+    let room = the_next c h5.0 h5.1 in
+    let next : c.next ≡ h5.0 = room.0 in
     let both : ◌≡◌ {A = Content × Answer} (with_merge keep gone c (h5.0 + 1), record { first = h5.0; count = 1 }) (after, a) = let q = h5.2 in cc in
     record {
       k = h1.0;
@@ -98,12 +105,13 @@ merged_by c after keep gone a e =
       free = turned (is_clash keep gone c.records) (needed (not (is_clash keep gone c.records)) MergeWithinFamily h4.0 h4.1);
       left = ap (λ n. with_merge keep gone c (n + 1)) next ∙ ap (λ (x : Content × Answer). x.0) both;
       first = next ∙ ap (λ (x : Content × Answer). x.1.first) both;
+      room = room.1;
     }
 
 pub merged_sound : (c after : Content) (keep gone : ℕ) (a : Answer) → IsSound c → merge_step c keep gone ≡ Ok (after, a) → IsSound after
 merged_sound c after keep gone a sound e =
     let h : Merged c keep gone after a = merged_by c after keep gone a e in
-    subst IsSound h.left (merge_sound c keep gone h.k h.g sound h.at_k h.at_g h.apart (no_clashes keep gone c.records h.free))
+    subst IsSound h.left (merge_sound c keep gone h.k h.g sound h.at_k h.at_g h.apart (no_clashes keep gone c.records h.free) h.room)
 
 pub merged_all : (c after : Content) (keep gone : ℕ) (a : Answer) (n : ℕ) → IsSound c → merge_step c keep gone ≡ Ok (after, a) → get after.records n ≡ merged keep gone (get c.records) n
 merged_all c after keep gone a n sound e =

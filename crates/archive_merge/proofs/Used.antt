@@ -1,4 +1,4 @@
--- A number that is used up stays so: no merge and no undoing puts a record there. The law of today does not hold of undo.
+-- A number that is used up stays so: no merge and no undoing puts a record there.
 use Rattle.std.proofs.Common.{◌≡◌, ℕ, ◌+◌, ◌<◌, ◌≤◌, true, false, refl, sym, ap, ◌∙◌, inl, inr, subst, arith}
 use Rattle.std.specs.Prelude.{Some, None, Ok}
 use Rattle.std.specs.FinMap.{get}
@@ -55,28 +55,3 @@ undo_keeps_used c after k n a sound e (below, none, undone) =
         | inr x ↦ undone j t x.1 is
       ],
     )
-
--- what archive_core says today: below the next number no record stands where none stood
-abbrev NoneAgain : Content → Content → Type 0
-NoneAgain c after = (c.next ≤ after.next) × ((n : ℕ) → n < c.next
-    → (get c.records n ≡ None → get after.records n ≡ None) × (get c.slips n ≡ None → get after.slips n ≡ None))
-
--- it fails of every merge of a sound archive that is undone
-pub none_again_fails : (c after : Content) (keep gone : ℕ) (a : Answer) → IsSound c → merge_step c keep gone ≡ Ok (after, a)
-    → (back : Content) × (undo_step after a.first ≡ Ok (back, record { first = 0; count = 0 })) × (NoneAgain after back → ⊥)
-none_again_fails c after keep gone a sound e =
-    let h : Merged c keep gone after a = merged_by c after keep gone a e in
-    let u = undo_merged c after keep gone a e in
-    let less : gone < c.next = (sound.rules.numbered gone (kind.Person h.g) h.at_g).1 in
-    let later : gone < c.next + 1 = omega arith in
-    let below : gone < after.next = subst (λ (x : Content). gone < x.next) h.left later in
-    let none : get after.records gone ≡ None = ap (λ (x : Content). get x.records gone) (sym h.left) ∙ made_gone keep gone c.records in
-    let back : get u.0.records gone ≡ Some (kind.Person h.g) = ap (λ x. get x gone) u.2 ∙ h.at_g in
-    (u.0, u.1, λ again. let both : Some (kind.Person h.g) ≡ None = sym back ∙ (again.1 gone below).0 none in absurd cc)
-
--- what leaves the slips alone and uses no number again, as the commands of today, keeps a number used up
-pub today_keeps_used : (c after : Content) (n : ℕ) → NoneAgain c after → after.slips ≡ c.slips → IsUsedUp c n → IsUsedUp after n
-today_keeps_used c after n again same (below, none, undone) =
-    let later : c.next ≤ after.next = again.0 in
-    let less : n < c.next = below in
-    (omega arith, (again.1 n below).0 none, λ k s at is. undone k s (ap (λ m. get m k) (sym same) ∙ at) is)
