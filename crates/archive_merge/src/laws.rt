@@ -1,15 +1,18 @@
 //! What holds of a merge, and of what undoes it.
 
-ghost use Rattle.std.specs.Prelude.{◌≡◌, ℕ, Ok, Some, map};
+ghost use Rattle.std.specs.Prelude.{◌≡◌, ◌+◌, ℕ, [], ◌∷◌, Ok, Some, None, map};
+ghost use Rattle.std.specs.List.{flat_map};
 ghost use Rattle.std.specs.FinMap.{get};
+ghost use Rattle.archive_state.specs.Applied.{applied};
 ghost use Rattle.archive_state.specs.Content.{Content};
 ghost use Rattle.archive_state.specs.Merging.{merged};
 ghost use Rattle.archive_state.specs.Slips.{Slip};
 ghost use Rattle.archive_state.specs.Sound.{IsSound, old_records};
+ghost use Rattle.archive_state.specs.declared.changes.SlipChange.TheVariants as change;
 ghost use Rattle.archive_state.specs.declared.slip.Change.{Change};
 ghost use Rattle.record_kinds.specs.declared.record.Record.{Record};
 ghost use Rattle.receipts.specs.declared.answer.Answer.{Answer};
-ghost use Rattle.archive_merge.specs.Merges.{HoldsChanges, changed_numbers, merge_changes, over};
+ghost use Rattle.archive_merge.specs.Merges.{HoldsChanges, changed_numbers, merge_changes, over, put_new, put_old, slip_of, with_merge, with_undo};
 ghost use Rattle.archive_merge.specs.Steps.{merge_step, undo_step};
 ghost use Rattle.archive_looks.specs.Numbers.{IsUsedUp};
 
@@ -61,4 +64,18 @@ pub fn a_slip_holds_what_changed()
 pub fn changed_numbers_are_of_referrers()
     ensures { (keep gone : ℕ) (c : Content) (k g : Record) → get c.records keep ≡ Some k → get c.records gone ≡ Some g
         → map (λ (x : Change). x.number) (merge_changes keep gone c.records) ≡ changed_numbers keep gone c }
+{}
+
+/// The new records put, the one that is gone taken out and the slip made: these changes leave what the merge leaves.
+pub fn changes_of_a_merge()
+    ensures { (c : Content) (keep gone : ℕ) (a : Answer)
+        → applied c (record { puts = flat_map put_new (merge_changes keep gone c.records); removals = gone ∷ []; next = c.next + 1; answer = a; kept = None; slip = Some (change.Made c.next (slip_of keep gone c.records)) })
+        ≡ with_merge keep gone c (c.next + 1) }
+{}
+
+/// The old records put, and the slip undone: these leave what the undoing leaves.
+pub fn changes_of_an_undoing()
+    ensures { (c : Content) (n : ℕ) (s : Slip) (a : Answer) → get c.slips n ≡ Some s
+        → applied c (record { puts = map put_old s.changes; removals = []; next = c.next; answer = a; kept = None; slip = Some (change.Undone n) })
+        ≡ with_undo n s c }
 {}
