@@ -22,6 +22,11 @@ mod Joining
 mod Merge
 mod Undoing
 mod Undo
+mod Stepping
 mod Differs
+mod Restoring
 mod Numbers
+mod Used
+mod Applying
+mod Numbering
 mod Rows

@@ -41,7 +41,7 @@ pub fn changed_numbers<V: View>(
 ) -> Result<Vec<u32>, RefusalKind>
     ensures shows { OnView V.is_honest V.shows V.content view.old view.new
         (λ c. Looked result (λ found. found.items ≡ specs.with_number gone
-            (if adds_nothing then referrers c gone else specs.with_number keep (referrers c gone)))) }
+        (if adds_nothing then referrers c gone else specs.with_number keep (referrers c gone)))) }
     ensures counts { CountsFailures (V.failed view.old) (V.failed view.new) result }
 {
     let named = view.referrers(alloc, gone)?;

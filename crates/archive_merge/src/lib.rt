@@ -5,3 +5,6 @@
 //!
 //! Callers may rely on: the laws of `laws`.
 #![tactic(auto)]
+
+pub mod finding;
+pub mod laws;
