@@ -27,6 +27,7 @@ mod Differs
 mod Restoring
 mod Numbers
 mod Used
+mod Drawing
 mod Applying
 mod Numbering
 mod Rows

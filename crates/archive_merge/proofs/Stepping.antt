@@ -80,6 +80,7 @@ pub record Merged (c : Content) (keep gone : ℕ) (after : Content) (a : Answer)
   pub left : with_merge keep gone c (c.next + 1) ≡ after
   pub first : c.next ≡ a.first
   pub room : c.next ≤ 4294967295
+  pub count : a.count ≡ 1
 
 pub merged_by : (c after : Content) (keep gone : ℕ) (a : Answer) → merge_step c keep gone ≡ Ok (after, a) → Merged c keep gone after a
 merged_by c after keep gone a e =
@@ -106,6 +107,7 @@ merged_by c after keep gone a e =
       left = ap (λ n. with_merge keep gone c (n + 1)) next ∙ ap (λ (x : Content × Answer). x.0) both;
       first = next ∙ ap (λ (x : Content × Answer). x.1.first) both;
       room = room.1;
+      count = sym (ap (λ (x : Content × Answer). x.1.count) both);
     }
 
 pub merged_sound : (c after : Content) (keep gone : ℕ) (a : Answer) → IsSound c → merge_step c keep gone ≡ Ok (after, a) → IsSound after
@@ -142,6 +144,18 @@ undone_by c after n a e =
       now = now_is c.records h1.0.changes (needed (is_now c.records h1.0.changes) ChangedSince h3.0 h3.1);
       left = ap (λ (x : Content × Answer). x.0) both;
     }
+
+-- its answer is 0 and 0
+pub undone_answer : (c after : Content) (n : ℕ) (a : Answer) → undo_step c n ≡ Ok (after, a) → (a.first ≡ 0) × (a.count ≡ 0)
+undone_answer c after n a e =
+    let rest3 : Slip → Unit {0} → Step = λ s _. Ok (with_undo n s c, record { first = 0; count = 0 }) in
+    let rest2 : Slip → Unit {0} → Step = λ s _. and_then (need (is_now c.records s.changes) ChangedSince) (rest3 s) in
+    let rest1 : Slip → Step = λ s. and_then (need (not s.is_undone) AlreadyUndone) (rest2 s) in
+    let h1 = passed (slip_at c n) rest1 (after, a) e in
+    let h2 = passed (need (not h1.0.is_undone) AlreadyUndone) (rest2 h1.0) (after, a) h1.2 in
+    let h3 = passed (need (is_now c.records h1.0.changes) ChangedSince) (rest3 h1.0) (after, a) h2.2 in
+    let both : ◌≡◌ {A = Content × Answer} (with_undo n h1.0 c, record { first = 0; count = 0 }) (after, a) = let q = h3.2 in cc in
+    (sym (ap (λ (x : Content × Answer). x.1.first) both), sym (ap (λ (x : Content × Answer). x.1.count) both))
 
 pub undone_sound : (c after : Content) (n : ℕ) (a : Answer) → IsSound c → undo_step c n ≡ Ok (after, a) → IsSound after
 undone_sound c after n a sound e = let h : Undone c n after = undone_by c after n a e in subst IsSound h.left (undo_sound c n h.slip sound h.there h.now)

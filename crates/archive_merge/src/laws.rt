@@ -14,7 +14,7 @@ ghost use Rattle.record_kinds.specs.declared.record.Record.{Record};
 ghost use Rattle.receipts.specs.declared.answer.Answer.{Answer};
 ghost use Rattle.archive_merge.specs.Merges.{HoldsChanges, changed_numbers, merge_changes, over, put_new, put_old, slip_of, with_merge, with_undo};
 ghost use Rattle.archive_merge.specs.Steps.{merge_step, undo_step};
-ghost use Rattle.archive_looks.specs.Numbers.{IsUsedUp};
+ghost use Rattle.archive_looks.specs.Numbers.{Draws, UsesNoneAgain};
 
 /// A merge leaves a sound archive sound, with its slip.
 pub fn a_merge_keeps_an_archive_sound()
@@ -38,14 +38,24 @@ pub fn a_merge_is_undone()
         → (back : Content) × (undo_step after a.first ≡ Ok (back, record { first = 0; count = 0 })) × (back.records ≡ c.records) }
 {}
 
-/// A number that is used up stays so when persons are merged.
-pub fn a_merge_uses_no_number_again()
-    ensures { (c after : Content) (keep gone n : ℕ) (a : Answer) → merge_step c keep gone ≡ Ok (after, a) → IsUsedUp c n → IsUsedUp after n }
+/// A merge draws one number, that of its slip.
+pub fn a_merge_draws_its_slip()
+    ensures { (c after : Content) (keep gone : ℕ) (a : Answer) → merge_step c keep gone ≡ Ok (after, a) → Draws c a after }
 {}
 
-/// And when a merge is undone.
+/// No number is used twice when persons are merged, and one that is used up stays so.
+pub fn a_merge_uses_no_number_again()
+    ensures { (c after : Content) (keep gone : ℕ) (a : Answer) → merge_step c keep gone ≡ Ok (after, a) → UsesNoneAgain c after }
+{}
+
+/// An undoing draws no number.
+pub fn an_undoing_draws_none()
+    ensures { (c after : Content) (k : ℕ) (a : Answer) → undo_step c k ≡ Ok (after, a) → Draws c a after }
+{}
+
+/// Nor does it use one again.
 pub fn an_undoing_uses_no_number_again()
-    ensures { (c after : Content) (k n : ℕ) (a : Answer) → IsSound c → undo_step c k ≡ Ok (after, a) → IsUsedUp c n → IsUsedUp after n }
+    ensures { (c after : Content) (k : ℕ) (a : Answer) → IsSound c → undo_step c k ≡ Ok (after, a) → UsesNoneAgain c after }
 {}
 
 /// An undoing puts back the old records of its slip, and leaves all others.

@@ -112,9 +112,10 @@ place_keeps c name parent sound at is normal fit bounded =
       still = still c name parent sound;
       slips = refl;
       new = λ n r none e.
-          let it = new_is c name parent n r none e in (
+          let it = new_is c name parent n r none e in
+          let from : c.next ≤ c.next = omega arith in (
             subst (λ k. KeepsRules (c.next + 1) (after c name parent) k r) (sym it.0) (subst (KeepsRules (c.next + 1) (after c name parent) c.next) it.1 (rules_of c name parent sound at is normal)),
-            subst (λ k. c.next ≤ k) (sym it.0) (omega arith),
+            subst (λ k. c.next ≤ k) (sym it.0) from,
           );
       paths = λ n path none h. by_path n path none (get (after c name parent) n) refl h;
       keys = λ n k e none there at. let it = new_is c name parent n (kind.Entry e) none there in let f : placed name parent ≡ kind.Entry e = it.1 in absurd cc;
