@@ -8,6 +8,7 @@ ghost use Rattle.gedcom_tree.specs.Forest.{continued, longer, node_of as node_of
 ghost use Rattle.gedcom_tree.specs.Flat.{value_said, said};
 ghost use Rattle.gedcom_tree.specs.declared.node.Node.TheViews.{out-Node};
 
+use crate::tag::Tag;
 use gedcom_line::{LineRef, Value, unescape};
 use std::alloc::{AllocError, Global};
 
@@ -27,7 +28,7 @@ pub struct Node {
     pub line: u32,
     /// The cross reference with its two `@`.
     pub xref: Option<String>,
-    pub tag: String,
+    pub tag: Tag,
     pub value: NodeValue,
     pub children: Vec<Node>,
 }
@@ -77,7 +78,7 @@ pub(crate) fn node_of(alloc: Global, line: &LineRef<'_>, number: u32) -> Result<
 {
     let value = value_of(alloc, line)?;
     let xref = xref_of(alloc, line.xref)?;
-    let tag = String::from_str(alloc, line.tag)?;
+    let tag = Tag::new(alloc, line.tag)?;
     Ok(Node {
         line: number,
         xref,
