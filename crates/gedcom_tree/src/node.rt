@@ -1,6 +1,7 @@
 //! A line of a forest, with the lines below it.
 
-ghost use Rattle.std.specs.Prelude.{◌≡◌, false, [], IfOk, OnOk, option_map, string_bytes};
+ghost use Rattle.std.specs.Prelude.{◌≡◌, ◌++◌, false, [], IfOk, OnOk, option_map, string_bytes};
+ghost use Rattle.gedcom_line.specs.Escape.{unescaped};
 ghost use Rattle.gedcom_line.specs.Reading.{is_continuation, parts};
 ghost use Rattle.gedcom_line.specs.Value.{meaning};
 ghost use Rattle.gedcom_rules.specs.Continuing.{adds};
@@ -55,10 +56,20 @@ pub(crate) fn join_value(
         if line.tag == "CONT" {
             text.push('\n')?;
         }
-        let more = unescape(alloc, line.raw)?;
-        text.push_str(&more)?;
+        push_unescaped(alloc, text, line.raw)?;
     }
     Ok(())
+}
+
+/// Appends the text of a value on a line, without a copy where it has no `@`.
+fn push_unescaped(alloc: Global, out: &mut String, value: &str) -> Result<(), AllocError>
+    ensures { OnOk result (string_bytes out.new ≡ string_bytes out.old ++ unescaped value.now) }
+{
+    if !value.as_bytes().contains(&b'@') {
+        return out.push_str(value);
+    }
+    let text = unescape(alloc, value)?;
+    out.push_str(&text)
 }
 
 pub(crate) fn xref_of(alloc: Global, xref: Option<&str>) -> Result<Option<String>, AllocError>
