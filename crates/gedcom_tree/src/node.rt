@@ -66,10 +66,12 @@ fn push_unescaped(alloc: Global, out: &mut String, value: &str) -> Result<(), Al
     ensures { OnOk result (string_bytes out.new ≡ string_bytes out.old ++ unescaped value.now) }
 {
     if !value.as_bytes().contains(&b'@') {
-        return out.push_str(value);
+        out.push_str(value)?;
+        return Ok(());
     }
     let text = unescape(alloc, value)?;
-    out.push_str(&text)
+    out.push_str(&text)?;
+    Ok(())
 }
 
 pub(crate) fn xref_of(alloc: Global, xref: Option<&str>) -> Result<Option<String>, AllocError>

@@ -67,7 +67,10 @@ fn push_part(
 fn is_few(text: &str) -> bool
     ensures { result ≡ true → is_short text.now ≡ true }
 {
-    text.len() <= SHORT || (text.len() <= PLAIN && !text.as_bytes().contains(&b'@'))
+    if text.len() <= SHORT {
+        return true;
+    }
+    text.len() <= PLAIN && !text.as_bytes().contains(&b'@')
 }
 
 /// Whether the text stands on one line: few bytes, and no LF.
