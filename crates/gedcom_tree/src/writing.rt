@@ -134,7 +134,14 @@ fn push_own(alloc: Global, out: &mut String, level: u8, node: &Node) -> Result<(
 {
     match &node.value {
         NodeValue::Text(value) => {
-            push_text(alloc, out, level, node.xref.as_deref(), node.tag.as_str(), value)
+            push_text(
+                alloc,
+                out,
+                level,
+                node.xref.as_deref(),
+                node.tag.as_str(),
+                value,
+            )
         }
         NodeValue::Pointer(name) => {
             write_line(out, level, node.xref.as_deref(), node.tag.as_str(), name)
