@@ -81,7 +81,8 @@ one_test false false f g = refl
 
 like_words : (e f : model.Entry) → bytes_eq (key_words e) (key_words f) ≡ true → is_like_row e (kind.Entry f) ≡ true
 like_words e f h =
-    let k = parted (entry_kind_word e.kind) (entry_kind_word f.kind) (decimal e.item.number ++ 0 ∷ e.page) (decimal f.item.number ++ 0 ∷ f.page) (kind_plain e.kind) (kind_plain f.kind) (bytes_are (key_words e) (key_words f) h) in
+    let words : entry_kind_word e.kind ++ (0 ∷ (decimal e.item.number ++ (0 ∷ e.page))) ≡ entry_kind_word f.kind ++ (0 ∷ (decimal f.item.number ++ (0 ∷ f.page))) = bytes_are (key_words e) (key_words f) h in
+    let k = parted (entry_kind_word e.kind) (entry_kind_word f.kind) (decimal e.item.number ++ 0 ∷ e.page) (decimal f.item.number ++ 0 ∷ f.page) (kind_plain e.kind) (kind_plain f.kind) words in
     let i = parted (decimal e.item.number) (decimal f.item.number) e.page f.page (item_plain e.item) (item_plain f.item) k.1 in
     both_yes (bytes_eq (entry_kind_word f.kind) (entry_kind_word e.kind)) (bytes_eq f.page e.page && f.item.number == e.item.number)
         (bytes_same (entry_kind_word f.kind) (entry_kind_word e.kind) (sym k.0))
@@ -93,10 +94,10 @@ words_like e f h =
     let rest = second_yes (bytes_eq (entry_kind_word f.kind) (entry_kind_word e.kind)) (bytes_eq f.page e.page && f.item.number == e.item.number) h in
     let p = bytes_are f.page e.page (first_yes (bytes_eq f.page e.page) (f.item.number == e.item.number) rest) in
     let n : f.item.number ≡ e.item.number = eqb-true f.item.number e.item.number (second_yes (bytes_eq f.page e.page) (f.item.number == e.item.number) rest) in
-    let words : entry_kind_word e.kind ++ 0 ∷ decimal e.item.number ++ 0 ∷ e.page ≡ entry_kind_word f.kind ++ 0 ∷ decimal f.item.number ++ 0 ∷ f.page =
-    ap (λ (w : List ℕ). w ++ 0 ∷ decimal e.item.number ++ 0 ∷ e.page) (sym k)
-    ∙ ap (λ (m : ℕ). entry_kind_word f.kind ++ 0 ∷ decimal m ++ 0 ∷ e.page) (sym n)
-    ∙ ap (λ (w : List ℕ). entry_kind_word f.kind ++ 0 ∷ decimal f.item.number ++ 0 ∷ w) (sym p) in
+    let words : entry_kind_word e.kind ++ (0 ∷ (decimal e.item.number ++ (0 ∷ e.page))) ≡ entry_kind_word f.kind ++ (0 ∷ (decimal f.item.number ++ (0 ∷ f.page))) =
+    ap (λ (w : List ℕ). w ++ (0 ∷ (decimal e.item.number ++ (0 ∷ e.page)))) (sym k)
+    ∙ ap (λ (m : ℕ). entry_kind_word f.kind ++ (0 ∷ (decimal m ++ (0 ∷ e.page)))) (sym n)
+    ∙ ap (λ (w : List ℕ). entry_kind_word f.kind ++ (0 ∷ (decimal f.item.number ++ (0 ∷ w)))) (sym p) in
     bytes_same (key_words e) (key_words f) words
 
 one_words : (e : model.Entry) (r : Record) → has_words (key_words e) r ≡ is_like_row e r
@@ -157,6 +158,6 @@ keyed_more old new made e n keyed adds = λ x.
     adds x ∙ ap (λ b. b || bytes_eq x (key_words e)) (keyed x) ∙ sym (any_behind (λ (p : Numbered). has_words x p.«record») made (record { number = n; «record» = kind.Entry e }))
 
 -- the parts of a key, put together one after the other
-pub joined : (k i p : List ℕ) → (((k ++ (0 ∷ [])) ++ i) ++ (0 ∷ [])) ++ p ≡ k ++ 0 ∷ i ++ 0 ∷ p
+pub joined : (k i p : List ℕ) → (((k ++ (0 ∷ [])) ++ i) ++ (0 ∷ [])) ++ p ≡ k ++ (0 ∷ (i ++ (0 ∷ p)))
 joined k i p =
-    append_assoc ((k ++ (0 ∷ [])) ++ i) (0 ∷ []) p ∙ append_assoc (k ++ (0 ∷ [])) i (0 ∷ p) ∙ append_assoc k (0 ∷ []) (i ++ 0 ∷ p)
+    append_assoc ((k ++ (0 ∷ [])) ++ i) (0 ∷ []) p ∙ append_assoc (k ++ (0 ∷ [])) i (0 ∷ p) ∙ append_assoc k (0 ∷ []) (i ++ (0 ∷ p))

@@ -4,7 +4,6 @@ use Rattle.std.specs.Prelude.{Option, Some, None, Result, Ok, Err, IfErr, if◌t
 use Rattle.std.proofs.lemmas.List.{drop_more}
 use Rattle.record_text.specs.declared.refusal.Refusal.{Refusal}
 use Rattle.record_text.specs.declared.refusal.RefusalKind.{RefusalKind}
-use Rattle.devices.specs.Devices.{Rose}
 use Rattle.record_kinds.specs.Model as model
 use Rattle.archive_state.specs.Content.{Content}
 use Rattle.archive_state.specs.declared.changes.Numbered.{Numbered}
@@ -47,16 +46,13 @@ placed_right place (Err e) x h =
       | false ↦ λ q f. ap (placed (Some place)) (h q)
     ] refl
 
-pub placed_counts : {A : Type 0} (place before after : ℕ) (r : Result A RefusalKind) → before ≤ after → IfErr r (λ e. is_failure e ≡ true → Rose before after) → CountsStops before after (placed_unless_stopped place r)
-placed_counts place before after (Ok a) less h = (less, tt)
-placed_counts place before after (Err e) less h = (
-  less,
-  elim (is_stop e) as (λ b. is_stop e ≡ b → (is_failure (if b then refused_at None e else refused_at (Some place) e).kind ≡ true → Rose before after)
-  × (is_stop (if b then refused_at None e else refused_at (Some place) e).kind ≡ true → (if b then refused_at None e else refused_at (Some place) e).at ≡ None)) [
-    | true ↦ λ q. (h, λ f. refl)
-    | false ↦ λ q. (h, λ f. let wrong : true ≡ false = sym f ∙ q in absurd cc)
-  ] refl,
-)
+pub placed_counts : {A : Type 0} (place before after : ℕ) (r : Result A RefusalKind) → CountsFailures before after r → CountsStops before after (placed_unless_stopped place r)
+placed_counts place before after (Ok a) h = (h.0, tt)
+placed_counts {A} place before after (Err e) h =
+    elim (is_stop e) as (λ b. is_stop e ≡ b → CountsStops {A = A} before after (Err (if b then refused_at None e else refused_at (Some place) e))) [
+      | true ↦ λ q. (h.0, (h.1, λ f. refl))
+      | false ↦ λ q. (h.0, (h.1, λ f. let wrong : true ≡ false = sym f ∙ q in absurd cc))
+    ] refl
 
 -- ---- one row more
 -- what is left leads to where all rows lead
@@ -94,11 +90,11 @@ row_right c source next place made row r result same at right is =
     (placed_right place r (and_then (row_entry c source made row) (with_entry c.next made))
     (subst (λ n. Agrees is_stop r (and_then (row_entry c source made row) (with_entry n made))) (sym same) right)))
 
-failed_so : (before after : ℕ) (entry : Result model.Entry RefusalKind) (r : Result (List Numbered) RefusalKind) → IfErr entry (λ e. is_failure e ≡ true → Rose before after) → IfErr r (λ e. is_failure e ≡ true → entry ≡ Err e) → IfErr r (λ e. is_failure e ≡ true → Rose before after)
-failed_so before after entry (Ok made) h k = tt
-failed_so before after entry (Err e) h k = λ f. subst (λ z. IfErr z (λ x. is_failure x ≡ true → Rose before after)) (k f) h f
+failed_so : (before after : ℕ) (entry : Result model.Entry RefusalKind) (r : Result (List Numbered) RefusalKind) → CountsFailures before after entry → IfErr r (λ e. is_failure e ≡ true → entry ≡ Err e) → CountsFailures before after r
+failed_so before after entry (Ok made) h k = (h.0, tt)
+failed_so before after entry (Err e) h k = (h.0, λ f. let so : CountsFailures before after (Err {A = model.Entry} e) = subst (CountsFailures before after) (k f) h in so.1 f)
 
 pub row_counts : (place before after : ℕ) (entry : Result model.Entry RefusalKind) (r : Result (List Numbered) RefusalKind) (result : Result (List Numbered) Refusal) → CountsFailures before after entry → IfErr r (λ e. is_failure e ≡ true → entry ≡ Err e)
     → result ≡ placed_unless_stopped place r → CountsStops before after result
 row_counts place before after entry r result counts memory is =
-    subst (CountsStops before after) (sym is) (placed_counts place before after r counts.0 (failed_so before after entry r counts.1 memory))
+    subst (CountsStops before after) (sym is) (placed_counts place before after r (failed_so before after entry r counts memory))

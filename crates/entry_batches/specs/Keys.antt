@@ -12,7 +12,7 @@ use Rattle.archive_state.specs.declared.changes.Numbered.{Numbered}
 
 -- kind, item and page of an entry, parted by U+0000, which is in no kind and in no item
 abbrev pub key_words : model.Entry → List ℕ
-key_words e = entry_kind_word e.kind ++ 0 ∷ decimal e.item.number ++ 0 ∷ e.page
+key_words e = entry_kind_word e.kind ++ (0 ∷ (decimal e.item.number ++ (0 ∷ e.page)))
 
 -- an entry that has this key
 abbrev pub has_words : List ℕ → Record → Bool
