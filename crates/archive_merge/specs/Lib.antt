@@ -1,4 +1,5 @@
 pub mod Comparing
 pub mod Merges
+pub mod Renamed
 pub mod Rest
 pub mod Steps

@@ -6,5 +6,10 @@
 //! Callers may rely on: the laws of `laws`.
 #![tactic(auto)]
 
+mod event_parts;
 pub mod finding;
 pub mod laws;
+mod person_parts;
+mod record_parts;
+mod renaming;
+mod source_parts;
