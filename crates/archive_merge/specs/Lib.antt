@@ -1,5 +1,5 @@
 pub mod Comparing
 pub mod Merges
-pub mod Renamed
+pub mod Parts
 pub mod Rest
 pub mod Steps

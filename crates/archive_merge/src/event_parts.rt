@@ -3,7 +3,7 @@
 ghost use Rattle.std.specs.Prelude.{◌≡◌, IfOk};
 ghost use Rattle.archive_state.specs.Merging as merging;
 
-use crate::renaming::{
+use crate::redirecting::{
     Renamed, lines_with, maybe_number, number_with, renamed_all, renamed_part,
 };
 use records::{Date, Entry, Event, EventPlace, Link, Mention, Participant};

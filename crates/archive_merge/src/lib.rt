@@ -6,10 +6,12 @@
 //! Callers may rely on: the laws of `laws`.
 #![tactic(auto)]
 
+mod children_once;
 mod event_parts;
 pub mod finding;
 pub mod laws;
 mod person_parts;
 mod record_parts;
-mod renaming;
+mod redirecting;
 mod source_parts;
+mod two_persons;

@@ -2,7 +2,7 @@
 
 ghost use Rattle.archive_state.specs.Merging as merging;
 
-use crate::renaming::{Renamed, lines_with, number_with, renamed_all};
+use crate::redirecting::{Renamed, lines_with, number_with, renamed_all};
 use records::{Child, Family, Name, Partner, Person};
 use std::alloc::{AllocError, Global};
 

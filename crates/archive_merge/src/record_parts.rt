@@ -2,7 +2,7 @@
 
 ghost use Rattle.archive_state.specs.Merging as merging;
 
-use crate::renaming::Renamed;
+use crate::redirecting::Renamed;
 use records::Record;
 use std::alloc::{AllocError, Global};
 

@@ -1,9 +1,9 @@
 //! Places, repositories, sources, citations and records of no other kind with their numbers changed.
 
 ghost use Rattle.archive_state.specs.Merging as merging;
-ghost use Rattle.archive_merge.specs.Renamed.{repo_with};
+ghost use Rattle.archive_merge.specs.Parts.{repo_with};
 
-use crate::renaming::{Renamed, lines_with, maybe_number, number_with, renamed_all, value_with};
+use crate::redirecting::{Renamed, lines_with, maybe_number, number_with, renamed_all, value_with};
 use records::{Citation, Holding, Other, Place, Repo, Source};
 use std::alloc::{AllocError, Global};
 use stored_lines::copied;

@@ -6,7 +6,7 @@ use Rattle.stored_lines.specs.Line.{Line}
 use Rattle.stored_lines.proofs.Relabel.{relabelled}
 use Rattle.stored_lines.proofs.Levels.{levels-map}
 use Rattle.archive_state.specs.Merging as merging
-use Rattle.archive_merge.proofs.renaming.+line_with.Goals as goal
+use Rattle.archive_merge.proofs.redirecting.+line_with.Goals as goal
 
 pub returns : goal.returns
 returns t c =

@@ -4,7 +4,6 @@ ghost use Rattle.std.specs.Prelude.{◌≡◌, ℕ, IfOk, map, option_map};
 ghost use Rattle.stored_lines.specs.Tree.{relabel};
 ghost use Rattle.archive_state.specs.Merging as merging;
 
-use record_text::Text;
 use records::{Carried, Value};
 use std::alloc::{AllocError, Global};
 
