@@ -7,9 +7,11 @@
 #![tactic(auto)]
 
 mod children_once;
+pub mod decide_merge;
 mod event_parts;
 pub mod finding;
 pub mod laws;
+mod new_records;
 mod person_parts;
 mod record_parts;
 mod redirecting;
