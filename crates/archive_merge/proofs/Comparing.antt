@@ -1,6 +1,6 @@
 -- Two records with the same lines are the same.
 use Rattle.std.proofs.Common.{◌≡◌, ℕ, List, [], ◌∷◌, Bool, true, false, refl, sym, ap, ◌∙◌}
-use Rattle.std.specs.Prelude.{Option, Some, None, ◌&&◌, ◌==◌}
+use Rattle.std.specs.Prelude.{Option, Some, None, IsTrue, ◌&&◌, ◌==◌}
 use Rattle.std.specs.Str.{bytes_eq}
 use Rattle.std.specs.FinMap.{get}
 use Rattle.stored_lines.specs.Line.{Label}
@@ -81,3 +81,21 @@ record_same (Some r) = lines_same (stored r)
 pub is_now_new : (m : Records) (cs : List Change) → IsNow m cs → is_now m cs ≡ true
 is_now_new m [] h = refl
 is_now_new m (c ∷ cs) h = yes_both (is_same_record (get m c.number) c.new) _ (ap (is_same_record (get m c.number)) (sym h.0) ∙ record_same (get m c.number)) (is_now_new m cs h.1)
+
+-- ---- by a test of lines
+true_false : true ≡ false → ⊥
+true_false e = absurd cc
+
+yes_is : (b : Bool) (ls ms : List (ℕ × Label)) → (IsTrue b → ls ≡ ms) → b ≡ true → b ≡ are_same_lines ls ms
+yes_is b ls ms h e = e ∙ sym (ap (are_same_lines ls) (sym (h e)) ∙ lines_same ls)
+
+pub same_by_test : (b : Bool) (ls ms : List (ℕ × Label)) (r s : Record) → ls ≡ stored r → ms ≡ stored s → (IsTrue b → ls ≡ ms) × (ls ≡ ms → IsTrue b) → b ≡ is_same_record (Some r) (Some s)
+same_by_test b ls ms r s e f h =
+    elim b as (λ x. b ≡ x → b ≡ are_same_lines ls ms) [
+      | true ↦ λ q. yes_is b ls ms h.0 q
+      | false ↦ λ q. q ∙ elim (are_same_lines ls ms) as (λ y. are_same_lines ls ms ≡ y → false ≡ y) [
+        | true ↦ λ w. let there : b ≡ true = h.1 (lines_are ls ms w) in absurd (true_false (sym there ∙ q))
+        | false ↦ λ w. refl
+      ] refl
+    ] refl
+    ∙ (λ i. are_same_lines (e i) (f i))

@@ -1,25 +1,20 @@
 -- What a merge and an undoing look at, one check after the other. Rules of our own.
-use Rattle.std.specs.Prelude.{ℕ, List, [], ◌∷◌, map, Bool, true, false, not, ◌==◌, Option, Some, None, Result, Ok, Err, Unit}
+use Rattle.std.specs.Prelude.{ℕ, ◌+◌, List, [], ◌∷◌, Bool, false, not, Option, Some, None, Result}
 use Rattle.std.specs.List.{list_any, flat_map}
 use Rattle.std.specs.FinMap.{get}
 use Rattle.record_text.specs.declared.refusal.RefusalKind.{RefusalKind}
-use Rattle.record_text.specs.declared.refusal.RefusalKind.TheVariants.{SamePerson, MergeWithinFamily, AlreadyUndone, ChangedSince}
+use Rattle.record_text.specs.declared.refusal.RefusalKind.TheVariants.{AlreadyUndone, ChangedSince}
 use Rattle.record_kinds.specs.declared.record.Record.{Record}
-use Rattle.record_kinds.specs.declared.record.Record.TheVariants as kind
+use Rattle.archive_state.specs.Changes.{Changes}
 use Rattle.archive_state.specs.Content.{Content, Records}
 use Rattle.archive_state.specs.Merging.{clashes}
+use Rattle.archive_state.specs.Slips.{Slip}
+use Rattle.archive_state.specs.declared.changes.SlipChange.TheVariants as change
 use Rattle.archive_state.specs.declared.slip.Change.{Change}
 use Rattle.commands.specs.Rows.{and_then}
-use Rattle.archive_looks.specs.Checks.{need, person_at}
-use Rattle.archive_merge.specs.Merges.{adds_nothing, change_at}
-
--- both are persons, and two; whether the other adds nothing
-abbrev pub persons_at : Content → ℕ → ℕ → Result Bool RefusalKind
-persons_at c keep gone =
-    and_then (person_at c keep) (λ k.
-    and_then (person_at c gone) (λ g.
-    and_then (need (not (keep == gone)) SamePerson) (λ _.
-    Ok (adds_nothing (Some (kind.Person g))))))
+use Rattle.archive_looks.specs.Checks.{need}
+use Rattle.archive_merge.specs.Comparing.{is_now}
+use Rattle.archive_merge.specs.Merges.{change_at, merge_changes, put_new, slip_of}
 
 -- what stands there is a family of both, and not of both as children
 abbrev pub clashes_in : ℕ → ℕ → Option Record → Bool
@@ -37,3 +32,20 @@ change_of keep gone m n (Some r) = change_at keep gone m (n, r) ∷ []
 
 abbrev pub changes_of : ℕ → ℕ → Records → List ℕ → List Change
 changes_of keep gone m ns = flat_map (λ n. change_of keep gone m n (get m n)) ns
+
+-- the changes of a merge whose slip gets that number
+abbrev pub made_changes : ℕ → ℕ → Content → ℕ → Changes
+made_changes keep gone c n = record {
+  puts = flat_map put_new (merge_changes keep gone c.records);
+  removals = gone ∷ [];
+  next = n + 1;
+  answer = record { first = n; count = 1 };
+  kept = None;
+  slip = Some (change.Made n (slip_of keep gone c.records));
+}
+
+-- an undoing that is not refused: the merge was not undone, and each number has its new record
+abbrev pub may_undo : Records → Slip → Result (Unit {0}) RefusalKind
+may_undo m s =
+    and_then (need (not s.is_undone) AlreadyUndone) (λ _.
+    need (is_now m s.changes) ChangedSince)

@@ -1,8 +1,9 @@
 //! Decides a merge over a view: what it changes, or its refusal.
 
-ghost use Rattle.std.specs.Prelude.{◌≡◌, ◌++◌, ◌+◌, ◌∷◌, [], IfOk, None, Ok, Some, not, option_map};
+ghost use Rattle.std.specs.Prelude.{◌≡◌, ◌++◌, ◌+◌, ◌∷◌, [], IfOk, None, Some, not};
 ghost use Rattle.std.specs.FinMap as map;
 ghost use Rattle.std.specs.List.{flat_map};
+ghost use Rattle.record_kinds.specs.declared.record.Record.{Record as Rec};
 ghost use Rattle.record_kinds.specs.declared.record.Record.TheVariants as kind;
 ghost use Rattle.record_text.specs.declared.refusal.RefusalKind.TheVariants.{MergeWithinFamily};
 ghost use Rattle.archive_state.specs.Merging as merging;
@@ -33,31 +34,14 @@ pub fn merge<V: View>(
         (λ c. Plans c result (merge_step c keep gone)) }
     ensures counts { CountsFailures (V.failed view.old) (V.failed view.new) result }
 {
-    let adds_nothing = check_persons(alloc, view, keep, gone)?;
-    check_families(alloc, view, keep, gone)?;
-    let number = next_free(alloc, view)?;
-    let numbers = changed_numbers(alloc, view, keep, gone, adds_nothing)?;
-    let changes = changes_at(alloc, view, keep, gone, numbers.as_slice())?;
-    Ok(changes_of_merge(alloc, keep, gone, number, changes)?)
-}
-
-/// That both are persons, and two. Answers whether the other adds nothing.
-fn check_persons<V: View>(
-    alloc: Global,
-    view: &mut V,
-    keep: u32,
-    gone: u32,
-) -> Result<bool, RefusalKind>
-    ensures decides { OnView V.is_honest V.shows V.content view.old view.new
-        (λ c. Agrees is_stop result (looks.persons_at c keep gone)) }
-    ensures counts { CountsFailures (V.failed view.old) (V.failed view.new) result }
-{
     drop(person_at(alloc, view, keep)?);
     let adds_nothing = person_adds_nothing(person_at(alloc, view, gone)?);
     if keep == gone {
         return Err(RefusalKind::SamePerson);
     }
-    Ok(adds_nothing)
+    check_families(alloc, view, keep, gone)?;
+    let number = next_free(alloc, view)?;
+    made_changes(alloc, view, keep, gone, number, adds_nothing)
 }
 
 /// Whether the person has no name, no sex and no carried line.
@@ -68,6 +52,7 @@ fn person_adds_nothing(person: Person) -> bool
 }
 
 /// That no family has both, but with both as its children.
+#[tactic(auto, using(crate::proofs::Deciding::clash_found))]
 fn check_families<V: View>(
     alloc: Global,
     view: &mut V,
@@ -79,42 +64,45 @@ fn check_families<V: View>(
     ensures counts { CountsFailures (V.failed view.old) (V.failed view.new) result }
 {
     let numbers = view.referrers(alloc, gone)?;
-    check_each(alloc, view, keep, gone, numbers.as_slice())
+    if clash_among(alloc, view, keep, gone, numbers.as_slice())? {
+        Err(RefusalKind::MergeWithinFamily)
+    } else {
+        Ok(())
+    }
 }
 
-/// The same of the records of these numbers.
-fn check_each<V: View>(
+/// Whether one of these numbers is that of a family of both, but with both as its children.
+fn clash_among<V: View>(
     alloc: Global,
     view: &mut V,
     keep: u32,
     gone: u32,
     numbers: &[u32],
-) -> Result<(), RefusalKind>
-    ensures decides { OnView V.is_honest V.shows V.content view.old view.new
-        (λ c. Agrees is_stop result (need (not (looks.clashes_among keep gone c.records numbers.now)) MergeWithinFamily)) }
+) -> Result<bool, RefusalKind>
+    ensures shows { OnView V.is_honest V.shows V.content view.old view.new
+        (λ c. Looked result (λ is. is ≡ looks.clashes_among keep gone c.records numbers.now)) }
     ensures counts { CountsFailures (V.failed view.old) (V.failed view.new) result }
 {
     'numbers: for number in numbers {
-        check_one(alloc, view, keep, gone, *number)?;
+        if clashes_at(alloc, view, keep, gone, *number)? {
+            return Ok(true);
+        }
     }
-    Ok(())
+    Ok(false)
 }
 
-fn check_one<V: View>(
+fn clashes_at<V: View>(
     alloc: Global,
     view: &mut V,
     keep: u32,
     gone: u32,
     number: u32,
-) -> Result<(), RefusalKind>
-    ensures decides { OnView V.is_honest V.shows V.content view.old view.new
-        (λ c. Agrees is_stop result (need (not (looks.clashes_in keep gone (map.get c.records number))) MergeWithinFamily)) }
+) -> Result<bool, RefusalKind>
+    ensures shows { OnView V.is_honest V.shows V.content view.old view.new
+        (λ c. Looked result (λ is. is ≡ looks.clashes_in keep gone (map.get c.records number))) }
     ensures counts { CountsFailures (V.failed view.old) (V.failed view.new) result }
 {
-    if clashes_in(view.record_at(alloc, number)?, keep, gone) {
-        return Err(RefusalKind::MergeWithinFamily);
-    }
-    Ok(())
+    Ok(clashes_in(view.record_at(alloc, number)?, keep, gone))
 }
 
 fn clashes_in(found: Option<Record>, keep: u32, gone: u32) -> bool
@@ -144,6 +132,25 @@ fn has_child(family: &Family, person: u32) -> bool
     ensures { result ≡ merging.has_child person family.now }
 {
     family.children.iter().any(|c| c.person == person)
+}
+
+/// The changes of an accepted merge.
+fn made_changes<V: View>(
+    alloc: Global,
+    view: &mut V,
+    keep: u32,
+    gone: u32,
+    number: u32,
+    adds_nothing: bool,
+) -> Result<Changes, RefusalKind>
+    ensures shows { OnView V.is_honest V.shows V.content view.old view.new
+        (λ c. Looked result (λ made. (k g : Rec) → map.get c.records keep ≡ Some k → map.get c.records gone ≡ Some g
+        → adds_nothing ≡ specs.adds_nothing (Some g) → made ≡ looks.made_changes keep gone c number)) }
+    ensures counts { CountsFailures (V.failed view.old) (V.failed view.new) result }
+{
+    let numbers = changed_numbers(alloc, view, keep, gone, adds_nothing)?;
+    let changes = changes_at(alloc, view, keep, gone, numbers.as_slice())?;
+    Ok(changes_of_merge(alloc, keep, gone, number, changes)?)
 }
 
 /// The changes of the records of these numbers.

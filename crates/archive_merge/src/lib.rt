@@ -8,6 +8,7 @@
 
 mod children_once;
 pub mod decide_merge;
+pub mod decide_undo;
 mod event_parts;
 pub mod finding;
 pub mod laws;
