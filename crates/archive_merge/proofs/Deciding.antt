@@ -15,6 +15,7 @@ use Rattle.archive_state.specs.Merging.{clashes, has_member, has_child}
 use Rattle.archive_state.specs.Referrers.{referrers, naming}
 use Rattle.archive_state.specs.declared.slip.Change.{Change}
 use Rattle.archive_view.specs.Looks.{OnView}
+use Rattle.archive_merge.specs.Comparing.{is_now, is_same_record}
 use Rattle.archive_merge.specs.Looks.{clashes_in, clashes_among, change_of, changes_of}
 use Rattle.archive_merge.specs.Merges.{is_clash, change_at, merge_changes, changed_numbers, is_changed}
 use Rattle.archive_merge.proofs.Lists.{append_nothing, flat_both}
@@ -166,3 +167,28 @@ one_change_more f ns i n cs ds h e was more =
 -- ---- families that are looked at
 pub clash_found : (keep gone : ℕ) (c : Content) (ns : List ℕ) (b : Bool) → ns ≡ referrers c gone → b ≡ clashes_among keep gone c.records ns → b ≡ is_clash keep gone c.records
 clash_found keep gone c ns b e f = f ∙ ap (clashes_among keep gone c.records) e ∙ clashes_named keep gone c
+
+-- ---- new records, one change after the other
+grouped : (a b c : Bool) → (a && (b && c)) ≡ ((a && b) && c)
+grouped true b c = refl
+grouped false b c = refl
+
+nothing : (a : Bool) → (a && false) ≡ false
+nothing true = refl
+nothing false = refl
+
+module _ (m : Records) where
+  now_more : (cs ds : List Change) → is_now m (cs ++ ds) ≡ (is_now m cs && is_now m ds)
+  now_more [] ds = refl
+  now_more (c ∷ cs) ds = ap (λ b. is_same_record (get m c.number) c.new && b) (now_more cs ds) ∙ grouped (is_same_record (get m c.number) c.new) (is_now m cs) (is_now m ds)
+
+  pub still_now : (cs : List Change) (i : ℕ) (c : Change) → i < length cs → c ≡ get_or cs i c → is_now m (take i cs) ≡ true → is_same_record (get m c.number) c.new ≡ true → is_now m (take (i + 1) cs) ≡ true
+  still_now cs i c h e was is =
+      ap (is_now m) (take_more cs i c h) ∙ now_more (take i cs) (get_or cs i c ∷ [])
+      ∙ ap (λ (d : Change). is_now m (take i cs) && (is_same_record (get m d.number) d.new && true)) (sym e)
+      ∙ ap (λ b. b && (is_same_record (get m c.number) c.new && true)) was ∙ ap (λ b. b && true) is
+
+  pub one_changed : (cs : List Change) (i : ℕ) (c : Change) → i < length cs → c ≡ get_or cs i c → is_same_record (get m c.number) c.new ≡ false → is_now m cs ≡ false
+  one_changed [] i c h e is = absurd (omega arith)
+  one_changed (d ∷ cs) zero c h e is = ap (λ b. b && is_now m cs) (ap (λ (x : Change). is_same_record (get m x.number) x.new) (sym e) ∙ is)
+  one_changed (d ∷ cs) (suc i) c h e is = ap (λ b. is_same_record (get m d.number) d.new && b) (one_changed cs i c (omega arith) e is) ∙ nothing (is_same_record (get m d.number) d.new)
