@@ -15,11 +15,12 @@ const MAX_PAGE: usize = 1_000;
 pub fn entry_key(alloc: Global, item: Item, page: &Text) -> Result<Text, AllocError>
     ensures { IfOk result (λ words. words ≡ key_words item page.now) }
 {
-    if page.as_str().len() > MAX_PAGE {
+    let page = page.as_str();
+    if page.len() > MAX_PAGE {
         return item.text(alloc);
     }
     let mut words = item.number.to_string(alloc)?;
     words.push_str(" ")?;
-    words.push_str(page.as_str())?;
+    words.push_str(page)?;
     Text::of_words(alloc, words.as_str())
 }
