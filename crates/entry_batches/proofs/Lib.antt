@@ -1,0 +1,5 @@
+mod Behind
+pub mod Commands
+mod Keyed
+mod Looked
+mod Rows
