@@ -1,10 +1,10 @@
 -- A line that breaks no rule finds a place among the open lines.
-use Rattle.std.proofs.Common.{◌≡◌, ℕ, ◌+◌, ◌≤◌, true, false, eqb, not, List, refl, sym, ap, ◌∙◌, inl, inr, arith, Option, Some, Ok}
+use Rattle.std.proofs.Common.{◌≡◌, ℕ, ◌+◌, ◌≤◌, true, false, eqb, not, List, refl, inl, inr, arith, Some, Ok}
 use Rattle.std.proofs.lemmas.Bool.{eqb-true, ltb-false, not-false}
 use Rattle.gedcom_line.specs.Reading.{Parts}
 use Rattle.gedcom_line.proofs.Steps.{both}
 use Rattle.gedcom_rules.specs.Rules.{Progress, is_head}
-use Rattle.gedcom_rules.specs.Judging.{after, next, judge, advance}
+use Rattle.gedcom_rules.specs.Judging.{after, judge}
 use Rattle.gedcom_rules.specs.Depth.{depth}
 use Rattle.gedcom_rules.proofs.Cuts.{cases_bool}
 use Rattle.gedcom_rules.proofs.Judged.{judge_some}
@@ -30,7 +30,3 @@ judged_level q p l n h d = unbroken_level q l n (unbroken q l (judge_some q p l 
 -- how many stand open behind it
 pub depth_after : (q : Progress) (l : Parts) → depth (after q l) ≡ l.level + 1
 depth_after q l = rw (counted q.count) refl
-
--- what judging a piece leaves
-pub advanced : (q r : Progress) (p : List ℕ) (o : Option Parts) → judge q p ≡ Ok o → r ≡ next q o → advance q (judge q p) ≡ Ok r
-advanced q r p o h e = ap (advance q) h ∙ ap (λ (x : Progress). Ok x) (sym e)

@@ -2,24 +2,13 @@
 use Rattle.std.proofs.Common.{◌≡◌, ℕ, zero, suc, ◌+◌, ◌-◌, ◌<◌, ◌≤◌, false, List, [], ◌∷◌, ◌++◌, length, get_or, take, refl, sym, ap, ◌∙◌, arith, Option, Some, None}
 use Rattle.std.specs.Prelude.{slice_get, is_some}
 use Rattle.std.proofs.Math.Seq.{take-append-add}
-use Rattle.std.proofs.lemmas.List.{take_all, length-take-le, take-append-le}
+use Rattle.std.proofs.lemmas.List.{take_all, take-append-le}
 use Rattle.std.proofs.lemmas.Option.{slice_get_past, slice_get-get_or}
 use Rattle.gedcom_rules.specs.Faults.{within, extra, max_file}
 
 get_over : (a c : List ℕ) (n : ℕ) → slice_get (a ++ c) (length a + n) ≡ slice_get c n
 get_over [] c n = let e : 0 + n ≡ n = omega arith in ap (slice_get c) e
 get_over (x ∷ xs) c n = let e : length (x ∷ xs) + n ≡ suc (length xs + n) = omega arith in ap (slice_get (x ∷ (xs ++ c))) e ∙ get_over xs c n
-
-get_front : (m : ℕ) (b : List ℕ) → slice_get (take (suc m) b) m ≡ slice_get b m
-get_front zero [] = refl
-get_front zero (x ∷ xs) = refl
-get_front (suc m) [] = refl
-get_front (suc m) (x ∷ xs) = get_front m xs
-
-take_front : (m : ℕ) (b : List ℕ) → take m (take (suc m) b) ≡ take m b
-take_front zero b = refl
-take_front (suc m) [] = refl
-take_front (suc m) (x ∷ xs) = ap (λ (t : List ℕ). x ∷ t) (take_front m xs)
 
 -- behind bytes that are not too many
 pub within-append : (a c : List ℕ) → length a ≤ max_file → within (a ++ c) ≡ a ++ take (max_file - length a) c
@@ -51,26 +40,10 @@ pub no_extra : (b : List ℕ) → is_some (extra b) ≡ false → length b ≤ m
 unfolding extra
 no_extra b h = some_large b max_file (slice_get b max_file) refl h
 
--- a front of one byte more than a file may have decides as much
-pub within_front : (b : List ℕ) → within (take (suc max_file) b) ≡ within b
-unfolding within
-within_front b = take_front max_file b
-
-pub extra_front : (b : List ℕ) → extra (take (suc max_file) b) ≡ extra b
-unfolding extra
-extra_front b = get_front max_file b
-
 -- a file that is too large
-pub within_large : (n : ℕ) (b : List ℕ) → n ≡ max_file → take n b ≡ within b
-unfolding within
-within_large n b e = ap (λ (m : ℕ). take m b) e
-
 pub extra_large : (b : List ℕ) → max_file < length b → Some (get_or b max_file 0) ≡ extra b
 unfolding extra
 extra_large b h = sym (slice_get-get_or b max_file 0 h)
-
-pub large_length : (b : List ℕ) → max_file < length b → max_file ≡ length (take max_file b)
-large_length b h = sym (length-take-le max_file b (omega arith))
 
 -- more bytes change nothing in front of the limit
 pub front_same : (b c : List ℕ) → max_file ≤ length b → within (b ++ c) ≡ within b

@@ -47,11 +47,6 @@ abbrev pub outcome : {A : Type 0} → Result A TreeFault → Result A Fault
 outcome (Ok x) = Ok x
 outcome (Err f) = Err (fault_view f)
 
--- pieces were judged, and so many lines are among them
-abbrev pub HasRun : Result Progress Fault → ℕ → Type 0
-HasRun (Ok p) n = p.count ≡ n
-HasRun (Err f) n = ⊥
-
 -- as many lines are kept open as the last one's level says
 abbrev pub IsStacked : Seen → Type 0
 IsStacked s = length s.stack.items ≡ depth (progress s)

@@ -1,42 +1,18 @@
 //! What the bytes of a file so far decide.
 
-ghost use Rattle.std.specs.Prelude.{◌≡◌, true, false, ◌⊎◌, ◌+◌, ◌<◌, ◌≤◌, Option, Some, None, Ok, Err, MatchResult, IfOk, length, option_map, ◌^◌};
-ghost use Rattle.gedcom_rules.specs.Pieces.{pieces};
-ghost use Rattle.gedcom_rules.specs.Faults.{IsLineless, IsOpen, Decides, extra, overflows as overflow_test, within};
-ghost use Rattle.gedcom_rules.specs.Judging.{run, start, unended, open_fault as fault_of_open, fault_behind};
+ghost use Rattle.std.specs.Prelude.{◌≡◌, true, false, ◌+◌, ◌<◌, Some, None, Ok, MatchResult, option_map, ◌^◌};
+ghost use Rattle.gedcom_rules.specs.Faults.{overflows as overflow_test};
+ghost use Rattle.gedcom_rules.specs.Judging.{unended, open_fault as fault_of_open, fault_behind};
 ghost use Rattle.gedcom_rules.specs.Rules.{Progress};
-ghost use Rattle.gedcom_rules.specs.Views.{HasRun, fault_view, progress};
+ghost use Rattle.gedcom_rules.specs.Views.{fault_view, progress};
 
-use crate::cutting::{cut, is_end, skip_mark};
+use crate::cutting::is_end;
 use crate::fault::{TreeFault, TreeKind};
-use crate::judging::{MAX_LINE, judge_piece};
+use crate::judging::MAX_LINE;
 use crate::seen::Seen;
-use std::alloc::Global;
 
 /// The most bytes of a file, a byte order mark counted.
 pub const MAX_FILE: usize = 67_108_864;
-
-/// Judges each line that a terminator ends. At `Ok`, what the lines leave, and what follows them.
-fn judge_all(alloc: Global, bytes: &[u8]) -> Result<(u32, &[u8]), TreeFault>
-    requires { length bytes.now ≤ 67_108_864 }
-    ensures value { MatchResult result
-        (λ x. HasRun (run start (pieces bytes.now).ended) x.0)
-        (λ f. IsLineless TreeKind.OutOfMemory (fault_view f)
-        ⊎ (run start (pieces bytes.now).ended ≡ Err (fault_view f))) }
-    ensures open_ { IfOk result (λ x. (pieces bytes.now).open_ ≡ x.1.now) }
-    ensures count { IfOk result (λ x. x.0 ≤ length bytes.now) }
-{
-    let mut seen = Seen::new(alloc);
-    let mut rest = bytes;
-    while let Some((piece, after)) = cut(rest) {
-        match judge_piece(alloc, &mut seen, piece) {
-            Ok(_) => {}
-            Err(fault) => return Err(fault),
-        }
-        rest = after;
-    }
-    Ok((seen.count, rest))
-}
 
 /// Whether the line that has not ended is too long, or the next byte makes it so.
 fn overflows(rest: &[u8], next: Option<u8>) -> bool
@@ -88,35 +64,6 @@ pub fn too_long(seen: &Seen) -> TreeFault
     TreeFault {
         kind: TreeKind::TooLong,
         at: Some(seen.count + 1),
-    }
-}
-
-/// As many bytes as a file may have, and the byte behind them.
-fn limited(bytes: &[u8]) -> (&[u8], Option<u8>)
-    ensures front { result.0.now ≡ within bytes.now }
-    ensures next { result.1 ≡ extra bytes.now }
-    ensures small { length result.0.now ≤ 67_108_864 }
-{
-    if bytes.len() > MAX_FILE {
-        (&bytes[..MAX_FILE], Some(bytes[MAX_FILE]))
-    } else {
-        (bytes, None)
-    }
-}
-
-/// Judges the bytes, from the first line on: the fault that they decide, however they go on. Of a line that
-/// has not ended only the length is judged. `OutOfMemory`: memory to remember a line was refused.
-pub fn judge_bytes(alloc: Global, bytes: &[u8]) -> Result<(), TreeFault>
-    ensures { MatchResult result (λ _. IsOpen bytes.now)
-        (λ f. IsLineless TreeKind.OutOfMemory (fault_view f) ⊎ Decides bytes.now (fault_view f)) }
-{
-    let (front, next) = limited(bytes);
-    match judge_all(alloc, skip_mark(front)) {
-        Ok((count, rest)) => match open_fault(count, rest, next) {
-            Some(fault) => Err(fault),
-            None => Ok(()),
-        },
-        Err(fault) => Err(fault),
     }
 }
 

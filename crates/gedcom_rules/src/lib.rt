@@ -18,7 +18,7 @@ mod seen;
 mod standing;
 
 pub use cutting::{cut, skip_mark};
-pub use deciding::{MAX_FILE, judge_bytes, judge_end, judge_open, too_long};
+pub use deciding::{MAX_FILE, judge_end, judge_open, too_long};
 pub use fault::{TreeFault, TreeKind};
 pub use judging::{MAX_LINE, judge_piece};
 pub use seen::{Seen, is_continuation, is_trailer};

@@ -1,12 +1,12 @@
 -- A text that stands on one line as it is.
-use Rattle.std.proofs.Common.{◌≡◌, ℕ, zero, suc, ◌≤◌, Bool, true, false, eqb, List, [], ◌∷◌, length, refl, sym, ap, ◌∙◌, append-nil, Option}
+use Rattle.std.proofs.Common.{◌≡◌, ℕ, zero, suc, ◌≤◌, Bool, true, false, eqb, List, [], ◌∷◌, length, refl, sym, ap, ◌∙◌, append-nil, Option, arith}
 use Rattle.std.specs.List.{list_any, slice_split}
 use Rattle.std.proofs.lemmas.Bool.{le-leb}
-use Rattle.gedcom_line.specs.Escape.{escaped_from, escaped}
-use Rattle.gedcom_line.specs.Split.{is_short, is_lf, parts_by, segment_parts, canonical}
+use Rattle.gedcom_line.specs.Escape.{escaped_from, escaped, unescaped}
+use Rattle.gedcom_line.specs.Split.{char_count, is_short, is_lf, parts_by, segment_parts, canonical}
 use Rattle.gedcom_line.specs.Value.{Text}
 use Rattle.gedcom_line.specs.declared.splitting.Mark.TheVariants.{Cont}
-use Rattle.gedcom_line.proofs.Counts.{few_bytes}
+use Rattle.gedcom_line.proofs.Counts.{few_bytes, char_count-le-length}
 use Rattle.gedcom_line.proofs.Steps.{neither}
 use Rattle.gedcom_tree.specs.Text.{line_text, node_text}
 
@@ -16,6 +16,14 @@ escaped_plain inside [] h = refl
 escaped_plain inside (b ∷ bs) h =
     let n = neither (eqb b 64) (list_any (λ x. eqb x 64) bs) h in
     rw n.0 (ap (λ (x : List ℕ). b ∷ x) (escaped_plain inside bs n.1))
+
+-- and read as it is
+pub unescaped_plain : (t : List ℕ) → list_any (λ b. eqb b 64) t ≡ false → unescaped t ≡ t
+unescaped_plain [] h = refl
+unescaped_plain (b ∷ []) h = refl
+unescaped_plain (b ∷ c ∷ cs) h =
+    let n = neither (eqb b 64) (list_any (λ x. eqb x 64) (c ∷ cs)) h in
+    rw n.0 (ap (λ (x : List ℕ). b ∷ x) (unescaped_plain (c ∷ cs) n.1))
 
 -- without an LF, and of few bytes, it is one part
 unsplit : (t : List ℕ) → list_any is_lf t ≡ false → slice_split is_lf t ≡ t ∷ []
@@ -29,12 +37,17 @@ unfolding parts_by
 one_part zero s h = refl
 one_part (suc n) s h = rw h refl
 
-few_short : (t : List ℕ) → length t ≤ 100 → is_short t ≡ true
+pub few_short : (t : List ℕ) → length t ≤ 100 → is_short t ≡ true
 few_short t h = sym (few_bytes t h) ∙ le-leb (length t) 100 h
 
-pub canonical_one : (t : List ℕ) → length t ≤ 100 → list_any is_lf t ≡ false → canonical t ≡ record { mark = Cont; text = t } ∷ []
+pub plain_short : (t : List ℕ) → length t ≤ 200 → list_any (λ b. eqb b 64) t ≡ false → is_short t ≡ true
+plain_short t h k =
+    let same : char_count (escaped t) ≡ char_count t = ap char_count (escaped_plain false t k) in
+    le-leb (char_count (escaped t)) 200 (omega (arith, same, char_count-le-length t, h))
+
+pub canonical_one : (t : List ℕ) → is_short t ≡ true → list_any is_lf t ≡ false → canonical t ≡ record { mark = Cont; text = t } ∷ []
 unfolding canonical segment_parts
-canonical_one t h k = rw (unsplit t k, one_part (length t) t (few_short t h)) refl
+canonical_one t h k = rw (unsplit t k, one_part (length t) t h) refl
 
 pub text_one : (line level : ℕ) (xref : Option (List ℕ)) (tag t : List ℕ) → canonical t ≡ record { mark = Cont; text = t } ∷ [] → line_text (record { level = level; xref = xref; tag = tag; raw = escaped t }) ≡ node_text (record { line = line; level = level; xref = xref; tag = tag; value = Text t })
 text_one line level xref tag t h = rw h (sym (append-nil (line_text (record { level = level; xref = xref; tag = tag; raw = escaped t }))))

@@ -4,6 +4,7 @@ pub mod Reading
 pub mod Views
 pub mod Lines
 pub mod State
+pub mod Tags
 pub mod Flat
 pub mod Depth
 pub mod Text

@@ -26,7 +26,7 @@ fn is_same_value(a: &NodeValue, b: &NodeValue) -> bool
 fn is_same_line(a: &Node, b: &Node) -> bool
     ensures { (level : ℕ) → IsTrue result ↔ (unnumbered (said level a.now) ≡ unnumbered (said level b.now)) }
 {
-    a.xref == b.xref && a.tag == b.tag && is_same_value(&a.value, &b.value)
+    a.xref == b.xref && a.tag.as_str() == b.tag.as_str() && is_same_value(&a.value, &b.value)
 }
 
 /// Whether both are the same nodes in order, with all below them.

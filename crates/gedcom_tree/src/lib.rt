@@ -17,6 +17,7 @@ pub mod laws;
 mod node;
 mod normal;
 mod reader;
+mod tag;
 mod writing;
 
 pub use devices::{Counted, Device, TransferError, has_risen, read_up_to, write_bytes};
@@ -25,4 +26,5 @@ pub use gedcom_rules::{TreeFault, TreeKind};
 pub use node::{Node, NodeValue};
 pub use normal::{normalise, read_forest};
 pub use reader::TreeReader;
+pub use tag::Tag;
 pub use writing::write_forest;

@@ -1,6 +1,7 @@
 //! A line of a forest, with the lines below it.
 
-ghost use Rattle.std.specs.Prelude.{◌≡◌, false, [], IfOk, OnOk, option_map, string_bytes};
+ghost use Rattle.std.specs.Prelude.{◌≡◌, ◌++◌, false, [], IfOk, OnOk, option_map, string_bytes};
+ghost use Rattle.gedcom_line.specs.Escape.{unescaped};
 ghost use Rattle.gedcom_line.specs.Reading.{is_continuation, parts};
 ghost use Rattle.gedcom_line.specs.Value.{meaning};
 ghost use Rattle.gedcom_rules.specs.Continuing.{adds};
@@ -8,6 +9,7 @@ ghost use Rattle.gedcom_tree.specs.Forest.{continued, longer, node_of as node_of
 ghost use Rattle.gedcom_tree.specs.Flat.{value_said, said};
 ghost use Rattle.gedcom_tree.specs.declared.node.Node.TheViews.{out-Node};
 
+use crate::tag::Tag;
 use gedcom_line::{LineRef, Value, unescape};
 use std::alloc::{AllocError, Global};
 
@@ -27,7 +29,7 @@ pub struct Node {
     pub line: u32,
     /// The cross reference with its two `@`.
     pub xref: Option<String>,
-    pub tag: String,
+    pub tag: Tag,
     pub value: NodeValue,
     pub children: Vec<Node>,
 }
@@ -54,9 +56,21 @@ pub(crate) fn join_value(
         if line.tag == "CONT" {
             text.push('\n')?;
         }
-        let more = unescape(alloc, line.raw)?;
-        text.push_str(&more)?;
+        push_unescaped(alloc, text, line.raw)?;
     }
+    Ok(())
+}
+
+/// Appends the text of a value on a line, without a copy where it has no `@`.
+fn push_unescaped(alloc: Global, out: &mut String, value: &str) -> Result<(), AllocError>
+    ensures { OnOk result (string_bytes out.new ≡ string_bytes out.old ++ unescaped value.now) }
+{
+    if !value.as_bytes().contains(&b'@') {
+        out.push_str(value)?;
+        return Ok(());
+    }
+    let text = unescape(alloc, value)?;
+    out.push_str(&text)?;
     Ok(())
 }
 
@@ -77,7 +91,7 @@ pub(crate) fn node_of(alloc: Global, line: &LineRef<'_>, number: u32) -> Result<
 {
     let value = value_of(alloc, line)?;
     let xref = xref_of(alloc, line.xref)?;
-    let tag = String::from_str(alloc, line.tag)?;
+    let tag = Tag::new(alloc, line.tag)?;
     Ok(Node {
         line: number,
         xref,

@@ -5,7 +5,7 @@ ghost use Rattle.std.specs.List.{flat_map, list_all};
 ghost use Rattle.std.specs.Io.KnownBytes.{Appends};
 ghost use Rattle.gedcom_line.specs.Escape.{escaped};
 ghost use Rattle.gedcom_line.specs.Value.{Text};
-ghost use Rattle.gedcom_line.specs.Split.{part, canonical};
+ghost use Rattle.gedcom_line.specs.Split.{part, canonical, is_short};
 ghost use Rattle.gedcom_tree.specs.Forest.{part_line, mark_tag as tag_of_mark};
 ghost use Rattle.gedcom_tree.specs.Text.{line_text, node_text, text, trailer, IsLow};
 ghost use Rattle.gedcom_tree.specs.Flat.{flat, flats, said};
@@ -26,6 +26,9 @@ const BUFFER: usize = 65_536;
 
 /// A text of so many bytes has as it is written at most the characters of one line.
 const SHORT: usize = 100;
+
+/// The same of a text without `@`, which is written as it is.
+const PLAIN: usize = 200;
 
 /// The tag of a continuation.
 fn mark_tag(mark: Mark) -> &'static str
@@ -60,11 +63,21 @@ fn push_part(
     write_line(out, level, xref, tag, &raw)
 }
 
-/// Whether the text stands on one line whatever it has: few bytes, and no LF.
+/// Whether the text has so few bytes that its characters have room on one line, without counting these.
+fn is_few(text: &str) -> bool
+    ensures { result ≡ true → is_short text.now ≡ true }
+{
+    if text.len() <= SHORT {
+        return true;
+    }
+    text.len() <= PLAIN && !text.as_bytes().contains(&b'@')
+}
+
+/// Whether the text stands on one line: few bytes, and no LF.
 fn is_one_part(text: &str) -> bool
     ensures { result ≡ true → canonical text.now ≡ record { mark = Mark.Cont; text = text.now } ∷ [] }
 {
-    text.len() <= SHORT && !text.as_bytes().contains(&b'\n')
+    is_few(text) && !text.as_bytes().contains(&b'\n')
 }
 
 /// Appends the continuations.
@@ -121,10 +134,17 @@ fn push_own(alloc: Global, out: &mut String, level: u8, node: &Node) -> Result<(
 {
     match &node.value {
         NodeValue::Text(value) => {
-            push_text(alloc, out, level, node.xref.as_deref(), &node.tag, value)
+            push_text(
+                alloc,
+                out,
+                level,
+                node.xref.as_deref(),
+                node.tag.as_str(),
+                value,
+            )
         }
         NodeValue::Pointer(name) => {
-            write_line(out, level, node.xref.as_deref(), &node.tag, name)
+            write_line(out, level, node.xref.as_deref(), node.tag.as_str(), name)
         }
     }
 }
