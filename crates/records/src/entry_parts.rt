@@ -10,8 +10,8 @@ ghost use Rattle.records.specs.Stored.{branch, mention_tree, entry_tree, link_pe
 ghost use Rattle.records.specs.Reading.{shallow_lines, mention_from, entry_from, link_from, read_by, place_number, event_place_from, first, under, text_from};
 ghost use Rattle.records.specs.declared.field.Field.TheVariants as field;
 
-use crate::event_parts::{date_at, date_words, place_at, push_when};
 use crate::entry_keys::entry_key;
+use crate::event_parts::{date_at, date_words, place_at, push_when};
 use crate::field::Field;
 use crate::part::{Part, parts_at, push_parts};
 use crate::reading::{children_of, number_at, text_at, text_or_none, words_at};
