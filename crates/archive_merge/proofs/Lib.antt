@@ -29,6 +29,5 @@ mod Numbers
 mod Used
 mod Drawing
 mod Applying
-mod Deciding
 mod Numbering
 mod Rows
