@@ -1,7 +1,7 @@
 -- A record of no other kind does not become a register entry when its numbers are changed: lines that are those of an entry then
 -- were those of one before, whose numbers are those that were changed.
 use Rattle.std.proofs.Common.{◌≡◌, ℕ, suc, List, [], ◌∷◌, ◌++◌, Bool, true, false, refl, sym, ap, ◌∙◌, subst}
-use Rattle.std.specs.Prelude.{Option, Some, None, option_map, map, length, codes, decimal, nat_le, bytes_eq, ◌&&◌, ◌==◌}
+use Rattle.std.specs.Prelude.{Option, Some, None, option_map, map, length, codes, decimal, nat_le, bytes_eq, ◌&&◌}
 use Rattle.std.specs.List.{list_all}
 use Rattle.std.specs.Option.{unwrap_or}
 use Rattle.stored_lines.specs.Tree.{Tree, Forest, node, none, more, forest_of, list_of, label, children, relabel, relabel_all}

@@ -17,7 +17,7 @@ use Rattle.record_shapes.specs.Tags.{is_event_tag}
 use Rattle.record_shapes.specs.Untaken.{HasUntaken}
 use Rattle.archive_state.specs.Content.{Content, Records}
 use Rattle.archive_state.specs.Known.{tag_at, path_under, path_with, path_of, known_of, known_before}
-use Rattle.archive_state.specs.Merging.{merged, merged_record, merged_person, joined_person, person_with, place_with, family_with, entry_with, mention_with, event_place_with, renamed, record_with, once_in, clashes}
+use Rattle.archive_state.specs.Merging.{merged, merged_record, merged_person, joined_person, person_with, family_with, entry_with, mention_with, event_place_with, renamed, record_with, once_in, clashes}
 use Rattle.archive_state.specs.Paths.{HasPath}
 use Rattle.archive_state.specs.Sound.{EachIn, HasSmallerParent, HasNormalName, HasMembersOnce, HasSaidPlace, HasEventTag, HasOwnShape, HasSoundMentions, IsNoTrailer, Stands, IsSound, owner_in, place_of}
 use Rattle.archive_state.proofs.Changing.{cases_of}

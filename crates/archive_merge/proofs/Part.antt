@@ -19,7 +19,6 @@ use Rattle.record_shapes.specs.Fields as part
 use Rattle.record_shapes.specs.Fields.{row, source_field, person_field, family_field, event_field, parent_field}
 use Rattle.record_shapes.specs.Forms.{Known, is_some, is_text_value, text_in}
 use Rattle.record_shapes.specs.Levels.{AreWithin, HasRoom, room_below}
-use Rattle.record_shapes.specs.Readable.{IsReadableOther}
 use Rattle.record_shapes.specs.Roles.{is_role_of}
 use Rattle.record_shapes.specs.Shapes.{entry_lines}
 use Rattle.record_shapes.specs.Tags.{person_tags, family_tags}

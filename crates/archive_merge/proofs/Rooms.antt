@@ -1,6 +1,6 @@
 -- How deep the carried lines of a record go after a merge.
-use Rattle.std.proofs.Common.{◌≡◌, ℕ, ◌++◌, refl, sym, ap, ◌∙◌, subst, arith}
-use Rattle.std.specs.Prelude.{Option, Some, None, option_map, map, IfSome}
+use Rattle.std.proofs.Common.{◌≡◌, ℕ, ◌++◌, subst, arith}
+use Rattle.std.specs.Prelude.{Option, Some, None, option_map, IfSome}
 use Rattle.stored_lines.specs.Line.{Lines}
 use Rattle.stored_lines.proofs.Levels.{levels-append, levels-map}
 use Rattle.record_kinds.specs.Model as model
@@ -8,7 +8,6 @@ use Rattle.record_fields.specs.declared.words.Sex.{Sex}
 use Rattle.record_kinds.specs.declared.record.Record.{Record}
 use Rattle.record_kinds.specs.declared.record.Record.TheVariants as kind
 use Rattle.record_shapes.specs.Levels.{AreWithin, HasRoom, room_below}
-use Rattle.record_shapes.specs.Lists.{EachOf}
 use Rattle.archive_state.specs.Merging.{line_with, lines_with, holding_with, name_with, partner_with, child_with, event_place_with, participant_with, record_with, once_in, joined_child, joined_person, second_sex}
 use Rattle.archive_state.proofs.Each.{each_more, each_both}
 use Rattle.archive_merge.proofs.Lists.{each_to_map}

@@ -1,6 +1,6 @@
 -- What undoing a merge keeps: each number of the slip has its new record now, and its old one then. Of what an old record names,
 -- there stands what the new one names, of the same kind: the person that stays, for the one that was gone.
-use Rattle.std.proofs.Common.{◌≡◌, ◌⊎◌, ℕ, ◌<◌, List, [], ◌∷◌, ◌++◌, Bool, true, false, nat_lt, refl, sym, ap, ◌∙◌, inl, inr, subst, arith}
+use Rattle.std.proofs.Common.{◌≡◌, ◌⊎◌, ℕ, List, [], ◌∷◌, ◌++◌, Bool, true, false, nat_lt, refl, sym, ap, ◌∙◌, inl, inr, subst, arith}
 use Rattle.std.specs.Prelude.{Option, Some, None, option_map, IfSome, MatchOption, codes, bytes_eq, ◌&&◌, ◌||◌, if◌then◌else◌}
 use Rattle.std.specs.FinMap.{get}
 use Rattle.std.specs.List.{flat_map, list_all, list_any}
@@ -24,7 +24,7 @@ use Rattle.record_shapes.specs.Tags.{is_event_tag, person_tags}
 use Rattle.record_shapes.specs.Untaken.{AreUntaken, HasUntaken, person_leaves}
 use Rattle.archive_state.specs.Content.{Records}
 use Rattle.archive_state.specs.Known.{tag_at, path_under, path_with, path_of, known_of, known_before}
-use Rattle.archive_state.specs.Merging.{line_with, lines_with, merged, merged_record, merged_person, joined_person, person_with, place_with, event_with, entry_with, event_place_with, other_with, second_sex, renamed, record_with, once_in}
+use Rattle.archive_state.specs.Merging.{line_with, lines_with, merged, merged_record, merged_person, joined_person, person_with, entry_with, event_place_with, second_sex, renamed, record_with, once_in}
 use Rattle.archive_state.specs.Paths.{HasPath}
 use Rattle.archive_state.specs.Slips.{Slip}
 use Rattle.archive_state.specs.Sound.{EachIn, HasSaidPlace, HasEventTag, HasOwnShape, HasSoundRecords, Stands, IsSoundSlip, IsPerson, IsEmptyPerson, old_records, owner_in, place_of}

@@ -16,7 +16,6 @@ use Rattle.record_shapes.specs.Forms.{Known, is_some}
 use Rattle.record_shapes.specs.declared.field.Field.{Field}
 use Rattle.record_shapes.specs.Fields as part
 use Rattle.record_shapes.specs.Fields.{person_field}
-use Rattle.record_shapes.specs.Lists.{EachOf}
 use Rattle.record_shapes.specs.Untaken.{AreUntaken, HasUntaken, event_leaves, family_leaves, holding_leaves, participant_leaves, person_leaves, place_leaves, repo_leaves, source_leaves, citation_leaves}
 use Rattle.archive_state.specs.Merging.{value_with, line_with, lines_with, holding_with, person_with, place_with, source_with, event_with, event_place_with, participant_with, record_with, sex_of_two, second_sex, joined_person}
 use Rattle.archive_state.proofs.Each.{each_more}

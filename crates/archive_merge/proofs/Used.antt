@@ -1,5 +1,5 @@
 -- A number that is used up stays so: no merge and no undoing puts a record there.
-use Rattle.std.proofs.Common.{◌≡◌, ℕ, ◌+◌, ◌<◌, ◌≤◌, true, false, refl, sym, ap, ◌∙◌, inl, inr, subst, arith}
+use Rattle.std.proofs.Common.{◌≡◌, ℕ, ◌<◌, true, false, refl, sym, ap, ◌∙◌, inl, inr, subst, arith}
 use Rattle.std.specs.Prelude.{Some, None, Ok}
 use Rattle.std.specs.FinMap.{get}
 use Rattle.record_kinds.specs.declared.record.Record.{Record}
@@ -14,9 +14,9 @@ use Rattle.archive_state.specs.Applied.{as_undone}
 use Rattle.archive_merge.specs.Steps.{merge_step, undo_step}
 use Rattle.archive_looks.specs.Numbers.{IsUsedUp}
 use Rattle.archive_state.proofs.Putting.{put_cases}
-use Rattle.archive_merge.proofs.Changing.{made_none, made_gone, some_still}
+use Rattle.archive_merge.proofs.Changing.{made_none, some_still}
 use Rattle.archive_merge.proofs.PutBack.{undone_over, new_now}
-use Rattle.archive_merge.proofs.Stepping.{Merged, merged_by, Undone, undone_by, undo_merged}
+use Rattle.archive_merge.proofs.Stepping.{Merged, merged_by, Undone, undone_by}
 
 pub merge_keeps_used : (c after : Content) (keep gone n : ℕ) (a : Answer) → merge_step c keep gone ≡ Ok (after, a) → IsUsedUp c n → IsUsedUp after n
 merge_keeps_used c after keep gone n a e (below, none, undone) =
