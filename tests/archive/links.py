@@ -29,7 +29,8 @@ NAMES = (
         "a burial of source 3 in place 5, linked to person 7",
         (
             Line(0, "entry", "BURIAL"),
-            Line(1, "page", "f. 3", 3),
+            Line(1, "key", "1 f. 3", 3),
+            Line(1, "page", "f. 3"),
             Line(1, "item", "1"),
             Line(1, "date", None, 5),
             Line(1, "text", ""),
@@ -88,7 +89,7 @@ NAMES = (
     ),
     (
         "an entry of the numbers 10 and 11",
-        (Line(0, "entry", "BURIAL"), Line(1, "page", "1", 10), Line(1, "item", "2"), Line(1, "date", "1700", 11), Line(1, "text", "3")),
+        (Line(0, "entry", "BURIAL"), Line(1, "key", "2 1", 10), Line(1, "page", "1"), Line(1, "item", "2"), Line(1, "date", "1700", 11), Line(1, "text", "3")),
         (),
     ),
 )

@@ -278,7 +278,8 @@ RECORDS = (
         "an entry of a baptism that names two, one of them linked",
         (
             Line(0, "entry", "BAPTISM"),
-            Line(1, "page", "f. 3", 4),
+            Line(1, "key", "12 f. 3", 4),
+            Line(1, "page", "f. 3"),
             Line(1, "item", "12"),
             Line(1, "date", "15 APR 1699/00", 3),
             Line(1, "text", ""),
@@ -297,7 +298,8 @@ RECORDS = (
         "the entry of the example",
         (
             Line(0, "entry", "BAPTISM"),
-            Line(1, "page", "f. 3", 4),
+            Line(1, "key", "1 f. 3", 4),
+            Line(1, "page", "f. 3"),
             Line(1, "item", "1"),
             Line(1, "date", "15 APR 1699/00", 3),
             Line(1, "text", "John of Tom"),
@@ -316,17 +318,33 @@ RECORDS = (
         "an entry without date, place and mentions",
         (
             Line(0, "entry", "BURIAL"),
-            Line(1, "page", "", 4),
+            Line(1, "key", "999999 ", 4),
+            Line(1, "page", ""),
             Line(1, "item", "999999"),
             Line(1, "text", "two\nlines"),
         ),
         "entry BURIAL\nsource 4\npage =\nitem 999999\ndate -\nplace -\ntext =two\\nlines\n",
     ),
+    *(
+        (
+            f"an entry of a page of {len(page)} bytes",
+            (
+                Line(0, "entry", "BURIAL"),
+                Line(1, "key", key, 4),
+                Line(1, "page", page),
+                Line(1, "item", "7"),
+                Line(1, "text", ""),
+            ),
+            f"entry BURIAL\nsource 4\npage ={page}\nitem 7\ndate -\nplace -\ntext =\n",
+        )
+        for page, key in (("f" * 1000, "7 " + "f" * 1000), ("f" * 1001, "7"))
+    ),
     (
         "an entry with a date alone",
         (
             Line(0, "entry", "MARRIAGE"),
-            Line(1, "page", "f. 3", 4),
+            Line(1, "key", "1 f. 3", 4),
+            Line(1, "page", "f. 3"),
             Line(1, "item", "1"),
             Line(1, "date", ""),
             Line(1, "text", "x"),
@@ -337,7 +355,8 @@ RECORDS = (
         "an entry with a place alone",
         (
             Line(0, "entry", "MARRIAGE"),
-            Line(1, "page", "f. 3", 4),
+            Line(1, "key", "1 f. 3", 4),
+            Line(1, "page", "f. 3"),
             Line(1, "item", "1"),
             Line(1, "date", None, 3),
             Line(1, "text", "x"),
@@ -349,7 +368,8 @@ RECORDS = (
             f"an entry that names a {role}",
             (
                 Line(0, "entry", "BURIAL"),
-                Line(1, "page", "f. 3", 4),
+                Line(1, "key", "1 f. 3", 4),
+                Line(1, "page", "f. 3"),
                 Line(1, "item", "1"),
                 Line(1, "text", ""),
                 Line(1, "mention", "", 7),

@@ -18,7 +18,8 @@ FAMILY = (Line(0, "family"), Line(1, "partner", "wife", 4))
 SOURCE = (Line(0, "source", "Ashby register"),)
 ENTRY = (
     Line(0, "entry", "BAPTISM"),
-    Line(1, "page", "f. 3", 4),
+    Line(1, "key", "12 f. 3", 4),
+    Line(1, "page", "f. 3"),
     Line(1, "item", "12"),
     Line(1, "text", ""),
     Line(1, "mention", "John"),
@@ -29,6 +30,11 @@ ENTRY = (
 def but(lines, at, *others):
     """The lines with others in place of one."""
     return (*lines[:at], *others, *lines[at + 1 :])
+
+
+def keyed(key, page, item):
+    """The lines of an entry with that key, page and item."""
+    return (ENTRY[0], Line(1, "key", key, 4), Line(1, "page", page), Line(1, "item", item), *ENTRY[4:])
 
 
 def nested(depth, levels):
@@ -141,23 +147,31 @@ REFUSED = (
     ("a participant without a role", (*EVENT, Line(1, "participant", None, 2))),
     ("a participant without a number", (*EVENT, Line(1, "participant", "witness"))),
     ("an entry of no kind", but(ENTRY, 0, Line(0, "entry", "baptism"))),
-    ("an entry without a source", but(ENTRY, 1, Line(1, "page", "f. 3"))),
-    ("an entry with its source on its first line", but(but(ENTRY, 1, Line(1, "page", "f. 3")), 0, Line(0, "entry", "BAPTISM", 4))),
-    ("an entry with its source on both lines", but(ENTRY, 0, Line(0, "entry", "BAPTISM", 4))),
-    ("an entry without a page", but(ENTRY, 1)),
-    ("an entry without an item", but(ENTRY, 2)),
-    ("an item with a leading zero", but(ENTRY, 2, Line(1, "item", "012"))),
-    ("an item of 0", but(ENTRY, 2, Line(1, "item", "0"))),
-    ("an item of 1000000", but(ENTRY, 2, Line(1, "item", "1000000"))),
-    ("an entry without a text", but(ENTRY, 3)),
-    ("an entry with an item before its page", (ENTRY[0], ENTRY[2], ENTRY[1], *ENTRY[3:])),
-    ("an entry with a date behind its text", (*ENTRY[:4], Line(1, "date", "1700"), *ENTRY[4:])),
-    ("an entry of a date in another spelling", but(ENTRY, 3, Line(1, "date", "1 jan 1700"), ENTRY[3])),
-    ("a mention without a role", ENTRY[:5]),
-    ("a mention of no role", but(ENTRY, 5, Line(2, "role", "Child"))),
-    ("a mention without a name", but(ENTRY, 4, Line(1, "mention"))),
+    ("an entry without a source", but(ENTRY, 1, Line(1, "key", "12 f. 3"))),
+    ("an entry with its source on its first line", but(but(ENTRY, 1, Line(1, "key", "12 f. 3")), 0, Line(0, "entry", "BAPTISM", 4))),
+    ("an entry with its source on two lines", but(ENTRY, 0, Line(0, "entry", "BAPTISM", 4))),
+    ("an entry with its source on the line of its page", but(ENTRY, 2, Line(1, "page", "f. 3", 4))),
+    ("an entry without a key", but(ENTRY, 1)),
+    ("an entry whose key has another item", but(ENTRY, 1, Line(1, "key", "13 f. 3", 4))),
+    ("an entry whose key has another page", but(ENTRY, 1, Line(1, "key", "12 f. 4", 4))),
+    ("an entry whose key has its item alone", but(ENTRY, 1, Line(1, "key", "12", 4))),
+    ("an entry whose key has a page of 1,001 bytes", keyed("12 " + "f" * 1001, "f" * 1001, "12")),
+    ("an entry whose key has not its page of 1,000 bytes", keyed("12", "f" * 1000, "12")),
+    ("an entry without a page", but(ENTRY, 2)),
+    ("an entry without an item", but(ENTRY, 3)),
+    ("an item with a leading zero", keyed("012 f. 3", "f. 3", "012")),
+    ("an item of 0", keyed("0 f. 3", "f. 3", "0")),
+    ("an item of 1000000", keyed("1000000 f. 3", "f. 3", "1000000")),
+    ("an entry without a text", but(ENTRY, 4)),
+    ("an entry with an item before its page", (*ENTRY[:2], ENTRY[3], ENTRY[2], *ENTRY[4:])),
+    ("an entry with its page before its key", (ENTRY[0], ENTRY[2], ENTRY[1], *ENTRY[3:])),
+    ("an entry with a date behind its text", (*ENTRY[:5], Line(1, "date", "1700"), *ENTRY[5:])),
+    ("an entry of a date in another spelling", but(ENTRY, 4, Line(1, "date", "1 jan 1700"), ENTRY[4])),
+    ("a mention without a role", ENTRY[:6]),
+    ("a mention of no role", but(ENTRY, 6, Line(2, "role", "Child"))),
+    ("a mention without a name", but(ENTRY, 5, Line(1, "mention"))),
     ("a reason without a link", (*ENTRY, Line(2, "reason", "same farm"))),
-    ("a link without a reason", but(ENTRY, 4, Line(1, "mention", "John", 7))),
+    ("a link without a reason", but(ENTRY, 5, Line(1, "mention", "John", 7))),
     ("an entry with carried lines", (*ENTRY, Line(1, "carried"), Line(2, "NOTE", "x"))),
     ("another record without a line", (Line(0, "other"),)),
     ("another record of two lines", (Line(0, "other"), Line(1, "A", "x"), Line(1, "B", "x"))),

@@ -41,7 +41,8 @@ def person(name: str) -> tuple[Line, ...]:
 def entry(source: int, kind: str, page: str, item: int) -> tuple[Line, ...]:
     return (
         Line(0, "entry", kind),
-        Line(1, "page", page, source),
+        Line(1, "key", f"{item} {page}", source),
+        Line(1, "page", page),
         Line(1, "item", str(item)),
         Line(1, "text", ""),
     )

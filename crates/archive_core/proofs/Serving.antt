@@ -15,7 +15,7 @@ use Rattle.receipts.specs.declared.answer.Receipt.{Receipt}
 use Rattle.commands.specs.Bytes.{digest_of}
 use Rattle.commands.specs.declared.command.Command.{Command}
 use Rattle.archive_core.specs.Steps.{Step, refused_at, step}
-use Rattle.archive_steps.specs.Numbers.{Draws, UsesNoneAgain}
+use Rattle.archive_looks.specs.Numbers.{Draws, UsesNoneAgain}
 use Rattle.archive_core.specs.Machine.{Does, Runs, Done, served, kept_under, answered_again}
 use Rattle.archive_core.specs.Words.{HasUtf8Words}
 use Rattle.archive_core.specs.declared.request.Request.{Request}
@@ -154,7 +154,7 @@ step_again : (c : Content) (k : Command) (done : Content × Answer) → step c k
 step_again c k done e = let f : Follows {E = Refusal} (HasUtf8Words k) c (Ok done) = subst (Follows (HasUtf8Words k) c) e (step_follows c k) in f.3
 
 sound_blind : (d : Content) (receipts : Receipts) → IsSound d → IsSound (record d { receipts = receipts })
-sound_blind d receipts h = record { begun = h.begun; bounded = h.bounded; distinct = h.distinct; named = h.named; rules = h.rules; slips = h.slips }
+sound_blind d receipts h = record { begun = h.begun; bounded = h.bounded; distinct = h.distinct; named = h.named; rules = h.rules; slips = h.slips; stayed = h.stayed; free = h.free }
 
 pub request_sound : (c after : Content) (r : Request) (o : Result Answer Refusal) → HasUtf8Words r.command → IsSound c → Does c r o after → IsSound after
 request_sound c after r o words sound does = through IsSound sound_blind c after r o sound (step_sound c r.command words sound) does

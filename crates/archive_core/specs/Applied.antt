@@ -5,7 +5,7 @@ use Rattle.archive_state.specs.Changes.{Changes}
 use Rattle.archive_state.specs.Content.{Content}
 use Rattle.archive_view.specs.Looks.{Agrees, is_stop}
 use Rattle.receipts.specs.declared.answer.Answer.{Answer}
-use Rattle.archive_steps.specs.Applied.{leaves}
+use Rattle.archive_looks.specs.Applied.{leaves}
 
 -- code that decides a request: what it leaves is right, or it is a stop
 abbrev pub Decides : Content → Result Changes Refusal → Result (Content × Answer) Refusal → Type 0

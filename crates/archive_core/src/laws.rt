@@ -15,7 +15,7 @@ ghost use Rattle.archive_state.specs.Sound.{IsSound};
 ghost use Rattle.archive_core.specs.Applied.{Decides};
 ghost use Rattle.archive_state.specs.Applied.{applied};
 ghost use Rattle.archive_looks.specs.Checks.{need, said_place_at};
-ghost use Rattle.archive_steps.specs.Numbers.{Draws, UsesNoneAgain};
+ghost use Rattle.archive_looks.specs.Numbers.{Draws, UsesNoneAgain};
 ghost use Rattle.archive_core.specs.Machine.{Does, Done, Runs, outcome};
 ghost use Rattle.archive_core.specs.Steps.{step};
 ghost use Rattle.archive_core.specs.Words.{HasUtf8Words};

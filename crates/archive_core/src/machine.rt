@@ -8,7 +8,7 @@ ghost use Rattle.archive_core.specs.Exact.{IsExactFor};
 ghost use Rattle.archive_core.specs.Machine.{Does, answered_again, kept_under, outcome, served};
 ghost use Rattle.archive_core.specs.Steps.{step};
 ghost use Rattle.archive_core.specs.Words.{HasUtf8Words};
-ghost use Rattle.archive_steps.specs.Exact.{ChangesNothing, IsExact};
+ghost use Rattle.archive_looks.specs.Exact.{ChangesNothing, IsExact};
 
 use crate::applying::apply;
 use crate::request::{Request, tell_words};

@@ -1,2 +1,5 @@
+pub mod Applied
 pub mod Checks
 pub mod Entries
+pub mod Exact
+pub mod Numbers

@@ -10,6 +10,7 @@ mod entries;
 mod kinds;
 mod looks;
 mod names;
+mod next;
 mod places;
 mod tags;
 
@@ -17,5 +18,6 @@ pub use entries::{check_key, check_texts, entry_at, push_mentions, reason_in};
 pub use kinds::{Demand, check_demand, check_optional};
 pub use looks::{Owner, date_in, event_at, family_at, maybe_text_in, owner_at, person_at, text_in};
 pub use names::{check_path, place_name_in};
+pub use next::next_free;
 pub use places::check_place;
 pub use tags::tag_of;

@@ -17,10 +17,10 @@ use Rattle.archive_state.specs.declared.changes.Numbered.{Numbered}
 use Rattle.archive_state.specs.Entries.{IsEntryAt}
 use Rattle.archive_state.specs.Known.{path_under, path_with, path_by, path_of}
 use Rattle.archive_state.specs.Paths.{HasPath}
-use Rattle.archive_state.specs.Sound.{EachIn, Stands, IsSound}
+use Rattle.archive_state.specs.Sound.{EachIn, Stands, IsPerson, IsSound}
 use Rattle.archive_state.proofs.Climbing.{stands_there}
 use Rattle.archive_state.proofs.Each.{each_more, each_zip, each_front}
-use Rattle.archive_state.proofs.Keeping.{alike_itself, StaysAlike, Stays, KeepsRules, stands_as, keeps_sound, slip_later}
+use Rattle.archive_state.proofs.Keeping.{alike_itself, StaysAlike, Stays, KeepsRules, stands_as, keeps_sound, slip_later, if_there, no_slip_from, stays_below, stayed_at}
 use Rattle.archive_state.proofs.Known.{path_known}
 use Rattle.archive_state.proofs.Putting.{one_number, itself, put_elsewhere}
 
@@ -63,15 +63,15 @@ pub record Grows (c after : Content) : Type 0 where
   pub bounded : after.next ≤ 4294967296
   pub still : (n : ℕ) (r : Record) → get c.records n ≡ Some r → get after.records n ≡ Some r
   pub slips : after.slips ≡ c.slips
-  -- each new record keeps the rules, and stands where no slip is
-  pub new : (n : ℕ) (r : Record) → get c.records n ≡ None → get after.records n ≡ Some r → KeepsRules after.next after.records n r × (get c.slips n ≡ None)
+  -- each new record keeps the rules, and has a number from the next one on
+  pub new : (n : ℕ) (r : Record) → get c.records n ≡ None → get after.records n ≡ Some r → KeepsRules after.next after.records n r × (c.next ≤ n)
   -- the path of each new place is within the limits
   pub paths : (n : ℕ) (path : List ℕ) → get c.records n ≡ None → HasPath after.records n path → IsWithinLimits path
   -- no other entry agrees with a new one in source, kind, page and item
   pub keys : (n k : ℕ) (e : model.Entry) → get c.records n ≡ None → get after.records n ≡ Some (kind.Entry e) → IsEntryAt after.records e.source e.kind e.page e.item k → n ≡ k
 
 -- what stands at a number was there, or is new
-cases_of : (m : Records) (n : ℕ) → ((r : Record) × (get m n ≡ Some r)) ⊎ (get m n ≡ None)
+pub cases_of : (m : Records) (n : ℕ) → ((r : Record) × (get m n ≡ Some r)) ⊎ (get m n ≡ None)
 cases_of m n = by (get m n) refl
   where
     by : (o : Option Record) → get m n ≡ o → ((r : Record) × (get m n ≡ Some r)) ⊎ (get m n ≡ None)
@@ -100,7 +100,7 @@ more_keeps c after sound grows =
       ];
       distinct = λ n r e. ap (λ s. get s n) grows.slips ∙ elim (cases_of m n) as (λ _. get c.slips n ≡ None) [
         | inl was ↦ sound.distinct n was.0 was.1
-        | inr none ↦ (grows.new n r none e).1
+        | inr none ↦ no_slip_from c n sound (grows.new n r none e).1
       ];
       paths = λ n path h. elim (cases_of m n) as (λ _. IsWithinLimits path) [
         | inl was ↦ sound.rules.paths n path ((path_known m n path).1 (path_within m all grows.still sound.named n was.0 was.1 ∙ (path_known all n path).0 h))
@@ -117,6 +117,16 @@ more_keeps c after sound grows =
         | inr none ↦ grows.keys n k e none at (f, there, (source, kinds, page, item))
       ];
       slips = λ n s e. slip_later c.next after.next grows.later n s (sound.slips n s (ap (λ x. get x n) (sym grows.slips) ∙ e));
+      stayed = λ n s e.
+          let was_slip : get c.slips n ≡ Some s = ap (λ x. get x n) (sym grows.slips) ∙ e in
+          if_there (get all s.keep) IsPerson (λ r at. elim (cases_of m s.keep) as (λ _. IsPerson r) [
+            | inl was ↦
+                let both : Some was.0 ≡ Some r = sym (grows.still s.keep was.0 was.1) ∙ at in
+                let same : was.0 ≡ r = cc in
+                stayed_at c n s.keep s r sound was_slip refl (was.1 ∙ ap Some same)
+            | inr none ↦ absurd (stays_below c n s sound was_slip (grows.new s.keep r none at).1)
+          ]);
+      free = λ n s e. ap (λ x. get x s.gone) grows.slips ∙ sound.free n s (ap (λ x. get x n) (sym grows.slips) ∙ e);
     })
 
 -- what stood there still stands there when records are put at numbers that had none
@@ -186,4 +196,6 @@ less_keeps c k sound free =
       ];
       keys = λ n j e at (f, there, key). sound.rules.keys n j e (was n (kind.Entry e) at) (f, was j (kind.Entry f) there, key);
       slips = sound.slips;
+      stayed = λ n s e. if_there (get after s.keep) IsPerson (λ r at. stayed_at c n s.keep s r sound e refl (was s.keep r at));
+      free = sound.free;
     })

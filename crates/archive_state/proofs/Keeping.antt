@@ -8,7 +8,7 @@ use Rattle.std.specs.Str.{bytes_eq}
 use Rattle.record_kinds.specs.Model as model
 use Rattle.record_kinds.specs.declared.record.Record.{Record}
 use Rattle.record_kinds.specs.declared.record.Record.TheVariants as kind
-use Rattle.record_links.specs.Links.{Link, Wanted, a_place, a_holder, a_cited, at_level_0, links, field_links, place_line_links, participant_links, mention_links, value_links, carried_links, is_wanted}
+use Rattle.record_links.specs.Links.{Link, Wanted, a_place, a_person, a_holder, a_cited, at_level_0, links, field_links, place_line_links, participant_links, mention_links, value_links, carried_links, is_wanted}
 use Rattle.record_links.specs.Carried.{carried_tags}
 use Rattle.record_text.specs.Text.{IsText}
 use Rattle.record_shapes.specs.Lists.{EachOf}
@@ -22,7 +22,7 @@ use Rattle.archive_state.specs.Known.{tag_at, written_tag, path_of, known_of, kn
 use Rattle.archive_state.specs.Paths.{HasPath}
 use Rattle.archive_state.specs.Slips.{Slip}
 use Rattle.archive_state.specs.Texts.{own_texts, carried_texts}
-use Rattle.archive_state.specs.Sound.{EachIn, IsNumber, HasSmallerParent, HasNormalName, HasMembersOnce, HasSaidPlace, HasEventTag, HasSoundMentions, IsNoTrailer, own_tags, IsOfRecords, HasOwnShape, owner_in, HasSoundRecords, Stands, IsSoundSlip, IsSound, place_of, change_names, old_records}
+use Rattle.archive_state.specs.Sound.{EachIn, IsNumber, HasSmallerParent, HasNormalName, HasMembersOnce, HasSaidPlace, HasEventTag, HasSoundMentions, IsNoTrailer, own_tags, IsOfRecords, HasOwnShape, owner_in, HasSoundRecords, Stands, IsPerson, IsSoundSlip, IsSound, place_of, change_names, old_records}
 use Rattle.archive_state.proofs.Each.{each_more, each_zip, each_front, each_back}
 use Rattle.archive_state.proofs.Known.{path_known}
 use Rattle.archive_state.proofs.Knowing.{AgreeAt, untaken_same, entry_same}
@@ -38,6 +38,41 @@ pub record IsAlike (old r : Record) : Type 0 where
 
 pub alike_itself : (r : Record) → IsAlike r r
 alike_itself r = record { wanted = λ w. refl; events = refl; written = refl; room = refl }
+
+-- a person is what is wanted as a person
+pub person_if : (r : Record) → is_wanted a_person r ≡ true → IsPerson r
+person_if (kind.Person p) e = tt
+person_if (kind.Place p) e = absurd cc
+person_if (kind.Repo p) e = absurd cc
+person_if (kind.Source p) e = absurd cc
+person_if (kind.Family p) e = absurd cc
+person_if (kind.Citation p) e = absurd cc
+person_if (kind.Event p) e = absurd cc
+person_if (kind.Entry p) e = absurd cc
+person_if (kind.Other p) e = absurd cc
+
+wanted_if : (r : Record) → IsPerson r → is_wanted a_person r ≡ true
+wanted_if (kind.Person p) h = refl
+wanted_if (kind.Place p) h = absurd h
+wanted_if (kind.Repo p) h = absurd h
+wanted_if (kind.Source p) h = absurd h
+wanted_if (kind.Family p) h = absurd h
+wanted_if (kind.Citation p) h = absurd h
+wanted_if (kind.Event p) h = absurd h
+wanted_if (kind.Entry p) h = absurd h
+wanted_if (kind.Other p) h = absurd h
+
+-- what is of the kind of a person is one
+pub person_alike : (old r : Record) → IsAlike old r → IsPerson old → IsPerson r
+person_alike old r alike person = person_if r (sym (alike.wanted a_person) ∙ wanted_if old person)
+
+-- what stands at a number, judged by what it is
+pub if_there : (o : Option Record) (P : Record → Type 0) → ((r : Record) → o ≡ Some r → P r) → IfSome o P
+if_there None P h = tt
+if_there (Some r) P h = h r refl
+
+pub there_is : (o : Option Record) (P : Record → Type 0) → IfSome o P → (r : Record) → o ≡ Some r → P r
+there_is o P h r e = subst (λ x. IfSome x P) e h
 
 -- where a record stood, one of its kind stands, and a place has the path that it had
 pub record StaysAlike (m after : Records) (n : ℕ) : Type 0 where
@@ -107,6 +142,9 @@ pub record Keeps (c after : Content) : Type 0 where
   pub paths : HasLimits after.records
   pub keys : HasKeys after.records
   pub slips : EachIn after.slips (IsSoundSlip after.next)
+  -- a person, or nothing, stands where a slip says that one stays, and no slip stands where one is gone
+  pub stayed : EachIn after.slips (λ n s. IfSome (get after.records s.keep) IsPerson)
+  pub free : EachIn after.slips (λ n s. get after.slips s.gone ≡ None)
 
 -- ---- what a link names
 pub stands_as : (w : Wanted) (o : Option Record) → option_map (is_wanted w) o ≡ Some true → (old : Record) × (o ≡ Some old) × (is_wanted w old ≡ true)
@@ -261,8 +299,9 @@ module _ (m after : Records) (none_before : get m 0 ≡ None) (none_after : get 
 
 -- ---- all of an archive
 -- an archive is sound where each record keeps the rules on one record, and the rules on all of them hold
-sound_if : (c : Content) → 0 < c.next → c.next ≤ 4294967296 → EachIn c.records (KeepsRules c.next c.records) → EachIn c.records (λ n r. get c.slips n ≡ None) → HasLimits c.records → HasKeys c.records → EachIn c.slips (IsSoundSlip c.next) → IsSound c
-sound_if c begun bounded each distinct paths keys slips = record {
+sound_if : (c : Content) → 0 < c.next → c.next ≤ 4294967296 → EachIn c.records (KeepsRules c.next c.records) → EachIn c.records (λ n r. get c.slips n ≡ None) → HasLimits c.records → HasKeys c.records → EachIn c.slips (IsSoundSlip c.next)
+    → EachIn c.slips (λ n s. IfSome (get c.records s.keep) IsPerson) → EachIn c.slips (λ n s. get c.slips s.gone ≡ None) → IsSound c
+sound_if c begun bounded each distinct paths keys slips stayed free = record {
   begun = begun;
   bounded = bounded;
   distinct = distinct;
@@ -285,6 +324,8 @@ sound_if c begun bounded each distinct paths keys slips = record {
     keys = keys;
   };
   slips = slips;
+  stayed = stayed;
+  free = free;
 }
 
 -- where each record has a number from 1, nothing stands at 0
@@ -314,7 +355,7 @@ keeps_sound c after sound keeps =
       | inl stays ↦ rules_still m n none_before none_after c.next after.next k r later stays.named (kept_rules c k r sound stays.there)
       | inr new ↦ new
     ])
-    keeps.distinct keeps.paths keeps.keys keeps.slips
+    keeps.distinct keeps.paths keeps.keys keeps.slips keeps.stayed keeps.free
 
 -- ---- the next number is a greater one
 number_later : (a b : ℕ) → a ≤ b → (n : ℕ) → IsNumber a n → IsNumber b n
@@ -338,6 +379,22 @@ rules_later a b h m rules = record {
   levels = rules.levels;
   keys = rules.keys;
 }
+
+-- no slip stands at a number from the next one on
+pub no_slip_from : (c : Content) (n : ℕ) → IsSound c → c.next ≤ n → get c.slips n ≡ None
+no_slip_from c n sound from = by (get c.slips n) refl
+  where
+    by : (o : Option Slip) → get c.slips n ≡ o → o ≡ None
+    by None e = refl
+    by (Some s) e = let less : n < c.next = (sound.slips n s e).numbered.0.1 in absurd (omega arith)
+
+-- nor does a slip say that a person stays at one
+pub stays_below : (c : Content) (n : ℕ) (s : Slip) → IsSound c → get c.slips n ≡ Some s → c.next ≤ s.keep → ⊥
+stays_below c n s sound e from = let less : s.keep < c.next = (sound.slips n s e).numbered.1.0.1 in absurd (omega arith)
+
+-- where a person stood that a slip says to stay
+pub stayed_at : (c : Content) (k n : ℕ) (s : Slip) (r : Record) → IsSound c → get c.slips k ≡ Some s → s.keep ≡ n → get c.records n ≡ Some r → IsPerson r
+stayed_at c k n s r sound e same at = there_is (get c.records s.keep) IsPerson (sound.stayed k s e) r (ap (get c.records) same ∙ at)
 
 -- a sound slip stays so
 pub slip_later : (a b : ℕ) → a ≤ b → (n : ℕ) (s : Slip) → IsSoundSlip a n s → IsSoundSlip b n s

@@ -8,7 +8,7 @@ pub mod Known
 pub mod Soundness
 pub mod Each
 pub mod Keeping
-mod Knowing
+pub mod Knowing
 pub mod Changing
 mod PathTexts
 mod Readable

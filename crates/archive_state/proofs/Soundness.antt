@@ -39,6 +39,8 @@ nothing_is_sound = record {
   named = λ n r e. absurd (none_there n r e);
   rules = no_records_are_sound 1;
   slips = λ n s e. absurd (none_there n s e);
+  stayed = λ n s e. absurd (none_there n s e);
+  free = λ n s e. absurd (none_there n s e);
 }
 
 pub sound_if_nothing : (c : Content) → c ≡ nothing → IsSound c

@@ -192,3 +192,7 @@ pub record IsSound (c : Content) : Type 0 where
   pub rules : HasSoundRecords c.next c.records
   -- each slip is sound
   pub slips : EachIn c.slips (IsSoundSlip c.next)
+  -- where the person stood that a slip says to stay, a person stands, or nothing any more
+  pub stayed : EachIn c.slips (λ n s. IfSome (get c.records s.keep) IsPerson)
+  -- no slip has the number of a person that is gone, who can come back to it
+  pub free : EachIn c.slips (λ n s. get c.slips s.gone ≡ None)

@@ -37,20 +37,20 @@ use Rattle.archive_looks.specs.Entries.{key_is_free}
 use Rattle.archive_looks.specs.Entries.{mention_in, mentions_in, role_for, role_in}
 use Rattle.archive_steps.specs.Steps.{entry_of, has_mention, linked, relinked, with_link}
 use Rattle.archive_steps.specs.Words.{IsUtf8Entry, IsUtf8Mention}
-use Rattle.archive_steps.proofs.Fitting.{PlaceAt, no_slip_at_next, none_at_next, over}
-use Rattle.archive_steps.specs.Applied.{Plans}
+use Rattle.archive_steps.proofs.Fitting.{PlaceAt, IsFresh, fresh_at_next, not_fresh, none_at_next, over}
+use Rattle.archive_looks.specs.Applied.{Plans}
 use Rattle.archive_steps.proofs.Keeping.{IsFit}
 use Rattle.archive_steps.proofs.Same.{put_same}
 use Rattle.archive_steps.proofs.Worded.{maybe_date, text_found}
 
 -- an entry at a number
-pub entry_fits : (c : Content) (n : ℕ) (e : model.Entry) → ((old : Record) → get c.records n ≡ Some old → IsAlike old (kind.Entry e)) → get c.slips n ≡ None
+pub entry_fits : (c : Content) (n : ℕ) (e : model.Entry) → ((old : Record) → get c.records n ≡ Some old → IsAlike old (kind.Entry e)) → IsFresh c n
     → ((f : model.Entry) → kind.Entry e ≡ kind.Entry f → (k : ℕ) → IsEntryAt c.records f.source f.kind f.page f.item k → k ≡ n)
     → EachOf (Stands c.records) (links (kind.Entry e)) → EachOf IsText (own_texts (kind.Entry e)) → HasSaidPlace c.records (kind.Entry e) → HasSoundMentions (kind.Entry e)
     → IsFit c n (kind.Entry e)
 entry_fits c n e alike free keys named written place mentions = record {
   alike = alike;
-  no_slip = free;
+  fresh = free;
   no_place = λ q f. absurd cc;
   keys = keys;
   no_other = λ q f. absurd cc;
@@ -163,7 +163,7 @@ said_place c e (Some n) is p = rw is p.1
 pub new_entry_fits : (c : Content) (source : ℕ) (row : EntryRow) (e : model.Entry) (u : Unit {0}) → IsSound c → IsGivenBy source row e → Stands c.records (source, a_source) → PlaceAt c row.place
     → key_is_free c.records source e.kind e.page e.item ≡ Ok u → IsFit c c.next (kind.Entry e)
 new_entry_fits c source row e u sound given stands placed free =
-    entry_fits c c.next e (λ old at. absurd (none_at_next c sound old at)) (no_slip_at_next c sound)
+    entry_fits c c.next e (λ old at. absurd (none_at_next c sound old at)) (fresh_at_next c)
     (λ f is k there.
     let same : e ≡ f = cc in
     let here : IsEntryAt c.records e.source e.kind e.page e.item k = subst (λ (x : model.Entry). IsEntryAt c.records x.source x.kind x.page x.item k) (sym same) there in
@@ -240,7 +240,7 @@ relinked_fits c n e k link sound at there =
     let roles : EachOf R (take i e.mentions ++ drop i e.mentions) = subst (EachOf R) (sym (take-append-drop i e.mentions)) mentions.1 in
     let place : List Link = field_links a_place e.place in
     entry_fits c n (with_link k link e) (over c n (kind.Entry e) (kind.Entry (with_link k link e)) at (entries_are e (with_link k link e)))
-    (sound.distinct n (kind.Entry e) at)
+    (not_fresh c n (kind.Entry e) at)
     (λ f is j other.
     let same : with_link k link e ≡ f = cc in
     let here : IsEntryAt c.records e.source e.kind e.page e.item j = subst (λ (x : model.Entry). IsEntryAt c.records x.source x.kind x.page x.item j) (sym same) other in

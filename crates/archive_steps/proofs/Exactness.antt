@@ -14,7 +14,7 @@ use Rattle.archive_state.specs.Content.{Content}
 use Rattle.archive_state.specs.declared.changes.Kept.{Kept}
 use Rattle.receipts.specs.declared.answer.Answer.{Answer}
 use Rattle.archive_looks.specs.Checks.{person_in, family_in, event_in}
-use Rattle.archive_steps.specs.Exact.{IsExact}
+use Rattle.archive_looks.specs.Exact.{IsExact}
 use Rattle.archive_steps.specs.Steps.{or_kept_date, plain_name, plain_child, plain_participant, with_name, with_child, with_participant}
 use Rattle.archive_steps.proofs.Fitting.{none_at_next}
 use Rattle.archive_looks.proofs.Found.{person_found, family_found, event_found}

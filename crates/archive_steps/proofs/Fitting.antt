@@ -26,7 +26,6 @@ use Rattle.record_shapes.specs.Fields as part
 use Rattle.record_shapes.specs.Untaken.{AreUntaken, person_leaves, event_leaves, participant_leaves, HasUntaken}
 use Rattle.record_shapes.specs.Levels.{AreWithin, HasRoom}
 use Rattle.archive_state.specs.Known.{known_of, known_before}
-use Rattle.archive_state.specs.Slips.{Slip}
 use Rattle.archive_state.specs.Texts.{own_texts, carried_texts, date_texts, line_texts}
 use Rattle.archive_state.specs.Content.{Content}
 use Rattle.record_shapes.specs.Tags.{event_tags, is_event_tag, person_tags, family_tags}
@@ -78,13 +77,17 @@ any_of p f (x ∷ xs) = ap (λ b. p (f x) || b) (any_of p f xs)
 pub none_at_next : (c : Content) → IsSound c → (old : Record) → get c.records c.next ≡ Some old → ⊥
 none_at_next c sound old e = let less : c.next < c.next = (sound.rules.numbered c.next old e).1 in absurd (omega arith)
 
--- and no slip
-pub no_slip_at_next : (c : Content) → IsSound c → get c.slips c.next ≡ None
-no_slip_at_next c sound = by (get c.slips c.next) refl
-  where
-    by : (o : Option Slip) → get c.slips c.next ≡ o → o ≡ None
-    by None e = refl
-    by (Some s) e = let less : c.next < c.next = (sound.slips c.next s e).numbered.0.1 in absurd (omega arith)
+-- a number from the next one on, where nothing stands
+abbrev pub IsFresh : Content → ℕ → Type 0
+IsFresh c n = get c.records n ≡ None → c.next ≤ n
+
+-- the next one is
+pub fresh_at_next : (c : Content) → IsFresh c c.next
+fresh_at_next c none = omega arith
+
+-- where a record stands there is no need
+pub not_fresh : (c : Content) (n : ℕ) (r : Record) → get c.records n ≡ Some r → IsFresh c n
+not_fresh c n r at none = let both : Some r ≡ None = sym at ∙ none in absurd cc
 
 it_is : (c : Content) (n : ℕ) (r old : Record) → get c.records n ≡ Some r → get c.records n ≡ Some old → r ≡ old
 it_is c n r old e f = let both : Some r ≡ Some old = sym e ∙ f in cc
@@ -154,10 +157,10 @@ own_written : (c : Content) (n : ℕ) (old : Record) → IsSound c → get c.rec
 own_written c n old sound at = each_front IsText (own_texts old) (carried_texts old) (sound.rules.texts n old at)
 
 -- ---- persons
-person_fits : (c : Content) (n : ℕ) (p : model.Person) → ((old : Record) → get c.records n ≡ Some old → IsAlike old (kind.Person p)) → get c.slips n ≡ None → EachOf (Stands c.records) (links (kind.Person p)) → EachOf IsOfRecords (carried_tags (kind.Person p)) → EachOf IsText (own_texts (kind.Person p) ++ carried_texts (kind.Person p)) → HasUntaken (known_before c.records n) (known_of c.records) (kind.Person p) → HasRoom (owner_in c.records (kind.Person p)) (kind.Person p) → IsFit c n (kind.Person p)
+person_fits : (c : Content) (n : ℕ) (p : model.Person) → ((old : Record) → get c.records n ≡ Some old → IsAlike old (kind.Person p)) → IsFresh c n → EachOf (Stands c.records) (links (kind.Person p)) → EachOf IsOfRecords (carried_tags (kind.Person p)) → EachOf IsText (own_texts (kind.Person p) ++ carried_texts (kind.Person p)) → HasUntaken (known_before c.records n) (known_of c.records) (kind.Person p) → HasRoom (owner_in c.records (kind.Person p)) (kind.Person p) → IsFit c n (kind.Person p)
 person_fits c n p alike free named carry written untaken levels = record {
   alike = alike;
-  no_slip = free;
+  fresh = free;
   no_place = λ q e. absurd cc;
   keys = λ q e k there. absurd cc;
   no_other = λ q e. absurd cc;
@@ -177,7 +180,7 @@ person_fits c n p alike free named carry written untaken levels = record {
 
 pub new_person_fits : (c : Content) (name : List ℕ) (sex : Option Sex) → IsSound c → IsText name → IsFit c c.next (kind.Person (plain_person name sex))
 new_person_fits c name sex sound is =
-    person_fits c c.next (plain_person name sex) (anew c (kind.Person (plain_person name sex)) sound) (no_slip_at_next c sound) tt tt (is, tt) refl ((none_within 97, tt), none_within 98)
+    person_fits c c.next (plain_person name sex) (anew c (kind.Person (plain_person name sex)) sound) (fresh_at_next c) tt tt (is, tt) refl ((none_within 97, tt), none_within 98)
 
 -- a person in the place of one with the same links and the same carried lines, that has a sex where the other has one
 person_over : (c : Content) (n : ℕ) (p q : model.Person) → IsSound c → get c.records n ≡ Some (kind.Person p) → links (kind.Person q) ≡ links (kind.Person p) → carried (kind.Person q) ≡ carried (kind.Person p) → EachOf IsText (own_texts (kind.Person q))
@@ -186,7 +189,7 @@ person_over c n p q sound at linked carry written own sex names =
     let field : Tree Line → Field = person_field (known_of c.records) in
     person_fits c n q
     (over c n (kind.Person p) (kind.Person q) at (persons_are p q))
-    (sound.distinct n (kind.Person p) at)
+    (not_fresh c n (kind.Person p) at)
     (subst (EachOf (Stands c.records)) (sym linked) (sound.named n (kind.Person p) at))
     (subst (λ l. EachOf IsOfRecords (flat_map tags l)) (sym carry) (sound.rules.tags n (kind.Person p) at))
     (still_written c n (kind.Person p) (kind.Person q) sound at carry written)
@@ -210,10 +213,10 @@ pub set_sex_fits : (c : Content) (n : ℕ) (p : model.Person) (sex : Sex) → Is
 set_sex_fits c n p sex sound at = person_over c n p (record p { sex = Some sex }) sound at refl refl (own_written c n (kind.Person p) sound at) refl (λ e. refl) (sound.rules.levels n (kind.Person p) at).0
 
 -- ---- families
-family_fits : (c : Content) (n : ℕ) (f : model.Family) → ((old : Record) → get c.records n ≡ Some old → IsAlike old (kind.Family f)) → get c.slips n ≡ None → EachOf (Stands c.records) (links (kind.Family f)) → IsOnce (members f) → EachOf IsOfRecords (carried_tags (kind.Family f)) → EachOf IsText (carried_texts (kind.Family f)) → HasUntaken (known_before c.records n) (known_of c.records) (kind.Family f) → HasRoom (owner_in c.records (kind.Family f)) (kind.Family f) → IsFit c n (kind.Family f)
+family_fits : (c : Content) (n : ℕ) (f : model.Family) → ((old : Record) → get c.records n ≡ Some old → IsAlike old (kind.Family f)) → IsFresh c n → EachOf (Stands c.records) (links (kind.Family f)) → IsOnce (members f) → EachOf IsOfRecords (carried_tags (kind.Family f)) → EachOf IsText (carried_texts (kind.Family f)) → HasUntaken (known_before c.records n) (known_of c.records) (kind.Family f) → HasRoom (owner_in c.records (kind.Family f)) (kind.Family f) → IsFit c n (kind.Family f)
 family_fits c n f alike free named once carry written untaken levels = record {
   alike = alike;
-  no_slip = free;
+  fresh = free;
   no_place = λ q e. absurd cc;
   keys = λ q e k there. absurd cc;
   no_other = λ q e. absurd cc;
@@ -268,7 +271,7 @@ partners_room (Some a) (Some b) = ((none_within 97, none_within 97), ((none_with
 
 pub new_family_fits : (c : Content) (husband wife : Option ℕ) → IsSound c → PersonAt c husband → PersonAt c wife → is_same husband wife ≡ false → IsFit c c.next (kind.Family (record { partners = plain_partners husband wife; children = []; carried = [] }))
 new_family_fits c husband wife sound h w other =
-    family_fits c c.next (family_of husband wife) (anew c (kind.Family (family_of husband wife)) sound) (no_slip_at_next c sound)
+    family_fits c c.next (family_of husband wife) (anew c (kind.Family (family_of husband wife)) sound) (fresh_at_next c)
     (partners_stand c husband wife h w) (partners_once husband wife other)
     (subst (λ l. EachOf IsOfRecords (flat_map tags l)) (sym (partners_carry husband wife)) tt)
     (subst (λ l. EachOf IsText (flat_map line_texts l)) (sym (partners_carry husband wife)) tt)
@@ -315,7 +318,7 @@ add_child_fits c n f person sound at stands other =
     let room : HasRoom None (kind.Family f) = sound.rules.levels n (kind.Family f) at in
     family_fits c n (with_child person f)
     (over c n (kind.Family f) (kind.Family (with_child person f)) at (families_are f (with_child person f)))
-    (sound.distinct n (kind.Family f) at)
+    (not_fresh c n (kind.Family f) at)
     (each_both P (flat_map partner_links f.partners) (flat_map child_links (f.children ++ (plain_child person ∷ [])) ++ carried_links f.carried) front more)
     (subst IsOnce (sym (member_more f person)) (once_more (members f) person (sound.rules.once n (kind.Family f) at) (no_member f person other)))
     (subst (λ l. EachOf IsOfRecords (flat_map tags l)) (sym carry) (sound.rules.tags n (kind.Family f) at))
@@ -324,10 +327,10 @@ add_child_fits c n f person sound at stands other =
     (room.0, each_both (λ (x : model.Child). AreWithin 97 x.carried × AreWithin 97 x.carried_by_person) f.children (plain_child person ∷ []) room.1 ((none_within 97, none_within 97), tt), room.2)
 
 -- ---- events
-event_fits : (c : Content) (n : ℕ) (e : model.Event) → ((old : Record) → get c.records n ≡ Some old → IsAlike old (kind.Event e)) → get c.slips n ≡ None → EachOf (Stands c.records) (links (kind.Event e)) → EachOf IsOfRecords (e.tag ∷ carried_tags (kind.Event e)) → EachOf IsText (own_texts (kind.Event e) ++ carried_texts (kind.Event e)) → HasSaidPlace c.records (kind.Event e) → HasEventTag c.records (kind.Event e) → HasUntaken (known_before c.records n) (known_of c.records) (kind.Event e) → HasRoom (owner_in c.records (kind.Event e)) (kind.Event e) → IsFit c n (kind.Event e)
+event_fits : (c : Content) (n : ℕ) (e : model.Event) → ((old : Record) → get c.records n ≡ Some old → IsAlike old (kind.Event e)) → IsFresh c n → EachOf (Stands c.records) (links (kind.Event e)) → EachOf IsOfRecords (e.tag ∷ carried_tags (kind.Event e)) → EachOf IsText (own_texts (kind.Event e) ++ carried_texts (kind.Event e)) → HasSaidPlace c.records (kind.Event e) → HasEventTag c.records (kind.Event e) → HasUntaken (known_before c.records n) (known_of c.records) (kind.Event e) → HasRoom (owner_in c.records (kind.Event e)) (kind.Event e) → IsFit c n (kind.Event e)
 event_fits c n e alike free named carry written place event untaken levels = record {
   alike = alike;
-  no_slip = free;
+  fresh = free;
   no_place = λ q e. absurd cc;
   keys = λ q e k there. absurd cc;
   no_other = λ q e. absurd cc;
@@ -420,7 +423,7 @@ new_room (Some n) = none_within 96
 pub new_event_fits : (c : Content) (n : ℕ) (o : Owner) (old : Record) (tag value : List ℕ) (date : Option Date) (place : Option ℕ) → IsSound c → get c.records n ≡ Some old → is_wanted a_holder old ≡ true → event_tags old ≡ tags_of o → is_tag_of o tag ≡ true → PlaceAt c place → IsText value → EachOf IsText (date_texts date)
     → IsFit c c.next (kind.Event (record { owner = n; tag = tag; value = value; date = date; place = option_map plain_place place; participants = []; carried = [] }))
 new_event_fits c n o old tag value date place sound at holder tagged one said is dated =
-    event_fits c c.next (plain_event n tag value date place) (anew c (kind.Event (plain_event n tag value date place)) sound) (no_slip_at_next c sound)
+    event_fits c c.next (plain_event n tag value date place) (anew c (kind.Event (plain_event n tag value date place)) sound) (fresh_at_next c)
     (new_links c n tag value date place (ap (option_map (is_wanted a_holder)) at ∙ ap Some holder) said)
     (fine_of_owner o tag one, subst (λ l. EachOf IsOfRecords (flat_map tags l)) (sym (new_carried n tag value date place)) tt)
     (new_written n tag value date place is dated)
@@ -438,7 +441,7 @@ event_over c n e f sound at owner tag named carry written place own date put too
     let field : Tree Line → Field = event_field (known_of c.records) in
     event_fits c n f
     (over c n (kind.Event e) (kind.Event f) at (events_are e f))
-    (sound.distinct n (kind.Event e) at)
+    (not_fresh c n (kind.Event e) at)
     named
     (subst IsOfRecords (sym tag) (sound.rules.tags n (kind.Event e) at).0, carry)
     written

@@ -26,7 +26,7 @@ use Rattle.record_text.specs.Text.{IsText}
 use Rattle.record_shapes.specs.Paths.{IsNormal}
 use Rattle.archive_looks.proofs.PlaceNames.{name_taken}
 use Rattle.archive_steps.proofs.Placed.{PlacedAt, place_keeps}
-use Rattle.archive_steps.specs.Numbers.{Draws, UsesNoneAgain}
+use Rattle.archive_looks.specs.Numbers.{Draws, UsesNoneAgain}
 use Rattle.archive_steps.specs.Words.{IsUtf8Date, IsUtf8Entry, IsUtf8Row}
 use Rattle.archive_looks.specs.declared.kinds.Demand.TheVariants as demand
 use Rattle.archive_looks.specs.declared.looks.Owner.{Owner}

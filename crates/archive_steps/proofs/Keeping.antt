@@ -16,17 +16,19 @@ use Rattle.archive_state.specs.Content.{Content, Records}
 use Rattle.archive_state.specs.Entries.{IsEntryAt}
 use Rattle.archive_state.specs.Known.{path_with, path_of, known_of, known_before}
 use Rattle.archive_state.specs.Texts.{own_texts, carried_texts}
-use Rattle.archive_state.specs.Sound.{IsNumber, HasSmallerParent, HasNormalName, HasMembersOnce, HasSaidPlace, HasEventTag, HasSoundMentions, IsNoTrailer, own_tags, IsOfRecords, HasOwnShape, owner_in, Stands, IsSound}
+use Rattle.archive_state.specs.Sound.{IsNumber, HasSmallerParent, HasNormalName, HasMembersOnce, HasSaidPlace, HasEventTag, HasSoundMentions, IsNoTrailer, own_tags, IsOfRecords, HasOwnShape, owner_in, Stands, IsPerson, IsSound}
 use Rattle.archive_state.proofs.Each.{each_all}
-use Rattle.archive_state.proofs.Keeping.{IsAlike, alike_itself, StaysAlike, Stays, KeepsRules, nothing_at_zero, rules_still, keeps_sound, slip_later}
+use Rattle.archive_state.proofs.Keeping.{IsAlike, alike_itself, StaysAlike, Stays, KeepsRules, nothing_at_zero, rules_still, keeps_sound, slip_later, if_there, no_slip_from, person_alike, stayed_at, stays_below}
+use Rattle.archive_state.proofs.Changing.{cases_of}
+use Rattle.archive_state.specs.Slips.{Slip}
 use Rattle.archive_state.proofs.Known.{path_known, path_same}
 use Rattle.archive_state.proofs.Putting.{put_cases, put_elsewhere}
 
 -- ---- a record that may be put at a number
 pub record IsFit (c : Content) (n : ℕ) (r : Record) : Type 0 where
-  -- it is of the kind of what is there, and no slip is
+  -- it is of the kind of what is there; where nothing is, the number is one from the next one on
   pub alike : (old : Record) → get c.records n ≡ Some old → IsAlike old r
-  pub no_slip : get c.slips n ≡ None
+  pub fresh : get c.records n ≡ None → c.next ≤ n
   -- it is no place and of no other kind, and where it is an entry, no other one has its key
   pub no_place : (p : model.Place) → r ≡ kind.Place p → ⊥
   pub keys : (e : model.Entry) → r ≡ kind.Entry e → (k : ℕ) → IsEntryAt c.records e.source e.kind e.page e.item k → k ≡ n
@@ -145,6 +147,20 @@ rules_of c n next r fit number = record {
   levels = fit.levels;
 }
 
+-- no slip stands there
+no_slip_there : (c : Content) (n : ℕ) (r : Record) → IsSound c → IsFit c n r → get c.slips n ≡ None
+no_slip_there c n r sound fit = elim (cases_of c.records n) as (λ _. get c.slips n ≡ None) [
+  | inl was ↦ sound.distinct n was.0 was.1
+  | inr none ↦ no_slip_from c n sound (fit.fresh none)
+]
+
+-- where a slip says that a person stays there, the record is one
+stayed_there : (c : Content) (n : ℕ) (r : Record) → IsSound c → IsFit c n r → (k : ℕ) (s : Slip) → get c.slips k ≡ Some s → s.keep ≡ n → IsPerson r
+stayed_there c n r sound fit k s e same = elim (cases_of c.records n) as (λ _. IsPerson r) [
+  | inl was ↦ person_alike was.0 r (fit.alike was.0 was.1) (stayed_at c k n s was.0 sound e same was.1)
+  | inr none ↦ absurd (stays_below c k s sound e (subst (λ x. c.next ≤ x) (sym same) (fit.fresh none)))
+]
+
 pub put_keeps : (c : Content) (n next : ℕ) (r : Record) → IsSound c → IsFit c n r → c.next ≤ next → next ≤ 4294967296 → IsNumber next n → IsSound (record c { records = insert c.records n r; next = next })
 put_keeps c n next r sound fit later bounded number =
     let m : Records = c.records in
@@ -162,10 +178,15 @@ put_keeps c n next r sound fit later bounded number =
         | inr h ↦ inl (record { there = h.1; named = each_all (λ (l : Link). StaysAlike m after l.0) (λ l. alike l.0) (links x) })
       ];
       distinct = λ k x e. elim (put_cases m n r k (Some x) e) as (λ _. get c.slips k ≡ None) [
-        | inl h ↦ ap (get c.slips) h.0 ∙ fit.no_slip
+        | inl h ↦ ap (get c.slips) h.0 ∙ no_slip_there c n r sound fit
         | inr h ↦ sound.distinct k x h.1
       ];
       paths = λ k path h. sound.rules.paths k path ((path_known m k path).1 ((alike k).path ∙ (path_known after k path).0 h));
       keys = keys_put m n r fit.keys sound.rules.keys;
       slips = λ k s e. slip_later c.next next later k s (sound.slips k s e);
+      stayed = λ k s e. if_there (get after s.keep) IsPerson (λ x at. elim (put_cases m n r s.keep (Some x) at) as (λ _. IsPerson x) [
+        | inl h ↦ let same : r ≡ x = let f = h.1 in cc in subst IsPerson same (stayed_there c n r sound fit k s e h.0)
+        | inr h ↦ stayed_at c k s.keep s x sound e refl h.1
+      ]);
+      free = sound.free;
     })

@@ -24,7 +24,7 @@ use Rattle.archive_state.proofs.Putting.{put_cases, put_elsewhere, put_here}
 use Rattle.place_paths.specs.Fits.{new_path, is_fit}
 use Rattle.place_paths.proofs.Within.{path_there}
 use Rattle.archive_steps.specs.Steps.{place_within}
-use Rattle.archive_steps.proofs.Fitting.{none_at_next, no_slip_at_next, none_within}
+use Rattle.archive_steps.proofs.Fitting.{none_at_next, none_within}
 
 -- the place stands there, where a number is given
 abbrev pub PlacedAt : Content → Option ℕ → Type 0
@@ -112,9 +112,10 @@ place_keeps c name parent sound at is normal fit bounded =
       still = still c name parent sound;
       slips = refl;
       new = λ n r none e.
-          let it = new_is c name parent n r none e in (
+          let it = new_is c name parent n r none e in
+          let from : c.next ≤ c.next = omega arith in (
             subst (λ k. KeepsRules (c.next + 1) (after c name parent) k r) (sym it.0) (subst (KeepsRules (c.next + 1) (after c name parent) c.next) it.1 (rules_of c name parent sound at is normal)),
-            ap (get c.slips) it.0 ∙ no_slip_at_next c sound,
+            subst (λ k. c.next ≤ k) (sym it.0) from,
           );
       paths = λ n path none h. by_path n path none (get (after c name parent) n) refl h;
       keys = λ n k e none there at. let it = new_is c name parent n (kind.Entry e) none there in let f : placed name parent ≡ kind.Entry e = it.1 in absurd cc;

@@ -24,7 +24,7 @@ use Rattle.archive_state.proofs.Each.{each_both}
 use Rattle.commands.specs.Rows.{and_then}
 use Rattle.archive_looks.specs.Checks.{need, text_in, or_no_text, maybe_text_in}
 use Rattle.archive_steps.specs.Steps.{plain_repo, plain_source, plain_citation, lacks_repo, given_source}
-use Rattle.archive_steps.proofs.Fitting.{no_slip_at_next, anew, none_within}
+use Rattle.archive_steps.proofs.Fitting.{fresh_at_next, anew, none_within}
 use Rattle.archive_steps.proofs.Keeping.{IsFit}
 use Rattle.archive_steps.proofs.Worded.{text_found}
 
@@ -41,7 +41,7 @@ IsMaybeText o = EachOf IsText (texts.there o)
 pub new_repo_fits : (c : Content) (name : List ℕ) → IsSound c → IsText name → IsFit c c.next (kind.Repo (plain_repo name))
 new_repo_fits c name sound is = record {
   alike = anew c (kind.Repo (plain_repo name)) sound;
-  no_slip = no_slip_at_next c sound;
+  fresh = fresh_at_next c;
   no_place = λ q e. absurd cc;
   keys = λ q e k there. absurd cc;
   no_other = λ q e. absurd cc;
@@ -63,7 +63,7 @@ new_repo_fits c name sound is = record {
 source_fits : (c : Content) (s : model.Source) → IsSound c → EachOf (Stands c.records) (links (kind.Source s)) → EachOf IsOfRecords (carried_tags (kind.Source s)) → EachOf IsText (own_texts (kind.Source s) ++ carried_texts (kind.Source s)) → HasUntaken (known_before c.records c.next) (known_of c.records) (kind.Source s) → HasRoom None (kind.Source s) → IsFit c c.next (kind.Source s)
 source_fits c s sound named carry written untaken levels = record {
   alike = anew c (kind.Source s) sound;
-  no_slip = no_slip_at_next c sound;
+  fresh = fresh_at_next c;
   no_place = λ q e. absurd cc;
   keys = λ q e k there. absurd cc;
   no_other = λ q e. absurd cc;
@@ -101,7 +101,7 @@ new_source_fits c title author publisher (Some k) call_number sound t a p n at =
 pub new_citation_fits : (c : Content) (owner source : ℕ) (page : Option (List ℕ)) (quality : Option Quality) → IsSound c → IsMaybeText page → Stands c.records (owner, a_cited) → Stands c.records (source, a_source) → IsFit c c.next (kind.Citation (plain_citation owner source page quality))
 new_citation_fits c owner source page quality sound is of cites = record {
   alike = anew c (kind.Citation (plain_citation owner source page quality)) sound;
-  no_slip = no_slip_at_next c sound;
+  fresh = fresh_at_next c;
   no_place = λ q e. absurd cc;
   keys = λ q e k there. absurd cc;
   no_other = λ q e. absurd cc;

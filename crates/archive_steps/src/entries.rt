@@ -4,8 +4,8 @@ ghost use Rattle.std.specs.Prelude.{◌≡◌, ◌↔◌, ◌-◌, ◌++◌, IfE
 ghost use Rattle.std.specs.FinMap as map;
 ghost use Rattle.record_kinds.specs.declared.record.Record.TheVariants as kind;
 ghost use Rattle.archive_view.specs.Looks.{Agrees, CountsFailures, OnView, is_failure, is_stop};
-ghost use Rattle.archive_steps.specs.Applied.{Plans};
-ghost use Rattle.archive_steps.specs.Exact.{IsExact};
+ghost use Rattle.archive_looks.specs.Applied.{Plans};
+ghost use Rattle.archive_looks.specs.Exact.{IsExact};
 ghost use Rattle.archive_steps.specs.Steps as steps;
 
 use crate::families::check_person;

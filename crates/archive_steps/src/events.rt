@@ -3,9 +3,9 @@
 ghost use Rattle.std.specs.Prelude.{◌≡◌, ◌↔◌, [], IfOk, IsTrue, false, option_map};
 ghost use Rattle.archive_view.specs.Looks.{CountsFailures, OnView};
 ghost use Rattle.record_kinds.specs.Model as model;
-ghost use Rattle.archive_steps.specs.Applied.{Plans};
+ghost use Rattle.archive_looks.specs.Applied.{Plans};
 ghost use Rattle.archive_looks.specs.Checks as checks;
-ghost use Rattle.archive_steps.specs.Exact.{IsExact};
+ghost use Rattle.archive_looks.specs.Exact.{IsExact};
 ghost use Rattle.archive_steps.specs.Steps as steps;
 
 use crate::families::check_person;

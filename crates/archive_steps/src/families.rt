@@ -3,9 +3,9 @@
 ghost use Rattle.std.specs.Prelude.{◌≡◌, ◌==◌, ◌||◌, [], IfOk};
 ghost use Rattle.archive_view.specs.Looks.{Agrees, CountsFailures, OnView, is_stop};
 ghost use Rattle.record_kinds.specs.Model as model;
-ghost use Rattle.archive_steps.specs.Applied.{Plans};
+ghost use Rattle.archive_looks.specs.Applied.{Plans};
 ghost use Rattle.archive_looks.specs.Checks as checks;
-ghost use Rattle.archive_steps.specs.Exact.{IsExact};
+ghost use Rattle.archive_looks.specs.Exact.{IsExact};
 ghost use Rattle.archive_steps.specs.Steps as steps;
 
 use crate::making::{creates, kept_if, replaces};

@@ -2,12 +2,12 @@
 
 ghost use Rattle.std.specs.Prelude.{◌≡◌, ◌≢◌, ◌+◌, ◌∷◌, [], IfErr, IfOk, None, Some, Err, Ok};
 ghost use Rattle.std.specs.FinMap as map;
-ghost use Rattle.archive_view.specs.Looks.{Agrees, CountsFailures, OnView, is_stop};
-ghost use Rattle.archive_steps.specs.Applied.{Plans};
-ghost use Rattle.archive_looks.specs.Checks as checks;
-ghost use Rattle.archive_steps.specs.Exact.{IsExact};
+ghost use Rattle.archive_view.specs.Looks.{CountsFailures, OnView};
+ghost use Rattle.archive_looks.specs.Applied.{Plans};
+ghost use Rattle.archive_looks.specs.Exact.{IsExact};
 ghost use Rattle.archive_steps.specs.Steps as steps;
 
+use archive_looks::next_free;
 use archive_state::{Answer, Changes, Numbered};
 use archive_view::View;
 use records::{Record, RefusalKind};
@@ -15,19 +15,6 @@ use std::alloc::{AllocError, Global};
 
 /// The answer of a command that makes no record.
 const NOTHING_MADE: Answer = Answer { first: 0, count: 0 };
-
-/// The next number, where one is left.
-fn next_free<V: View>(alloc: Global, view: &mut V) -> Result<u32, RefusalKind>
-    ensures decides { OnView V.is_honest V.shows V.content view.old view.new
-        (λ c. Agrees is_stop result (checks.next_free c)) }
-    ensures counts { CountsFailures (V.failed view.old) (V.failed view.new) result }
-{
-    let next = view.next(alloc)?;
-    if next > 4_294_967_295 {
-        return Err(RefusalKind::Full);
-    }
-    Ok(next as u32)
-}
 
 /// A new record at the next number, where one is left.
 #[tactic(auto, using(crate::proofs::Exactness::new_is_exact))]

@@ -2,8 +2,8 @@
 
 ghost use Rattle.std.specs.Prelude.{IfOk};
 ghost use Rattle.archive_view.specs.Looks.{CountsFailures, OnView};
-ghost use Rattle.archive_steps.specs.Applied.{Plans};
-ghost use Rattle.archive_steps.specs.Exact.{IsExact};
+ghost use Rattle.archive_looks.specs.Applied.{Plans};
+ghost use Rattle.archive_looks.specs.Exact.{IsExact};
 ghost use Rattle.archive_steps.specs.Steps.{row_step};
 
 use crate::entries::{link_mention, new_entry, unlink_mention};

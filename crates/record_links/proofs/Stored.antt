@@ -15,7 +15,7 @@ use Rattle.record_kinds.specs.declared.record.Record.{Record}
 use Rattle.record_kinds.specs.declared.record.Record.TheVariants as kind
 use Rattle.records.specs.declared.field.Field.{Field}
 use Rattle.records.specs.declared.field.Field.TheVariants as field
-use Rattle.records.specs.Stored.{stored, branch, lines_below, text_trees, place_tree, repo_tree, holding_tree, source_tree, citation_tree, name_tree, person_tree, partner_tree, child_tree, family_tree, when_trees, participant_tree, event_tree, mention_tree, entry_tree, other_tree, record_tree, bare_place, link_person, link_reason, tag_tree}
+use Rattle.records.specs.Stored.{stored, branch, lines_below, text_trees, place_tree, repo_tree, holding_tree, source_tree, citation_tree, name_tree, person_tree, partner_tree, child_tree, family_tree, when_trees, participant_tree, event_tree, mention_tree, key_words, entry_tree, other_tree, record_tree, bare_place, link_person, link_reason, tag_tree}
 use Rattle.record_links.specs.Links.{Link, Wanted, a_place, a_repo, a_source, a_person, a_holder, a_cited, at_level_0, is_among, value_links, line_links, forest_links, carried_links, field_links, place_links, repo_links, holding_links, source_links, name_links, person_links, partner_links, child_links, family_links, citation_links, place_line_links, participant_links, event_links, mention_links, entry_links, other_links, links}
 use Rattle.record_links.specs.Stored.{is_target, some_line_names}
 use Rattle.record_links.proofs.Links.{among_both}
@@ -176,8 +176,8 @@ module _ (n : ℕ) where
 
   entry_has : (e : model.Entry) → Has n (entry_tree e) (entry_links e)
   entry_has e = has_branch field.Entry (Some (entry_kind_word e.kind)) None [] refl
-      (tells_both (tells_one (has_branch field.Page (Some e.page) (Some e.source) ((e.source, a_source) ∷ []) (the_target a_source e.source) tells_none)) (tells_both (no_text field.Item (Some (decimal e.item.number))) (tells_both (bare_has (option_map date_text e.date) e.place)
-      (tells_both (no_text field.Text (Some e.text)) (tells_each mention_tree mention_links mention_has e.mentions)))))
+      (tells_both (tells_one (has_branch field.Key (Some (key_words e.item e.page)) (Some e.source) ((e.source, a_source) ∷ []) (the_target a_source e.source) tells_none)) (tells_both (no_text field.Page (Some e.page)) (tells_both (no_text field.Item (Some (decimal e.item.number))) (tells_both (bare_has (option_map date_text e.date) e.place)
+      (tells_both (no_text field.Text (Some e.text)) (tells_each mention_tree mention_links mention_has e.mentions))))))
 
   other_has : (o : model.Other) → Has n (other_tree o) (other_links o)
   other_has o = has_branch field.Other None None [] refl (tells_one (record {

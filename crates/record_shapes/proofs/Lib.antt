@@ -1,4 +1,4 @@
-mod Entries
+pub mod Entries
 mod Events
 pub mod Examples
 pub mod Pairs

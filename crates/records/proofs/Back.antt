@@ -7,7 +7,7 @@ use Rattle.std.proofs.Common.{ap, ◌∙◌}
 use Rattle.stored_lines.specs.Tree.{Tree, node, forest_of, list_of, relabel}
 use Rattle.stored_lines.specs.Line.{Label, Lines, Branches, label_for, label_of}
 use Rattle.record_kinds.specs.Model as model
-use Rattle.records.specs.Stored.{word, branch, lines_below, text_trees, place_tree, repo_tree, holding_tree, source_tree, citation_tree, name_tree, person_tree, partner_tree, child_tree, family_tree, when_trees, participant_tree, event_tree, link_person, link_reason, mention_tree, bare_place, entry_tree, other_tree, record_tree}
+use Rattle.records.specs.Stored.{word, branch, lines_below, text_trees, place_tree, repo_tree, holding_tree, source_tree, citation_tree, name_tree, person_tree, partner_tree, child_tree, family_tree, when_trees, participant_tree, event_tree, link_person, link_reason, mention_tree, bare_place, key_words, entry_tree, other_tree, record_tree}
 use Rattle.records.specs.Shallow.{InHolding, InSource, InName, InPerson, InPartner, InChild, InFamily, InPlaceLine, InParticipant, InEvent, InRecord}
 use Rattle.records.specs.Reading.{under, first, text_at, number_at, below_all, lines_from, text_from, read_by, text_or_empty, place_from, repo_from, holding_from, source_from, citation_from, name_from, person_from, partner_from, child_from, family_from, event_place_from, participant_from, event_from, link_from, mention_from, place_number, entry_from, other_on, other_from, record_from}
 use Rattle.stored_lines.proofs.Back.{list_of_forest_of, line_back}
@@ -270,14 +270,15 @@ module _ (read : Branches → Lines) (P : Lines → Type 0) (nil : P []) (back :
       let when : Segment = record { field = field.Date; lines = when_trees date place; is_of = of-when date place } in
       let mentions : Segment = record { field = field.Mention; lines = map mention_tree e.mentions; is_of = of-mentions e.mentions } in
       let item = decimal e.item.number in
-      let lines = branch field.Page (Some e.page) (Some e.source) [] ∷ [] in
-      let page : Segment = record { field = field.Page; lines = lines; is_of = of-one field.Page (Some e.page) (Some e.source) [] } in
-      let ss = page ∷ text-of field.Item (Some item) ∷ when ∷ text-of field.Text (Some e.text) ∷ mentions ∷ [] in
+      let words = Some (key_words e.item e.page) in
+      let lines = branch field.Key words (Some e.source) [] ∷ [] in
+      let key : Segment = record { field = field.Key; lines = lines; is_of = of-one field.Key words (Some e.source) [] } in
+      let ss = key ∷ text-of field.Page (Some e.page) ∷ text-of field.Item (Some item) ∷ when ∷ text-of field.Text (Some e.text) ∷ mentions ∷ [] in
       let line = field-of field.Date ss (when_trees date place) refl in
       λ i. record {
-        source = ap (λ ts. number_at (first ts)) (field-of field.Page ss lines refl) i;
+        source = ap (λ ts. number_at (first ts)) (field-of field.Key ss lines refl) i;
         kind = ap (λ o. unwrap_or o entry_kind.Baptism) (entry_kind_back e.kind) i;
-        page = ap (λ ts. text_or_empty (text_at (first ts))) (field-of field.Page ss lines refl) i;
+        page = ap text_or_empty (text-field field.Page ss (Some e.page) refl) i;
         item = (ap (λ t. unwrap_or (read_by item_of t) first_item) (text-field field.Item ss (Some item) refl) ∙ ap (λ o. unwrap_or o first_item) (item_back e.item)) i;
         date = (ap (λ ts. date_from (text_at (first ts))) line ∙ ap date_from (when-text date place) ∙ date_back e.date) i;
         place = (ap (λ ts. option_map place_number (event_place_from read (first ts))) line ∙ ap (option_map place_number) (when-place date place (bare-place e.place)) ∙ number-back e.place) i;

@@ -24,6 +24,7 @@ word_is_tag field.Event = record { some = lit< tt; short = lit< tt; words = refl
 word_is_tag field.Date = record { some = lit< tt; short = lit< tt; words = refl }
 word_is_tag field.Participant = record { some = lit< tt; short = lit< tt; words = refl }
 word_is_tag field.Entry = record { some = lit< tt; short = lit< tt; words = refl }
+word_is_tag field.Key = record { some = lit< tt; short = lit< tt; words = refl }
 word_is_tag field.Page = record { some = lit< tt; short = lit< tt; words = refl }
 word_is_tag field.Item = record { some = lit< tt; short = lit< tt; words = refl }
 word_is_tag field.Text = record { some = lit< tt; short = lit< tt; words = refl }

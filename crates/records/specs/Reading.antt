@@ -193,7 +193,7 @@ module _ (carried_from : Branches → Lines) where
 
   abbrev pub entry_from : Tree Label → model.Entry
   entry_from t = record {
-    source = number_at (first (under field.Page (below t)));
+    source = number_at (first (under field.Key (below t)));
     kind = unwrap_or (read_by entry_kind_of (label t).text) entry_kind.Baptism;
     page = text_or_empty (text_from field.Page (below t));
     item = unwrap_or (read_by item_of (text_from field.Item (below t))) first_item;

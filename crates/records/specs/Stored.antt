@@ -1,12 +1,13 @@
 -- How a record is kept: a tree of lines, listed in order with their depths. The first line has the word of the kind;
 -- each field stands on a line with a word of its own, and a line may have a text and the number of a record together.
 -- The carried lines of a part stand last, below one line. So nothing is escaped, and a carried line may have any tag.
-use Rattle.std.specs.Prelude.{ℕ, List, [], ◌∷◌, ◌++◌, map, codes, Option, Some, None, option_map, decimal}
+use Rattle.std.specs.Prelude.{ℕ, List, [], ◌∷◌, ◌++◌, map, codes, Option, Some, None, option_map, decimal, cond, nat_le, length}
 use Rattle.stored_lines.specs.Tree.{Tree, node, forest_of, flat, relabel}
 use Rattle.stored_lines.specs.Line.{Label, Lines, Branches, label_for, label_of}
 use Rattle.record_kinds.specs.Model as model
 use Rattle.record_fields.specs.Words.{quality_word, sex_word, partnership_word, entry_kind_word, role_word}
 use Rattle.record_fields.specs.Dated.{date_text}
+use Rattle.record_fields.specs.declared.item.Item.{Item}
 use Rattle.records.specs.declared.field.Field.{Field}
 use Rattle.records.specs.declared.field.Field.TheVariants as field
 use Rattle.record_kinds.specs.declared.record.Record.{Record}
@@ -32,6 +33,7 @@ word field.Event = codes "event"
 word field.Date = codes "date"
 word field.Participant = codes "participant"
 word field.Entry = codes "entry"
+word field.Key = codes "key"
 word field.Page = codes "page"
 word field.Item = codes "item"
 word field.Text = codes "text"
@@ -129,11 +131,15 @@ mention_tree m = branch field.Mention (Some m.name) (option_map link_person m.li
 abbrev pub bare_place : ℕ → model.EventPlace
 bare_place n = record { place = n; carried = [] }
 
+-- by what an entry is found among those of its source: its item and its page, or the item alone where the page is long
+abbrev pub key_words : Item → List ℕ → List ℕ
+key_words item page = cond (nat_le (length page) 1000) (decimal item.number ++ (codes " " ++ page)) (decimal item.number)
+
 abbrev pub entry_tree : model.Entry → Tree Label
-entry_tree e = branch field.Entry (Some (entry_kind_word e.kind)) None ((branch field.Page (Some e.page) (Some e.source) [] ∷ [])
-    ++ (text_trees field.Item (Some (decimal e.item.number))
+entry_tree e = branch field.Entry (Some (entry_kind_word e.kind)) None ((branch field.Key (Some (key_words e.item e.page)) (Some e.source) [] ∷ [])
+    ++ (text_trees field.Page (Some e.page) ++ (text_trees field.Item (Some (decimal e.item.number))
     ++ (when_trees (option_map date_text e.date) (option_map bare_place e.place)
-    ++ (text_trees field.Text (Some e.text) ++ map mention_tree e.mentions))))
+    ++ (text_trees field.Text (Some e.text) ++ map mention_tree e.mentions)))))
 
 -- the one line below that of another record is the record's own, with its carried lines
 abbrev pub own_line : model.Other → Tree Label

@@ -6,10 +6,11 @@ ghost use Rattle.record_fields.specs.Words.{entry_kind_of, entry_kind_word, role
 ghost use Rattle.record_fields.specs.Items.{first_item, item_of};
 ghost use Rattle.record_fields.specs.declared.entry_words.EntryKind.TheVariants as kinds;
 ghost use Rattle.record_fields.specs.declared.entry_words.Role.TheVariants as roles;
-ghost use Rattle.records.specs.Stored.{branch, mention_tree, entry_tree, link_person, link_reason, bare_place};
+ghost use Rattle.records.specs.Stored.{branch, mention_tree, entry_tree, link_person, link_reason, bare_place, key_words};
 ghost use Rattle.records.specs.Reading.{shallow_lines, mention_from, entry_from, link_from, read_by, place_number, event_place_from, first, under, text_from};
 ghost use Rattle.records.specs.declared.field.Field.TheVariants as field;
 
+use crate::entry_keys::entry_key;
 use crate::event_parts::{date_at, date_words, place_at, push_when};
 use crate::field::Field;
 use crate::part::{Part, parts_at, push_parts};
@@ -65,7 +66,8 @@ impl Part for Entry {
 
     fn write(&self, alloc: Global) -> Result<Branch, AllocError> {
         let mut below = Vec::new(alloc);
-        below.push(page_line(alloc, self)?)?;
+        below.push(key_line(alloc, self)?)?;
+        push_text(alloc, &mut below, Field::Page, Some(self.page.copy(alloc)?))?;
         push_text(alloc, &mut below, Field::Item, Some(self.item.text(alloc)?))?;
         let place = bare(alloc, self.place);
         push_when(alloc, &mut below, date_words(alloc, &self.date)?, &place)?;
@@ -78,7 +80,7 @@ impl Part for Entry {
     fn read(alloc: Global, branch: &Branch) -> Result<Entry, AllocError> {
         let parts = children_of(branch);
         Ok(Entry {
-            source: number_at(parts, Field::Page),
+            source: number_at(parts, Field::Key),
             kind: kind_in(&branch.text),
             item: item_at(alloc, parts)?,
             place: number_at_date(alloc, parts)?,
@@ -90,12 +92,12 @@ impl Part for Entry {
     }
 }
 
-/// The line of the page, which names the source too: so an entry is found by both.
-fn page_line(alloc: Global, entry: &Entry) -> Result<Branch, AllocError>
-    ensures { IfOk result (λ line. line ≡ branch field.Page (Some entry.now.page) (Some entry.now.source) []) }
+/// The line by which an entry is found; it names the source.
+fn key_line(alloc: Global, entry: &Entry) -> Result<Branch, AllocError>
+    ensures { IfOk result (λ line. line ≡ branch field.Key (Some (key_words entry.now.item entry.now.page)) (Some entry.now.source) []) }
 {
-    let page = Some(entry.page.copy(alloc)?);
-    Field::Page.branch(alloc, page, Some(entry.source), Vec::new(alloc))
+    let words = Some(entry_key(alloc, entry.item, &entry.page)?);
+    Field::Key.branch(alloc, words, Some(entry.source), Vec::new(alloc))
 }
 
 /// The number of a place as that of an event, without carried lines.

@@ -46,6 +46,8 @@ pub enum Field {
     Participant,
     /// The first line of a register entry.
     Entry,
+    /// By what an entry is found, and the number of its source.
+    Key,
     /// The page of an entry.
     Page,
     /// The number of an entry on its page.
@@ -90,6 +92,7 @@ impl Field {
             Field::Date => "date",
             Field::Participant => "participant",
             Field::Entry => "entry",
+            Field::Key => "key",
             Field::Page => "page",
             Field::Item => "item",
             Field::Text => "text",

@@ -8,6 +8,7 @@
 //! record; `copy_record` gives the same record in memory of its own.
 #![tactic(auto)]
 
+mod entry_keys;
 mod entry_parts;
 mod event_parts;
 mod field;
@@ -21,6 +22,7 @@ mod reading;
 mod source_parts;
 mod writing;
 
+pub use entry_keys::entry_key;
 pub use keeping::{copy_record, lines_of, record_of};
 pub use record_fields::{Date, EntryKind, Item, Partnership, Quality, Role, Sex};
 pub use record_kinds::{

@@ -9,7 +9,7 @@ use Rattle.archive_state.specs.Slips.{Slip}
 use Rattle.archive_state.specs.declared.slip.Change.{Change}
 use Rattle.archive_state.specs.Sound.{IsSound}
 use Rattle.sound_archives.specs.Archives.{Archive, content}
-use Rattle.sound_archives.specs.Rules.{IsMerge, OneBreaks, SlipRule, apart, ascending, broken, distinct, gone_person, joinable, keep_person, of_olds, of_slips, slip_links, slip_numbers, tags, untaken}
+use Rattle.sound_archives.specs.Rules.{IsMerge, OneBreaks, SlipRule, apart, ascending, broken, distinct, free, gone_person, joinable, keep_person, of_olds, of_slips, slip_links, slip_numbers, stayed, tags, untaken}
 use Rattle.sound_archives.proofs.Sound.{judged, sound, unmerged}
 use Rattle.sound_archives.proofs.Hands.{called, child, family, husband, other, person}
 
@@ -37,6 +37,14 @@ a_plain_slip = (refl, (refl, tt))
 -- ---- numbers
 pub a_number_of_a_record_and_a_slip : OneBreaks distinct (record { records = (1, person []) ∷ []; next = 10; slips = (1, plain) ∷ [] }) (record { records = (1, person []) ∷ []; next = 10; slips = (3, plain) ∷ [] })
 a_number_of_a_record_and_a_slip = (refl, refl)
+
+-- the person that stays is a person, or is gone
+pub a_family_where_a_person_stayed : OneBreaks stayed (record { records = (1, family [] [] []) ∷ []; next = 10; slips = (9, plain) ∷ [] }) (record { records = []; next = 10; slips = (9, plain) ∷ [] })
+a_family_where_a_person_stayed = (refl, refl)
+
+-- a slip may not have the number of the person that is gone
+pub a_slip_where_a_person_is_gone : OneBreaks free (record { records = (1, person []) ∷ []; next = 10; slips = (2, plain) ∷ [] }) (record { records = (1, person []) ∷ []; next = 10; slips = (3, plain) ∷ [] })
+a_slip_where_a_person_is_gone = (refl, refl)
 
 pub a_slip_with_the_number_0 : OneBreaks (of_slips slip_numbers) (record { records = []; next = 10; slips = (0, plain) ∷ [] }) (record { records = []; next = 10; slips = (3, plain) ∷ [] })
 a_slip_with_the_number_0 = (refl, refl)

@@ -13,7 +13,7 @@ use Rattle.archive_state.specs.Slips.{Slip}
 use Rattle.archive_state.specs.Sound.{IsSound, old_records}
 use Rattle.archive_state.proofs.Each.{each_back, each_front}
 use Rattle.sound_archives.specs.Archives.{Archive, at, content, olds}
-use Rattle.sound_archives.specs.Rules.{AreMerges, ArchiveRule, IsMerge, OneBreaks, Rule, SlipRule, apart, archive_keeps, archive_rules, ascending, begun, bounded, broken, distinct, event_tags, gone_person, joinable, keep_person, keys, levels, linked, members, mentions, normal_names, numbers, of_olds, of_records, of_slips, parents, paths, places, rules, shapes, slip_links, slip_numbers, slip_rules, tags, texts, trailers, untaken}
+use Rattle.sound_archives.specs.Rules.{AreMerges, ArchiveRule, IsMerge, OneBreaks, Rule, SlipRule, apart, archive_keeps, archive_rules, ascending, begun, bounded, broken, distinct, event_tags, free, gone_person, joinable, keep_person, keys, levels, linked, members, mentions, normal_names, numbers, of_olds, of_records, of_slips, parents, paths, places, rules, shapes, slip_links, slip_numbers, slip_rules, stayed, tags, texts, trailers, untaken}
 use Rattle.sound_archives.proofs.Whole.{is_sound, not_sound, old_same, slips_same}
 
 -- ---- the lists of rules have them all
@@ -49,8 +49,10 @@ archive_rule_in P h begun = h.0
 archive_rule_in P h bounded = h.1.0
 archive_rule_in P h distinct = h.1.1.0
 archive_rule_in P h linked = h.1.1.1.0
-archive_rule_in P h (of_records r) = rule_in (λ x. P (of_records x)) (each_front P (map (λ x. of_records x) rules) (map (λ x. of_slips x) slip_rules) h.1.1.1.1) r
-archive_rule_in P h (of_slips r) = slip_rule_in (λ x. P (of_slips x)) (each_back P (map (λ x. of_records x) rules) (map (λ x. of_slips x) slip_rules) h.1.1.1.1) r
+archive_rule_in P h stayed = h.1.1.1.1.0
+archive_rule_in P h free = h.1.1.1.1.1.0
+archive_rule_in P h (of_records r) = rule_in (λ x. P (of_records x)) (each_front P (map (λ x. of_records x) rules) (map (λ x. of_slips x) slip_rules) h.1.1.1.1.1.1) r
+archive_rule_in P h (of_slips r) = slip_rule_in (λ x. P (of_slips x)) (each_back P (map (λ x. of_records x) rules) (map (λ x. of_slips x) slip_rules) h.1.1.1.1.1.1) r
 
 -- ---- what a list without some elements says
 none_left : {A : Type 0} (q : A → Bool) (xs : List A) → filter (λ x. not (q x)) xs ≡ [] → EachOf (λ x. q x ≡ true) xs

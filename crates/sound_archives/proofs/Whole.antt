@@ -1,6 +1,6 @@
 -- The test of each rule on slips, and on all that an archive holds, decides it; what breaks a rule is not sound.
 use Rattle.std.proofs.Common.{◌≡◌, ℕ, ◌<◌, ◌==◌, List, [], ◌∷◌, true, false, not, nat_lt, map, refl, sym, ap, subst, ◌∙◌, true≢false}
-use Rattle.std.specs.Prelude.{Option, Some, None, MatchOption}
+use Rattle.std.specs.Prelude.{Option, Some, None, IfSome, MatchOption}
 use Rattle.std.specs.Bool.{Decides}
 use Rattle.std.proofs.lemmas.Bool.Decides.{Decides-and, Decides-eqb, Decides-ltb, Decides-not}
 use Rattle.std.specs.List.{flat_map, list_all}
@@ -16,9 +16,9 @@ use Rattle.archive_state.specs.Merging.{clashes, merged}
 use Rattle.archive_state.specs.Slips.{Slip}
 use Rattle.archive_state.specs.Sound.{EachIn, HasSoundRecords, IsEmptyPerson, IsNumber, IsPerson, IsSound, IsSoundSlip, Stands, StandsIfThere, change_names, old_records}
 use Rattle.sound_archives.specs.Archives.{Archive, at, content, olds}
-use Rattle.sound_archives.specs.Judged.{ascends, is_empty_person, is_nil, is_number, is_person, is_some_person, may_keep, stands, stands_if_there}
-use Rattle.sound_archives.specs.Rules.{ArchiveKeeps, ArchiveRule, Keeps, Rule, SlipKeeps, SlipRule, apart, archive_keeps, ascending, begun, bounded, distinct, event_tags, gone_person, is_none, joinable, keep_person, keys, levels, linked, members, mentions, normal_names, numbers, of_olds, of_records, of_slips, parents, paths, places, shapes, slip_keeps, slip_links, slip_numbers, tags, texts, trailers, untaken}
-use Rattle.sound_archives.proofs.Tests.{each_in, each_of, from_some, to_some}
+use Rattle.sound_archives.specs.Judged.{all_some, ascends, is_empty_person, is_nil, is_number, is_person, is_some_person, may_keep, stands, stands_if_there}
+use Rattle.sound_archives.specs.Rules.{ArchiveKeeps, ArchiveRule, Keeps, Rule, SlipKeeps, SlipRule, apart, archive_keeps, ascending, begun, bounded, distinct, event_tags, free, gone_person, is_none, joinable, keep_person, keys, levels, linked, members, mentions, normal_names, numbers, of_olds, of_records, of_slips, parents, paths, places, shapes, slip_keeps, slip_links, slip_numbers, stayed, tags, texts, trailers, untaken}
+use Rattle.sound_archives.proofs.Tests.{each_in, each_of, from_some, if_some, to_some}
 use Rattle.sound_archives.proofs.Judging.{all_stand, all_stand_there, decides}
 use Rattle.sound_archives.proofs.Parts as part
 
@@ -88,6 +88,10 @@ module _ (a : Archive) where
   archive_decides distinct = each_in (λ n r. is_none (at a.slips n)) (λ n r. get (content a).slips n ≡ None) (λ n r. no_slip n) (content a).records a.records records_same
   archive_decides linked = each_in (λ n r. list_all (stands (at a.records)) (links r)) (λ n r. EachOf (Stands (content a).records) (links r))
       (λ n r. all_stand (content a).records a.records records_same r) (content a).records a.records records_same
+  archive_decides stayed = each_in (λ n s. all_some is_person (at a.records s.keep)) (λ n s. IfSome (get (content a).records s.keep) IsPerson)
+      (λ n s. subst (λ o. Decides (all_some is_person (at a.records s.keep)) (IfSome o IsPerson)) (sym (records_same s.keep)) (if_some is_person IsPerson a_person (at a.records s.keep)))
+      (content a).slips a.slips slips_same
+  archive_decides free = each_in (λ n s. is_none (at a.slips s.gone)) (λ n s. get (content a).slips s.gone ≡ None) (λ n s. no_slip s.gone) (content a).slips a.slips slips_same
   archive_decides (of_records r) = decides (content a).records a.records records_same a.next r
   archive_decides (of_slips r) = each_in (λ n s. slip_keeps a.next n s r) (λ n s. SlipKeeps a.next n s r) (λ n s. slip_decides a.next n s r) (content a).slips a.slips slips_same
 
@@ -143,6 +147,8 @@ archive_of c h begun = h.begun
 archive_of c h bounded = h.bounded
 archive_of c h distinct = h.distinct
 archive_of c h linked = h.named
+archive_of c h stayed = h.stayed
+archive_of c h free = h.free
 archive_of c h (of_records r) = keeps_of c.next c.records h.rules r
 archive_of c h (of_slips r) = λ n s e. slip_of c.next n s (h.slips n s e) r
 
@@ -174,4 +180,6 @@ is_sound a h new =
         named = kept (of_slips slip_links) n s e;
         rules = of_keeps a.next (old_records s) (λ r. kept (of_slips (of_olds r)) n s e);
       };
+      stayed = kept stayed;
+      free = kept free;
     }

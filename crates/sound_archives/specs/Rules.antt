@@ -1,5 +1,5 @@
 -- The rules of what a sound archive is, each by its name: what it says, and the test of it.
-use Rattle.std.specs.Prelude.{ℕ, ◌≡◌, ◌≢◌, ◌<◌, ◌≤◌, ◌==◌, Bool, true, false, not, nat_lt, nat_le, List, [], ◌∷◌, ◌++◌, map, Option, Some, None, MatchOption}
+use Rattle.std.specs.Prelude.{ℕ, ◌≡◌, ◌≢◌, ◌<◌, ◌≤◌, ◌==◌, Bool, true, false, not, nat_lt, nat_le, List, [], ◌∷◌, ◌++◌, map, Option, Some, None, IfSome, MatchOption}
 use Rattle.std.specs.List.{filter, flat_map, list_all}
 use Rattle.std.specs.FinMap.{get}
 use Rattle.record_kinds.specs.Model as model
@@ -22,7 +22,7 @@ use Rattle.archive_state.specs.Slips.{Slip}
 use Rattle.archive_state.specs.Sound.{EachIn, HasEventTag, HasMembersOnce, HasNormalName, HasOwnShape, HasSaidPlace, HasSmallerParent, HasSoundMentions, IsEmptyPerson, IsNoTrailer, IsNumber, IsOfRecords, IsPerson, Stands, StandsIfThere, change_names, old_records, own_tags, owner_in}
 use Rattle.archive_state.specs.Texts.{carried_texts, own_texts}
 use Rattle.sound_archives.specs.Archives.{Archive, at, olds}
-use Rattle.sound_archives.specs.Judged.{all_some, ascends, each, has_event_tag, has_members_once, has_normal_name, has_own_key, has_own_shape, has_room, has_said_place, has_smaller_parent, has_sound_mentions, has_tags, has_texts, has_untaken, is_no_trailer, is_number, is_some_person, may_keep, owner_seen, seen, seen_before, stands, stands_if_there}
+use Rattle.sound_archives.specs.Judged.{all_some, ascends, each, has_event_tag, has_members_once, has_normal_name, has_own_key, has_own_shape, has_room, has_said_place, has_smaller_parent, has_sound_mentions, has_tags, has_texts, has_untaken, is_no_trailer, is_number, is_person, is_some_person, may_keep, owner_seen, seen, seen_before, stands, stands_if_there}
 
 -- ---- the rules on records
 pub data Rule : Type 0 where
@@ -98,7 +98,7 @@ slip_rules = slip_numbers ∷ ascending ∷ gone_person ∷ keep_person ∷ apar
 
 -- ---- the rules on all
 pub data ArchiveRule : Type 0 where
-  begun bounded distinct linked : ArchiveRule
+  begun bounded distinct linked stayed free : ArchiveRule
   of_records : Rule → ArchiveRule
   of_slips : SlipRule → ArchiveRule
 
@@ -107,6 +107,8 @@ ArchiveKeeps c begun = 0 < c.next
 ArchiveKeeps c bounded = c.next ≤ 4294967296
 ArchiveKeeps c distinct = EachIn c.records (λ n r. get c.slips n ≡ None)
 ArchiveKeeps c linked = EachIn c.records (λ n r. EachOf (Stands c.records) (links r))
+ArchiveKeeps c stayed = EachIn c.slips (λ n s. IfSome (get c.records s.keep) IsPerson)
+ArchiveKeeps c free = EachIn c.slips (λ n s. get c.slips s.gone ≡ None)
 ArchiveKeeps c (of_records rule) = Keeps c.next c.records rule
 ArchiveKeeps c (of_slips rule) = EachIn c.slips (λ n s. SlipKeeps c.next n s rule)
 
@@ -119,11 +121,13 @@ archive_keeps a begun = nat_lt 0 a.next
 archive_keeps a bounded = nat_le a.next 4294967296
 archive_keeps a distinct = each (λ n r. is_none (at a.slips n)) a.records
 archive_keeps a linked = each (λ n r. list_all (stands (at a.records)) (links r)) a.records
+archive_keeps a stayed = each (λ n s. all_some is_person (at a.records s.keep)) a.slips
+archive_keeps a free = each (λ n s. is_none (at a.slips s.gone)) a.slips
 archive_keeps a (of_records rule) = keeps a.next a.records rule
 archive_keeps a (of_slips rule) = each (λ n s. slip_keeps a.next n s rule) a.slips
 
 abbrev pub archive_rules : List ArchiveRule
-archive_rules = begun ∷ bounded ∷ distinct ∷ linked ∷ (map (λ r. of_records r) rules ++ map (λ r. of_slips r) slip_rules)
+archive_rules = begun ∷ bounded ∷ distinct ∷ linked ∷ stayed ∷ free ∷ (map (λ r. of_records r) rules ++ map (λ r. of_slips r) slip_rules)
 
 -- the rules that an archive breaks
 abbrev pub broken : Archive → List ArchiveRule

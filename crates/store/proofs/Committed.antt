@@ -17,7 +17,7 @@ use Rattle.archive_state.specs.Changes.{Changes}
 use Rattle.archive_state.specs.Content.{Content}
 use Rattle.archive_state.specs.declared.changes.Kept.{Kept}
 use Rattle.archive_core.specs.Applied.{Decides}
-use Rattle.archive_steps.specs.Exact.{ChangesNothing}
+use Rattle.archive_looks.specs.Exact.{ChangesNothing}
 use Rattle.archive_core.specs.Exact.{IsExactFor}
 use Rattle.archive_core.specs.Machine.{Does, outcome}
 use Rattle.archive_core.specs.Words.{HasUtf8Words}

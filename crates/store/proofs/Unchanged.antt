@@ -12,7 +12,7 @@ use Rattle.archive_state.specs.declared.changes.Kept.{Kept}
 use Rattle.archive_state.specs.declared.changes.Numbered.{Numbered}
 use Rattle.archive_state.specs.declared.changes.SlipChange.{SlipChange}
 use Rattle.archive_state.specs.declared.changes.SlipChange.TheVariants as change
-use Rattle.archive_steps.specs.Exact.{ChangesNothing, IsExact}
+use Rattle.archive_looks.specs.Exact.{ChangesNothing, IsExact}
 use Rattle.store_tables.specs.Rows.{Rows}
 use Rattle.store_rows.specs.Writing.{with_changes, with_kept_written, with_puts_written, with_slip_written}
 use Rattle.store_rows.proofs.Got.{got_put, got_removed}

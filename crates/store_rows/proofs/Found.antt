@@ -17,7 +17,7 @@ use Rattle.record_fields.specs.declared.item.Item.{Item}
 use Rattle.record_kinds.specs.Model as model
 use Rattle.record_kinds.specs.declared.record.Record.{Record}
 use Rattle.record_kinds.specs.declared.record.Record.TheVariants as kind
-use Rattle.records.specs.Stored.{stored}
+use Rattle.records.specs.Stored.{stored, key_words}
 use Rattle.archive_state.specs.Content.{Content, Records}
 use Rattle.archive_state.specs.Entries.{IsEntryAt, HasKey}
 use Rattle.archive_state.specs.Paths.{HasPath, IsPlaceAt, IsLowest}
@@ -215,19 +215,21 @@ lowest_of_all P ns (Some k) among (there, low) = (there, λ j less p. low j (amo
 pub place_found : (path : List ℕ) (rows : Rows) (c : Content) (ns : List ℕ) (found : Option ℕ) → Means rows c → HasAllSaying path rows ns → IsLowestAmong (λ n. HasPath c.records n path) ns found → IsLowest (λ n. HasPath c.records n path) found
 place_found path rows c ns found means all low = lowest_of_all (λ n. HasPath c.records n path) ns found (λ n h. path_among path rows c ns n means all h) low
 
--- ---- the line of an entry's page
-page_said : (n : ℕ) (rows : Rows) (c : Content) (e : model.Entry) → Means rows c → get c.records n ≡ Some (kind.Entry e) → IsAmong n (lines_saying_of e.page e.source rows)
-page_said n rows c e means at =
-    let says = (λ (l : Label). is_text e.page l.text && is_number e.source l.target) in
+-- ---- the line of an entry's key
+key_said : (n : ℕ) (rows : Rows) (c : Content) (e : model.Entry) → Means rows c → get c.records n ≡ Some (kind.Entry e) → IsAmong n (lines_saying_of (key_words e.item e.page) e.source rows)
+key_said n rows c e means at =
+    let words = key_words e.item e.page in
+    let says = (λ (l : Label). is_text words l.text && is_number e.source l.target) in
     let of : (e.source == e.source) ≡ true = grind (arith, nat_tests) in
     said_where says n rows ∙ ap (list_any (λ (x : ℕ × Label). says x.1)) (kept_as n rows c (kind.Entry e) means at)
-    ∙ right_of (is_text e.page (Some (entry_kind_word e.kind)) && false) _ (left_of (bytes_eq e.page e.page && (e.source == e.source)) _ (ap₂ (λ a b. a && b) (same_bytes e.page) of))
+    ∙ right_of (is_text words (Some (entry_kind_word e.kind)) && false) _ (left_of (bytes_eq words words && (e.source == e.source)) _ (ap₂ (λ a b. a && b) (same_bytes words) of))
 
-key_among : (source : ℕ) (k : EntryKind) (page : List ℕ) (item : Item) (rows : Rows) (c : Content) (ns : List ℕ) (n : ℕ) → Means rows c → ns ≡ lines_saying_of page source rows → IsEntryAt c.records source k page item n → IsAmong n ns
+key_among : (source : ℕ) (k : EntryKind) (page : List ℕ) (item : Item) (rows : Rows) (c : Content) (ns : List ℕ) (n : ℕ) → Means rows c → ns ≡ lines_saying_of (key_words item page) source rows → IsEntryAt c.records source k page item n → IsAmong n ns
 key_among source k page item rows c ns n means is (e, at, (from, same, on, of)) =
-    subst (IsAmong n) (sym is) (subst (λ t. IsAmong n (lines_saying_of t source rows)) on (subst (λ m. IsAmong n (lines_saying_of e.page m rows)) from (page_said n rows c e means at)))
+    let words : key_words e.item e.page ≡ key_words item page = ap₂ key_words of on in
+    subst (IsAmong n) (sym is) (subst (λ t. IsAmong n (lines_saying_of t source rows)) words (subst (λ m. IsAmong n (lines_saying_of (key_words e.item e.page) m rows)) from (key_said n rows c e means at)))
 
-pub key_found : (source : ℕ) (k : EntryKind) (page : List ℕ) (item : Item) (rows : Rows) (c : Content) (ns : List ℕ) (found : Option ℕ) → Means rows c → ns ≡ lines_saying_of page source rows
+pub key_found : (source : ℕ) (k : EntryKind) (page : List ℕ) (item : Item) (rows : Rows) (c : Content) (ns : List ℕ) (found : Option ℕ) → Means rows c → ns ≡ lines_saying_of (key_words item page) source rows
     → IsLowestAmong (λ n. IsEntryAt c.records source k page item n) ns found → IsLowest (λ n. IsEntryAt c.records source k page item n) found
 key_found source k page item rows c ns found means is low = lowest_of_all (λ n. IsEntryAt c.records source k page item n) ns found (λ n h. key_among source k page item rows c ns n means is h) low
 

@@ -19,7 +19,7 @@ use crate::sides::changes_of;
 use archive_state::Slip;
 use receipts::{Receipt, Token};
 use record_text::{RefusalKind, Text};
-use records::{EntryKind, Item, Record, record_of};
+use records::{EntryKind, Item, Record, entry_key, record_of};
 use sqlite::{Alter, Connection};
 use std::alloc::{AllocError, Global};
 use std::collections::BTreeSet;
@@ -121,7 +121,7 @@ pub fn place_at<S: Alter>(
 }
 
 /// The lowest number of an entry of this source, kind, page and item, read of the records that an index gives: those
-/// with a line whose text is the page and which names the source.
+/// with a line that has the words of its key and names the source.
 pub fn entry_at<S: Alter>(
     alloc: Global,
     conn: &mut Connection<S>,
@@ -134,7 +134,8 @@ pub fn entry_at<S: Alter>(
     ensures sees { Sees (λ c found. IsLowest (λ n. IsEntryAt c.records source kind page.now item n) found) (state S.Store conn.old) (state S.Store conn.new) result }
     ensures ended { conn.new.in_transaction ≡ false }
 {
-    let numbers = keyed::lines_saying_of(alloc, conn, page.as_str(), source)?;
+    let words = entry_key(alloc, item, page)?;
+    let numbers = keyed::lines_saying_of(alloc, conn, words.as_str(), source)?;
     finding::lowest_entry(alloc, conn, &numbers, source, kind, page, item)
 }
 

@@ -187,7 +187,7 @@ def shows_entry(
 ) -> Step:
     """The stored lines of a register entry: its page and source, its date and place, and the role, name, person and reason
     of each mention."""
-    lines = [(0, "entry", kind, "-"), (1, "page", *page), (1, "item", item, "-")]
+    lines = [(0, "entry", kind, "-"), (1, "key", f"{item} {page[0]}", page[1]), (1, "page", page[0], "-"), (1, "item", item, "-")]
     if when is not None:
         lines.append((1, "date", *when))
     lines.append((1, "text", text, "-"))

@@ -67,12 +67,13 @@ def with_made(statements: str, request: tuple[str | int, ...], *told: str | int)
 # same with a word that is no role, another record that points to itself, one that points to source 5, and slips.
 ENTRY = "INSERT INTO record VALUES (6, 'entry', 0); UPDATE meta SET next = 7" + lines(
     "6, 0, 0, 'entry', 'BURIAL', NULL",
-    "6, 1, 1, 'page', 'f. 3', 5",
-    "6, 2, 1, 'item', '1', NULL",
-    "6, 3, 1, 'text', 'Ann', NULL",
-    "6, 4, 1, 'mention', 'Ann', 2",
-    "6, 5, 2, 'role', 'buried', NULL",
-    "6, 6, 2, 'reason', '', NULL",
+    "6, 1, 1, 'key', '1 f. 3', 5",
+    "6, 2, 1, 'page', 'f. 3', NULL",
+    "6, 3, 1, 'item', '1', NULL",
+    "6, 4, 1, 'text', 'Ann', NULL",
+    "6, 5, 1, 'mention', 'Ann', 2",
+    "6, 6, 2, 'role', 'buried', NULL",
+    "6, 7, 2, 'reason', '', NULL",
 )
 NO_ENTRY = ENTRY + "; UPDATE line SET text = 'widow' WHERE tag = 'role'"
 OTHER = "INSERT INTO record VALUES (6, 'other', 0); UPDATE meta SET next = 7" + lines("6, 0, 0, 'other', NULL, NULL")

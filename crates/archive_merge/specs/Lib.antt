@@ -1,0 +1,4 @@
+pub mod Comparing
+pub mod Merges
+pub mod Rest
+pub mod Steps
