@@ -92,7 +92,7 @@ row_right c source next place made row r result same at right is =
 
 failed_so : (before after : ℕ) (entry : Result model.Entry RefusalKind) (r : Result (List Numbered) RefusalKind) → CountsFailures before after entry → IfErr r (λ e. is_failure e ≡ true → entry ≡ Err e) → CountsFailures before after r
 failed_so before after entry (Ok made) h k = (h.0, tt)
-failed_so before after entry (Err e) h k = (h.0, λ f. let so : CountsFailures before after (Err {A = model.Entry} e) = subst (CountsFailures before after) (k f) h in so.1 f)
+failed_so before after entry (Err e) h k = (h.0, λ f. let so : CountsFailures {A = model.Entry} before after (Err e) = subst (CountsFailures before after) (k f) h in so.1 f)
 
 pub row_counts : (place before after : ℕ) (entry : Result model.Entry RefusalKind) (r : Result (List Numbered) RefusalKind) (result : Result (List Numbered) Refusal) → CountsFailures before after entry → IfErr r (λ e. is_failure e ≡ true → entry ≡ Err e)
     → result ≡ placed_unless_stopped place r → CountsStops before after result

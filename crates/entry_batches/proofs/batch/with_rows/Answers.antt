@@ -1,12 +1,12 @@
 use Rattle.std.proofs.Common.{rules, ◌≡◌, ℕ, ◌+◌, ◌∷◌, [], drop, ap, sym, arith}
 use Rattle.std.specs.Prelude.{Err}
 use Rattle.entry_batches.specs.Batches.{with_rows}
-use Rattle.entry_batches.proofs.Rows.{all_made, item_here, refused_right, row_added, view_same, view_then, view_weaker}
+use Rattle.entry_batches.proofs.Rows.{LeadsOn, all_made, item_here, refused_right, row_added, view_same, view_then, view_weaker}
 use Rattle.entry_batches.proofs.batch.with_rows.Goals as goal
 
 pub rows-init : goal.rows-init
 rows-init g c = record {
-  way = view_same g.V.View.is_honest g.V.View.shows g.V.View.content c.args.view.now _ (λ x same. ap (λ made. with_rows x c.args.source made c.args.rows.now) (sym c.new-made.ensures));
+  way = view_same g.V.View.is_honest g.V.View.shows g.V.View.content c.args.view.now (λ x. x.next ≡ c.args.next → LeadsOn x c.args.source c.args.rows.now c.new-made.result 0) (λ x same. ap (λ made. with_rows x c.args.source made c.args.rows.now) (sym c.new-made.ensures));
   counts = omega arith;
 }
 
@@ -16,18 +16,18 @@ rows-preserved g c =
     let here : drop i c.args.rows.now ≡ c.row-item.result ∷ drop (i + 1) c.args.rows.now = item_here c.args.rows.now i c.row-item.result c.rows-test.true c.row-item.is in
     record {
       way = view_then g.V.View.is_honest g.V.View.shows g.V.View.content c.args.view.now c.rows.view _ _ _ _
-          (λ x way right same. row_added x c.args.source c.args.rows.now c.row-item.result c.rows.made c.in_ok-with_row.field-0 i here (way same) (right same))
-          c.rows.invariant.way c.in_ok-with_row.ensures.decides;
+          (λ x way right same. row_added x c.args.source c.args.rows.now c.row-item.result c.rows.made c.in_ok-made.made i here (way same) (right same))
+          c.rows.invariant.way c.in_ok-made.ensures.decides;
       counts = search rules;
     }
 
-pub returns-in_err-with_row-clause-decides : goal.returns-in_err-with_row-clause-decides
-returns-in_err-with_row-clause-decides g c =
+pub returns-in_err-made-clause-decides : goal.returns-in_err-made-clause-decides
+returns-in_err-made-clause-decides g c =
     let i : ℕ = c.rows.row-index in
     let here : drop i c.args.rows.now ≡ c.row-item.result ∷ drop (i + 1) c.args.rows.now = item_here c.args.rows.now i c.row-item.result c.rows-test.true c.row-item.is in
     view_then g.V.View.is_honest g.V.View.shows g.V.View.content c.args.view.now c.rows.view _ _ _ _
-    (λ x way right same. refused_right x c.args.source c.args.rows.now c.row-item.result c.rows.made i c.in_err-with_row.field-0.0 c.from_residual.result (search rules) here (way same) (right same))
-    c.rows.invariant.way c.in_err-with_row.ensures.decides
+    (λ x way right same. refused_right x c.args.source c.args.rows.now c.row-item.result c.rows.made i c.in_err-made.field-0.0 c.from_residual.result (search rules) here (way same) (right same))
+    c.rows.invariant.way c.in_err-made.ensures.decides
 
 pub returns-clause-decides : goal.returns-clause-decides
 returns-clause-decides g c =
