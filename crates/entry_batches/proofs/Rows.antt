@@ -81,6 +81,27 @@ refused_right c source rows row made i k result is here way refused =
 pub all_made : (c : Content) (source : ℕ) (rows : List EntryRow) (made : List Numbered) (i : ℕ) → drop i rows ≡ [] → LeadsOn c source rows made i → with_rows c source [] rows ≡ Ok made
 all_made c source rows made i none way = way ∙ ap (with_rows c source made) none
 
+-- ---- the same over a view, whose content has that next number
+module _ {S Held : Type 0} (honest : S → Type 0) (shows : S → Held → Type 0) (content : Held → Content) where
+  pub turn_made : (a b d : S) (source next : ℕ) (rows : List EntryRow) (row : EntryRow) (made more : List Numbered) (i : ℕ) → drop i rows ≡ row ∷ drop (i + 1) rows
+      → OnView honest shows content a b (λ c. c.next ≡ next → LeadsOn c source rows made i) → OnView honest shows content b d (λ c. c.next ≡ next → with_row c source made row ≡ Ok more)
+      → OnView honest shows content a d (λ c. c.next ≡ next → LeadsOn c source rows more (i + 1))
+  turn_made a b d source next rows row made more i here =
+      view_then honest shows content a b d (λ c. c.next ≡ next → LeadsOn c source rows made i) (λ c. c.next ≡ next → with_row c source made row ≡ Ok more) (λ c. c.next ≡ next → LeadsOn c source rows more (i + 1))
+      (λ c way right same. row_added c source rows row made more i here (way same) (right same))
+
+  pub turn_refused : (a b d : S) (source next : ℕ) (rows : List EntryRow) (row : EntryRow) (made : List Numbered) (i : ℕ) (k : Refusal) (result : Result (List Numbered) Refusal) → result ≡ Err k → drop i rows ≡ row ∷ drop (i + 1) rows
+      → OnView honest shows content a b (λ c. c.next ≡ next → LeadsOn c source rows made i) → OnView honest shows content b d (λ c. c.next ≡ next → stops k ≡ false → with_row c source made row ≡ Err k)
+      → OnView honest shows content a d (λ c. c.next ≡ next → Agrees stops result (with_rows c source [] rows))
+  turn_refused a b d source next rows row made i k result is here =
+      view_then honest shows content a b d (λ c. c.next ≡ next → LeadsOn c source rows made i) (λ c. c.next ≡ next → stops k ≡ false → with_row c source made row ≡ Err k) (λ c. c.next ≡ next → Agrees stops result (with_rows c source [] rows))
+      (λ c way right same. refused_right c source rows row made i k result is here (way same) (right same))
+
+  pub turns_over : (a b : S) (source next : ℕ) (rows : List EntryRow) (made : List Numbered) (i : ℕ) → drop i rows ≡ []
+      → OnView honest shows content a b (λ c. c.next ≡ next → LeadsOn c source rows made i) → OnView honest shows content a b (λ c. c.next ≡ next → with_rows c source [] rows ≡ Ok made)
+  turns_over a b source next rows made i none =
+      view_weaker honest shows content a b (λ c. c.next ≡ next → LeadsOn c source rows made i) (λ c. c.next ≡ next → with_rows c source [] rows ≡ Ok made) (λ c way same. all_made c source rows made i none (way same))
+
 -- ---- the entry of a row, and its number, at its place
 pub row_right : (c : Content) (source next place : ℕ) (made : List Numbered) (row : EntryRow) (r : Result (List Numbered) RefusalKind) (result : Result (List Numbered) Refusal) → c.next ≡ next → place ≡ length made + 1
     → Agrees is_stop r (and_then (row_entry c source made row) (with_entry next made)) → result ≡ placed_unless_stopped place r → Agrees stops result (with_row c source made row)

@@ -1,7 +1,6 @@
 use Rattle.std.proofs.Common.{rules, ◌≡◌, ℕ, ◌+◌, ◌∷◌, [], drop, ap, sym, arith}
-use Rattle.std.specs.Prelude.{Err}
 use Rattle.entry_batches.specs.Batches.{with_rows}
-use Rattle.entry_batches.proofs.Rows.{LeadsOn, all_made, item_here, refused_right, row_added, view_same, view_then, view_weaker}
+use Rattle.entry_batches.proofs.Rows.{LeadsOn, item_here, turn_made, turn_refused, turns_over, view_same}
 use Rattle.entry_batches.proofs.batch.with_rows.Goals as goal
 
 pub rows-init : goal.rows-init
@@ -15,8 +14,7 @@ rows-preserved g c =
     let i : ℕ = c.rows.row-index in
     let here : drop i c.args.rows.now ≡ c.row-item.result ∷ drop (i + 1) c.args.rows.now = item_here c.args.rows.now i c.row-item.result c.rows-test.true c.row-item.is in
     record {
-      way = view_then g.V.View.is_honest g.V.View.shows g.V.View.content c.args.view.now c.rows.view _ _ _ _
-          (λ x way right same. row_added x c.args.source c.args.rows.now c.row-item.result c.rows.made c.in_ok-made.made i here (way same) (right same))
+      way = turn_made g.V.View.is_honest g.V.View.shows g.V.View.content c.args.view.now c.rows.view _ c.args.source c.args.next c.args.rows.now c.row-item.result c.rows.made c.in_ok-made.made i here
           c.rows.invariant.way c.in_ok-made.ensures.decides;
       counts = search rules;
     }
@@ -25,11 +23,9 @@ pub returns-in_err-made-clause-decides : goal.returns-in_err-made-clause-decides
 returns-in_err-made-clause-decides g c =
     let i : ℕ = c.rows.row-index in
     let here : drop i c.args.rows.now ≡ c.row-item.result ∷ drop (i + 1) c.args.rows.now = item_here c.args.rows.now i c.row-item.result c.rows-test.true c.row-item.is in
-    view_then g.V.View.is_honest g.V.View.shows g.V.View.content c.args.view.now c.rows.view _ _ _ _
-    (λ x way right same. refused_right x c.args.source c.args.rows.now c.row-item.result c.rows.made i c.in_err-made.field-0.0 c.from_residual.result (search rules) here (way same) (right same))
+    turn_refused g.V.View.is_honest g.V.View.shows g.V.View.content c.args.view.now c.rows.view _ c.args.source c.args.next c.args.rows.now c.row-item.result c.rows.made i c.in_err-made.field-0.0 c.from_residual.result (search rules) here
     c.rows.invariant.way c.in_err-made.ensures.decides
 
 pub returns-clause-decides : goal.returns-clause-decides
 returns-clause-decides g c =
-    view_weaker g.V.View.is_honest g.V.View.shows g.V.View.content c.args.view.now c.rows.view _ _
-    (λ x way same. all_made x c.args.source c.args.rows.now c.rows.made c.rows.row-index (search rules) (way same)) c.rows.invariant.way
+    turns_over g.V.View.is_honest g.V.View.shows g.V.View.content c.args.view.now c.rows.view c.args.source c.args.next c.args.rows.now c.rows.made c.rows.row-index (search rules) c.rows.invariant.way
