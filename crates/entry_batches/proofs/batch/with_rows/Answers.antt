@@ -1,4 +1,5 @@
 use Rattle.std.proofs.Common.{rules, ◌≡◌, ℕ, ◌+◌, ◌∷◌, [], drop, ap, sym, arith}
+use Rattle.std.proofs.lemmas.List.{drop_all}
 use Rattle.entry_batches.specs.Batches.{with_rows}
 use Rattle.entry_batches.proofs.Rows.{LeadsOn, item_here, turn_made, turn_refused, turns_over, view_same}
 use Rattle.entry_batches.proofs.batch.with_rows.Goals as goal
@@ -28,4 +29,4 @@ returns-in_err-made-clause-decides g c =
 
 pub returns-clause-decides : goal.returns-clause-decides
 returns-clause-decides g c =
-    turns_over g.V.View.is_honest g.V.View.shows g.V.View.content c.args.view.now c.rows.view c.args.source c.args.next c.args.rows.now c.rows.made c.rows.row-index (search rules) c.rows.invariant.way
+    turns_over g.V.View.is_honest g.V.View.shows g.V.View.content c.args.view.now c.rows.view c.args.source c.args.next c.args.rows.now c.rows.made c.rows.row-index (drop_all c.rows.row-index c.args.rows.now (omega (arith, c.rows-test.false))) c.rows.invariant.way
