@@ -29,8 +29,8 @@ abbrev pub MakesChanges : List Numbered → ℕ → Changes → Type 0
 MakesChanges made next changes = Ok changes ≡ and_then (first_number next) (λ n. Ok (changes_of made next n))
 
 made_changes : (made : List Numbered) (next : ℕ) (changes : Changes) (b : Bool) (first : Result ℕ RefusalKind) → first ≡ (if b then Ok next else Err Full) → Ok changes ≡ and_then first (λ n. Ok (changes_of made next n)) → changes ≡ changes_of made next next
-made_changes made next changes true first is e = let both : Ok {E = RefusalKind} changes ≡ Ok (changes_of made next next) = e ∙ ap (λ r. and_then r (λ n. Ok (changes_of made next n))) is in cc
-made_changes made next changes false first is e = let both : Ok changes ≡ Err Full = e ∙ ap (λ r. and_then r (λ n. Ok (changes_of made next n))) is in absurd cc
+made_changes made next changes true first is e = let both : ◌≡◌ {A = Result Changes RefusalKind} (Ok changes) (Ok (changes_of made next next)) = e ∙ ap (λ r. and_then r (λ n. Ok (changes_of made next n))) is in cc
+made_changes made next changes false first is e = let both : ◌≡◌ {A = Result Changes RefusalKind} (Ok changes) (Err Full) = e ∙ ap (λ r. and_then r (λ n. Ok (changes_of made next n))) is in absurd cc
 
 exact_after : (c : Content) (source : ℕ) (rows : List EntryRow) (made : List Numbered) (next : ℕ) (changes : Changes)
     → and_then (demanded_at c demand.Source source) (λ _. Ok c.next) ≡ Ok next → (c.next ≡ next → with_rows c source [] rows ≡ Ok made) → MakesChanges made next changes → IsExact c changes
