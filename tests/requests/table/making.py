@@ -187,7 +187,9 @@ def shows_entry(
 ) -> Step:
     """The stored lines of a register entry: its page and source, its date and place, and the role, name, person and reason
     of each mention."""
-    lines = [(0, "entry", kind, "-"), (1, "key", f"{item} {page[0]}", page[1]), (1, "page", page[0], "-"), (1, "item", item, "-")]
+    # of a page of more than 1,000 bytes the key has the item alone
+    key = f"{item} {page[0]}" if len(page[0].encode()) <= 1_000 else f"{item}"
+    lines = [(0, "entry", kind, "-"), (1, "key", key, page[1]), (1, "page", page[0], "-"), (1, "item", item, "-")]
     if when is not None:
         lines.append((1, "date", *when))
     lines.append((1, "text", text, "-"))
