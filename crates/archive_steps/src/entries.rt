@@ -43,7 +43,7 @@ pub(crate) fn new_entry<V: View>(
 }
 
 /// The entry that a row gives of a source. Its mentions are of no person yet.
-fn entry_of(alloc: Global, source: u32, row: &EntryRow) -> Result<Entry, RefusalKind>
+pub fn entry_of(alloc: Global, source: u32, row: &EntryRow) -> Result<Entry, RefusalKind>
     ensures decides { Agrees is_stop result (steps.entry_of source row.now) }
     ensures memory { IfErr result (λ e. is_failure e ≡ false) }
 {

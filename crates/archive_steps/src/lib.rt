@@ -19,5 +19,7 @@ mod rows;
 mod sources;
 mod words;
 
+pub use entries::entry_of;
+pub use making::kept_if;
 pub use rows::decide_row;
-pub use words::tell_row;
+pub use words::{tell_entry, tell_row};

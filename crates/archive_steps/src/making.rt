@@ -168,7 +168,7 @@ fn take_out(alloc: Global, number: u32, next: u64) -> Result<Changes, AllocError
 }
 
 /// The item where a check has passed. At a refusal it is given back here, once for all callers.
-pub(crate) fn kept_if<T: Drop, E>(item: T, check: Result<(), E>) -> Result<T, E>
+pub fn kept_if<T: Drop, E>(item: T, check: Result<(), E>) -> Result<T, E>
     ensures same { IfOk result (λ kept. kept ≡ item) }
     ensures passed { IfOk result (λ kept. check ≡ Ok tt) }
     ensures refused { IfErr result (λ e. check ≡ Err e) }

@@ -61,8 +61,8 @@ pub fn tell_row(row: &RowCommand)
     }
 }
 
-/// The same of a register entry, and that it has 1 to 100 mentions.
-fn tell_entry(entry: &EntryRow)
+/// The same of a register entry as a row gives it, and that it has 1 to 100 mentions.
+pub fn tell_entry(entry: &EntryRow)
     ensures { IsUtf8Entry entry.now }
 {
     let _ = entry.page.as_str();

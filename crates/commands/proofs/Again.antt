@@ -1,6 +1,8 @@
 -- The row of a command is read as that command.
-use Rattle.std.specs.Prelude.{◌≡◌, ◌<◌, ◌≤◌, ◌^◌, ◌++◌, ℕ, List, [], ◌∷◌, length, Option, Some, None, Result, Ok, refl, decimal}
+use Rattle.std.specs.Prelude.{map, ◌≡◌, ◌<◌, ◌≤◌, ◌^◌, ◌++◌, ℕ, List, [], ◌∷◌, length, Option, Some, None, Result, Ok, refl, decimal}
+use Rattle.std.specs.List.{All}
 use Rattle.std.proofs.Common.{ap, sym, ◌∙◌, arith}
+use Rattle.std.proofs.lemmas.List.Elements.{All-head, All-tail}
 use Rattle.std.proofs.lemmas.Fmt.{decimal_is_IsNumeral}
 use Rattle.csv.specs.Machine.{next_record}
 use Rattle.csv.specs.Reading.{default_config}
@@ -20,7 +22,7 @@ use Rattle.csv.specs.Writing.{default_writer, row_text}
 use Rattle.commands.specs.Bytes.{entry_fields, or_empty, row_of, spelt}
 use Rattle.commands.specs.Dated.{given_of}
 use Rattle.commands.specs.Given.{GivenDate, Gives}
-use Rattle.commands.specs.Rows.{Reads, and_then, item_in, kind_in, number_in, ok_or, or_none, quality_in, read_entry, read_fields, read_row, sex_in}
+use Rattle.commands.specs.Rows.{Reads, ReadsEntry, and_then, item_in, kind_in, number_in, ok_or, or_none, quality_in, read_entry, read_fields, read_row, sex_in}
 use Rattle.commands.specs.Sound.{IsDate, IsNumber, IsSoundEntry, IsSoundRow, WhereSome}
 use Rattle.commands.specs.Verbs.{verb_of, verb_word}
 use Rattle.commands.specs.declared.entry_row.EntryRow.{EntryRow}
@@ -32,7 +34,7 @@ use Rattle.commands.proofs.Dated.{gives_of, one_given}
 use Rattle.commands.proofs.Items.{item_back}
 use Rattle.commands.proofs.Mentions.{mentions_back}
 use Rattle.commands.proofs.Numbers.{number_back}
-use Rattle.commands.proofs.Outcomes.{is_reading}
+use Rattle.commands.proofs.Outcomes.{is_entry, is_reading}
 
 -- ---- fields
 some-read : {A : Type 0} (read : List ℕ → Result A RefusalKind) (field : List ℕ) (a : A) → 1 ≤ length field → read field ≡ Ok a → or_none read field ≡ Ok (Some a)
@@ -82,8 +84,8 @@ item-again i = rw (number_back i.number i.in_range.0 (below i.number i.in_range.
     below : (n : ℕ) → n ≤ 999999 → n ≤ 4294967295
     below n h = omega arith
 
-pub entry_back : (e : EntryRow) → IsSoundEntry e → read_entry given_of (entry_fields e) ≡ Ok e
-entry_back e h =
+entry-again : (e : EntryRow) → IsSoundEntry e → read_entry given_of (entry_fields e) ≡ Ok e
+entry-again e h =
     rw (mentions_back e.mentions h.2, kind-again e.kind, item-again e.item, number-or-none e.place h.1, date-again e.date h.0) refl
 
 -- ---- verbs
@@ -134,7 +136,7 @@ row-again (row_command.Citation owner source page quality) h =
     by-verb verb.Citation (decimal owner ∷ decimal source ∷ page ∷ or_empty quality_word quality ∷ [])
     ∙ rw (number_back owner h.0.0 h.0.1, number_back source h.1.0 h.1.1, quality-or-none quality) refl
 row-again (row_command.Entry source entry) h =
-    by-verb verb.Entry (decimal source ∷ entry_fields entry) ∙ rw (entry_back entry h.1, number_back source h.0.0 h.0.1) refl
+    by-verb verb.Entry (decimal source ∷ entry_fields entry) ∙ rw (entry-again entry h.1, number_back source h.0.0 h.0.1) refl
 row-again (row_command.Link entry mention person reason) h =
     by-verb verb.Link (decimal entry ∷ decimal mention ∷ decimal person ∷ reason ∷ [])
     ∙ rw (number_back entry h.0.0 h.0.1, number_back mention h.1.0 h.1.1, number_back person h.2.0 h.2.1) refl
@@ -155,6 +157,16 @@ same-dates g h x y = λ i words. one_given words (g words) (h words) (x words) (
 
 pub one_outcome : (row : List (List ℕ)) (r s : Result RowCommand RefusalKind) → Reads row r → Reads row s → r ≡ s
 one_outcome row r s x y = x.2 ∙ ap (λ g. read_row g row) (same-dates x.0 y.0 x.1 y.1) ∙ sym y.2
+
+-- ---- rows of a batch
+pub fields_back : (e : EntryRow) → IsSoundEntry e → ReadsEntry (entry_fields e) (Ok e)
+fields_back e h = is_entry (entry_fields e) (Ok e) (sym (entry-again e h))
+
+pub some_entry : (row : List (List ℕ)) → (r : Result EntryRow RefusalKind) × ReadsEntry row r
+some_entry row = (read_entry given_of row, is_entry row (read_entry given_of row) refl)
+
+pub one_entry_outcome : (row : List (List ℕ)) (r s : Result EntryRow RefusalKind) → ReadsEntry row r → ReadsEntry row s → r ≡ s
+one_entry_outcome row r s x y = x.2 ∙ ap (λ g. read_entry g row) (same-dates x.0 y.0 x.1 y.1) ∙ sym y.2
 
 -- ---- bytes
 pub bytes_back : (c : RowCommand) (rest : List ℕ) → next_record default_config st.StartRecord [] [] (row_text default_writer (row_of c) ++ rest) ≡ Some (row_of c, st.StartRecord, rest)
@@ -186,3 +198,19 @@ pub one_row : (c d : RowCommand) → IsSoundRow c → IsSoundRow d → row_of c 
 one_row c d x y e =
     let same : ◌≡◌ {A = Result RowCommand RefusalKind} (Ok c) (Ok d) = sym (row-again c x) ∙ ap (read_row given_of) e ∙ row-again d y in
     cc
+
+-- entries of the same fields are one
+one-entry : (e f : EntryRow) → IsSoundEntry e → IsSoundEntry f → entry_fields e ≡ entry_fields f → e ≡ f
+one-entry e f x y same =
+    let read : ◌≡◌ {A = Result EntryRow RefusalKind} (Ok e) (Ok f) = sym (entry-again e x) ∙ ap (read_entry given_of) same ∙ entry-again f y in
+    cc
+
+pub one_batch : (es fs : List EntryRow) → All IsSoundEntry es → All IsSoundEntry fs → map entry_fields es ≡ map entry_fields fs → es ≡ fs
+one_batch [] [] x y same = refl
+one_batch [] (f ∷ fs) x y same = absurd cc
+one_batch (e ∷ es) [] x y same = absurd cc
+one_batch (e ∷ es) (f ∷ fs) x y same =
+    let row : entry_fields e ≡ entry_fields f = cc in
+    let rows : map entry_fields es ≡ map entry_fields fs = cc in
+    ap (λ (z : EntryRow). z ∷ es) (one-entry e f (All-head IsSoundEntry e es x) (All-head IsSoundEntry f fs y) row)
+    ∙ ap (λ (zs : List EntryRow). f ∷ zs) (one_batch es fs (All-tail IsSoundEntry e es x) (All-tail IsSoundEntry f fs y) rows)

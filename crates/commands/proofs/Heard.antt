@@ -11,7 +11,7 @@ use Rattle.record_fields.specs.declared.entry_words.EntryKind.{EntryKind}
 use Rattle.record_fields.specs.declared.item.Item.{Item}
 use Rattle.commands.specs.Given.{GivenDate, Gives}
 use Rattle.commands.specs.Mentions.{IsCount}
-use Rattle.commands.specs.Rows.{Reads, and_then, is_number, item_in, kind_in, mentions_in, number_in, ok_or, or_none, quality_in, read_entry, read_fields, read_row, sex_in}
+use Rattle.commands.specs.Rows.{Reads, ReadsEntry, and_then, is_number, item_in, kind_in, mentions_in, number_in, ok_or, or_none, quality_in, read_entry, read_fields, read_row, sex_in}
 use Rattle.commands.specs.Sound.{IsDate, IsNumber, IsSoundEntry, IsSoundRow, WhereSome}
 use Rattle.commands.specs.Verbs.{verb_of}
 use Rattle.commands.specs.declared.entry_row.EntryRow.{EntryRow}
@@ -146,3 +146,6 @@ row-sound given (word ∷ fields) c dates e =
 
 pub read_sound : (row : List (List ℕ)) (c : RowCommand) → Reads row (Ok c) → IsSoundRow c
 read_sound row c x = row-sound x.0 row c (λ words. date-sound words (x.0 words) (x.1 words)) (sym x.2)
+
+pub entry_sound : (row : List (List ℕ)) (e : EntryRow) → ReadsEntry row (Ok e) → IsSoundEntry e
+entry_sound row e x = entry-sound x.0 row e (λ words. date-sound words (x.0 words) (x.1 words)) (sym x.2)

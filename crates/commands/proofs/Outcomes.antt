@@ -4,8 +4,9 @@ use Rattle.std.proofs.Common.{ap, sym, ◌∙◌}
 use Rattle.record_text.specs.declared.refusal.RefusalKind.{RefusalKind}
 use Rattle.record_text.specs.declared.refusal.RefusalKind.TheVariants.{UnknownVerb}
 use Rattle.commands.specs.Dated.{given_of}
-use Rattle.commands.specs.Rows.{Decided, Reads, and_then, ok_or, read_fields, read_row}
+use Rattle.commands.specs.Rows.{Decided, Reads, ReadsEntry, and_then, ok_or, read_entry, read_fields, read_row}
 use Rattle.commands.specs.Verbs.{verb_of}
+use Rattle.commands.specs.declared.entry_row.EntryRow.{EntryRow}
 use Rattle.commands.specs.declared.row_command.RowCommand.{RowCommand}
 use Rattle.commands.specs.declared.verb.Verb.{Verb}
 use Rattle.commands.proofs.Dated.{gives_of}
@@ -25,3 +26,12 @@ read_by_verb word fields v (Err k) e h = λ w. is_reading (word ∷ fields) (Err
 
 pub read_unknown : (word : List ℕ) (fields : List (List ℕ)) → None ≡ verb_of word → Reads (word ∷ fields) (Err UnknownVerb)
 read_unknown word fields e = is_reading (word ∷ fields) (Err UnknownVerb) (sym (by-verb word fields None (sym e)))
+
+-- ---- rows of a batch
+pub is_entry : (row : List (List ℕ)) (r : Result EntryRow RefusalKind) → r ≡ read_entry given_of row → ReadsEntry row r
+is_entry row r e = (given_of, gives_of, e)
+
+pub entry_read : (row : List (List ℕ)) (r : Result EntryRow RefusalKind) → Decided r (λ x. x ≡ read_entry given_of row)
+    → Decided r (ReadsEntry row)
+entry_read row (Ok entry) h = is_entry row (Ok entry) h
+entry_read row (Err k) h = λ w. is_entry row (Err k) (h w)

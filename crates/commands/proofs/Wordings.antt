@@ -1,5 +1,5 @@
 -- No two wordings have the same bytes.
-use Rattle.std.specs.Prelude.{◌≡◌, ◌≢◌, ◌≤◌, ◌++◌, ◌&&◌, ◌||◌, ℕ, List, [], ◌∷◌, Bool, true, false, codes, Option, Some, None, refl, decimal}
+use Rattle.std.specs.Prelude.{map, ◌≡◌, ◌≢◌, ◌≤◌, ◌++◌, ◌&&◌, ◌||◌, ℕ, List, [], ◌∷◌, Bool, true, false, codes, Option, Some, None, refl, decimal}
 use Rattle.std.specs.Char.{is_ascii_digit}
 use Rattle.std.specs.List.{flat_map, list_all, list_any}
 use Rattle.std.proofs.Common.{ap, sym, ◌∙◌, subst, arith, append_assoc}
@@ -10,15 +10,17 @@ use Rattle.csv.specs.Reading.{default_config}
 use Rattle.csv.specs.Writing.{default_writer, fields_text, is_blank, needs_byte, row_text}
 use Rattle.csv.specs.declared.parser.State.TheVariants as st
 use Rattle.csv.proofs.RoundTrip.{read-write}
-use Rattle.commands.specs.Bytes.{Wording, Row, Batch, Import, bytes_of, row_of, wording_of, written}
+use Rattle.record_fields.specs.Words.{entry_kind_word}
+use Rattle.commands.specs.Bytes.{Wording, Row, Batch, Import, bytes_of, entry_fields, mention_fields, or_empty, row_of, spelt, wording_of, written}
 use Rattle.commands.specs.Sound.{BeginsWithVerb, HaveFields, IsSound, IsSoundWording}
 use Rattle.commands.specs.Verbs.{verb_of, verb_word}
 use Rattle.commands.specs.declared.command.Command.{Command}
 use Rattle.commands.specs.declared.command.Command.TheVariants as command
+use Rattle.commands.specs.declared.entry_row.EntryRow.{EntryRow}
 use Rattle.commands.specs.declared.row_command.RowCommand.{RowCommand}
 use Rattle.commands.specs.declared.row_command.RowCommand.TheVariants as row_command
 use Rattle.commands.specs.declared.verb.Verb.TheVariants as verb
-use Rattle.commands.proofs.Again.{one_row, verb_back}
+use Rattle.commands.proofs.Again.{one_batch, one_row, verb_back}
 use Rattle.commands.proofs.Numbers.{decimal_digits}
 
 -- ---- digits need no quotes
@@ -205,11 +207,25 @@ row-begins (row_command.Link entry mention person reason) = (verb.Link, refl)
 row-begins (row_command.Unlink entry mention) = (verb.Unlink, refl)
 row-begins (row_command.Remove number) = (verb.Remove, refl)
 
-sound-wording : (c : Command) → IsSoundWording (wording_of c)
-sound-wording (command.Row c) = row-begins c
+some-fields : (rows : List EntryRow) → HaveFields (map entry_fields rows)
+some-fields [] = tt
+some-fields (e ∷ rows) = (
+  some-cons (entry_kind_word e.kind) (e.page ∷ decimal e.item.number ∷ or_empty spelt e.date ∷ or_empty decimal e.place ∷ e.text ∷ mention_fields e.mentions),
+  some-fields rows,
+)
+
+sound-wording : (c : Command) → IsSound c → IsSoundWording (wording_of c)
+sound-wording (command.Row c) h = row-begins c
+sound-wording (command.Entries source rows) h = (h.0.1, some-fields rows)
 
 same-command : (c d : Command) → IsSound c → IsSound d → wording_of c ≡ wording_of d → c ≡ d
 same-command (command.Row c) (command.Row d) x y e = let rows : row_of c ≡ row_of d = cc in ap command.Row (one_row c d x y rows)
+same-command (command.Row c) (command.Entries t q) x y e = absurd cc
+same-command (command.Entries s r) (command.Row d) x y e = absurd cc
+same-command (command.Entries s r) (command.Entries t q) x y e =
+    let source : s ≡ t = cc in
+    let rows : map entry_fields r ≡ map entry_fields q = cc in
+    ap (λ (n : ℕ). command.Entries n r) source ∙ ap (command.Entries t) (one_batch r q x.1 y.1 rows)
 
 pub one_command : (c d : Command) → IsSound c → IsSound d → bytes_of c ≡ bytes_of d → c ≡ d
-one_command c d x y e = same-command c d x y (one_wording (wording_of c) (wording_of d) (sound-wording c) (sound-wording d) e)
+one_command c d x y e = same-command c d x y (one_wording (wording_of c) (wording_of d) (sound-wording c x) (sound-wording d y) e)

@@ -1,6 +1,6 @@
 -- The bytes of a command, of which a digest is kept under the token: rows of CSV (RFC 4180, section 2) as the default
 -- writer writes them, and their SHA-256 (FIPS 180-4). A rule of our own.
-use Rattle.std.specs.Prelude.{ℕ, List, [], ◌∷◌, ◌++◌, codes, Option, Some, None, decimal}
+use Rattle.std.specs.Prelude.{ℕ, List, [], ◌∷◌, ◌++◌, map, codes, Option, Some, None, decimal}
 use Rattle.std.specs.List.{flat_map}
 use Rattle.csv.specs.Writing.{default_writer, row_text}
 use Rattle.sha2.specs.Sha256.{sha256}
@@ -75,6 +75,7 @@ written (Import text) = codes "import" ++ 10 ∷ text
 
 abbrev pub wording_of : Command → Wording
 wording_of (command.Row c) = Row (row_of c)
+wording_of (command.Entries source rows) = Batch source (map entry_fields rows)
 
 abbrev pub bytes_of : Command → List ℕ
 bytes_of c = written (wording_of c)

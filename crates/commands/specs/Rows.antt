@@ -132,6 +132,11 @@ abbrev pub Reads : List (List ℕ) → Result RowCommand RefusalKind → Type 0
 Reads row outcome =
     (given : List ℕ → Option GivenDate) × ((words : List ℕ) → Gives words (given words)) × (outcome ≡ read_row given row)
 
+-- the same of a row of a batch, which is a register entry without its source
+abbrev pub ReadsEntry : List (List ℕ) → Result EntryRow RefusalKind → Type 0
+ReadsEntry row outcome =
+    (given : List ℕ → Option GivenDate) × ((words : List ℕ) → Gives words (given words)) × (outcome ≡ read_entry given row)
+
 -- ---- want of memory
 abbrev pub is_want : RefusalKind → Bool
 is_want OutOfMemory = true

@@ -1,5 +1,6 @@
 -- Commands as rows have them, and what bytes are written from. A rule of our own.
 use Rattle.std.specs.Prelude.{◌≡◌, ◌≢◌, ℕ, ◌≤◌, List, [], ◌∷◌, Option, Some, None}
+use Rattle.std.specs.List.{All}
 use Rattle.commands.specs.Bytes.{Wording, Row, Batch, Import}
 use Rattle.commands.specs.Given.{GivenDate, IsGiven}
 use Rattle.commands.specs.Mentions.{IsCount}
@@ -47,9 +48,10 @@ IsSoundRow (row_command.Link entry mention person reason) = IsNumber entry × Is
 IsSoundRow (row_command.Unlink entry mention) = IsNumber entry × IsNumber mention
 IsSoundRow (row_command.Remove number) = IsNumber number
 
--- the same of any command
+-- the same of any command: of a batch of entries, of its source and of each row
 abbrev pub IsSound : Command → Type 0
 IsSound (command.Row c) = IsSoundRow c
+IsSound (command.Entries source rows) = IsNumber source × All IsSoundEntry rows
 
 -- a row begins with the word of a verb
 abbrev pub BeginsWithVerb : List (List ℕ) → Type 0

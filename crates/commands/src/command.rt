@@ -1,5 +1,6 @@
 //! What a request asks for.
 
+use crate::entry_row::EntryRows;
 use crate::row_command::RowCommand;
 
 /// A command.
@@ -7,4 +8,6 @@ use crate::row_command::RowCommand;
 pub enum Command {
     /// One row.
     Row(RowCommand),
+    /// A batch of new register entries of a source, in the order of their rows.
+    Entries { source: u32, rows: EntryRows },
 }

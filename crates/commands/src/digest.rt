@@ -7,7 +7,7 @@ ghost use Rattle.commands.specs.declared.command.Command.TheVariants as command;
 ghost use Rattle.commands.specs.declared.row_command.RowCommand.TheVariants as row_command;
 
 use crate::command::Command;
-use crate::entry_bytes::entry_bytes;
+use crate::entry_bytes::{entries_bytes, entry_bytes};
 use crate::field::Field;
 use crate::given::GivenDate;
 use crate::row_command::RowCommand;
@@ -26,12 +26,14 @@ pub fn command_digest(alloc: Global, command: &Command) -> Result<[u8; 32], Allo
 }
 
 /// The bytes of a command: of one row, its verb and its fields as a row of CSV, numbers without leading zeros and
-/// dates in canonical spelling. Refused only for want of memory.
+/// dates in canonical spelling; of a batch of entries, `entries,`, the number of its source, LF, and then each row
+/// so, without verb and source. Refused only for want of memory.
 pub fn command_bytes(alloc: Global, command: &Command) -> Result<Vec<u8>, AllocError>
     ensures { IfOk result (λ bytes. bytes.items ≡ bytes_of command.now) }
 {
     match command {
         Command::Row(row) => row_command_bytes(alloc, row),
+        Command::Entries { source, rows } => entries_bytes(alloc, *source, rows),
     }
 }
 

@@ -1,13 +1,15 @@
-//! The bytes of a register entry.
+//! The bytes of register entries: of one, and of a batch.
 
 ghost use Rattle.std.specs.Prelude.{◌≡◌, ◌++◌, ◌∷◌, IfOk, map};
 ghost use Rattle.record_fields.specs.Words.{entry_kind_word};
-ghost use Rattle.commands.specs.Bytes.{bytes_of, mention_fields, or_empty, spelt};
+ghost use Rattle.csv.specs.Writing.{default_writer, row_text};
+ghost use Rattle.commands.specs.Bytes.{bytes_of, entry_fields, mention_fields, or_empty, spelt};
 ghost use Rattle.commands.specs.declared.command.Command.TheVariants as command;
 ghost use Rattle.commands.specs.declared.row_command.RowCommand.TheVariants as row_command;
 
+use crate::batch::batch_bytes;
 use crate::digest::{date_or_empty, number_or_empty};
-use crate::entry_row::{EntryRow, GivenMention};
+use crate::entry_row::{EntryRow, EntryRows, GivenMention};
 use crate::rows::row_bytes;
 use crate::verb::Verb;
 use std::alloc::{AllocError, Global};
@@ -26,6 +28,32 @@ pub(crate) fn entry_bytes(
     let mut words: Vec<&[u8]> = Vec::new(alloc);
     words.push(Verb::Entry.as_str().as_bytes())?;
     words.push(source.as_bytes())?;
+    let words = with_entry(words, entry, item.as_bytes(), place.as_bytes())?;
+    row_bytes(alloc, words.as_slice())
+}
+
+/// The bytes of the command that makes a batch of entries of a source.
+pub(crate) fn entries_bytes(
+    alloc: Global,
+    source: u32,
+    rows: &EntryRows,
+) -> Result<Vec<u8>, AllocError>
+    ensures { IfOk result (λ bytes. bytes.items ≡ bytes_of (command.Entries source rows.now)) }
+{
+    let mut bytes = batch_bytes(alloc, source, &[])?;
+    for row in rows.as_slice() {
+        bytes.extend_from_slice(entry_row_bytes(alloc, row)?.as_slice())?;
+    }
+    Ok(bytes)
+}
+
+/// The bytes of a row of a batch.
+fn entry_row_bytes(alloc: Global, entry: &EntryRow) -> Result<Vec<u8>, AllocError>
+    ensures { IfOk result (λ bytes. bytes.items ≡ row_text default_writer (entry_fields entry.now)) }
+{
+    let item = entry.item.number.to_string(alloc)?;
+    let place = number_or_empty(alloc, entry.place)?;
+    let words: Vec<&[u8]> = Vec::new(alloc);
     let words = with_entry(words, entry, item.as_bytes(), place.as_bytes())?;
     row_bytes(alloc, words.as_slice())
 }

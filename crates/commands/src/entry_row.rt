@@ -68,3 +68,34 @@ pub struct EntryRow {
     pub text: Field,
     pub mentions: GivenMentions,
 }
+
+/// The rows of a batch of register entries, in their order. Contracts see it as their list.
+#[derive(Drop)]
+pub struct EntryRows {
+    rows: Vec<EntryRow>,
+}
+
+impl Model for EntryRows {
+    ghost use Rattle.std.specs.Prelude.{List};
+    ghost use Rattle.commands.specs.declared.entry_row.EntryRow as row;
+
+    ghost Value = { List row.EntryRow };
+
+    ghost view = { λ a. a.rows.items };
+}
+
+impl EntryRows {
+    /// The rows of a batch. Takes no memory.
+    pub fn new(rows: Vec<EntryRow>) -> EntryRows
+        ensures { result ≡ rows.items }
+    {
+        EntryRows { rows }
+    }
+
+    /// The rows, in their order.
+    pub fn as_slice(&self) -> &[EntryRow]
+        ensures { result.now ≡ self.now }
+    {
+        self.rows.as_slice()
+    }
+}

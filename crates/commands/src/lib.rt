@@ -27,7 +27,7 @@ mod verb;
 pub use batch::{batch_bytes, import_bytes};
 pub use command::Command;
 pub use digest::{command_bytes, command_digest};
-pub use entry_row::{EntryRow, GivenMention, GivenMentions};
+pub use entry_row::{EntryRow, EntryRows, GivenMention, GivenMentions};
 pub use field::{Field, FieldRow};
 pub use given::GivenDate;
 pub use row_command::RowCommand;
