@@ -106,6 +106,8 @@ verb_back verb.Citation = refl
 verb_back verb.Entry = refl
 verb_back verb.Link = refl
 verb_back verb.Unlink = refl
+verb_back verb.Merge = refl
+verb_back verb.Undo = refl
 verb_back verb.Remove = refl
 
 by-verb : (v : Verb) (fields : List (List ℕ)) → read_row given_of (verb_word v ∷ fields) ≡ read_fields given_of v fields
@@ -142,6 +144,9 @@ row-again (row_command.Link entry mention person reason) h =
     ∙ rw (number_back entry h.0.0 h.0.1, number_back mention h.1.0 h.1.1, number_back person h.2.0 h.2.1) refl
 row-again (row_command.Unlink entry mention) h =
     by-verb verb.Unlink (decimal entry ∷ decimal mention ∷ []) ∙ rw (number_back entry h.0.0 h.0.1, number_back mention h.1.0 h.1.1) refl
+row-again (row_command.Merge keep gone) h =
+    by-verb verb.Merge (decimal keep ∷ decimal gone ∷ []) ∙ rw (number_back keep h.0.0 h.0.1, number_back gone h.1.0 h.1.1) refl
+row-again (row_command.Undo slip) h = by-verb verb.Undo (decimal slip ∷ []) ∙ rw (number_back slip h.0 h.1) refl
 row-again (row_command.Remove number) h = by-verb verb.Remove (decimal number ∷ []) ∙ rw (number_back number h.0 h.1) refl
 
 pub row_back : (c : RowCommand) → IsSoundRow c → Reads (row_of c) (Ok c)
@@ -191,6 +196,8 @@ bytes_back (row_command.Entry source entry) rest = read-write-many (verb_word ve
 bytes_back (row_command.Link entry mention person reason) rest =
     read-write-many (verb_word verb.Link) (decimal entry) (decimal mention ∷ decimal person ∷ reason ∷ []) rest
 bytes_back (row_command.Unlink entry mention) rest = read-write-many (verb_word verb.Unlink) (decimal entry) (decimal mention ∷ []) rest
+bytes_back (row_command.Merge keep gone) rest = read-write-many (verb_word verb.Merge) (decimal keep) (decimal gone ∷ []) rest
+bytes_back (row_command.Undo slip) rest = read-write-many (verb_word verb.Undo) (decimal slip) [] rest
 bytes_back (row_command.Remove number) rest = read-write-many (verb_word verb.Remove) (decimal number) [] rest
 
 -- row commands of one row are one

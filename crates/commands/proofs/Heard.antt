@@ -134,6 +134,12 @@ fields-sound given verb.Unlink (entry ∷ mention ∷ []) c dates e =
     then-sound (number_in entry) IsNumber (λ r. and_then (number_in mention) (λ m. Ok (row_command.Unlink r m))) c (number-in entry)
     (λ r x. then-sound (number_in mention) IsNumber (λ m. Ok (row_command.Unlink r m)) c (number-in mention)
     (λ m y same. is-that (row_command.Unlink r m) c same (x, y))) e
+fields-sound given verb.Merge (keep ∷ gone ∷ []) c dates e =
+    then-sound (number_in keep) IsNumber (λ k. and_then (number_in gone) (λ g. Ok (row_command.Merge k g))) c (number-in keep)
+    (λ k x. then-sound (number_in gone) IsNumber (λ g. Ok (row_command.Merge k g)) c (number-in gone)
+    (λ g y same. is-that (row_command.Merge k g) c same (x, y))) e
+fields-sound given verb.Undo (slip ∷ []) c dates e =
+    then-sound (number_in slip) IsNumber (λ n. Ok (row_command.Undo n)) c (number-in slip) (λ n h same. is-that (row_command.Undo n) c same h) e
 fields-sound given verb.Remove (number ∷ []) c dates e =
     then-sound (number_in number) IsNumber (λ n. Ok (row_command.Remove n)) c (number-in number) (λ n h same. is-that (row_command.Remove n) c same h) e
 fields-sound given _ _ c dates e = absurd cc

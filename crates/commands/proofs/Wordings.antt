@@ -205,6 +205,8 @@ row-begins (row_command.Citation owner source page quality) = (verb.Citation, re
 row-begins (row_command.Entry source entry) = (verb.Entry, refl)
 row-begins (row_command.Link entry mention person reason) = (verb.Link, refl)
 row-begins (row_command.Unlink entry mention) = (verb.Unlink, refl)
+row-begins (row_command.Merge keep gone) = (verb.Merge, refl)
+row-begins (row_command.Undo slip) = (verb.Undo, refl)
 row-begins (row_command.Remove number) = (verb.Remove, refl)
 
 some-fields : (rows : List EntryRow) → HaveFields (map entry_fields rows)

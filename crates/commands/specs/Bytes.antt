@@ -57,6 +57,8 @@ row_of (row_command.Entry source entry) = verb_word verb.Entry ∷ decimal sourc
 row_of (row_command.Link entry mention person reason) =
     verb_word verb.Link ∷ decimal entry ∷ decimal mention ∷ decimal person ∷ reason ∷ []
 row_of (row_command.Unlink entry mention) = verb_word verb.Unlink ∷ decimal entry ∷ decimal mention ∷ []
+row_of (row_command.Merge keep gone) = verb_word verb.Merge ∷ decimal keep ∷ decimal gone ∷ []
+row_of (row_command.Undo slip) = verb_word verb.Undo ∷ decimal slip ∷ []
 row_of (row_command.Remove number) = verb_word verb.Remove ∷ decimal number ∷ []
 
 -- ---- bytes

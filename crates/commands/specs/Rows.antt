@@ -119,6 +119,9 @@ read_fields given verb.Link (entry ∷ mention ∷ person ∷ reason ∷ []) =
     Ok (row_command.Link e m p reason))))
 read_fields given verb.Unlink (entry ∷ mention ∷ []) =
     and_then (number_in entry) (λ e. and_then (number_in mention) (λ m. Ok (row_command.Unlink e m)))
+read_fields given verb.Merge (keep ∷ gone ∷ []) =
+    and_then (number_in keep) (λ k. and_then (number_in gone) (λ g. Ok (row_command.Merge k g)))
+read_fields given verb.Undo (slip ∷ []) = and_then (number_in slip) (λ s. Ok (row_command.Undo s))
 read_fields given verb.Remove (number ∷ []) = and_then (number_in number) (λ n. Ok (row_command.Remove n))
 read_fields given _ _ = Err FieldCount
 

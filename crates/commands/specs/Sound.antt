@@ -46,6 +46,8 @@ IsSoundRow (row_command.Citation owner source page quality) = IsNumber owner × 
 IsSoundRow (row_command.Entry source entry) = IsNumber source × IsSoundEntry entry
 IsSoundRow (row_command.Link entry mention person reason) = IsNumber entry × IsNumber mention × IsNumber person
 IsSoundRow (row_command.Unlink entry mention) = IsNumber entry × IsNumber mention
+IsSoundRow (row_command.Merge keep gone) = IsNumber keep × IsNumber gone
+IsSoundRow (row_command.Undo slip) = IsNumber slip
 IsSoundRow (row_command.Remove number) = IsNumber number
 
 -- the same of any command: of a batch of entries, of its source and of each row

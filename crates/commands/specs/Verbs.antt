@@ -20,13 +20,15 @@ verb_word verb.Citation = codes "citation"
 verb_word verb.Entry = codes "entry"
 verb_word verb.Link = codes "link"
 verb_word verb.Unlink = codes "unlink"
+verb_word verb.Merge = codes "merge"
+verb_word verb.Undo = codes "undo"
 verb_word verb.Remove = codes "remove"
 
 abbrev pub verbs : List Verb
 verbs =
     verb.Person ∷ verb.Name ∷ verb.Sex ∷ verb.Family ∷ verb.Child ∷ verb.Event ∷ verb.Amend ∷ verb.Participant
     ∷ verb.Place ∷ verb.Repo ∷ verb.Source ∷ verb.Citation
-    ∷ verb.Entry ∷ verb.Link ∷ verb.Unlink ∷ verb.Remove ∷ []
+    ∷ verb.Entry ∷ verb.Link ∷ verb.Unlink ∷ verb.Merge ∷ verb.Undo ∷ verb.Remove ∷ []
 
 -- the verb of a word
 unfoldable pub verb_of : List ℕ → Option Verb

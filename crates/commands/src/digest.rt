@@ -87,6 +87,8 @@ fn row_command_bytes(alloc: Global, row: &RowCommand) -> Result<Vec<u8>, AllocEr
             reason,
         } => link_bytes(alloc, *entry, *mention, *person, reason),
         RowCommand::Unlink { entry, mention } => unlink_bytes(alloc, *entry, *mention),
+        RowCommand::Merge { keep, gone } => merge_bytes(alloc, *keep, *gone),
+        RowCommand::Undo { slip } => undo_bytes(alloc, *slip),
         RowCommand::Remove { number } => remove_bytes(alloc, *number),
     }
 }
@@ -269,6 +271,21 @@ fn unlink_bytes(alloc: Global, entry: u32, mention: u32) -> Result<Vec<u8>, Allo
     let entry = entry.to_string(alloc)?;
     let mention = mention.to_string(alloc)?;
     verb_row(alloc, Verb::Unlink, &[entry.as_str(), mention.as_str()])
+}
+
+fn merge_bytes(alloc: Global, keep: u32, gone: u32) -> Result<Vec<u8>, AllocError>
+    ensures { IfOk result (λ bytes. bytes.items ≡ bytes_of (command.Row (row_command.Merge keep gone))) }
+{
+    let keep = keep.to_string(alloc)?;
+    let gone = gone.to_string(alloc)?;
+    verb_row(alloc, Verb::Merge, &[keep.as_str(), gone.as_str()])
+}
+
+fn undo_bytes(alloc: Global, slip: u32) -> Result<Vec<u8>, AllocError>
+    ensures { IfOk result (λ bytes. bytes.items ≡ bytes_of (command.Row (row_command.Undo slip))) }
+{
+    let slip = slip.to_string(alloc)?;
+    verb_row(alloc, Verb::Undo, &[slip.as_str()])
 }
 
 fn remove_bytes(alloc: Global, number: u32) -> Result<Vec<u8>, AllocError>

@@ -58,14 +58,15 @@ fn of_fields(alloc: Global, verb: Verb, fields: &[&str]) -> Result<RowCommand, R
             link(alloc, entry, mention, person, reason)
         }
         (Verb::Unlink, [entry, mention]) => unlink(entry, mention),
+        (Verb::Merge, [keep, gone]) => merge(keep, gone),
+        (Verb::Undo, [slip]) => undo(slip),
         (Verb::Remove, [number]) => remove(number),
         // An arm of their own: `auto` follows no more than sixteen ways into one.
         (Verb::Place | Verb::Repo | Verb::Source | Verb::Citation, _) => Err(
             RefusalKind::FieldCount,
         ),
-        (Verb::Entry | Verb::Link | Verb::Unlink | Verb::Remove, _) => {
-            Err(RefusalKind::FieldCount)
-        }
+        (Verb::Entry | Verb::Link | Verb::Unlink, _) => Err(RefusalKind::FieldCount),
+        (Verb::Merge | Verb::Undo | Verb::Remove, _) => Err(RefusalKind::FieldCount),
         _ => Err(RefusalKind::FieldCount),
     }
 }
@@ -274,6 +275,21 @@ fn unlink(entry: &str, mention: &str) -> Result<RowCommand, RefusalKind>
     let entry = number_in(entry)?;
     let mention = number_in(mention)?;
     Ok(RowCommand::Unlink { entry, mention })
+}
+
+fn merge(keep: &str, gone: &str) -> Result<RowCommand, RefusalKind>
+    ensures { result ≡ read_fields given_of verb.Merge (keep.now ∷ gone.now ∷ []) }
+{
+    let keep = number_in(keep)?;
+    let gone = number_in(gone)?;
+    Ok(RowCommand::Merge { keep, gone })
+}
+
+fn undo(slip: &str) -> Result<RowCommand, RefusalKind>
+    ensures { result ≡ read_fields given_of verb.Undo (slip.now ∷ []) }
+{
+    let slip = number_in(slip)?;
+    Ok(RowCommand::Undo { slip })
 }
 
 fn remove(number: &str) -> Result<RowCommand, RefusalKind>

@@ -95,6 +95,15 @@ pub enum RowCommand {
         entry: u32,
         mention: u32,
     },
+    /// The person `gone` becomes `keep`.
+    Merge {
+        keep: u32,
+        gone: u32,
+    },
+    /// What the merge of a slip changed gets its old value back.
+    Undo {
+        slip: u32,
+    },
     /// A record is taken out of the archive.
     Remove {
         number: u32,

@@ -36,6 +36,10 @@ pub enum Verb {
     Link,
     /// A mention of an entry is of no person.
     Unlink,
+    /// Two persons become one.
+    Merge,
+    /// A merge is undone.
+    Undo,
     /// A record is taken out.
     Remove,
 }
@@ -61,6 +65,8 @@ impl Verb {
             Verb::Entry => "entry",
             Verb::Link => "link",
             Verb::Unlink => "unlink",
+            Verb::Merge => "merge",
+            Verb::Undo => "undo",
             Verb::Remove => "remove",
         }
     }
@@ -86,6 +92,8 @@ impl Verb {
             "entry" => Some(Verb::Entry),
             "link" => Some(Verb::Link),
             "unlink" => Some(Verb::Unlink),
+            "merge" => Some(Verb::Merge),
+            "undo" => Some(Verb::Undo),
             "remove" => Some(Verb::Remove),
             _ => None,
         }
