@@ -1,4 +1,4 @@
--- What an accepted step leaves beside its record: receipts, slips and the next number; and that it is sound.
+-- What an accepted step leaves beside its records: receipts and the next number; and that it is sound.
 use Rattle.std.proofs.Common.{◌≡◌, ℕ, ◌+◌, ◌<◌, ◌≤◌, List, [], ◌∷◌, Bool, true, false, refl, sym, ap, ◌∙◌, inl, inr, nat_le, subst, arith}
 use Rattle.std.specs.Prelude.{Option, Some, None, Result, Ok, Err, if◌then◌else◌, not, ◌||◌, option_map}
 use Rattle.std.proofs.lemmas.Bool.Decides.{nat_tests}
@@ -19,6 +19,9 @@ use Rattle.commands.specs.declared.row_command.RowCommand.TheVariants as row_com
 use Rattle.archive_looks.specs.Checks.{text_in, date_in, person_at, family_at, event_at, owner_at, place_at, tag_in, event_tag, is_tag_of, is_said, said_place_at, record_at, demanded_at, is_named, maybe_text_in, passed, each, need, place_name, place_name_in}
 use Rattle.archive_looks.specs.Entries.{entry_at, key_is_free, not_empty, reason_in, texts_fit}
 use Rattle.archive_looks.proofs.Likes.{entry_is_found}
+use Rattle.archive_merge.specs.Steps.{merge_step, undo_step}
+use Rattle.archive_merge.proofs.Drawing.{merge_draws, merge_uses_none, undo_draws, undo_uses_none}
+use Rattle.archive_merge.proofs.Stepping.{merged_by, merged_sound, undone_by, undone_sound}
 use Rattle.archive_steps.proofs.Entered.{LinkAt, entry_found, new_entry_fits, relinked_fits}
 use Rattle.archive_steps.specs.Steps.{RowStep, entry_of, has_mention, relinked, with_link, place_within, row_step, creates, replaces, removes, plain_repo, given_source, plain_citation, plain_person, plain_partners, plain_place, with_name, with_child, with_fields, with_participant, is_same, is_partner, is_child}
 use Rattle.place_paths.specs.Fits.{new_path, is_fit}
@@ -39,10 +42,10 @@ use Rattle.archive_steps.proofs.Sourced.{RepoAt, new_repo_fits, new_citation_fit
 use Rattle.archive_steps.proofs.Worded.{text_found, maybe_date}
 use Rattle.archive_steps.proofs.Fitting.{PersonAt, PlaceAt, new_person_fits, add_name_fits, set_sex_fits, new_family_fits, add_child_fits, new_event_fits, amend_event_fits, add_participant_fits}
 
--- an accepted step leaves receipts and slips as they are, draws the numbers of what it makes, uses no number again, and
+-- an accepted step leaves receipts as they are, draws the numbers of what it makes, uses no number again, and
 -- where W holds leaves a sound archive sound
 abbrev pub Follows : {E : Type 0} → Type 0 → Content → Result (Content × Answer) E → Type 0
-Follows W c (Ok done) = (done.0.receipts ≡ c.receipts) × (done.0.slips ≡ c.slips) × Draws c done.1 done.0 × UsesNoneAgain c done.0 × (W → IsSound c → IsSound done.0)
+Follows W c (Ok done) = (done.0.receipts ≡ c.receipts) × Draws c done.1 done.0 × UsesNoneAgain c done.0 × (W → IsSound c → IsSound done.0)
 Follows W c (Err e) = Unit {0}
 
 then_follows : {A : Type 0} (W : Type 0) (c : Content) (r : Result A RefusalKind) (f : A → RowStep) → ((a : A) → r ≡ Ok a → Follows W c (f a)) → Follows W c (and_then r f)
@@ -70,7 +73,6 @@ replaces_draws c n r = (omega arith, inr (refl, refl), λ k low high. absurd (om
 
 replaces_follows : (W : Type 0) (c : Content) (n : ℕ) (old r : Record) → get c.records n ≡ Some old → (W → IsSound c → IsFit c n r) → Follows W c (replaces c n r)
 replaces_follows W c n old r at fit = (
-  refl,
   refl,
   replaces_draws c n r,
   replaces_again c n old r at,
@@ -108,7 +110,6 @@ creates_follows : (W : Type 0) (c : Content) (r : Record) → (W → IsSound c �
 creates_follows W c r fit = elim (nat_le c.next 4_294_967_295) as (λ b. nat_le c.next 4_294_967_295 ≡ b → Follows W c (and_then (if b then Ok c.next else Err Full) (λ n. created c n r))) [
   | true ↦ λ e. (
     refl,
-    refl,
     creates_draws c r,
     creates_again c r,
     (λ w sound. let begun : 0 < c.next = sound.begun in put_keeps c c.next (c.next + 1) r sound (fit w sound) (omega arith) (one_more_free c.next e) (begun, omega arith)),
@@ -121,7 +122,6 @@ place_follows : (W : Type 0) (c : Content) (name : List ℕ) (parent : Option �
     → Follows W c (creates c (kind.Place (place_within name parent)))
 place_follows W c name parent given fit = elim (nat_le c.next 4_294_967_295) as (λ b. nat_le c.next 4_294_967_295 ≡ b → Follows W c (and_then (if b then Ok c.next else Err Full) (λ n. created c n (kind.Place (place_within name parent))))) [
   | true ↦ λ e. (
-    refl,
     refl,
     creates_draws c (kind.Place (place_within name parent)),
     creates_again c (kind.Place (place_within name parent)),
@@ -138,7 +138,7 @@ removes_again : (c : Content) (n : ℕ) → UsesNoneAgain c (record c { records 
 removes_again c n = (omega arith, (λ k less none. none), (λ k used. (used.0, gone_still c.records n k used.1, used.2)))
 
 removes_follows : (W : Type 0) (c : Content) (n : ℕ) → is_named c n ≡ false → Follows W c (removes c n)
-removes_follows W c n none = (refl, refl, removes_draws c n, removes_again c n, (λ w sound. removed_sound c n sound none))
+removes_follows W c n none = (refl, removes_draws c n, removes_again c n, (λ w sound. removed_sound c n sound none))
 
 -- ---- what a look has found
 each_passed : {A : Type 0} (r : Result A RefusalKind) (u : Unit {0}) → passed (and_then r (λ a. Ok (Some a))) ≡ Ok u → passed r ≡ Ok u
@@ -214,6 +214,29 @@ reason_found words t utf8 e =
 relinked_follows : (W : Type 0) (c : Content) (n : ℕ) (e : model.Entry) (k : ℕ) (link : Option model.Link) → get c.records n ≡ Some (kind.Entry e) → (W → IsSound c → LinkAt c link) → Follows W c (relinked c n e k link)
 relinked_follows W c n e k link at there =
     need_follows W c (has_mention k e) NoSuchMention _ (λ is. replaces_follows W c n (kind.Entry e) (kind.Entry (with_link k link e)) at (λ w sound. relinked_fits c n e k link sound at (there w sound)))
+
+-- two persons become one, and a merge is undone
+merge_follows : (c : Content) (keep gone : ℕ) → Follows (Unit {0}) c (merge_step c keep gone)
+merge_follows c keep gone = elim (merge_step c keep gone) as (λ s. merge_step c keep gone ≡ s → Follows (Unit {0}) c s) [
+  | Ok done ↦ λ e. (
+    ap (λ (x : Content). x.receipts) (sym (merged_by c done.0 keep gone done.1 e).left),
+    merge_draws c done.0 keep gone done.1 e,
+    merge_uses_none c done.0 keep gone done.1 e,
+    (λ w sound. merged_sound c done.0 keep gone done.1 sound e),
+  )
+  | Err k ↦ λ e. tt
+] refl
+
+undo_follows : (c : Content) (n : ℕ) → Follows (Unit {0}) c (undo_step c n)
+undo_follows c n = elim (undo_step c n) as (λ s. undo_step c n ≡ s → Follows (Unit {0}) c s) [
+  | Ok done ↦ λ e. (
+    ap (λ (x : Content). x.receipts) (sym (undone_by c done.0 n done.1 e).left),
+    undo_draws c done.0 n done.1 e,
+    undo_uses_none c done.0 n done.1 e,
+    (λ w sound. undone_sound c done.0 n done.1 sound e),
+  )
+  | Err k ↦ λ e. tt
+] refl
 
 -- ---- each command
 pub row_follows : (c : Content) (k : RowCommand) → Follows (IsUtf8Row k) c (row_step c k)
@@ -291,6 +314,8 @@ row_follows c (row_command.Link entry mention person reason) =
     (λ w sound. (one_person c person u there, reason_found reason t w i)))))
 row_follows c (row_command.Unlink entry mention) =
     then_follows (Unit {0}) c (entry_at c entry) _ (λ e found. relinked_follows (Unit {0}) c entry e mention None (entry_is_found (get c.records entry) e found) (λ w sound. tt))
+row_follows c (row_command.Merge keep gone) = merge_follows c keep gone
+row_follows c (row_command.Undo slip) = undo_follows c slip
 row_follows c (row_command.Remove number) =
     then_follows (Unit {0}) c (record_at c number) _ (λ u there. need_follows (Unit {0}) c (not (is_named c number)) StillNamed _ (λ alone.
     removes_follows (Unit {0}) c number (not_true (is_named c number) alone)))

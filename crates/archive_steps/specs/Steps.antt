@@ -310,4 +310,6 @@ row_step c (row_command.Citation owner source page quality) = new_citation c own
 row_step c (row_command.Entry source entry) = new_entry c source entry
 row_step c (row_command.Link entry mention person reason) = link_mention c entry mention person reason
 row_step c (row_command.Unlink entry mention) = unlink_mention c entry mention
+row_step c (row_command.Merge keep gone) = merge_step c keep gone
+row_step c (row_command.Undo slip) = undo_step c slip
 row_step c (row_command.Remove number) = remove_record c number

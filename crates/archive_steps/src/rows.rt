@@ -13,6 +13,7 @@ use crate::persons::{add_name, new_person, set_sex};
 use crate::places::new_place;
 use crate::removal::remove_record;
 use crate::sources::{new_citation, new_repo, new_source};
+use archive_merge::{merge, undo};
 use archive_state::Changes;
 use archive_view::View;
 use commands::RowCommand;
@@ -78,6 +79,8 @@ pub fn decide_row<V: View>(
             reason,
         } => link_mention(alloc, view, *entry, *mention, *person, reason),
         RowCommand::Unlink { entry, mention } => unlink_mention(alloc, view, *entry, *mention),
+        RowCommand::Merge { keep, gone } => merge(alloc, view, *keep, *gone),
+        RowCommand::Undo { slip } => undo(alloc, view, *slip),
         RowCommand::Remove { number } => remove_record(alloc, view, *number),
     }
 }

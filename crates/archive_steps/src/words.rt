@@ -57,6 +57,8 @@ pub fn tell_row(row: &RowCommand)
         | RowCommand::Family { .. }
         | RowCommand::Child { .. }
         | RowCommand::Unlink { .. }
+        | RowCommand::Merge { .. }
+        | RowCommand::Undo { .. }
         | RowCommand::Remove { .. } => {}
     }
 }
