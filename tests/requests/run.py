@@ -17,12 +17,12 @@ import sys
 sys.dont_write_bytecode = True
 
 import stops  # noqa: E402
-from table import again, entries, entry_rows, failing, many, order, reading, stored, worked  # noqa: E402
+from table import again, entries, entry_rows, failing, many, merging, order, reading, stored, worked  # noqa: E402
 from table.making import LAST  # noqa: E402
 
 ROOT = pathlib.Path(__file__).resolve().parents[2]
 PROGRAM = ROOT / "crates/request_rows/out/request_rows"
-PARTS = (worked, reading, entry_rows, order, entries, again, failing, many, stored)
+PARTS = (worked, reading, entry_rows, order, entries, merging, again, failing, many, stored)
 SCENARIOS = [scenario for part in PARTS for scenario in part.SCENARIOS]
 LIMIT = 50  # seconds for one scenario
 SHOWN = 100  # bytes of a text in a message

@@ -2,7 +2,7 @@
 
 from __future__ import annotations
 
-from table import again, entries, order, worked
+from table import again, entries, merging, order, worked
 from table.making import (
     FAMILY,
     Scenario,
@@ -95,9 +95,10 @@ def has_requests_alone(one: Scenario) -> bool:
 
 OTHERS = tuple(
     in_files(one)
-    for part in (worked, order, entries, again)
+    for part in (worked, order, entries, merging, again)
     for one in part.SCENARIOS
-    if has_requests_alone(one)
+    # each row opens the files and reads them whole
+    if has_requests_alone(one) and len(one.steps) < 1_000
 )
 
 SCENARIOS = OTHERS + (
