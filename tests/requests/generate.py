@@ -2,7 +2,7 @@
 
     python3 tests/requests/generate.py SEED COUNT [lasting]
 
-`lasting`: no row removes a record, so that each row, whenever it is given again, is answered as before.
+`lasting`: no row removes a record or merges persons, so that each row, whenever it is given again, is answered as before.
 """
 
 import random
@@ -52,6 +52,8 @@ KINDS = {
     "entry": "NKTIDNT",
     "link": "NMNW",
     "unlink": "NM",
+    "merge": "NN",
+    "undo": "N",
     "remove": "N",
 }
 OF_MENTION = "RT"
@@ -69,8 +71,17 @@ ODD = {
     "R": ["", "Child", "widow", "father of groom", "a\rb", "a\0b"],
     "W": ["", "", "a\rb", "a\0b"],
 }
-ODD_VERBS = ["frob", "", "Person", "person ", "personal", "repository", "removed", "Entry", "links", "entries"]
+ODD_VERBS = ["frob", "", "Person", "person ", "personal", "repository", "removed", "Entry", "links", "entries", "merged", "Undo"]
 ODD_TOKENS = ["", "a b", "x" * 65, "\u00e9", "!", "~", "a,b", "x" * 64, "\x7f"]
+
+
+class Slip:
+    """What a merge changed: what was kept of each record before, and which change each has had last since; none of the one that is gone."""
+
+    def __init__(self, old, new):
+        self.old = old
+        self.new = new
+        self.is_open = True
 
 
 class Rows:
@@ -85,6 +96,10 @@ class Rows:
         self.keys = {}  # source, kind, page and item of each entry
         self.links = {}  # for each mention of an entry, the person that it is linked to, or none
         self.names = {}  # the numbers that each record names
+        self.members = {}  # the partners and the children of each family
+        self.slips = {}  # what each merge changed
+        self.stamps = {}  # which change of each record was the last
+        self.changed = 0
         self.next = 1
         self.given = []
         self.doubled = set()  # the fields of entries that were there already
@@ -112,11 +127,17 @@ class Rows:
             "entry": self.entries,
         }
 
+    def touch(self, number, stamp=None):
+        """A record has a new value, or that of an earlier change. A value that may be had before has a stamp below 0."""
+        self.changed += 1
+        self.stamps[number] = self.changed if stamp is None else stamp
+
     def is_named(self, number):
         return any(number in named for one, named in self.names.items() if one != number)
 
     def take_out(self, number):
-        del self.names[number]
+        del self.names[number], self.stamps[number]
+        self.members.pop(number, None)
         self.keys.pop(number, None)
         self.links.pop(number, None)
         for numbers in self.kinds().values():
@@ -199,6 +220,69 @@ class Rows:
         number = self.rng.choice(self.entries)
         return [self.spelt(number), self.of(list(self.links[number]))]
 
+    def is_clash(self, keep, gone):
+        """Whether both are of one family, but not both as its children."""
+        members = self.members.values()
+        return any({keep, gone} <= two[0] | two[1] and not {keep, gone} <= two[1] for two in members)
+
+    def mergeable(self):
+        """Two persons that can become one, if some of those that are drawn can."""
+        drawn = [self.rng.sample(self.people, 2) for _ in range(5)] if len(self.people) > 1 else []
+        return next((two for two in drawn if not self.is_clash(*two)), None)
+
+    def undoable(self):
+        return [number for number, slip in self.slips.items() if slip.is_open and self.has_new(slip)]
+
+    def has_new(self, slip):
+        return all(self.stamps.get(number) == stamp for number, stamp in slip.new.items())
+
+    def merge(self):
+        return [self.spelt(number) for number in self.mergeable() or self.people[:1] * 2]
+
+    def undo(self):
+        return [self.of(self.undoable())]
+
+    def as_is(self, number):
+        """What is kept of a record."""
+        links, members = self.links.get(number), self.members.get(number)
+        return (
+            self.stamps[number],
+            set(self.names[number]),
+            None if links is None else dict(links),
+            None if members is None else tuple(set(some) for some in members),
+        )
+
+    def note_merge(self, keep, gone):
+        """One person is gone, and is named no more; its slip has the next number."""
+        changed = [number for number, named in self.names.items() if gone in named and number not in (keep, gone)]
+        old = {number: self.as_is(number) for number in (keep, gone, *changed)}
+        for number in changed:
+            self.names[number] = {keep if one == gone else one for one in self.names[number]}
+            if number in self.links:
+                self.links[number] = {at: keep if one == gone else one for at, one in self.links[number].items()}
+            if number in self.members:
+                self.members[number] = tuple({keep if one == gone else one for one in some} for some in self.members[number])
+        self.take_out(gone)
+        for number in (keep, *changed):
+            self.touch(number)
+        self.slips[self.next] = Slip(old, {gone: None, **{number: self.stamps[number] for number in (keep, *changed)}})
+        self.next += 1
+
+    def note_undo(self, number):
+        slip = self.slips[number]
+        if not slip.is_open or not self.has_new(slip):
+            return
+        slip.is_open = False
+        for number, (stamp, named, links, members) in slip.old.items():
+            self.touch(number, stamp)
+            self.names[number] = named
+            if links is not None:
+                self.links[number] = links
+            if members is not None:
+                self.members[number] = members
+            if slip.new[number] is None:
+                self.people.append(number)
+
     def remove(self):
         return [self.of([number for number in self.names if not self.is_named(number)])]
 
@@ -217,6 +301,10 @@ class Rows:
             found += ["entry"] * 4
         if self.entries:
             found += ["unlink"] + ["link"] * 3 * bool(self.people)
+        if self.removes and self.people and self.mergeable():
+            found += ["merge"] * 2
+        if self.removes and self.undoable():
+            found += ["undo"] * 2
         if self.removes and not all(self.is_named(number) for number in self.names):
             found += ["remove"]
         return found
@@ -228,18 +316,33 @@ class Rows:
         if made is not None:
             made.append(self.next)
             self.names[self.next] = named
+            self.touch(self.next)
+            if verb == "family":
+                self.members[self.next] = (set(named), set())
             if verb == "entry":
                 self.keys[self.next] = key_of(fields)
                 self.links[self.next] = dict.fromkeys(range(1, mention_count(fields) + 1))
             self.next += 1
         elif verb == "remove":
             self.take_out(*named)
+        elif verb == "merge":
+            if fields[0] != fields[1]:
+                self.note_merge(*map(int, fields))
+        elif verb == "undo":
+            self.note_undo(*named)
         else:
             self.note_change(verb, int(fields[0]), fields, named)
 
     def note_change(self, verb, number, fields, named):
         """Keeps what a record names after a command that changes it: another place or person goes with the new one."""
+        if verb == "child" and named & set.union(*self.members[number]):
+            return
         before = self.names[number]
+        self.touch(number)
+        if verb in ("sex", "amend", "link", "unlink"):
+            self.stamps[number] = -self.changed
+        if verb == "child":
+            self.members[number][1].update(named - {number})
         if verb in ("link", "unlink"):
             self.links[number][int(fields[1])] = int(fields[2]) if verb == "link" else None
             named = {one for one in self.links[number].values() if one is not None}
@@ -271,6 +374,10 @@ class Rows:
             return [verb, str(self.people[0]), self.of(self.people[:1])]
         if verb == "source" and form < 0.5:
             return [verb, *fields[:3], "", "MS 4"]
+        if verb == "merge" and form < 0.6:
+            return [verb, *self.odd_merge(fields)]
+        if verb == "undo" and form < 0.7:
+            return [verb, self.of(self.refused_slips() or [1000])]
         if verb == "entry" and form < 0.7:
             return [verb, *self.odd_entry(fields)]
         if verb in ("link", "unlink") and form < 0.5:
@@ -279,6 +386,24 @@ class Rows:
         at = self.rng.randrange(len(fields))
         fields[at] = self.wrong(verb, kinds[at], at)
         return [verb, *fields]
+
+    def odd_merge(self, fields):
+        """One person twice, or two of one family of whom one is a partner."""
+        found = [(a, b) for partners, children in self.members.values() for a in partners for b in sorted((partners | children) - {a})]
+        if not found or self.chance(0.3):
+            return [fields[0], fields[0]]
+        two = self.rng.choice(sorted(found))
+        return [self.spelt(number) for number in (two if self.chance(0.5) else reversed(two))]
+
+    def refused_slips(self):
+        """Slips that were undone, or of which a record has changed for good since."""
+        slips = self.slips.items()
+        return [number for number, slip in slips if not slip.is_open or (not self.has_new(slip) and not self.may_have_new(slip))]
+
+    def may_have_new(self, slip):
+        """Whether each record of a slip has its new value, or one that may be the same."""
+        stamps = [(self.stamps.get(number), stamp) for number, stamp in slip.new.items() if stamp is not None]
+        return all(now is not None and (now < 0 or now == stamp) for now, stamp in stamps)
 
     def odd_entry(self, fields):
         """One that is there already, with a role of another kind, with no mention, or with one too many."""
@@ -313,7 +438,11 @@ class Rows:
         elif verb == "citation":
             others = self.people + self.repos
         elif verb == "remove":
-            others = [number for number in self.names if self.is_named(number)]
+            others = [number for number in self.names if self.is_named(number)] + list(self.slips)
+        elif verb == "merge":
+            others = self.families + self.events + self.entries + list(self.slips)
+        elif verb == "undo":
+            others = list(self.names)
         elif verb == "child" and at == 0:
             others = self.people + self.events
         elif verb in ("amend", "participant") and at == 0:
