@@ -30,7 +30,7 @@ err_is_not : {A : Type 0} (k : Refusal) (y : A) (r : Result A Refusal) → r ≡
 err_is_not k y r e f = let both : Err k ≡ Ok y = sym e ∙ f in absurd cc
 
 pub step_draws : (c t : Content) (k : Command) (a : Answer) → step c k ≡ Ok (t, a) → Draws c a t
-step_draws c t k a e = let f : Follows {E = Refusal} (HasUtf8Words k) c (Ok (t, a)) = subst (Follows (HasUtf8Words k) c) e (step_follows c k) in f.2
+step_draws c t k a e = let f : Follows {E = Refusal} (HasUtf8Words k) c (Ok (t, a)) = subst (Follows (HasUtf8Words k) c) e (step_follows c k) in f.1
 
 -- ---- one request
 at_itself : (token : List ℕ) → eq_by_cmp (slice_cmp nat_cmp) token token ≡ true
@@ -148,10 +148,10 @@ through P blind c after r (Ok a) here h e =
 
 -- a step leaves a sound archive sound, and uses no number again
 step_sound : (c : Content) (k : Command) → HasUtf8Words k → IsSound c → (done : Content × Answer) → step c k ≡ Ok done → IsSound done.0
-step_sound c k words sound done e = let f : Follows {E = Refusal} (HasUtf8Words k) c (Ok done) = subst (Follows (HasUtf8Words k) c) e (step_follows c k) in f.4 words sound
+step_sound c k words sound done e = let f : Follows {E = Refusal} (HasUtf8Words k) c (Ok done) = subst (Follows (HasUtf8Words k) c) e (step_follows c k) in f.3 words sound
 
 step_again : (c : Content) (k : Command) (done : Content × Answer) → step c k ≡ Ok done → UsesNoneAgain c done.0
-step_again c k done e = let f : Follows {E = Refusal} (HasUtf8Words k) c (Ok done) = subst (Follows (HasUtf8Words k) c) e (step_follows c k) in f.3
+step_again c k done e = let f : Follows {E = Refusal} (HasUtf8Words k) c (Ok done) = subst (Follows (HasUtf8Words k) c) e (step_follows c k) in f.2
 
 sound_blind : (d : Content) (receipts : Receipts) → IsSound d → IsSound (record d { receipts = receipts })
 sound_blind d receipts h = record { begun = h.begun; bounded = h.bounded; distinct = h.distinct; named = h.named; rules = h.rules; slips = h.slips; stayed = h.stayed; free = h.free }

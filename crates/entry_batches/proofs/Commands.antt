@@ -23,8 +23,8 @@ use Rattle.archive_looks.specs.Checks.{date_in, demanded_at, demanded_in, each, 
 use Rattle.archive_looks.specs.Entries.{key_is_free, mentions_in, texts_fit}
 use Rattle.archive_looks.specs.declared.kinds.Demand.TheVariants as demand
 use Rattle.archive_steps.proofs.Following.{Follows, row_follows}
-use Rattle.archive_steps.specs.Exact.{IsExact}
-use Rattle.archive_steps.specs.Numbers.{Draws, UsesNoneAgain}
+use Rattle.archive_looks.specs.Exact.{IsExact}
+use Rattle.archive_looks.specs.Numbers.{Draws, UsesNoneAgain}
 use Rattle.archive_steps.specs.Steps.{RowStep, creates, entry_of, new_entry}
 use Rattle.archive_steps.specs.Words.{IsUtf8Entry}
 use Rattle.entry_batches.specs.Batches.{batch_step, first_number, is_left, key_is_new, number_behind, place_behind, row_entry, with_entry, with_made, with_row, with_rows}
@@ -254,14 +254,13 @@ one_sound : (source place : ℕ) (c : Content) (rows : List EntryRow) (after : C
 one_sound source place c [] after words sound e = let same : c ≡ after = cc in subst IsSound same sound
 one_sound source place c (row ∷ rows) after words sound e =
     elim (new_entry c source row) as (λ r. Follows (IsUtf8Entry row) c r → onward (placed (Some place) r) (λ (done : Content × Answer). one_by_one source (place + 1) done.0 rows) ≡ Ok after → IsSound after) [
-      | Ok done ↦ λ f g. one_sound source (place + 1) done.0 rows after words.1 (f.4 words.0 sound) g
+      | Ok done ↦ λ f g. one_sound source (place + 1) done.0 rows after words.1 (f.3 words.0 sound) g
       | Err k ↦ λ f g. absurd cc
     ] (row_follows c (row_command.Entry source row)) e
 
 made_follows : (c : Content) (source : ℕ) (rows : List EntryRow) (made : List Numbered) (u : Unit {0}) → demanded_at c demand.Source source ≡ Ok u → with_rows c source [] rows ≡ Ok made → Follows {E = Refusal} (AreUtf8Entries rows) c (Ok (with_made c made, record { first = c.next; count = length made }))
 made_follows c source rows made u there e =
     let from : IsFrom c.next made = (row_count c source [] rows made e tt).0 in (
-      refl,
       refl,
       (refl, inl refl, λ n low high. inl (taken c.records c.next made n from low high)),
       (omega arith, (λ n less none. none), (λ n used. (omega (arith, used.0), untouched c.records c.next made n from used.0 ∙ used.1, used.2))),
@@ -303,12 +302,12 @@ made_is_exact c source rows made next a changes e is =
 -- ---- the laws
 pub batch_sound : (c after : Content) (source : ℕ) (rows : List EntryRow) (a : Answer) → AreUtf8Entries rows → IsSound c → batch_step c source rows ≡ Ok (after, a) → IsSound after
 batch_sound c after source rows a words sound e =
-    let f : Follows {E = Refusal} (AreUtf8Entries rows) c (Ok (after, a)) = subst (Follows (AreUtf8Entries rows) c) e (batch_follows c source rows) in f.4 words sound
+    let f : Follows {E = Refusal} (AreUtf8Entries rows) c (Ok (after, a)) = subst (Follows (AreUtf8Entries rows) c) e (batch_follows c source rows) in f.3 words sound
 
 pub batch_draws : (c after : Content) (source : ℕ) (rows : List EntryRow) (a : Answer) → batch_step c source rows ≡ Ok (after, a) → Draws c a after
 batch_draws c after source rows a e =
-    let f : Follows {E = Refusal} (AreUtf8Entries rows) c (Ok (after, a)) = subst (Follows (AreUtf8Entries rows) c) e (batch_follows c source rows) in f.2
+    let f : Follows {E = Refusal} (AreUtf8Entries rows) c (Ok (after, a)) = subst (Follows (AreUtf8Entries rows) c) e (batch_follows c source rows) in f.1
 
 pub batch_again : (c after : Content) (source : ℕ) (rows : List EntryRow) (a : Answer) → batch_step c source rows ≡ Ok (after, a) → UsesNoneAgain c after
 batch_again c after source rows a e =
-    let f : Follows {E = Refusal} (AreUtf8Entries rows) c (Ok (after, a)) = subst (Follows (AreUtf8Entries rows) c) e (batch_follows c source rows) in f.3
+    let f : Follows {E = Refusal} (AreUtf8Entries rows) c (Ok (after, a)) = subst (Follows (AreUtf8Entries rows) c) e (batch_follows c source rows) in f.2
