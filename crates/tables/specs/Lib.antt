@@ -1,4 +1,3 @@
 pub mod Answers
 pub mod Applying
-pub mod Input
 pub mod Requests
