@@ -1,3 +1,4 @@
 pub mod Answers
 pub mod Applying
+pub mod Entering
 pub mod Requests

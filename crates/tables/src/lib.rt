@@ -10,6 +10,7 @@
 mod answers;
 mod applying;
 mod bad_request;
+mod entering;
 pub mod laws;
 mod request;
 mod serving;
@@ -17,4 +18,5 @@ mod serving;
 pub use applying::apply;
 pub use bad_request::BadRequest;
 pub use batch_reading::read_entries;
+pub use entering::enter;
 pub use request::read_request;
