@@ -8,7 +8,7 @@ use Rattle.sqlite_store.specs.declared.store.FileStore.{FileStore}
 use Rattle.sqlite_wal.specs.Recovery.{Image}
 use Rattle.devices.specs.Devices.{Rose}
 use Rattle.devices.specs.declared.device.Device as device
-use Rattle.tables.specs.Input.{row_bytes}
+use Rattle.batch_reading.specs.Input.{row_bytes}
 use Rattle.parish.specs.Ends.{ApplyEnds, CheckEnds, NormEnds}
 
 module _ {R W : Type 0} (reader : read.Ghosts R) (reads : device.Ghosts R) (writer : write.Ghosts W) (writes : device.Ghosts W) where
