@@ -19,5 +19,8 @@ returns-in-Ok-clause-refused g c =
 pub returns-in-Err-clause-refused : goal.returns-in-Err-clause-refused
 returns-in-Err-clause-refused g c =
     let is = sym c.from.ensures in
-    inr (inl (c.requires.word, ap (λ (e : Refusal). e.at) c.from.ensures,
-      subst (λ (e : Refusal). Unopened (image_at g.S.Start) e.kind c.in-Err.left) is c.in-Err.ensures.refused))
+    inr (inl (
+      c.requires.word,
+      ap (λ (e : Refusal). e.at) c.from.ensures,
+      subst (λ (e : Refusal). Unopened (image_at g.S.Start) e.kind c.in-Err.left) is c.in-Err.ensures.refused,
+    ))
