@@ -1,4 +1,4 @@
--- What an accepted command leaves is what its row leaves.
+-- What an accepted command leaves is what its row leaves, or its batch of rows.
 use Rattle.std.proofs.Common.{ℕ}
 use Rattle.std.specs.Prelude.{Option, None, Ok, Err}
 use Rattle.archive_state.specs.Content.{Content}
@@ -7,6 +7,7 @@ use Rattle.commands.specs.declared.command.Command.TheVariants as command
 use Rattle.archive_steps.specs.Steps.{RowStep, row_step}
 use Rattle.archive_steps.specs.Words.{IsUtf8Row}
 use Rattle.archive_steps.proofs.Following.{Follows, row_follows}
+use Rattle.entry_batches.proofs.Commands.{batch_follows}
 use Rattle.archive_core.specs.Steps.{placed, step}
 use Rattle.archive_core.specs.Words.{HasUtf8Words}
 
@@ -17,3 +18,4 @@ placed_follows W c place (Err e) h = tt
 
 pub step_follows : (c : Content) (k : Command) → Follows (HasUtf8Words k) c (step c k)
 step_follows c (command.Row row) = placed_follows (IsUtf8Row row) c None (row_step c row) (row_follows c row)
+step_follows c (command.Entries source rows) = batch_follows c source rows

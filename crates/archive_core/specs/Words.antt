@@ -2,7 +2,9 @@
 use Rattle.commands.specs.declared.command.Command.{Command}
 use Rattle.commands.specs.declared.command.Command.TheVariants as command
 use Rattle.archive_steps.specs.Words.{IsUtf8Row}
+use Rattle.entry_batches.specs.Words.{AreUtf8Entries}
 
 -- the words of a command are what a `String` can hold
 abbrev pub HasUtf8Words : Command → Type 0
 HasUtf8Words (command.Row row) = IsUtf8Row row
+HasUtf8Words (command.Entries source rows) = AreUtf8Entries rows

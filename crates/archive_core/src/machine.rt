@@ -9,6 +9,7 @@ ghost use Rattle.archive_core.specs.Machine.{Does, answered_again, kept_under, o
 ghost use Rattle.archive_core.specs.Steps.{step};
 ghost use Rattle.archive_core.specs.Words.{HasUtf8Words};
 ghost use Rattle.archive_looks.specs.Exact.{ChangesNothing, IsExact};
+ghost use Rattle.entry_batches.specs.Applied.{PlansAt};
 
 use crate::applying::apply;
 use crate::request::{Request, tell_words};
@@ -16,6 +17,7 @@ use archive_state::{Answer, Changes, Kept, Receipt, State, Token};
 use archive_steps::decide_row;
 use archive_view::View;
 use commands::{Command, command_digest};
+use entry_batches::decide_entries;
 use records::{Refusal, RefusalKind};
 use std::alloc::Global;
 
@@ -103,9 +105,28 @@ fn decide_anew<V: View>(
     ensures counts { CountsStops (V.failed view.old) (V.failed view.new) result }
 {
     let token = request.token.copy(alloc)?;
-    let Command::Row(row) = &request.command;
-    let changes = decide_row(alloc, view, row)?;
+    let changes = decide_command(alloc, view, &request.command)?;
     Ok(with_receipt(changes, token, digest))
+}
+
+/// What a command changes, without its answer to keep.
+fn decide_command<V: View>(
+    alloc: Global,
+    view: &mut V,
+    command: &Command,
+) -> Result<Changes, Refusal>
+    ensures decides { OnView V.is_honest V.shows V.content view.old view.new
+        (λ c. PlansAt c result (step c command.now)) }
+    ensures exact { OnView V.is_honest V.shows V.content view.old view.new
+        (λ c. IfOk result (IsExact c)) }
+    ensures counts { CountsStops (V.failed view.old) (V.failed view.new) result }
+{
+    match command {
+        Command::Row(row) => Ok(decide_row(alloc, view, row)?),
+        Command::Entries { source, rows } => {
+            decide_entries(alloc, view, *source, rows.as_slice())
+        }
+    }
 }
 
 /// The changes, with the receipt of their answer.

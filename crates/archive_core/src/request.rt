@@ -5,6 +5,7 @@ ghost use Rattle.archive_core.specs.Words.{HasUtf8Words};
 use archive_state::Token;
 use archive_steps::tell_row;
 use commands::Command;
+use entry_batches::tell_entries;
 
 /// A command, with the token under which its answer is kept.
 #[derive(Drop)]
@@ -17,6 +18,8 @@ pub struct Request {
 pub(crate) fn tell_words(command: &Command)
     ensures { HasUtf8Words command.now }
 {
-    let Command::Row(row) = command;
-    tell_row(row);
+    match command {
+        Command::Row(row) => tell_row(row),
+        Command::Entries { rows, .. } => tell_entries(rows.as_slice()),
+    }
 }

@@ -1,6 +1,6 @@
 -- Each number of a slip has another record after the merge: the slip holds no more than the numbers that changed.
 use Rattle.std.proofs.Common.{◌≡◌, ℕ, ◌+◌, ◌<◌, List, [], ◌∷◌, ◌++◌, Bool, true, false, refl, sym, ap, ◌∙◌, inl, inr, subst, arith, suc}
-use Rattle.std.specs.Prelude.{Option, Some, None, map, option_map, not, length, ◌&&◌, ◌||◌, ◌==◌}
+use Rattle.std.specs.Prelude.{Option, Some, None, is_none, map, option_map, not, length, ◌&&◌, ◌||◌, ◌==◌}
 use Rattle.std.specs.FinMap.{get}
 use Rattle.stored_lines.specs.Tree.{relabel}
 use Rattle.record_kinds.specs.Model as model
@@ -11,7 +11,7 @@ use Rattle.record_links.specs.Links.{Link, links, is_among}
 use Rattle.archive_state.specs.Content.{Records}
 use Rattle.archive_state.specs.Merging.{line_with, merged, merged_record, merged_person, joined_person, person_with, name_with, lines_with, sex_of_two, second_sex, renamed, record_with}
 use Rattle.record_shapes.specs.Lists.{EachOf}
-use Rattle.archive_merge.specs.Merges.{is_empty, is_none, adds_nothing, is_changed}
+use Rattle.archive_merge.specs.Merges.{is_empty, adds_nothing, is_changed}
 use Rattle.archive_state.proofs.Each.{each_all}
 use Rattle.archive_merge.proofs.Lists.{each_to_map}
 use Rattle.archive_merge.proofs.Renaming.{moved, links_moved}

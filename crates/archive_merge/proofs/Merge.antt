@@ -1,6 +1,6 @@
 -- A sound archive stays sound when two persons are merged.
 use Rattle.std.proofs.Common.{◌≡◌, ℕ, ◌+◌, ◌<◌, ◌≤◌, List, [], ◌∷◌, ◌++◌, Bool, true, false, cond, refl, sym, ap, ◌∙◌, inl, inr, subst, arith}
-use Rattle.std.specs.Prelude.{Option, Some, None, map, option_map, not, ◌&&◌, ◌||◌, ◌==◌, IfSome, MatchOption}
+use Rattle.std.specs.Prelude.{Option, Some, None, is_none, map, option_map, not, ◌&&◌, ◌||◌, ◌==◌, IfSome, MatchOption}
 use Rattle.std.specs.List.{filter, list_any}
 use Rattle.std.specs.FinMap.{FinMap, get, find, insert, entries, get-entries}
 use Rattle.std.specs.Ordering.{nat_cmp, eq_by_cmp}
@@ -15,7 +15,7 @@ use Rattle.archive_state.specs.Merging.{merged, merged_record, merged_person, jo
 use Rattle.archive_state.specs.declared.slip.Change.{Change}
 use Rattle.archive_state.specs.Sound.{EachIn, IsNumber, HasEventTag, HasSaidPlace, place_of, HasSoundRecords, Stands, StandsIfThere, IsPerson, IsEmptyPerson, new_names, change_names, old_records, IsSoundSlip, IsSound}
 use Rattle.record_shapes.specs.Lists.{EachOf, Ascends}
-use Rattle.archive_merge.specs.Merges.{is_empty, is_none, adds_nothing, is_changed, change_at, merge_changes, is_clash, merged_records, slip_of, with_merge}
+use Rattle.archive_merge.specs.Merges.{is_empty, adds_nothing, is_changed, change_at, merge_changes, is_clash, merged_records, slip_of, with_merge}
 use Rattle.archive_merge.proofs.Lists.{append_nothing, each_to_map, each_to_flat, each_mapped}
 use Rattle.archive_state.proofs.Each.{each_more, each_both, each_zip}
 use Rattle.archive_merge.proofs.Merged.{at_gone, at_keep, at_other, which, alike_before}

@@ -1,13 +1,16 @@
 -- What an accepted undoing puts back, and what the slip of an accepted merge holds.
 use Rattle.std.proofs.Common.{◌≡◌, ℕ, ◌+◌, true, false, refl, sym, ap, ◌∙◌}
-use Rattle.std.specs.Prelude.{Some, None, Ok}
+use Rattle.std.specs.Prelude.{List, [], ◌∷◌, map, Some, None, Ok}
 use Rattle.std.specs.FinMap.{get}
 use Rattle.receipts.specs.declared.answer.Answer.{Answer}
 use Rattle.archive_state.specs.Content.{Content, Records}
+use Rattle.record_kinds.specs.declared.record.Record.{Record}
+use Rattle.record_shapes.specs.Lists.{EachOf}
+use Rattle.archive_state.specs.declared.slip.Change.{Change}
 use Rattle.archive_state.specs.Slips.{Slip}
 use Rattle.archive_state.specs.Merging.{merged}
 use Rattle.archive_state.specs.Sound.{IsSound, old_records}
-use Rattle.archive_merge.specs.Merges.{over, is_changed, merged_records, slip_of, with_merge, HoldsChanges}
+use Rattle.archive_merge.specs.Merges.{over, is_changed, change_at, merged_records, slip_of, with_merge, HoldsChanges}
 use Rattle.archive_merge.specs.Steps.{merge_step, undo_step}
 use Rattle.archive_state.proofs.Putting.{put_here}
 use Rattle.archive_merge.proofs.Changing.{old_there, old_left, made_none, made_left}
@@ -23,6 +26,10 @@ restored c after n a sound e =
     let rises = (sound.slips n h.slip h.there).ascending in
     (h.slip, h.there, λ k. ap (λ (x : Content). get x.records k) (sym h.left) ∙ undone_over h.slip rises c.records k)
 
+new_ones : (keep gone : ℕ) (m : Records) (es : List (ℕ × Record)) → EachOf (λ (x : Change). x.new ≡ merged keep gone (get m) x.number) (map (change_at keep gone m) es)
+new_ones keep gone m [] = tt
+new_ones keep gone m (e ∷ es) = (refl, new_ones keep gone m es)
+
 pub slip_holds : (c after : Content) (keep gone : ℕ) (a : Answer) → IsSound c → merge_step c keep gone ≡ Ok (after, a) → (s : Slip) × (get after.slips a.first ≡ Some s) × HoldsChanges keep gone c.records s
 slip_holds c after keep gone a sound e =
     let h : Merged c keep gone after a = merged_by c after keep gone a e in
@@ -34,6 +41,7 @@ slip_holds c after keep gone a sound e =
       record {
         keeps = refl;
         goes = refl;
+        new = new_ones keep gone m _;
         differs = λ n r o.
             let at : get m n ≡ Some r = sub c keep gone h.k h.g sound h.at_k h.at_g h.apart free n r o in (
               at,

@@ -1,10 +1,11 @@
 -- What a merge and its undoing make of records, by the numbers that they change. Rules of our own.
-use Rattle.std.specs.Prelude.{ℕ, ◌≡◌, List, [], ◌∷◌, map, Bool, true, false, not, ◌&&◌, ◌||◌, ◌==◌, nat_lt, Option, Some, None, if◌then◌else◌}
+use Rattle.std.specs.Prelude.{ℕ, ◌≡◌, List, [], ◌∷◌, map, Bool, true, false, not, ◌&&◌, ◌||◌, ◌==◌, nat_lt, Option, Some, None, is_none, if◌then◌else◌}
 use Rattle.std.specs.List.{list_any, filter, flat_map}
 use Rattle.std.specs.FinMap.{get, insert, remove, entries}
 use Rattle.record_kinds.specs.declared.record.Record.{Record}
 use Rattle.record_kinds.specs.declared.record.Record.TheVariants as kind
 use Rattle.record_links.specs.Links.{links, is_among}
+use Rattle.record_shapes.specs.Lists.{EachOf}
 use Rattle.archive_state.specs.Applied.{with_puts, as_undone}
 use Rattle.archive_state.specs.Content.{Content, Records}
 use Rattle.archive_state.specs.Merging.{merged, clashes}
@@ -18,10 +19,6 @@ use Rattle.archive_state.specs.declared.changes.Numbered.{Numbered}
 abbrev pub is_empty : {A : Type 0} → List A → Bool
 is_empty [] = true
 is_empty (a ∷ rest) = false
-
-abbrev pub is_none : {A : Type 0} → Option A → Bool
-is_none None = true
-is_none (Some a) = false
 
 -- a person without name, sex and carried line, who adds nothing to another
 abbrev pub adds_nothing : Option Record → Bool
@@ -98,6 +95,8 @@ over (Some a) o = Some a
 pub record HoldsChanges (keep gone : ℕ) (m : Records) (s : Slip) : Type 0 where
   pub keeps : s.keep ≡ keep
   pub goes : s.gone ≡ gone
+  -- with what each becomes
+  pub new : EachOf (λ (x : Change). x.new ≡ merged keep gone (get m) x.number) s.changes
   -- a number in the slip has another record then
   pub differs : (n : ℕ) (r : Record) → get (old_records s) n ≡ Some r → (get m n ≡ Some r) × (merged keep gone (get m) n ≡ Some r → ⊥)
   -- a number that is not in the slip has the record of before

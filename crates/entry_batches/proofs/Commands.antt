@@ -23,8 +23,8 @@ use Rattle.archive_looks.specs.Checks.{date_in, demanded_at, demanded_in, each, 
 use Rattle.archive_looks.specs.Entries.{key_is_free, mentions_in, texts_fit}
 use Rattle.archive_looks.specs.declared.kinds.Demand.TheVariants as demand
 use Rattle.archive_steps.proofs.Following.{Follows, row_follows}
-use Rattle.archive_steps.specs.Exact.{IsExact}
-use Rattle.archive_steps.specs.Numbers.{Draws, UsesNoneAgain}
+use Rattle.archive_looks.specs.Exact.{IsExact}
+use Rattle.archive_looks.specs.Numbers.{Draws, UsesNoneAgain}
 use Rattle.archive_steps.specs.Steps.{RowStep, creates, entry_of, new_entry}
 use Rattle.archive_steps.specs.Words.{IsUtf8Entry}
 use Rattle.entry_batches.specs.Batches.{batch_step, first_number, is_left, key_is_new, number_behind, place_behind, row_entry, with_entry, with_made, with_row, with_rows}

@@ -12,7 +12,7 @@ use Rattle.commands.specs.Rows.{and_then}
 use Rattle.commands.specs.declared.entry_row.EntryRow.{EntryRow}
 use Rattle.archive_looks.specs.Checks.{demanded_at}
 use Rattle.archive_looks.specs.declared.kinds.Demand.TheVariants as demand
-use Rattle.archive_steps.specs.Exact.{IsExact}
+use Rattle.archive_looks.specs.Exact.{IsExact}
 use Rattle.entry_batches.specs.Batches.{first_number, with_rows}
 use Rattle.entry_batches.proofs.Commands.{made_is_exact}
 use Rattle.entry_batches.proofs.Rows.{view_then}

@@ -85,8 +85,8 @@ like_words e f h =
     let k = parted (entry_kind_word e.kind) (entry_kind_word f.kind) (decimal e.item.number ++ 0 ∷ e.page) (decimal f.item.number ++ 0 ∷ f.page) (kind_plain e.kind) (kind_plain f.kind) words in
     let i = parted (decimal e.item.number) (decimal f.item.number) e.page f.page (item_plain e.item) (item_plain f.item) k.1 in
     both_yes (bytes_eq (entry_kind_word f.kind) (entry_kind_word e.kind)) (bytes_eq f.page e.page && f.item.number == e.item.number)
-        (bytes_same (entry_kind_word f.kind) (entry_kind_word e.kind) (sym k.0))
-        (both_yes (bytes_eq f.page e.page) (f.item.number == e.item.number) (bytes_same f.page e.page (sym i.1)) (eq-eqb f.item.number e.item.number (sym (same_number e.item f.item i.0))))
+    (bytes_same (entry_kind_word f.kind) (entry_kind_word e.kind) (sym k.0))
+    (both_yes (bytes_eq f.page e.page) (f.item.number == e.item.number) (bytes_same f.page e.page (sym i.1)) (eq-eqb f.item.number e.item.number (sym (same_number e.item f.item i.0))))
 
 words_like : (e f : model.Entry) → is_like_row e (kind.Entry f) ≡ true → bytes_eq (key_words e) (key_words f) ≡ true
 words_like e f h =

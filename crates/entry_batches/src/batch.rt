@@ -5,7 +5,7 @@ ghost use Rattle.record_text.specs.declared.refusal.Refusal.{Refusal};
 ghost use Rattle.archive_view.specs.Looks.{Agrees, CountsFailures, CountsStops, OnView, is_stop};
 ghost use Rattle.archive_looks.specs.Checks.{demanded_at};
 ghost use Rattle.archive_looks.specs.declared.kinds.Demand.TheVariants as demand;
-ghost use Rattle.archive_steps.specs.Exact.{IsExact};
+ghost use Rattle.archive_looks.specs.Exact.{IsExact};
 ghost use Rattle.commands.specs.Rows.{and_then};
 ghost use Rattle.entry_batches.specs.Applied.{PlansAt};
 ghost use Rattle.entry_batches.specs.Batches as batches;

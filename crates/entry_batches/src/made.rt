@@ -78,7 +78,12 @@ impl Made {
 
     /// With an entry more, at the number behind these where one is left (else `Full`).
     #[tactic(auto, using(crate::proofs::Looked::left_behind_few))]
-    pub(crate) fn with_entry(self, alloc: Global, next: u64, entry: Entry) -> Result<Made, RefusalKind>
+    pub(crate) fn with_entry(
+        self,
+        alloc: Global,
+        next: u64,
+        entry: Entry,
+    ) -> Result<Made, RefusalKind>
         ensures decides { Agrees is_stop result (batches.with_entry next self entry) }
         ensures memory { IfErr result (λ e. is_failure e ≡ false) }
     {
