@@ -9,6 +9,7 @@ import socket
 import sqlite3
 import subprocess
 import tempfile
+import time
 
 from harness import ROOT, Case, Outcome, Tools, demand, expect, refused, refused_row, run, written
 
@@ -483,6 +484,74 @@ def the_longest_entry(tools):
         expect(at.entries(lines(["BURIAL,,0000999999,,," + ",buried,Ann" * 100])), written(b"made 1 entries, first 2\n"))
 
 
+ROLES = {
+    "BAPTISM": ("child", "father", "mother", "godparent"),
+    "MARRIAGE": ("groom", "bride", "father-of-groom", "father-of-bride", "witness"),
+    "BURIAL": ("buried", "spouse", "father", "mother"),
+}
+
+
+def roles_of_each_kind(tools):
+    """All roles of a kind in one entry; one of another kind, or none, refuses the batch."""
+    words = {role for roles in ROLES.values() for role in roles} | {"", "Child", "priest"}
+    with Folder(tools) as at:
+        at.with_register()
+        for n, (kind, roles) in enumerate(ROLES.items(), 2):
+            row = f"{kind},f. 1,1,,," + "".join(f",{role},Ann" for role in roles)
+            expect(at.entries(lines([row]), token=kind), written(f"made 1 entries, first {n}\n".encode()))
+            for role in sorted(words - set(roles)):
+                expect(at.entries(lines([f"{kind},f. 2,1,,,,{role},Ann"]), token="other"), refused_row(62, 1))
+
+
+def one_entry_across_batches(tools):
+    """An entry is one by its source, kind, page and item, however the item is written; another of these makes another entry."""
+    others = ["MARRIAGE,f. 3,1,,,,groom,Ann", "BAPTISM,F. 3,1,,,,child,Ann", "BAPTISM,f. 3,2,,,,child,Ann", "BAPTISM,,1,,,,child,Ann"]
+    with Folder(tools) as at:
+        at.with_register()
+        expect(at.apply(b"s,source,Second,,,,\n"), written(b"s,ok,2,1\n"))
+        expect(at.entries(lines([BAPTISM])), written(b"made 1 entries, first 3\n"))
+        expect(at.entries(lines([*others, "BAPTISM,f. 3,001,,,,child,Eva"]), token="b"), refused_row(60, 5))
+        expect(at.apply(b"e,entry,1,BAPTISM,f. 3,1,,,,child,Eva\n"), written(b"e,refused,60,DuplicateEntry\n"))
+        expect(at.entries(lines([*others, *others[:1]]), token="c"), refused_row(60, 5))
+        expect(at.entries(lines(others), token="d"), written(b"made 4 entries, first 4\n"))
+        expect(at.entries(lines([BAPTISM]), source=2, token="e"), written(b"made 1 entries, first 8\n"))
+
+
+def a_token_of_a_batch(tools):
+    """A token is kept with the source and the rows of its batch: another batch, or a row of requests, is 52 under it. A refused batch keeps none."""
+    with Folder(tools) as at:
+        at.with_register()
+        expect(at.entries(lines([BAPTISM, BAPTISM])), refused_row(60, 2))
+        expect(at.entries(lines([BAPTISM])), written(b"made 1 entries, first 2\n"))
+        expect(at.entries(b"\n" + lines([BAPTISM.replace("15 APR 1699/00", "15 apr  1699/00")])), written(b"made 1 entries, first 2\n"))
+        expect(at.entries(lines([BAPTISM]), source=2), refused(52))
+        expect(at.apply(b"batch,person,Ann,F\n"), written(b"batch,refused,52,TokenReused\n"))
+        expect(at.entries(lines([BURIAL]), token="r"), refused(52))
+
+
+def killed_in_a_batch(tools, count=300, stops=12):
+    """A program that is killed while it enters a batch leaves all of it or nothing."""
+    rows = lines(f"BURIAL,f. {n // 20},{n + 1},,,Ann,buried,Ann Lee,spouse,Tom" for n in range(count))
+    rng = random.Random(count)
+    with Folder(tools) as whole:
+        start = time.perf_counter()
+        expect(whole.with_register().entries(rows), written(f"made {count} entries, first 2\n".encode()))
+        longest, wanted = time.perf_counter() - start, whole.tables()
+    for _ in range(stops):
+        with Folder(tools) as at:
+            before = at.with_register().tables()
+            words = [*at.parish, "entries", at.file, "--source", "1", "--token", "batch"]
+            process = subprocess.Popen(words, stdin=subprocess.PIPE, stdout=subprocess.PIPE, stderr=subprocess.DEVNULL)
+            try:
+                process.communicate(rows, timeout=rng.random() * longest)
+            except subprocess.TimeoutExpired:
+                process.kill()
+                process.communicate()
+            demand(at.tables() in (before, wanted), "a part of a batch is there")
+            expect(at.entries(rows), written(f"made {count} entries, first 2\n".encode()))
+            demand(at.tables() == wanted, "the tables differ")
+
+
 TESTS = (
     a_page_of_a_register,
     batches_that_are_refused,
@@ -490,6 +559,10 @@ TESTS = (
     a_batch_without_rows,
     a_batch_without_an_archive,
     the_longest_entry,
+    roles_of_each_kind,
+    one_entry_across_batches,
+    a_token_of_a_batch,
+    killed_in_a_batch,
     killed_and_run_again,
     a_wedding,
     the_same_rows_again,
