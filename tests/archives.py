@@ -9,8 +9,9 @@ import socket
 import sqlite3
 import subprocess
 import tempfile
+import time
 
-from harness import ROOT, Case, Outcome, Tools, demand, expect, refused, run, written
+from harness import ROOT, Case, Outcome, Tools, demand, expect, refused, refused_row, run, written
 
 NAME = "Ashby Family History Society"
 
@@ -63,6 +64,13 @@ class Folder:
 
     def apply(self, rows=ROWS, **how):
         return run(self.parish, ("apply", self.file), rows, **how)
+
+    def entries(self, rows, source=1, token="batch", **how):
+        return run(self.parish, ("entries", self.file, "--source", str(source), "--token", token), rows, **how)
+
+    def with_register(self):
+        expect(self.made().apply(b"r,source,Register,,,,\n"), written(b"r,ok,1,1\n"))
+        return self
 
     def rows_of(self, text):
         """The rows of a query, by another reader of the file."""
@@ -408,7 +416,153 @@ def killed_and_run_again(tools, seed=1, count=300, stops=10):
         demand(at.rows_of("PRAGMA integrity_check") == [("ok",)], "integrity_check finds something")
 
 
+BAPTISM = "BAPTISM,f. 3,1,15 APR 1699/00,,John,child,John,father,Tom Lee"
+BURIAL = "BURIAL,f. 3,1,,,Ann,buried,Ann Lee"
+
+
+def a_page_of_a_register(tools):
+    """A batch is made once, and its entries are linked as others are."""
+    rows = b"p1,person,Tom /Lee/,M\nl1,link,2,2,4,same farm\nl2,link,2,3,4,x\nl3,unlink,2,1\nl4,remove,4\n"
+    answers = b"p1,ok,4,1\nl1,ok,0,0\nl2,refused,61,NoSuchMention\nl3,ok,0,0\nl4,refused,53,StillNamed\n"
+    with Folder(tools) as at:
+        at.with_register()
+        for _ in range(2):
+            expect(at.entries(lines([BAPTISM, BURIAL])), written(b"made 2 entries, first 2\n"))
+        expect(at.apply(rows), written(answers))
+        expect(at.entries(lines([BAPTISM, BURIAL]), token="other"), refused_row(60, 1))
+        expect(at.entries(lines([BAPTISM])), refused(52))
+
+
+def batches_that_are_refused(tools):
+    """The first refused row is named, and nothing is made."""
+    batches = (
+        ([BAPTISM, BAPTISM], 60, 2),
+        (["BURIAL,f. 4,1,,,Ann,child,Ann"], 62, 1),
+        ([BAPTISM, BURIAL, "BURIAL,f. 4,1,,,Ann"], 92, 3),
+        ([BAPTISM, "BURIAL,f. 4,1,,,Ann,buried", "BIRTH"], 92, 2),
+        ([BAPTISM, "BIRTH,f. 4,1,,,Ann,buried,Ann"], 90, 2),
+        ([BAPTISM, "BURIAL,f. 4,0,,,Ann,buried,Ann"], 90, 2),
+        ([BAPTISM, "BURIAL,f. 4,1000000,,,Ann,buried,Ann"], 90, 2),
+        ([BAPTISM, "BURIAL,f. 4,1" + ",,,Ann" + ",buried,Ann" * 101], 92, 2),
+        ([BAPTISM, "BURIAL,f. 4,1,,7,Ann,buried,Ann"], 50, 2),
+        ([BAPTISM, "BURIAL,f. 4,1,,1,Ann,buried,Ann"], 51, 2),
+        ([BAPTISM, "BURIAL,f. 4,1,,,A\0nn,buried,Ann"], 58, 2),
+    )
+    with Folder(tools) as at:
+        before = at.with_register().tables()
+        for rows, number, row in batches:
+            expect(at.entries(lines(rows)), refused_row(number, row))
+            demand(at.tables() == before, f"the tables changed at {rows}")
+
+
+def a_source_is_looked_at_before_the_rows(tools):
+    with Folder(tools) as at:
+        at.with_register()
+        expect(at.apply(b"p,person,Ann,F\n"), written(b"p,ok,2,1\n"))
+        for source, number in ((9, 50), (2, 51)):
+            expect(at.entries(lines([BAPTISM, BAPTISM]), source=source), refused(number))
+
+
+def a_batch_without_rows(tools):
+    with Folder(tools) as at:
+        at.with_register()
+        for rows in (b"", b"\n\r\n", b"\xef\xbb\xbf"):
+            expect(at.entries(rows), written(b"made 0 entries, first 2\n"))
+
+
+def a_batch_without_an_archive(tools):
+    """The token is looked at first, then the file, and the rows last."""
+    with Folder(tools) as at:
+        expect(at.entries(b"x\n", token="two words"), refused(93))
+        expect(at.entries(b"x\n"), refused(82))
+        demand(not os.listdir(at.path), "a file was made")
+
+
+def the_longest_entry(tools):
+    with Folder(tools) as at:
+        at.with_register()
+        expect(at.entries(lines(["BURIAL,,0000999999,,," + ",buried,Ann" * 100])), written(b"made 1 entries, first 2\n"))
+
+
+ROLES = {
+    "BAPTISM": ("child", "father", "mother", "godparent"),
+    "MARRIAGE": ("groom", "bride", "father-of-groom", "father-of-bride", "witness"),
+    "BURIAL": ("buried", "spouse", "father", "mother"),
+}
+
+
+def roles_of_each_kind(tools):
+    """All roles of a kind in one entry; one of another kind, or none, refuses the batch."""
+    words = {role for roles in ROLES.values() for role in roles} | {"", "Child", "priest"}
+    with Folder(tools) as at:
+        at.with_register()
+        for n, (kind, roles) in enumerate(ROLES.items(), 2):
+            row = f"{kind},f. 1,1,,," + "".join(f",{role},Ann" for role in roles)
+            expect(at.entries(lines([row]), token=kind), written(f"made 1 entries, first {n}\n".encode()))
+            for role in sorted(words - set(roles)):
+                expect(at.entries(lines([f"{kind},f. 2,1,,,,{role},Ann"]), token="other"), refused_row(62, 1))
+
+
+def one_entry_across_batches(tools):
+    """An entry is one by its source, kind, page and item, however the item is written; another of these makes another entry."""
+    others = ["MARRIAGE,f. 3,1,,,,groom,Ann", "BAPTISM,F. 3,1,,,,child,Ann", "BAPTISM,f. 3,2,,,,child,Ann", "BAPTISM,,1,,,,child,Ann"]
+    with Folder(tools) as at:
+        at.with_register()
+        expect(at.apply(b"s,source,Second,,,,\n"), written(b"s,ok,2,1\n"))
+        expect(at.entries(lines([BAPTISM])), written(b"made 1 entries, first 3\n"))
+        expect(at.entries(lines([*others, "BAPTISM,f. 3,001,,,,child,Eva"]), token="b"), refused_row(60, 5))
+        expect(at.apply(b"e,entry,1,BAPTISM,f. 3,1,,,,child,Eva\n"), written(b"e,refused,60,DuplicateEntry\n"))
+        expect(at.entries(lines([*others, *others[:1]]), token="c"), refused_row(60, 5))
+        expect(at.entries(lines(others), token="d"), written(b"made 4 entries, first 4\n"))
+        expect(at.entries(lines([BAPTISM]), source=2, token="e"), written(b"made 1 entries, first 8\n"))
+
+
+def a_token_of_a_batch(tools):
+    """A token is kept with the source and the rows of its batch: another batch, or a row of requests, is 52 under it. A refused batch keeps none."""
+    with Folder(tools) as at:
+        at.with_register()
+        expect(at.entries(lines([BAPTISM, BAPTISM])), refused_row(60, 2))
+        expect(at.entries(lines([BAPTISM])), written(b"made 1 entries, first 2\n"))
+        expect(at.entries(b"\n" + lines([BAPTISM.replace("15 APR 1699/00", "15 apr  1699/00")])), written(b"made 1 entries, first 2\n"))
+        expect(at.entries(lines([BAPTISM]), source=2), refused(52))
+        expect(at.apply(b"batch,person,Ann,F\n"), written(b"batch,refused,52,TokenReused\n"))
+        expect(at.entries(lines([BURIAL]), token="r"), refused(52))
+
+
+def killed_in_a_batch(tools, count=300, stops=12):
+    """A program that is killed while it enters a batch leaves all of it or nothing."""
+    rows = lines(f"BURIAL,f. {n // 20},{n + 1},,,Ann,buried,Ann Lee,spouse,Tom" for n in range(count))
+    rng = random.Random(count)
+    with Folder(tools) as whole:
+        start = time.perf_counter()
+        expect(whole.with_register().entries(rows), written(f"made {count} entries, first 2\n".encode()))
+        longest, wanted = time.perf_counter() - start, whole.tables()
+    for _ in range(stops):
+        with Folder(tools) as at:
+            before = at.with_register().tables()
+            words = [*at.parish, "entries", at.file, "--source", "1", "--token", "batch"]
+            process = subprocess.Popen(words, stdin=subprocess.PIPE, stdout=subprocess.PIPE, stderr=subprocess.DEVNULL)
+            try:
+                process.communicate(rows, timeout=rng.random() * longest)
+            except subprocess.TimeoutExpired:
+                process.kill()
+                process.communicate()
+            demand(at.tables() in (before, wanted), "a part of a batch is there")
+            expect(at.entries(rows), written(f"made {count} entries, first 2\n".encode()))
+            demand(at.tables() == wanted, "the tables differ")
+
+
 TESTS = (
+    a_page_of_a_register,
+    batches_that_are_refused,
+    a_source_is_looked_at_before_the_rows,
+    a_batch_without_rows,
+    a_batch_without_an_archive,
+    the_longest_entry,
+    roles_of_each_kind,
+    one_entry_across_batches,
+    a_token_of_a_batch,
+    killed_in_a_batch,
     killed_and_run_again,
     a_wedding,
     the_same_rows_again,

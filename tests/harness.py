@@ -89,6 +89,11 @@ def refused(number: int, line: int | None = None) -> Outcome:
     return Outcome(b"", f"parish: {named(number, line)}\n".encode(), 1)
 
 
+def refused_row(number: int, row: int) -> Outcome:
+    """The same of a row of a batch."""
+    return Outcome(b"", f"parish: {named(number)} at row {row}\n".encode(), 1)
+
+
 def written(out: bytes) -> Outcome:
     return Outcome(out, b"", 0)
 

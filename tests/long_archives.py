@@ -5,12 +5,16 @@
 
 `kills` gives ROWS generated rows (2,000) to `apply`, kills it KILLS times (20) at random moments and gives the same rows again: each answer
 has to be that of a run that was not stopped, and so have the tables. `compare` gives ROWS rows (5,000), in archives of 200 rows each, to
-`apply` and to a second program, which takes the same words, and compares the answers. The last line is `N passed, M failed`.
+`apply` and to a second program, which takes the same words, then drawn batches to `entries`, and their rows one by one to `apply`, and compares
+what is told. The last line is `N passed, M failed`.
 """
 
 from __future__ import annotations
 
+import csv
+import io
 import os
+import random
 import shlex
 import sys
 import tempfile
@@ -21,31 +25,75 @@ from archives import generated, killed_and_run_again  # noqa: E402
 from harness import ROOT, Failed, Tools, difference, run  # noqa: E402
 
 EACH = 200  # rows of an archive
+BATCHES = 12  # of an archive
+SIZES = [0, 1, 2, 3, 5, 8]  # rows of a batch
+TOKENS = ["b1", "b2", "b3", "b4", "b5", "b6", "b7", "b8", "b 9"]
 PARISH = (os.path.join(ROOT, "crates/parish/out/parish"),)
 
 
-def answers(command, rows):
+def fields_of(rows):
+    return list(csv.reader(io.StringIO(rows.decode("utf-8", "surrogateescape"), newline="")))
+
+
+def written(rows):
+    text = io.StringIO(newline="")
+    csv.writer(text, lineterminator="\n").writerows(rows)
+    return text.getvalue().encode("utf-8", "surrogateescape")
+
+
+def drawn(seed, answered):
+    """Token, source and rows of batches: entries that another archive is asked for, of sources of this one, most without their place."""
+    rng = random.Random(seed)
+    sources = [row[2] for row in answered if row[1] == "ok" and row[0] in sources_of(seed)] or ["1"]
+    entries = [row[3:] for row in fields_of(generated(seed + 500_000, EACH)) if row[1:2] == ["entry"]]
+    for _ in range(BATCHES):
+        rows = [list(row) for row in rng.choices(entries, k=rng.choice(SIZES))]
+        for row in rows:
+            if len(row) > 4 and rng.random() < 0.95:
+                row[4] = ""
+            if len(row) > 2 and rng.random() < 0.8:
+                row[2] = str(rng.randrange(1, 1_000_000))
+        yield rng.choice(TOKENS), rng.choice([*sources] * 5 + ["1", "1000"]), rows
+
+
+def sources_of(seed):
+    """The tokens of the rows that ask for a source."""
+    return {row[0] for row in fields_of(generated(seed, EACH)) if row[1:2] == ["source"]}
+
+
+def archive_of(command, seed, batches):
+    """What is told of an archive: of the rows, of batches, which are drawn once where there are none, and of their rows one by one."""
     with tempfile.TemporaryDirectory() as folder:
         file = os.path.join(folder, "a.db")
         made = run(command, ("init", file, "--society", "Ashby"))
         if made.status or made.err:
             raise Failed(f"init: {made}")
-        return run(command, ("apply", file), rows, limit=600)
+        told = [run(command, ("apply", file), generated(seed, EACH), limit=600)]
+        batches.extend([] if batches else drawn(seed, fields_of(told[0].out)))
+        for token, source, rows in batches:
+            words = ("entries", file, "--source", source, "--token", token)
+            told.append(run(command, words, written(rows)))
+        single = [[f"e{n}", "entry", source, *row] for n, (_, source, rows) in enumerate(batches) for row in rows]
+        told.append(run(command, ("apply", file), written(single), limit=600))
+        return told
 
 
 def compared(command, rows, seed):
     """How many archives had the same answers, and how many had others."""
-    passed = failed = accepted = 0
+    passed = failed = accepted = entered = 0
     for number in range((rows + EACH - 1) // EACH):
-        given = generated(seed * 1_000 + number, EACH)
-        ours, theirs = answers(PARISH, given), answers(command, given)
-        accepted += ours.out.count(b",ok,")
-        if ours == theirs and ours.status == 0:
+        batches: list = []
+        ours = archive_of(PARISH, seed * 1_000 + number, batches)
+        theirs = archive_of(command, seed * 1_000 + number, batches)
+        accepted += ours[0].out.count(b",ok,")
+        entered += sum(one.status == 0 for one in ours[1:-1])
+        if ours == theirs and ours[0].status == 0:
             passed += 1
         else:
             failed += 1
-            print(f"archive {number}: {difference(theirs.out, ours.out)} {ours.err!r} {theirs.err!r}")
-    print(f"{accepted} accepted")
+            one, other = next(both for both in zip(ours, theirs, strict=True) if both[0] != both[1] or both[0].status)
+            print(f"archive {number}: {difference(other.out, one.out)} {one.err!r} {other.err!r}")
+    print(f"{accepted} rows accepted, {entered} batches entered")
     return passed, failed
 
 

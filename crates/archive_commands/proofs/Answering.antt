@@ -22,7 +22,7 @@ keeps (Some bytes) = refl
 -- the connection of an archive that was taken up, after calls on it
 module _ {D : Type 0} {g : disk.Ghosts D} (image : Image) (old new : Archive (FileStore D g) over_files) (conn : Held (FileStore D g)) (kept : old.is_lost ≡ false)
     (taken : IsTakenUp image (file_state old.conn)) (same : conn ≡ new.conn) where
-  performed_on : (calls : List Done) → PerformsAll over_files old calls new → PerformsOn image calls (file_state conn)
+  pub performed_on : (calls : List Done) → PerformsAll over_files old calls new → PerformsOn image calls (file_state conn)
   performed_on calls all = subst (λ (x : Held (FileStore D g)). PerformsOn image calls (file_state x)) (sym same) (λ clean society c t holds is.
       let did = all clean kept in
       let has = (taken did.clean society c t holds is).0 in

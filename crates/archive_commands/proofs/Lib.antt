@@ -1,3 +1,4 @@
 mod Answering
+mod Entering
 mod Opened
 mod Refusing

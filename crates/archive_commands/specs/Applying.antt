@@ -15,7 +15,7 @@ use Rattle.store.specs.Archives.{HasArchive, LeavesArchive}
 use Rattle.store.specs.Histories.{MayBeFound, in_doubt}
 use Rattle.tables.specs.Answers.{Served}
 use Rattle.tables.specs.Applying.{AreServed, Ends, answers, calls_of}
-use Rattle.tables.specs.Input.{AreFirstRows, AreRows, Row}
+use Rattle.batch_reading.specs.Input.{AreFirstRows, AreRows, Row}
 use Rattle.archive_commands.specs.Opening.{Unopened, WhereHeld}
 
 -- requests with their outcomes, on the archive that the file held: where none is in doubt it holds what they make of it, and in any

@@ -1,3 +1,4 @@
 pub mod Applying
+pub mod Entering
 pub mod Made
 pub mod Opening

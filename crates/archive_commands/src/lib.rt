@@ -7,8 +7,10 @@
 //! what the file's archive holds then; the caller closes it.
 #![tactic(auto)]
 
+mod entering;
 mod opening;
 mod running;
 
+pub use entering::entries;
 pub use opening::OpenFile;
 pub use running::{apply, close, init};

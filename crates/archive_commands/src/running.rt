@@ -3,7 +3,7 @@
 ghost use Rattle.std.specs.Prelude.{IfErr, OnOk};
 ghost use Rattle.sqlite_wal.specs.Files.{image_at};
 ghost use Rattle.devices.specs.Devices.{Rose};
-ghost use Rattle.tables.specs.Input.{row_bytes};
+ghost use Rattle.batch_reading.specs.Input.{row_bytes};
 ghost use Rattle.archive_commands.specs.Applying.{Answered, Unanswered};
 ghost use Rattle.archive_commands.specs.Made.{IsMadeIn, Unmade};
 

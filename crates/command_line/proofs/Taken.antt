@@ -42,28 +42,29 @@ built_has a held words r h =
     let stop = (walk a.top.rules (names_of a) held words).stopped in
     level_has a.top (names_of a) held words (is_some (entered a stop)) (entered_fault a stop) r h
 
--- the one of four subcommands that is entered
-abbrev one_in : Bool → Bool → Bool → Bool → Shape → Shape → Shape → Shape → Option Shape
-one_in a b c d s t u v = cond a (Some s) (cond b (Some t) (cond c (Some u) (cond d (Some v) None)))
+-- the one of five subcommands that is entered
+abbrev one_in : Bool → Bool → Bool → Bool → Bool → Shape → Shape → Shape → Shape → Shape → Option Shape
+one_in a b c d e s t u v w = cond a (Some s) (cond b (Some t) (cond c (Some u) (cond d (Some v) (cond e (Some w) None))))
 
-abbrev pub IsOneOf : Option Text → Text → Text → Text → Text → Type 0
-IsOneOf o s t u v = (o ≡ Some s) ⊎ ((o ≡ Some t) ⊎ ((o ≡ Some u) ⊎ (o ≡ Some v)))
+abbrev pub IsOneOf : Option Text → Text → Text → Text → Text → Text → Type 0
+IsOneOf o s t u v w = (o ≡ Some s) ⊎ ((o ≡ Some t) ⊎ ((o ≡ Some u) ⊎ ((o ≡ Some v) ⊎ (o ≡ Some w))))
 
-one_of : (a b c d : Bool) (s t u v : Shape) (words : List Text) → is_some (option_map (λ (x : Shape). rows_at x words) (one_in a b c d s t u v)) ≡ true
-    → IsOneOf (option_map (λ f. f.0) (option_map (λ (x : Shape). rows_at x words) (one_in a b c d s t u v))) s.name t.name u.name v.name
-one_of true b c d s t u v words h = inl refl
-one_of false true c d s t u v words h = inr (inl refl)
-one_of false false true d s t u v words h = inr (inr (inl refl))
-one_of false false false true s t u v words h = inr (inr (inr refl))
-one_of false false false false s t u v words h = absurd cc
+one_of : (a b c d e : Bool) (s t u v w : Shape) (words : List Text) → is_some (option_map (λ (x : Shape). rows_at x words) (one_in a b c d e s t u v w)) ≡ true
+    → IsOneOf (option_map (λ f. f.0) (option_map (λ (x : Shape). rows_at x words) (one_in a b c d e s t u v w))) s.name t.name u.name v.name w.name
+one_of true b c d e s t u v w words h = inl refl
+one_of false true c d e s t u v w words h = inr (inl refl)
+one_of false false true d e s t u v w words h = inr (inr (inl refl))
+one_of false false false true e s t u v w words h = inr (inr (inr (inl refl)))
+one_of false false false false true s t u v w words h = inr (inr (inr (inr refl)))
+one_of false false false false false s t u v w words h = absurd cc
 
 entered_one : (stop : Option (Text × List Text)) → is_some (entered (built program) stop) ≡ true
-    → IsOneOf (option_map (λ f. f.0) (entered (built program) stop)) (codes "norm") (codes "check") (codes "init") (codes "apply")
+    → IsOneOf (option_map (λ f. f.0) (entered (built program) stop)) (codes "norm") (codes "check") (codes "init") (codes "apply") (codes "entries")
 entered_one None h = absurd cc
-entered_one (Some p) h = one_of _ _ _ _ _ _ _ _ p.1 h
+entered_one (Some p) h = one_of _ _ _ _ _ _ _ _ _ _ p.1 h
 
 -- words that are taken name a command
-pub taken_names : (words : List Text) → fault_of program words ≡ [] → IsOneOf (command_named words) (codes "norm") (codes "check") (codes "init") (codes "apply")
+pub taken_names : (words : List Text) → fault_of program words ≡ [] → IsOneOf (command_named words) (codes "norm") (codes "check") (codes "init") (codes "apply") (codes "entries")
 taken_names words h =
     let a = built program in
     let ws = argument_words program words in

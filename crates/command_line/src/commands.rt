@@ -3,8 +3,9 @@
 ghost use Rattle.std.specs.Prelude.{◌≡◌, IfOk, codes, false};
 ghost use Rattle.clap.specs.Words.{app_of, new_app, rule_of, shape_of};
 ghost use Rattle.clap.specs.declared.builder.command.Command.TheViews.{out-Command};
-ghost use Rattle.command_line.specs.Commands.{apply_shape, bare, file_rule, init_shape, program, society_rule, with_streams_alone};
+ghost use Rattle.command_line.specs.Commands.{apply_shape, bare, entries_shape, file_rule, init_shape, program, society_rule, source_rule, token_rule, with_streams_alone};
 
+use clap::builder::ValueParser;
 use clap::{Arg, ArgAction, Command};
 use std::alloc::{AllocError, Global};
 
@@ -18,7 +19,8 @@ const STREAMS: &str = "\
 FILE is the archive; a log may lie beside it. The GEDCOM file or the rows of
 requests come from standard input. Standard output gets the result. Standard
 error gets a refusal, as one line: parish: <no.> <Name>, with `at line <n>`
-behind it where a line of a GEDCOM file is at fault.
+behind it where a line of a GEDCOM file is at fault, and `at row <n>` where a
+row of a batch is.
 
 Exit status:
   0  done
@@ -64,9 +66,28 @@ answer, and nothing is done twice.
 Example:
   parish apply ashby.db < rows.csv > answers.csv";
 
+const ENTRIES_ABOUT: &str = "Enter the rows of standard input as a batch of register entries";
+
+const ENTRIES_EXAMPLE: &str = "\
+Each row is an entry of the register that is source N, as CSV without a header
+row: kind, page, item, date, place, text, and then role and name of each mention.
+All rows are entered or none: at a refusal nothing is, and it names the row. It
+prints `made <count> entries, first <first>` once the batch is kept in FILE. Who
+sends the same rows again under T gets the same line, and nothing is done twice.
+
+Example:
+  parish entries ashby.db --source 3 --token page-12 < page12.csv";
+
 const FILE_HELP: &str = "The file of the archive";
 
 const SOCIETY_HELP: &str = "The name of the society";
+
+const SOURCE_HELP: &str = "The number of the register's source, 1 to 4294967295";
+
+const TOKEN_HELP: &str = "The token of the batch: 1 to 64 characters from `!` to `~`";
+
+/// The most that the number of a record can be.
+const MOST_NUMBER: u64 = 4_294_967_295;
 
 fn norm_command<'a>(alloc: Global) -> Command<'a>
     ensures shape { app_of result ≡ new_app (codes "norm") }
@@ -131,6 +152,45 @@ fn apply_command<'a>(alloc: Global) -> Result<Command<'a>, AllocError>
         .arg(file_arg(alloc))
 }
 
+/// The number of a source, which has to be given.
+fn source_arg<'a>(alloc: Global) -> Arg<'a>
+    ensures rule { rule_of result ≡ source_rule }
+    ensures local { result.global ≡ false }
+{
+    Arg::new(alloc, "source")
+        .long("source")
+        .value_name("N")
+        .help(SOURCE_HELP)
+        .required(true)
+        .action(ArgAction::Set)
+        .value_parser(ValueParser::unsigned(1, MOST_NUMBER))
+}
+
+/// The token of a batch, which has to be given.
+fn token_arg<'a>(alloc: Global) -> Arg<'a>
+    ensures rule { rule_of result ≡ token_rule }
+    ensures local { result.global ≡ false }
+{
+    Arg::new(alloc, "token")
+        .long("token")
+        .value_name("T")
+        .help(TOKEN_HELP)
+        .required(true)
+        .action(ArgAction::Set)
+}
+
+fn entries_command<'a>(alloc: Global) -> Result<Command<'a>, AllocError>
+    ensures shape { IfOk result (λ c. shape_of c ≡ entries_shape) }
+    ensures local { IfOk result (λ c. (out-Command c).has_globals ≡ false) }
+{
+    Command::new(alloc, "entries")
+        .about(ENTRIES_ABOUT)
+        .after_help(ENTRIES_EXAMPLE)
+        .arg(file_arg(alloc))?
+        .arg(source_arg(alloc))?
+        .arg(token_arg(alloc))
+}
+
 /// `parish` without its commands.
 fn bare_command<'a>(alloc: Global) -> Result<Command<'a>, AllocError>
     ensures { IfOk result (λ c. app_of c ≡ bare) }
@@ -161,5 +221,9 @@ pub(crate) fn parish_command<'a>(alloc: Global) -> Result<Command<'a>, AllocErro
 {
     let init = init_command(alloc)?;
     let apply = apply_command(alloc)?;
-    streams_alone(alloc)?.subcommand(init)?.subcommand(apply)
+    let entries = entries_command(alloc)?;
+    streams_alone(alloc)?
+        .subcommand(init)?
+        .subcommand(apply)?
+        .subcommand(entries)
 }

@@ -2,7 +2,7 @@
 
 ghost use Rattle.std.specs.Prelude.{◌≡◌, Err, IfOk, IfSome, None, OnOk, Some, [], codes, map, string_bytes, unwrap_or};
 ghost use Rattle.clap.specs.Words.{first_of, found_of, kind_of, rows_of, subcommand_name_of, subcommand_rows_of};
-ghost use Rattle.command_line.specs.Commands.{AsksForWork, Asks, HasWords, IsTaken, name_of};
+ghost use Rattle.command_line.specs.Commands.{AsksForWork, Asks, HasWords, IsTaken, name_of, number_of};
 
 use crate::commands::parish_command;
 use clap::error::ErrorKind;
@@ -17,11 +17,25 @@ pub enum Asked<'a> {
     /// `check`: the number of records of standard input's forest, on standard output.
     Check,
     /// `init`: a new archive of a society in a file.
-    Init { file: &'a str, society: &'a str },
+    Init {
+        file: &'a str,
+        society: &'a str,
+    },
     /// `apply`: the requests of the rows of standard input on the archive in a file, their answers on standard output.
-    Apply { file: &'a str },
+    Apply {
+        file: &'a str,
+    },
+    /// `entries`: the rows of standard input as new register entries of a source of the archive in a file, under a token. The
+    /// token may be any word.
+    Entries {
+        file: &'a str,
+        source: u32,
+        token: &'a str,
+    },
     /// `--help` or `--version`, of the program or of a command: the text for standard output.
-    Show { text: String },
+    Show {
+        text: String,
+    },
 }
 
 /// Why a command line asks for nothing.
@@ -68,6 +82,7 @@ fn command_found<'a>(alloc: Global, found: &ArgMatches<'a>) -> Result<Asked<'a>,
     ensures check { subcommand_name_of found.now ≡ Some (codes "check") → AsksForWork result }
     ensures init { subcommand_name_of found.now ≡ Some (codes "init") → AsksForWork result }
     ensures apply { subcommand_name_of found.now ≡ Some (codes "apply") → AsksForWork result }
+    ensures entries { subcommand_name_of found.now ≡ Some (codes "entries") → AsksForWork result }
 {
     match found.subcommand() {
         Some((name, given)) => command_named(alloc, name, given),
@@ -87,6 +102,7 @@ fn command_named<'a>(
     ensures check { name.now ≡ codes "check" → AsksForWork result }
     ensures init { name.now ≡ codes "init" → AsksForWork result }
     ensures apply { name.now ≡ codes "apply" → AsksForWork result }
+    ensures entries { name.now ≡ codes "entries" → AsksForWork result }
 {
     match name {
         "norm" => Ok(Asked::Norm),
@@ -97,6 +113,11 @@ fn command_named<'a>(
         }),
         "apply" => Ok(Asked::Apply {
             file: word_of(given, "FILE"),
+        }),
+        "entries" => Ok(Asked::Entries {
+            file: word_of(given, "FILE"),
+            source: number_of(word_of(given, "source")),
+            token: word_of(given, "token"),
         }),
         _ => no_such_command(alloc),
     }
@@ -109,6 +130,16 @@ fn word_of<'a>(given: &ArgMatches<'a>, id: &str) -> &'a str
     match given.get_str(id) {
         Some(word) => word,
         None => "",
+    }
+}
+
+/// The number of a word. `clap` takes no words that have another than 1 to 4,294,967,295 where one has to be.
+fn number_of(word: &str) -> u32
+    ensures { result ≡ number_of word.now }
+{
+    match word.parse::<u32>() {
+        Ok(number) => number,
+        Err(_) => 0,
     }
 }
 

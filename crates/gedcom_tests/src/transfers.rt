@@ -8,7 +8,7 @@ use std::io::{ErrorKind, Read, Write};
 /// A reader or a writer that moves at most `piece` bytes a call. The call `fails_at`, from 1,
 /// answers an error of `kind`, and so does each after it.
 #[derive(Drop)]
-struct Faulty<T> {
+pub(crate) struct Faulty<T> {
     inner: T,
     piece: usize,
     fails_at: u64,
@@ -17,7 +17,7 @@ struct Faulty<T> {
 }
 
 impl<T> Faulty<T> {
-    fn new(inner: T, piece: usize, fails_at: u64) -> Self {
+    pub(crate) fn new(inner: T, piece: usize, fails_at: u64) -> Self {
         Faulty {
             inner,
             piece,
@@ -58,7 +58,7 @@ impl<W: Write> Write for Faulty<W> {
 }
 
 /// No call of a device fails.
-const NEVER: u64 = u64::MAX;
+pub(crate) const NEVER: u64 = u64::MAX;
 
 /// Five bytes, some of them a call, and a call that fails.
 fn five_bytes(piece: usize, fails_at: u64) -> Counted<Faulty<&'static [u8]>> {

@@ -1,5 +1,5 @@
 -- How the commands end on their streams: by the bytes of the reader and of the writer before and after, and by their counts of failures.
-use Rattle.std.specs.Prelude.{ℕ, Option}
+use Rattle.std.specs.Prelude.{ℕ, List, Option}
 use Rattle.std.specs.declared.io.Read as read
 use Rattle.std.specs.declared.io.Write as write
 use Rattle.sqlite.specs.Held.{Held}
@@ -8,8 +8,8 @@ use Rattle.sqlite_store.specs.declared.store.FileStore.{FileStore}
 use Rattle.sqlite_wal.specs.Recovery.{Image}
 use Rattle.devices.specs.Devices.{Rose}
 use Rattle.devices.specs.declared.device.Device as device
-use Rattle.tables.specs.Input.{row_bytes}
-use Rattle.parish.specs.Ends.{ApplyEnds, CheckEnds, NormEnds}
+use Rattle.batch_reading.specs.Input.{row_bytes}
+use Rattle.parish.specs.Ends.{ApplyEnds, CheckEnds, EntriesEnds, NormEnds}
 
 module _ {R W : Type 0} (reader : read.Ghosts R) (reads : device.Ghosts R) (writer : write.Ghosts W) (writes : device.Ghosts W) where
   -- the reader failed between the two, by its count; the writer did
@@ -30,3 +30,8 @@ module _ {R W : Type 0} (reader : read.Ghosts R) (reads : device.Ghosts R) (writ
   abbrev pub Applies : {D : Type 0} {g : disk.Ghosts D} → Image → ℕ → R → R → W → W → Option (Held (FileStore D g)) → Type 0
   Applies image status input rest output written left =
       ApplyEnds image status (row_bytes (reader.remaining input)) (writer.contents output) (writer.contents written) (HasReadFailed input rest) (HasWriteFailed output written) left
+
+  -- a batch under this token, of this source
+  abbrev pub EntersBatch : {D : Type 0} {g : disk.Ghosts D} → Image → List ℕ → ℕ → ℕ → R → R → W → W → Option (Held (FileStore D g)) → Type 0
+  EntersBatch image token source status input rest output written left = EntriesEnds image token source status (row_bytes (reader.remaining input))
+      (writer.contents output) (writer.contents written) (HasReadFailed input rest) (HasWriteFailed output written) left

@@ -1,5 +1,5 @@
 -- How a command ends.
-use Rattle.std.specs.Prelude.{◌≡◌, ◌⊎◌, ◌++◌, ◌∷◌, ◌≤◌, [], ℕ, List, Option, None, Some, IfSome, codes}
+use Rattle.std.specs.Prelude.{◌≡◌, ◌⊎◌, ◌++◌, ◌∷◌, ◌≤◌, [], ℕ, List, Option, None, Some, IfSome, Ok, Err, codes}
 use Rattle.std.specs.Fmt.{decimal}
 use Rattle.std.specs.Io.KnownBytes.{Appends, Keeps}
 use Rattle.clap.specs.Words.{subcommand_of}
@@ -8,8 +8,9 @@ use Rattle.sqlite_disk.specs.declared.Disk as disk
 use Rattle.sqlite_store.specs.declared.store.FileStore.{FileStore}
 use Rattle.sqlite_wal.specs.Recovery.{Image}
 use Rattle.archive_commands.specs.Applying.{Answered, Unanswered}
+use Rattle.archive_commands.specs.Entering.{Entered, Unentered}
 use Rattle.archive_commands.specs.Made.{IsMadeIn, Unmade}
-use Rattle.command_line.specs.Commands.{IsTaken, command_named, program, word_in}
+use Rattle.command_line.specs.Commands.{IsTaken, command_named, number_of, program, word_in}
 use Rattle.devices.specs.Devices.{AppendsBeginning}
 use Rattle.gedcom_rules.specs.Faults.{Fault}
 use Rattle.gedcom_tree.specs.File.{ReadsFile}
@@ -17,7 +18,11 @@ use Rattle.gedcom_tree.specs.Forest.{Item}
 use Rattle.gedcom_tree.specs.Streams.{Begun, Normalised, NotRead, NotWritten}
 use Rattle.gedcom_tree.specs.Text.{record_count}
 use Rattle.record_text.specs.declared.refusal.RefusalKind.{RefusalKind}
-use Rattle.record_text.specs.declared.refusal.RefusalKind.TheVariants.{OutOfMemory}
+use Rattle.record_text.specs.declared.refusal.Refusal.{Refusal}
+use Rattle.record_text.specs.declared.refusal.RefusalKind.TheVariants.{OutOfMemory, WriteFailed}
+use Rattle.receipts.specs.declared.answer.Answer.{Answer}
+use Rattle.batch_reading.specs.Batches.{placeless}
+use Rattle.store.specs.Histories.{Outcome}
 
 -- the words are those of this command, with nothing that it does not take
 abbrev pub AreOf : List (List ℕ) → List ℕ → Type 0
@@ -26,6 +31,13 @@ AreOf words name = IsTaken words × (command_named words ≡ Some name)
 -- the society that the words name for `init`
 abbrev pub society_in : List (List ℕ) → List ℕ
 society_in words = word_in (subcommand_of program words) (codes "society")
+
+-- the token that they name for `entries`, and the source
+abbrev pub token_in : List (List ℕ) → List ℕ
+token_in words = word_in (subcommand_of program words) (codes "token")
+
+abbrev pub source_in : List (List ℕ) → ℕ
+source_in words = number_of (word_in (subcommand_of program words) (codes "source"))
 
 -- ---- norm
 -- why it was not done: no forest was read, and nothing is written; or a beginning of its text is. The first type says that
@@ -69,6 +81,28 @@ pub record CheckEnds (status : ℕ) (known old new : Option (List ℕ)) (ReaderF
   pub done : status ≡ 0 → Told known old new
   pub refused : status ≡ 1 → (f : Fault) × Untold known old new ReaderFailed WriterFailed f
 
+-- ---- what is told of a batch
+abbrev pub made_text : Answer → List ℕ
+made_text answer = codes "made " ++ (decimal answer.count ++ (codes " entries, first " ++ (decimal answer.first ++ 10 ∷ [])))
+
+-- no memory was found to form its line, or the writer failed
+abbrev pub IsUnwritten : Type 0 → Refusal → Type 0
+IsUnwritten WriterFailed e = (e ≡ placeless OutOfMemory) ⊎ ((e ≡ placeless WriteFailed) × WriterFailed)
+
+-- of the line of a batch that was entered, the writer got a beginning
+pub record TellsPart (answer : Answer) (e : Refusal) (old new : Option (List ℕ)) (WriterFailed : Type 0) : Type 0 where
+  pub why : IsUnwritten WriterFailed e
+  pub written : AppendsBeginning old new (made_text answer)
+
+-- why the line of a batch was not told: the batch was refused so, and nothing is written; or a beginning of it is
+abbrev pub IsUntoldBatch : Outcome → Refusal → Option (List ℕ) → Option (List ℕ) → Type 0 → Type 0
+IsUntoldBatch outcome e old new WriterFailed =
+    ((outcome ≡ Err e) × Keeps old new) ⊎ ((answer : Answer) × (outcome ≡ Ok answer) × TellsPart answer e old new WriterFailed)
+
+-- the batch was entered, and its line was told
+abbrev pub IsToldBatch : Outcome → Option (List ℕ) → Option (List ℕ) → Type 0
+IsToldBatch outcome old new = (answer : Answer) × (outcome ≡ Ok answer) × Appends old new (made_text answer)
+
 module _ {D : Type 0} {g : disk.Ghosts D} where
   -- ---- init
   -- 0 where the file that was opened has the new archive of this society, 1 where there is a reason why none was made
@@ -88,3 +122,13 @@ module _ {D : Type 0} {g : disk.Ghosts D} where
     pub bound : status ≤ 1
     pub done : status ≡ 0 → Answered image input old new left
     pub refused : status ≡ 1 → (kind : RefusalKind) × (IsWanting kind old new left ⊎ Unanswered image kind input old new ReaderFailed WriterFailed left)
+
+  -- ---- entries
+  -- 0 where the batch of the input's rows was entered on the archive that the file held, and its line was told. 1 where it was not
+  -- entered, and nothing is written; or where it was, and of its line a beginning was written
+  pub record EntriesEnds (image : Image) (token : List ℕ) (source : ℕ) (status : ℕ) (input old new : Option (List ℕ)) (ReaderFailed WriterFailed : Type 0)
+      (left : Option (Held (FileStore D g))) : Type 0 where
+    pub bound : status ≤ 1
+    pub done : status ≡ 0 → (answer : Answer) × Entered image token source input (Ok answer) left × Appends old new (made_text answer)
+    pub refused : status ≡ 1 → (e : Refusal) × ((Unentered image token source input e ReaderFailed left × Keeps old new)
+        ⊎ ((answer : Answer) × Entered image token source input (Ok answer) left × TellsPart answer e old new WriterFailed))

@@ -4,15 +4,16 @@ ghost use Rattle.std.specs.Prelude.{◌≡◌, ◌≢◌, ◌≤◌, codes, if�
 ghost use Rattle.std.specs.Io.KnownBytes.{Appends};
 ghost use Rattle.std.specs.IoError.{error_kind};
 ghost use Rattle.sqlite_wal.specs.Files.{image_at};
-ghost use Rattle.command_line.specs.Commands.{HasWords, IsTaken, name_of, word_in};
+ghost use Rattle.command_line.specs.Commands.{HasWords, IsTaken, name_of, number_of, word_in};
 ghost use Rattle.devices.specs.Devices.{AppendsBeginning, Rose};
 ghost use Rattle.gedcom_rules.specs.Views.{fault_view};
 ghost use Rattle.gedcom_tree.specs.Streams.{NotWritten};
-ghost use Rattle.parish.specs.Doing.{Applies, Checks, Normalises};
-ghost use Rattle.parish.specs.Ends.{AreOf, InitEnds, Told, Untold, society_in};
+ghost use Rattle.parish.specs.Doing.{Applies, Checks, EntersBatch, Normalises};
+ghost use Rattle.parish.specs.Ends.{AreOf, InitEnds, Told, Untold, society_in, source_in, token_in};
 
+use crate::batches::entered;
 use crate::telling::{refuse, refuse_words, status_of};
-use archive_commands::{OpenFile, apply, init};
+use archive_commands::{OpenFile, apply, entries, init};
 use command_line::{Asked, Refused, read_words};
 use gedcom_tree::{
     Device, TransferError, TreeFault, TreeKind, normalise, read_forest, write_bytes,
@@ -59,6 +60,9 @@ pub fn command<S: Start, R: Read + Device, W: Write + Device, F: Write + Device>
         → InitEnds (image_at S.Start) (society_in (map string_bytes words.now)) result.0 result.1 × (input.new ≡ input.old) × (output.new ≡ output.old) }
     ensures apply { AreOf (map string_bytes words.now) (codes "apply")
         → Applies R.Read R.Device W.Write W.Device (image_at S.Start) result.0 input.old input.new output.old output.new result.1 }
+    ensures entries { AreOf (map string_bytes words.now) (codes "entries")
+        → EntersBatch R.Read R.Device W.Write W.Device (image_at S.Start) (token_in (map string_bytes words.now)) (source_in (map string_bytes words.now))
+        result.0 input.old input.new output.old output.new result.1 }
     ensures others { ¬ (IsTaken (map string_bytes words.now)) → input.new ≡ input.old }
 {
     match read_words(rt.alloc(), words) {
@@ -87,6 +91,9 @@ fn work<S: Start, R: Read + Device, W: Write + Device, F: Write + Device>(
         → InitEnds (image_at S.Start) (word_in found (codes "society")) result.0 result.1 × (input.new ≡ input.old) × (output.new ≡ output.old) }
     ensures apply { name_of asked.entry ≡ Some (codes "apply")
         → Applies R.Read R.Device W.Write W.Device (image_at S.Start) result.0 input.old input.new output.old output.new result.1 }
+    ensures entries { (found : _) → HasWords found asked.entry → name_of asked.entry ≡ Some (codes "entries")
+        → EntersBatch R.Read R.Device W.Write W.Device (image_at S.Start) (word_in found (codes "token")) (number_of (word_in found (codes "source")))
+        result.0 input.old input.new output.old output.new result.1 }
     ensures text { name_of asked.entry ≡ None → input.new ≡ input.old }
 {
     match asked {
@@ -94,6 +101,16 @@ fn work<S: Start, R: Read + Device, W: Write + Device, F: Write + Device>(
         Asked::Check => (check(rt.alloc(), input, output, faults), None),
         Asked::Init { file, society } => finished(init(rt, file, society, start), faults),
         Asked::Apply { file } => finished(apply(rt, file, start, input, output), faults),
+        Asked::Entries {
+            file,
+            source,
+            token,
+        } => entered(
+            rt.alloc(),
+            entries(rt, file, token, source, start, input),
+            output,
+            faults,
+        ),
         Asked::Show { text } => (status_of(show(output, &text), faults), None),
     }
 }

@@ -4,6 +4,7 @@
 //! an archive holds.
 #![tactic(auto)]
 
+mod batches;
 mod command;
 mod telling;
 

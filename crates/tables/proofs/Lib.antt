@@ -1,3 +1,4 @@
+mod Entering
 mod OnTheWay
 mod One
 mod Outcomes

@@ -11,7 +11,7 @@ use Rattle.store.specs.declared.archive.Archive.{Archive}
 use Rattle.store.proofs.Histories.{doubt_after, performs_then}
 use Rattle.tables.specs.Answers.{Served, answer_text}
 use Rattle.tables.specs.Applying.{AreServed, IsServed, PerformsAll, Steps, answer_to, answers, calls_of, is_in_doubt}
-use Rattle.tables.specs.Input.{Row}
+use Rattle.batch_reading.specs.Input.{Row}
 use Rattle.tables.specs.declared.bad_request.BadRequest.{BadRequest}
 
 pub served_more : (rows : List Row) (served : List Served) (row : Row) (s : Served) → AreServed rows served → IsServed row s → AreServed (rows ++ row ∷ []) (served ++ s ∷ [])

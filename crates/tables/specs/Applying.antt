@@ -13,7 +13,7 @@ use Rattle.store.specs.Calls.{Performs}
 use Rattle.store.specs.Histories.{has_failed, in_doubt, is_storage}
 use Rattle.store.specs.declared.archive.Archive.{Archive}
 use Rattle.tables.specs.Answers.{Served, answer_text}
-use Rattle.tables.specs.Input.{AreFirstRows, AreRows, Row}
+use Rattle.batch_reading.specs.Input.{AreFirstRows, AreRows, Row}
 use Rattle.tables.specs.Requests.{Asks}
 
 -- ---- rows and what became of them

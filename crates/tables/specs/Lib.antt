@@ -1,4 +1,4 @@
 pub mod Answers
 pub mod Applying
-pub mod Input
+pub mod Entering
 pub mod Requests

@@ -7,15 +7,16 @@ ghost use Rattle.csv.specs.declared.reader.Trim.TheVariants as trim;
 ghost use Rattle.devices.specs.Devices.{Rose};
 ghost use Rattle.record_text.specs.declared.refusal.RefusalKind.TheVariants as refusal;
 ghost use Rattle.tables.specs.Applying.{Applied, Ended};
-ghost use Rattle.tables.specs.Input.{row_bytes};
+ghost use Rattle.batch_reading.specs.Input.{row_bytes};
 
 use crate::serving::serve_row;
+use batch_reading::reading_failed;
 use csv::{ByteRecord, Reader, ReaderBuilder};
 use devices::{Device, has_risen};
 use record_text::RefusalKind;
 use sqlite::Alter;
 use std::alloc::Global;
-use std::io::{ErrorKind, Read, Write};
+use std::io::{Read, Write};
 use store::Archive;
 
 /// Reads rows of requests, performs each on the archive, and writes its answer and flushes it before the next row is decided.
@@ -103,14 +104,4 @@ fn apply_rows<S: Alter, R: Read, W: Write + Device>(
         }
     }
     Err(RefusalKind::OutOfMemory)
-}
-
-/// What an error of reading means: 94, or 1 where it is want of memory.
-fn reading_failed(error: csv::Error) -> RefusalKind
-    ensures { (result ≡ refusal.OutOfMemory) ⊎ (result ≡ refusal.ReadFailed) }
-{
-    match error.kind() {
-        csv::ErrorKind::Io(e) if e.kind() != ErrorKind::OutOfMemory => RefusalKind::ReadFailed,
-        _ => RefusalKind::OutOfMemory,
-    }
 }

@@ -10,11 +10,13 @@
 mod answers;
 mod applying;
 mod bad_request;
-mod fields;
+mod entering;
 pub mod laws;
 mod request;
 mod serving;
 
 pub use applying::apply;
 pub use bad_request::BadRequest;
+pub use batch_reading::read_entries;
+pub use entering::enter;
 pub use request::read_request;

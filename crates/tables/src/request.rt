@@ -7,8 +7,8 @@ ghost use Rattle.tables.specs.Requests.{Asks, AsksText, AsksUnder, OrWants, Read
 ghost use Rattle.receipts.specs.Tokens.{IsToken};
 
 use crate::bad_request::{BadRequest, untold};
-use crate::fields::text_fields;
 use archive_core::{Command, Request, RowCommand};
+use batch_reading::text_fields;
 use csv::ByteRecord;
 use receipts::Token;
 use record_text::RefusalKind;

@@ -1,3 +1,4 @@
+use Rattle.std.proofs.Common.{refl}
 use Rattle.command_line.proofs.reading.command_named.Goals as goal
 
 pub returns-in-init-clause-words : goal.returns-in-init-clause-words
@@ -5,3 +6,6 @@ returns-in-init-clause-words c = (c.word_of.ensures, c.word_of-in-init.ensures)
 
 pub returns-in-apply-clause-words : goal.returns-in-apply-clause-words
 returns-in-apply-clause-words c = c.word_of-in-apply.ensures
+
+pub returns-in-entries-clause-words : goal.returns-in-entries-clause-words
+returns-in-entries-clause-words c = (c.word_of-in-entries.ensures, rw (c.number_of.ensures, c.word_of-in-entries-2.ensures) refl, c.word_of-in-entries-3.ensures)

@@ -2,6 +2,7 @@ use Rattle.std.proofs.Common.{◌≡◌, ◌∙◌, refl, sym, codes, map, strin
 use Rattle.std.specs.Prelude.{List, ℕ, Option, Some, None, IfSome, IsSome}
 use Rattle.clap.specs.Words.{subcommand_of}
 use Rattle.command_line.specs.Commands.{IsTaken, command_named, name_of, program}
+use Rattle.parish.proofs.Batches.{entries_wanting}
 use Rattle.parish.proofs.Ending.{apply_wanting, check_wanting, init_wanting, norm_wanting}
 use Rattle.parish.proofs.command.command.Goals as goal
 
@@ -36,6 +37,12 @@ returns-in-Ok-clause-apply g c = λ are.
     let asked = c.in-Ok.ensures in
     c.work.ensures.apply (asked_as (name_of c.in-Ok.asked) (map string_bytes c.args.words.now) (codes "apply") (asked.taken are.0) asked.asked.0 are.1)
 
+pub returns-in-Ok-clause-entries : goal.returns-in-Ok-clause-entries
+returns-in-Ok-clause-entries g c = λ are.
+    let asked = c.in-Ok.ensures in
+    let words = map string_bytes c.args.words.now in
+    c.work.ensures.entries (subcommand_of program words) asked.asked.1 (asked_as (name_of c.in-Ok.asked) words (codes "entries") (asked.taken are.0) asked.asked.0 are.1)
+
 pub returns-in-Ok-clause-others : goal.returns-in-Ok-clause-others
 returns-in-Ok-clause-others g c = λ none.
     c.work.ensures.text (asked_for_nothing (name_of c.in-Ok.asked) (map string_bytes c.args.words.now) c.in-Ok.ensures.asked.0 none)
@@ -51,3 +58,6 @@ returns-clause-apply g c = λ words. apply_wanting _ c.refuse.result _ _ _ _ c.r
 
 pub returns-clause-init : goal.returns-clause-init
 returns-clause-init g c = λ words. (init_wanting _ _ c.refuse.result c.refuse.ensures, refl, refl)
+
+pub returns-clause-entries : goal.returns-clause-entries
+returns-clause-entries g c = λ words. entries_wanting _ _ _ c.refuse.result _ _ _ _ c.refuse.ensures

@@ -1,6 +1,7 @@
 use Rattle.std.proofs.Common.{refl, subst}
 use Rattle.sqlite_wal.specs.Files.{image_at}
 use Rattle.command_line.specs.Commands.{HasWords}
+use Rattle.parish.proofs.Batches.{entries_ends}
 use Rattle.parish.proofs.Ending.{apply_ends, init_ends}
 use Rattle.parish.proofs.command.work.Goals as goal
 
@@ -16,3 +17,11 @@ returns-in-Apply-clause-apply g c = λ _.
     let did = c.apply.ensures in
     let ended = c.finished-in-Apply.ensures in
     apply_ends (image_at g.S.Start) c.apply.result.0 c.finished-in-Apply.result.0 _ _ _ _ _ c.apply.result.1 c.finished-in-Apply.result.1 ended.left ended.status did.answered did.stopped
+
+pub returns-in-Entries-clause-entries : goal.returns-in-Entries-clause-entries
+returns-in-Entries-clause-entries g c = λ found has _.
+    let words = subst (HasWords found) c.in-Entries.is has in
+    let did = c.entries.ensures in
+    let ended = c.entered.ensures in
+    entries_ends (image_at g.S.Start) c.entries.result.0 _ _ _ _ c.entered.result.0 _ _ _ _ _ c.entries.result.1 c.entered.result.1 words.2 words.1 ended.left ended.status
+    did.entered did.refused ended.told ended.untold

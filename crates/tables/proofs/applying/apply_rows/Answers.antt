@@ -5,7 +5,8 @@ use Rattle.csv.specs.declared.parser.State.{State}
 use Rattle.sqlite.specs.Held.{state}
 use Rattle.store_tables.proofs.Queries.{only_committed}
 use Rattle.record_text.specs.declared.refusal.RefusalKind.TheVariants as refusal
-use Rattle.tables.proofs.OnTheWay.{OnTheWay, all_applied, at_start, ended_row, ended_same, ended_unread, one_more, performs_none, took_all, took_more}
+use Rattle.tables.proofs.OnTheWay.{OnTheWay, all_applied, at_start, ended_row, ended_same, ended_unread, one_more, performs_none}
+use Rattle.batch_reading.proofs.Taking.{took_all, took_more}
 use Rattle.tables.proofs.applying.apply_rows.Goals as goal
 
 pub rows-init : goal.rows-init

@@ -2,7 +2,7 @@ use Rattle.std.proofs.Common.{◌<◌, ◌≤◌, ◌++◌, ◌∷◌, ◌∙◌
 use Rattle.std.proofs.lemmas.List.{map_push, take_all, take_more}
 use Rattle.csv.specs.Records.{AllText, fields_of}
 use Rattle.csv.proofs.RecordFacts.{text-at, text-step}
-use Rattle.tables.proofs.fields.text_fields.Goals as goal
+use Rattle.batch_reading.proofs.fields.text_fields.Goals as goal
 
 pub fields-init : goal.fields-init
 unfolding AllText

@@ -1,6 +1,6 @@
 use Rattle.std.proofs.Common.{sym, ◌∙◌}
 use Rattle.csv.proofs.RecordFacts.{field-get, field-there}
-use Rattle.tables.proofs.fields.text_at.Goals as goal
+use Rattle.batch_reading.proofs.fields.text_at.Goals as goal
 
 pub returns-in-Ok : goal.returns-in-Ok
 returns-in-Ok c =

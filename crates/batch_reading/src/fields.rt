@@ -7,7 +7,7 @@ use csv::ByteRecord;
 use std::alloc::{AllocError, Global};
 
 /// The fields of a row. `None`: one of them is not UTF-8. Refused only for want of memory.
-pub(crate) fn text_fields<'a>(
+pub fn text_fields<'a>(
     alloc: Global,
     row: &'a ByteRecord,
 ) -> Result<Option<Vec<&'a str>>, AllocError>

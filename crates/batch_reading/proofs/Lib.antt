@@ -1,0 +1,4 @@
+mod Added
+mod OnTheWay
+mod OneBatch
+pub mod Taking

@@ -1,0 +1,33 @@
+use Rattle.std.proofs.Common.{◌≡◌, [], codes, refl}
+use Rattle.clap.specs.Words.{Text, fault_of, subcommand_of}
+use Rattle.clap.proofs.OnLiterals.{clap_on_literals}
+use Rattle.command_line.specs.Commands.{batch_words, number_of, program, word_in}
+use Rattle.command_line.proofs.laws.a_batch_is_taken.Goals as goal
+
+is_taken : (name : Text) → fault_of program (batch_words name) ≡ []
+unfolding clap_on_literals
+is_taken name = refl
+
+has_file : (name : Text) → word_in (subcommand_of program (batch_words name)) (codes "FILE") ≡ codes "ashby.db"
+unfolding clap_on_literals
+has_file name = refl
+
+has_source : (name : Text) → number_of (word_in (subcommand_of program (batch_words name)) (codes "source")) ≡ 3
+unfolding clap_on_literals
+has_source name = refl
+
+has_token : (name : Text) → word_in (subcommand_of program (batch_words name)) (codes "token") ≡ codes "page-12"
+unfolding clap_on_literals
+has_token name = refl
+
+pub returns-clause-taken : goal.returns-clause-taken
+returns-clause-taken c = is_taken
+
+pub returns-clause-file : goal.returns-clause-file
+returns-clause-file c = has_file
+
+pub returns-clause-source : goal.returns-clause-source
+returns-clause-source c = has_source
+
+pub returns-clause-token : goal.returns-clause-token
+returns-clause-token c = has_token
