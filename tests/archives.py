@@ -398,9 +398,9 @@ def killed(at, rows, after):
     return got
 
 
-def killed_and_run_again(tools, seed=1, count=300, stops=10):
+def killed_and_run_again(tools, seed=1, count=300, stops=10, rows=None):
     """A program that is killed at some moment, and again: the rows sent again get the answers of a run that was not stopped."""
-    rows = generated(seed, count, "lasting")
+    rows = generated(seed, count, "lasting") if rows is None else rows
     with Folder(tools) as whole:
         wanted = whole.made().apply(rows)
         demand(wanted.status == 0 and wanted.err == b"", f"{wanted.status} {wanted.err!r}")

@@ -24,6 +24,7 @@ import archives  # noqa: E402
 import documents  # noqa: E402
 import files  # noqa: E402
 import memory  # noqa: E402
+import merges  # noqa: E402
 import properties  # noqa: E402
 import refusals  # noqa: E402
 import scripts  # noqa: E402
@@ -32,7 +33,7 @@ import streams  # noqa: E402
 from harness import ROOT, Case, Failed, Tools  # noqa: E402
 
 # The longest ones first, since they run side by side.
-PARTS = (sizes, archives, memory, properties, streams, scripts, documents, refusals, files)
+PARTS = (sizes, archives, merges, memory, properties, streams, scripts, documents, refusals, files)
 PIECES = "tree_pieces"
 
 
