@@ -29,5 +29,6 @@ mod Numbers
 mod Used
 mod Drawing
 mod Applying
+mod Deciding
 mod Numbering
 mod Rows
