@@ -6,7 +6,6 @@ use Rattle.receipts.specs.declared.answer.Answer.{Answer}
 use Rattle.archive_state.specs.Applied.{as_undone}
 use Rattle.archive_state.specs.Content.{Content}
 use Rattle.archive_state.specs.Slips.{Slip}
-use Rattle.archive_state.specs.Sound.{IsSound}
 use Rattle.archive_state.proofs.Putting.{put_elsewhere, put_here}
 use Rattle.archive_looks.specs.Numbers.{Draws, UsesNoneAgain}
 use Rattle.archive_merge.specs.Merges.{slip_of}
@@ -49,13 +48,13 @@ undo_draws c after k a e =
       λ n from below. let less : n < c.next = subst (λ j. n < j) next below in absurd (omega arith),
     )
 
-pub undo_uses_none : (c after : Content) (k : ℕ) (a : Answer) → IsSound c → undo_step c k ≡ Ok (after, a) → UsesNoneAgain c after
-undo_uses_none c after k a sound e =
+pub undo_uses_none : (c after : Content) (k : ℕ) (a : Answer) → undo_step c k ≡ Ok (after, a) → UsesNoneAgain c after
+undo_uses_none c after k a e =
     let h : Undone c k after = undone_by c after k a e in
     let next : after.next ≡ c.next = ap (λ (x : Content). x.next) (sym h.left) in
     let still : c.next ≤ c.next = omega arith in (
       subst (λ j. c.next ≤ j) (sym next) still,
       λ n less none. ap (λ (x : Content). get x.slips n) (sym h.left)
           ∙ put_elsewhere c.slips k (as_undone h.slip) n (λ same. let both : Some h.slip ≡ None = sym h.there ∙ ap (get c.slips) (sym same) ∙ none in absurd cc) ∙ none,
-      λ n used. undo_keeps_used c after k n a sound e used,
+      λ n used. undo_keeps_used c after k n a e used,
     )

@@ -55,7 +55,7 @@ pub fn an_undoing_draws_none()
 
 /// Nor does it use one again.
 pub fn an_undoing_uses_no_number_again()
-    ensures { (c after : Content) (k : ℕ) (a : Answer) → IsSound c → undo_step c k ≡ Ok (after, a) → UsesNoneAgain c after }
+    ensures { (c after : Content) (k : ℕ) (a : Answer) → undo_step c k ≡ Ok (after, a) → UsesNoneAgain c after }
 {}
 
 /// An undoing puts back the old records of its slip, and leaves all others.
