@@ -3,7 +3,6 @@
 ghost use Rattle.std.specs.Prelude.{◌≡◌, ◌++◌, ◌∷◌, IfOk};
 ghost use Rattle.archive_state.specs.Merging as merging;
 
-use crate::two_persons::move_all;
 use records::Child;
 use std::alloc::{AllocError, Global};
 use std::collections::VecDeque;
@@ -44,25 +43,24 @@ fn push_first(
     let mut children = children;
     'children: while let Some(child) = children.pop_front() {
         if child.person == person {
-            join_child(alloc, &mut first, child)?;
+            join_child(&mut first, child)?;
         } else {
             others.push(child)?;
         }
     }
     made.push(first)?;
-    made.extend(others)?;
+    made.append(&mut others)?;
     Ok(())
 }
 
 /// The carried lines of another child behind those of one.
-fn join_child(alloc: Global, child: &mut Child, other: Child) -> Result<(), AllocError>
+fn join_child(child: &mut Child, other: Child) -> Result<(), AllocError>
     ensures { IfOk result (λ _. child.new ≡ merging.joined_child child.old other) }
 {
     let mut other = other;
-    move_all(alloc, &mut child.carried, &mut other.carried)?;
-    move_all(
-        alloc,
-        &mut child.carried_by_person,
-        &mut other.carried_by_person,
-    )
+    child.carried.append(&mut other.carried)?;
+    child
+        .carried_by_person
+        .append(&mut other.carried_by_person)?;
+    Ok(())
 }

@@ -1,12 +1,11 @@
 //! Two persons made one.
 
-ghost use Rattle.std.specs.Prelude.{◌≡◌, ◌++◌, IfOk, OnOk};
+ghost use Rattle.std.specs.Prelude.{◌≡◌, IfOk};
 ghost use Rattle.archive_state.specs.Merging as merging;
 ghost use Rattle.archive_merge.specs.Parts as specs;
 
 use records::{Carried, Person, Sex, Tag, Text, Value};
 use std::alloc::{AllocError, Global};
-use std::mem;
 
 /// The names and carried lines of both, and the sex of the first, or else of the other.
 pub(crate) fn joined_person(
@@ -18,25 +17,12 @@ pub(crate) fn joined_person(
 {
     let mut both = keep;
     let mut gone = gone;
-    let second = second_sex(alloc, both.sex, gone.sex)?;
+    let mut second = second_sex(alloc, both.sex, gone.sex)?;
     both.sex = sex_of_two(both.sex, gone.sex);
-    move_all(alloc, &mut both.names, &mut gone.names)?;
-    move_all(alloc, &mut both.carried, &mut gone.carried)?;
-    both.carried.extend(second)?;
+    both.names.append(&mut gone.names)?;
+    both.carried.append(&mut gone.carried)?;
+    both.carried.append(&mut second)?;
     Ok(both)
-}
-
-/// Moves items behind others.
-pub(crate) fn move_all<T: Drop>(
-    alloc: Global,
-    items: &mut Vec<T>,
-    more: &mut Vec<T>,
-) -> Result<(), AllocError>
-    ensures { OnOk result (items.new.items ≡ items.old.items ++ more.old.items) }
-{
-    let moved = mem::replace(more, Vec::new(alloc));
-    items.extend(moved)?;
-    Ok(())
 }
 
 fn sex_of_two(keep: Option<Sex>, gone: Option<Sex>) -> Option<Sex>
