@@ -55,6 +55,10 @@ one_there P [] i n h e is = absurd (omega arith)
 one_there P (k ∷ ns) zero n h e is = first_yes (P k) (list_any P ns) (ap P (sym e) ∙ is)
 one_there P (k ∷ ns) (suc i) n h e is = second_yes (P k) (list_any P ns) (one_there P ns i n (omega arith) e is)
 
+one_of : (a b : Bool) → (a || b) ≡ true → (a ≡ true) ⊎ (b ≡ true)
+one_of true b e = inl refl
+one_of false b e = inr e
+
 module _ {A : Type 0} where
   any_front : (P : A → Bool) (xs ys : List A) → list_any P xs ≡ true → list_any P (xs ++ ys) ≡ true
   any_front P xs ys e = list_any-append P xs ys ∙ first_yes (list_any P xs) (list_any P ys) e
@@ -62,14 +66,10 @@ module _ {A : Type 0} where
   any_back : (P : A → Bool) (xs ys : List A) → list_any P ys ≡ true → list_any P (xs ++ ys) ≡ true
   any_back P xs ys e = list_any-append P xs ys ∙ second_yes (list_any P xs) (list_any P ys) e
 
-  one_of : (a b : Bool) → (a || b) ≡ true → (a ≡ true) ⊎ (b ≡ true)
-  one_of true b e = inl refl
-  one_of false b e = inr e
-
 module _ {A B : Type 0} where
   any_flat : (P : B → Bool) (p : A → Bool) (h : A → List B) → ((a : A) → p a ≡ true → list_any P (h a) ≡ true) → (xs : List A) → list_any p xs ≡ true → list_any P (flat_map h xs) ≡ true
   any_flat P p h f [] e = absurd cc
-  any_flat P p h f (x ∷ xs) e = elim (one_of {A = A} (p x) (list_any p xs) e) as (λ _. list_any P (h x ++ flat_map h xs) ≡ true) [
+  any_flat P p h f (x ∷ xs) e = elim (one_of (p x) (list_any p xs) e) as (λ _. list_any P (h x ++ flat_map h xs) ≡ true) [
     | inl y ↦ any_front P (h x) (flat_map h xs) (f x y)
     | inr y ↦ any_back P (h x) (flat_map h xs) (any_flat P p h f xs y)
   ]
@@ -90,7 +90,7 @@ module _ (n : ℕ) where
   child_named p e = first_yes (p.person == n) _ e
 
   member_named : (x : model.Family) → has_member n x ≡ true → is_among n (links (kind.Family x)) ≡ true
-  member_named x e = elim (one_of {A = ℕ} (list_any (λ (p : model.Partner). p.person == n) x.partners) (has_child n x) e) as (λ _. list_any is_it (family_links x) ≡ true) [
+  member_named x e = elim (one_of (list_any (λ (p : model.Partner). p.person == n) x.partners) (has_child n x) e) as (λ _. list_any is_it (family_links x) ≡ true) [
     | inl y ↦ any_front is_it (flat_map partner_links x.partners) (flat_map child_links x.children ++ carried_links x.carried)
         (any_flat is_it (λ (p : model.Partner). p.person == n) partner_links partner_named x.partners y)
     | inr y ↦ any_back is_it (flat_map partner_links x.partners) (flat_map child_links x.children ++ carried_links x.carried)

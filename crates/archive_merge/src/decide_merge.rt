@@ -1,8 +1,9 @@
 //! Decides a merge over a view: what it changes, or its refusal.
 
-ghost use Rattle.std.specs.Prelude.{◌≡◌, ◌++◌, ◌+◌, ◌∷◌, [], IfOk, None, Some, not};
+ghost use Rattle.std.specs.Prelude.{◌≡◌, ◌++◌, ◌+◌, ◌∷◌, [], ◌==◌, IfOk, None, Some, false, not};
 ghost use Rattle.std.specs.FinMap as map;
-ghost use Rattle.std.specs.List.{flat_map};
+ghost use Rattle.std.specs.List.{flat_map, list_any};
+ghost use Rattle.record_kinds.specs.Model as model;
 ghost use Rattle.record_kinds.specs.declared.record.Record.{Record as Rec};
 ghost use Rattle.record_kinds.specs.declared.record.Record.TheVariants as kind;
 ghost use Rattle.record_text.specs.declared.refusal.RefusalKind.TheVariants.{MergeWithinFamily};
@@ -125,7 +126,13 @@ fn clashes(family: &Family, keep: u32, gone: u32) -> bool
 fn has_member(family: &Family, person: u32) -> bool
     ensures { result ≡ merging.has_member person family.now }
 {
-    family.partners.iter().any(|p| p.person == person) || has_child(family, person)
+    has_partner(family, person) || has_child(family, person)
+}
+
+fn has_partner(family: &Family, person: u32) -> bool
+    ensures { result ≡ list_any (λ (p : model.Partner). p.person == person) family.now.partners }
+{
+    family.partners.iter().any(|p| p.person == person)
 }
 
 fn has_child(family: &Family, person: u32) -> bool
