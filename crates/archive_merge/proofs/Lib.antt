@@ -30,5 +30,7 @@ mod Used
 mod Drawing
 mod Applying
 mod Deciding
+mod Exactness
+mod Planning
 mod Numbering
 mod Rows

@@ -8,10 +8,12 @@ ghost use Rattle.record_kinds.specs.declared.record.Record.{Record as Rec};
 ghost use Rattle.record_kinds.specs.declared.record.Record.TheVariants as kind;
 ghost use Rattle.record_text.specs.declared.refusal.RefusalKind.TheVariants.{MergeWithinFamily};
 ghost use Rattle.archive_state.specs.Merging as merging;
+ghost use Rattle.archive_state.specs.Sound.{IsSound};
 ghost use Rattle.archive_state.specs.declared.changes.SlipChange.TheVariants as change;
 ghost use Rattle.archive_view.specs.Looks.{Agrees, CountsFailures, Looked, OnView, is_stop};
 ghost use Rattle.archive_looks.specs.Applied.{Plans};
 ghost use Rattle.archive_looks.specs.Checks.{need};
+ghost use Rattle.archive_looks.specs.Exact.{IsExact};
 ghost use Rattle.archive_merge.specs.Looks as looks;
 ghost use Rattle.archive_merge.specs.Merges as specs;
 ghost use Rattle.archive_merge.specs.Steps.{merge_step};
@@ -33,6 +35,8 @@ pub fn merge<V: View>(
 ) -> Result<Changes, RefusalKind>
     ensures decides { OnView V.is_honest V.shows V.content view.old view.new
         (λ c. Plans c result (merge_step c keep gone)) }
+    ensures exact { OnView V.is_honest V.shows V.content view.old view.new
+        (λ c. IfOk result (λ changes. IsSound c → IsExact c changes)) }
     ensures counts { CountsFailures (V.failed view.old) (V.failed view.new) result }
 {
     drop(person_at(alloc, view, keep)?);

@@ -2,9 +2,12 @@
 
 ghost use Rattle.std.specs.Prelude.{◌≡◌, [], Err, IfErr, IfOk, None, Ok, Some, map as each};
 ghost use Rattle.std.specs.FinMap as map;
+ghost use Rattle.archive_state.specs.Slips.{Slip as StateSlip};
+ghost use Rattle.archive_state.specs.Sound.{IsSound};
 ghost use Rattle.archive_state.specs.declared.changes.SlipChange.TheVariants as change;
 ghost use Rattle.archive_view.specs.Looks.{Agrees, CountsFailures, Looked, OnView, is_stop};
 ghost use Rattle.archive_looks.specs.Applied.{Plans};
+ghost use Rattle.archive_looks.specs.Exact.{IsExact};
 ghost use Rattle.archive_merge.specs.Comparing.{is_now, is_same_record};
 ghost use Rattle.archive_merge.specs.Looks as looks;
 ghost use Rattle.archive_merge.specs.Merges as specs;
@@ -20,6 +23,8 @@ use stored_lines::are_same;
 pub fn undo<V: View>(alloc: Global, view: &mut V, number: u32) -> Result<Changes, RefusalKind>
     ensures decides { OnView V.is_honest V.shows V.content view.old view.new
         (λ c. Plans c result (undo_step c number)) }
+    ensures exact { OnView V.is_honest V.shows V.content view.old view.new
+        (λ c. IfOk result (λ changes. IsSound c → (s : StateSlip) → map.get c.slips number ≡ Some s → specs.HasRealChanges s → IsExact c changes)) }
     ensures counts { CountsFailures (V.failed view.old) (V.failed view.new) result }
 {
     let slip = slip_at(alloc, view, number)?;
