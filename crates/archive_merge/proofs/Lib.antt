@@ -29,5 +29,8 @@ mod Numbers
 mod Used
 mod Drawing
 mod Applying
+mod Deciding
+mod Exactness
+mod Planning
 mod Numbering
 mod Rows

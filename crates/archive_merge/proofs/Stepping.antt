@@ -30,22 +30,22 @@ use Rattle.archive_merge.proofs.Undo.{undo_sound}
 use Rattle.archive_merge.proofs.Comparing.{now_is, is_now_new}
 
 -- what stands behind a check that passed
-passed : {A B : Type 0} (x : Result A RefusalKind) (f : A → Result B RefusalKind) (b : B) → and_then x f ≡ Ok b → (a : A) × (x ≡ Ok a) × (f a ≡ Ok b)
+pub passed : {A B : Type 0} (x : Result A RefusalKind) (f : A → Result B RefusalKind) (b : B) → and_then x f ≡ Ok b → (a : A) × (x ≡ Ok a) × (f a ≡ Ok b)
 passed (Ok a) f b e = (a, refl, e)
 passed (Err k) f b e = absurd cc
 
-needed : (t : Bool) (k : RefusalKind) (u : Unit {0}) → need t k ≡ Ok u → t ≡ true
+pub needed : (t : Bool) (k : RefusalKind) (u : Unit {0}) → need t k ≡ Ok u → t ≡ true
 needed true k u e = refl
 needed false k u e = absurd cc
 
-turned : (b : Bool) → not b ≡ true → b ≡ false
+pub turned : (b : Bool) → not b ≡ true → b ≡ false
 turned true e = absurd cc
 turned false e = refl
 
 within : (n : ℕ) → nat_le n 4_294_967_295 ≡ true → n ≤ 4294967295
 within n e = grind (arith, nat_tests)
 
-a_person : (o : Option Record) (p : model.Person) → person_in o ≡ Ok p → o ≡ Some (kind.Person p)
+pub a_person : (o : Option Record) (p : model.Person) → person_in o ≡ Ok p → o ≡ Some (kind.Person p)
 a_person None p e = absurd cc
 a_person (Some (kind.Person q)) p e = let same : q ≡ p = cc in ap (λ x. Some (kind.Person x)) same
 a_person (Some (kind.Place q)) p e = absurd cc
@@ -57,13 +57,13 @@ a_person (Some (kind.Event q)) p e = absurd cc
 a_person (Some (kind.Entry q)) p e = absurd cc
 a_person (Some (kind.Other q)) p e = absurd cc
 
-a_slip : (o : Option Slip) (r : Option Record) (s : Slip) → slip_in o r ≡ Ok s → o ≡ Some s
+pub a_slip : (o : Option Slip) (r : Option Record) (s : Slip) → slip_in o r ≡ Ok s → o ≡ Some s
 a_slip (Some t) r s e = let same : t ≡ s = cc in ap Some same
 a_slip None None s e = absurd cc
 a_slip None (Some r) s e = absurd cc
 
 -- a number is left
-the_next : (c : Content) (n : ℕ) → next_free c ≡ Ok n → (c.next ≡ n) × (c.next ≤ 4294967295)
+pub the_next : (c : Content) (n : ℕ) → next_free c ≡ Ok n → (c.next ≡ n) × (c.next ≤ 4294967295)
 the_next c n e = elim (nat_le c.next 4_294_967_295) as (λ b. nat_le c.next 4_294_967_295 ≡ b → (if b then Ok c.next else Err Full) ≡ Ok n → (c.next ≡ n) × (c.next ≤ 4294967295)) [
   | true ↦ λ less q. (cc, within c.next less)
   | false ↦ λ less q. absurd cc

@@ -1,4 +1,6 @@
 pub mod Comparing
+pub mod Looks
 pub mod Merges
+pub mod Parts
 pub mod Rest
 pub mod Steps

@@ -1,5 +1,5 @@
 -- What a merge and its undoing make of records, by the numbers that they change. Rules of our own.
-use Rattle.std.specs.Prelude.{ℕ, ◌≡◌, List, [], ◌∷◌, map, Bool, true, false, not, ◌&&◌, ◌||◌, ◌==◌, nat_lt, Option, Some, None, is_none, if◌then◌else◌}
+use Rattle.std.specs.Prelude.{ℕ, ◌≡◌, ◌≢◌, List, [], ◌∷◌, map, Bool, true, false, not, ◌&&◌, ◌||◌, ◌==◌, nat_lt, Option, Some, None, is_none, if◌then◌else◌}
 use Rattle.std.specs.List.{list_any, filter, flat_map}
 use Rattle.std.specs.FinMap.{get, insert, remove, entries}
 use Rattle.record_kinds.specs.declared.record.Record.{Record}
@@ -101,3 +101,7 @@ pub record HoldsChanges (keep gone : ℕ) (m : Records) (s : Slip) : Type 0 wher
   pub differs : (n : ℕ) (r : Record) → get (old_records s) n ≡ Some r → (get m n ≡ Some r) × (merged keep gone (get m) n ≡ Some r → ⊥)
   -- a number that is not in the slip has the record of before
   pub others : (n : ℕ) → get (old_records s) n ≡ None → merged keep gone (get m) n ≡ get m n
+
+-- no record of the slip became what it was
+abbrev pub HasRealChanges : Slip → Type 0
+HasRealChanges s = EachOf (λ (x : Change). x.new ≢ Some x.old) s.changes

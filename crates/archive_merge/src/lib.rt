@@ -6,5 +6,15 @@
 //! Callers may rely on: the laws of `laws`.
 #![tactic(auto)]
 
+mod children_once;
+pub mod decide_merge;
+pub mod decide_undo;
+mod event_parts;
 pub mod finding;
 pub mod laws;
+mod new_records;
+mod person_parts;
+mod record_parts;
+mod redirecting;
+mod source_parts;
+mod two_persons;
