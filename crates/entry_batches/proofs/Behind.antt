@@ -1,12 +1,11 @@
 -- What an archive is behind rows that have made entries: the look at one row is the command of one entry there.
-use Rattle.std.proofs.Common.{◌≡◌, ◌⊎◌, ℕ, ◌+◌, ◌<◌, ◌≤◌, List, [], ◌∷◌, ◌++◌, length, Bool, true, false, not, ◌&&◌, ◌||◌, ◌==◌, refl, sym, ap, ◌∙◌, inl, inr, nat_le, subst, arith, eqb, eqb-true, eq-eqb}
+use Rattle.std.proofs.Common.{◌≡◌, ℕ, ◌+◌, ◌<◌, ◌≤◌, List, [], ◌∷◌, ◌++◌, length, Bool, true, false, not, ◌&&◌, ◌||◌, ◌==◌, refl, sym, ap, ◌∙◌, inl, inr, subst, arith, eqb, eqb-true, eq-eqb}
 use Rattle.std.specs.Prelude.{◌≢◌, zero, suc, Option, Some, None, Result, Ok, Err, if◌then◌else◌, nat_lt, bytes_eq, map}
 use Rattle.std.proofs.lemmas.Bool.Decides.{nat_tests}
 use Rattle.std.specs.FinMap.{get, insert, entries}
 use Rattle.std.specs.List.{list_any}
-use Rattle.record_text.specs.declared.refusal.Refusal.{Refusal}
 use Rattle.record_text.specs.declared.refusal.RefusalKind.{RefusalKind}
-use Rattle.record_text.specs.declared.refusal.RefusalKind.TheVariants.{BadText, DuplicateEntry, Full, NoSuch, WrongKind}
+use Rattle.record_text.specs.declared.refusal.RefusalKind.TheVariants.{BadText, DuplicateEntry, NoSuch, WrongKind}
 use Rattle.record_fields.proofs.Items.{same_item}
 use Rattle.record_fields.proofs.Worded.{entry_kind_back}
 use Rattle.record_fields.specs.Bytes.{bytes_are, bytes_same}
@@ -21,18 +20,13 @@ use Rattle.archive_state.proofs.Putting.{put_cases, put_elsewhere, put_here}
 use Rattle.archive_state.specs.Applied.{with_puts}
 use Rattle.archive_state.specs.Content.{Content, Records}
 use Rattle.archive_state.specs.Entries.{HasKey, IsEntryAt}
-use Rattle.archive_state.specs.Sound.{IsSound}
 use Rattle.archive_state.specs.declared.changes.Numbered.{Numbered}
 use Rattle.commands.specs.Rows.{and_then}
-use Rattle.commands.specs.declared.entry_row.EntryRow.{EntryRow}
 use Rattle.archive_looks.proofs.Likes.{key_free, none_there}
-use Rattle.archive_looks.specs.Checks.{date_in, demanded_at, demanded_in, each, is_place_with, is_said, is_within_with, need, next_free, passed, place_at, place_in, said_place_at, says_something, text_in}
-use Rattle.archive_looks.specs.Entries.{is_like, key_is_free, mentions_in, texts_fit}
+use Rattle.archive_looks.specs.Checks.{demanded_at, demanded_in, is_place_with, is_said, is_within_with, need, place_in, said_place_at, says_something}
+use Rattle.archive_looks.specs.Entries.{is_like, key_is_free}
 use Rattle.archive_looks.specs.declared.kinds.Demand.TheVariants as demand
-use Rattle.archive_steps.specs.Steps.{RowStep, creates, entry_of, new_entry}
-use Rattle.entry_batches.specs.Batches.{is_drawn, is_left, is_like_row, key_is_new, number_behind, place_behind, row_entry, with_entry, with_made, with_row, with_rows}
-use Rattle.entry_batches.specs.Laws.{one_by_one}
-use Rattle.entry_batches.specs.Placed.{onward, placed, refused_at}
+use Rattle.entry_batches.specs.Batches.{is_drawn, is_like_row, key_is_new, place_behind, with_made}
 
 -- ---- numbers that follow each other
 abbrev pub IsFrom : ℕ → List Numbered → Type 0

@@ -1,12 +1,11 @@
 -- A batch is the commands of its rows one after the other; and what it leaves.
-use Rattle.std.proofs.Common.{◌≡◌, ℕ, ◌+◌, ◌<◌, ◌≤◌, List, [], ◌∷◌, ◌++◌, length, Bool, true, false, ◌&&◌, refl, sym, ap, ◌∙◌, inl, inr, nat_le, subst, arith}
-use Rattle.std.specs.Prelude.{◌≢◌, suc, Option, Some, None, Result, Ok, Err, if◌then◌else◌}
+use Rattle.std.proofs.Common.{◌≡◌, ℕ, ◌+◌, ◌≤◌, List, [], ◌∷◌, ◌++◌, length, Bool, true, false, refl, sym, ap, ◌∙◌, inl, nat_le, subst, arith}
+use Rattle.std.specs.Prelude.{suc, Option, Some, None, Result, Ok, Err, if◌then◌else◌}
 use Rattle.std.proofs.lemmas.Bool.Decides.{nat_tests}
 use Rattle.std.specs.FinMap.{get, insert}
 use Rattle.record_text.specs.declared.refusal.Refusal.{Refusal}
 use Rattle.record_text.specs.declared.refusal.RefusalKind.{RefusalKind}
 use Rattle.record_text.specs.declared.refusal.RefusalKind.TheVariants.{Full}
-use Rattle.record_fields.specs.declared.date.Date.{Date}
 use Rattle.record_kinds.specs.Model as model
 use Rattle.record_kinds.specs.declared.record.Record.{Record}
 use Rattle.record_kinds.specs.declared.record.Record.TheVariants as kind
@@ -19,17 +18,17 @@ use Rattle.archive_state.specs.declared.changes.Numbered.{Numbered}
 use Rattle.commands.specs.Rows.{and_then}
 use Rattle.commands.specs.declared.entry_row.EntryRow.{EntryRow}
 use Rattle.commands.specs.declared.row_command.RowCommand.TheVariants as row_command
-use Rattle.archive_looks.specs.Checks.{date_in, demanded_at, demanded_in, each, need, next_free, passed, place_at, said_place_at, text_in}
+use Rattle.archive_looks.specs.Checks.{date_in, demanded_at, demanded_in, each, next_free, passed, said_place_at, text_in}
 use Rattle.archive_looks.specs.Entries.{key_is_free, mentions_in, texts_fit}
 use Rattle.archive_looks.specs.declared.kinds.Demand.TheVariants as demand
 use Rattle.archive_steps.proofs.Following.{Follows, row_follows}
 use Rattle.archive_looks.specs.Exact.{IsExact}
 use Rattle.archive_looks.specs.Numbers.{Draws, UsesNoneAgain}
-use Rattle.archive_steps.specs.Steps.{RowStep, creates, entry_of, new_entry}
+use Rattle.archive_steps.specs.Steps.{creates, entry_of, new_entry}
 use Rattle.archive_steps.specs.Words.{IsUtf8Entry}
-use Rattle.entry_batches.specs.Batches.{batch_step, first_number, is_left, key_is_new, number_behind, place_behind, row_entry, with_entry, with_made, with_row, with_rows}
+use Rattle.entry_batches.specs.Batches.{batch_step, first_number, is_left, key_is_new, number_behind, place_behind, row_entry, with_entry, with_made, with_rows}
 use Rattle.entry_batches.specs.Laws.{all_commands, one_by_one}
-use Rattle.entry_batches.specs.Placed.{Step, onward, placed, refused_at}
+use Rattle.entry_batches.specs.Placed.{Step, onward, placed}
 use Rattle.entry_batches.specs.Words.{AreUtf8Entries}
 use Rattle.entry_batches.proofs.Behind.{IsBehind, IsFrom, ascending, behind_none, behind_one, none_before, one_behind, one_more, put_of, puts_behind, taken, untouched}
 

@@ -7,7 +7,6 @@ use Rattle.archive_state.specs.Changes.{Changes}
 use Rattle.archive_state.specs.Content.{Content}
 use Rattle.archive_state.specs.declared.changes.Numbered.{Numbered}
 use Rattle.archive_view.specs.Looks.{OnView}
-use Rattle.receipts.specs.declared.answer.Answer.{Answer}
 use Rattle.commands.specs.Rows.{and_then}
 use Rattle.commands.specs.declared.entry_row.EntryRow.{EntryRow}
 use Rattle.archive_looks.specs.Checks.{demanded_at}

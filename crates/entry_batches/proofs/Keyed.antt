@@ -1,17 +1,16 @@
 -- Two entries have one key text where they have one kind, page and item.
-use Rattle.std.proofs.Common.{◌≡◌, ℕ, List, [], ◌∷◌, ◌++◌, Bool, true, false, not, ◌&&◌, ◌||◌, ◌==◌, refl, sym, ap, ◌∙◌, subst, eqb-true, eq-eqb, cond, append_assoc}
-use Rattle.std.specs.Prelude.{Result, Ok, Err, Option, Some, decimal, bytes_eq}
+use Rattle.std.proofs.Common.{◌≡◌, ℕ, List, [], ◌∷◌, ◌++◌, Bool, true, false, not, ◌&&◌, ◌||◌, ◌==◌, refl, sym, ap, ◌∙◌, eqb-true, eq-eqb, cond, append_assoc}
+use Rattle.std.specs.Prelude.{Ok, Err, Some, decimal, bytes_eq}
 use Rattle.std.specs.BTreeSet.{BTreeSet, contains_text}
 use Rattle.std.specs.List.{list_any}
 use Rattle.std.specs.declared.string.String.{String}
 use Rattle.record_text.specs.declared.refusal.RefusalKind.TheVariants.{DuplicateEntry}
 use Rattle.record_fields.specs.Bytes.{bytes_are, bytes_same}
-use Rattle.record_fields.specs.Words.{entry_kind_of, entry_kind_word}
+use Rattle.record_fields.specs.Words.{entry_kind_word}
 use Rattle.record_fields.specs.declared.entry_words.EntryKind.{EntryKind}
 use Rattle.record_fields.specs.declared.entry_words.EntryKind.TheVariants.{Baptism, Marriage, Burial}
 use Rattle.record_fields.specs.declared.item.Item.{Item}
-use Rattle.record_fields.proofs.Items.{decimal_is_plain, item_back, same_item}
-use Rattle.record_fields.proofs.Worded.{entry_kind_back}
+use Rattle.record_fields.proofs.Items.{decimal_is_plain, item_back}
 use Rattle.record_fields.specs.Items.{item_of}
 use Rattle.record_kinds.specs.Model as model
 use Rattle.record_kinds.specs.declared.record.Record.{Record}

@@ -1,4 +1,4 @@
-use Rattle.std.proofs.Common.{rules, ◌≡◌, ℕ, ◌+◌, ◌∷◌, [], drop, ap, sym, arith}
+use Rattle.std.proofs.Common.{rules, ◌≡◌, ℕ, ◌+◌, ◌∷◌, drop, ap, sym, arith}
 use Rattle.std.proofs.lemmas.List.{drop_all}
 use Rattle.entry_batches.specs.Batches.{with_rows}
 use Rattle.entry_batches.proofs.Rows.{LeadsOn, item_here, turn_made, turn_refused, turns_over, view_same}

@@ -1,4 +1,4 @@
-use Rattle.std.proofs.Common.{◌≡◌, ℕ, ◌+◌, length, ap, ◌∙◌}
+use Rattle.std.proofs.Common.{◌≡◌, ◌+◌, ap}
 use Rattle.archive_view.specs.Looks.{Agrees, is_stop}
 use Rattle.entry_batches.specs.Batches.{row_entry, with_row}
 use Rattle.entry_batches.proofs.Rows.{stops, row_counts, row_right, view_weaker}

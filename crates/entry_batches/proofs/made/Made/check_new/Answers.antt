@@ -1,4 +1,4 @@
-use Rattle.std.proofs.Common.{◌≡◌, List, ℕ, ◌∙◌, sym, subst}
+use Rattle.std.proofs.Common.{◌≡◌, ◌∙◌, subst}
 use Rattle.std.specs.Prelude.{Err, Ok}
 use Rattle.record_text.specs.declared.refusal.RefusalKind.TheVariants.{DuplicateEntry}
 use Rattle.entry_batches.specs.Batches.{key_is_new}
