@@ -16,7 +16,7 @@ use Rattle.store.specs.declared.archive.Archive.{Archive}
 use Rattle.batch_reading.specs.Batches.{placeless}
 use Rattle.tables.specs.Entering.{Enters, IsNoBatch, batch_request}
 use Rattle.archive_commands.specs.Applying.{PerformsOn}
-use Rattle.archive_commands.specs.Entering.{Entered, IsUnnamed, Unentered}
+use Rattle.archive_commands.specs.Entering.{Entered, Unentered}
 use Rattle.archive_commands.specs.Opening.{IsTakenUp}
 use Rattle.archive_commands.proofs.Answering.{performed_on}
 
