@@ -23,6 +23,7 @@ use Rattle.commands.specs.declared.row_command.RowCommand.TheVariants as row_com
 use Rattle.archive_looks.specs.Checks.{need, passed, each, place_name_in, path_fits, text_in, maybe_text_in, date_in, person_at, family_at, event_at, record_at, demanded_at, is_named, event_tag, said_place_at, next_free}
 use Rattle.archive_looks.specs.Entries.{texts_fit, reason_in, mentions_in, entry_at, key_is_free}
 use Rattle.archive_looks.specs.declared.kinds.Demand.TheVariants as demand
+use Rattle.archive_merge.specs.Steps.{merge_step, undo_step}
 
 -- what an accepted command of one row leaves, and its answer; or its refusal, which has no place
 abbrev pub RowStep : Type 0
