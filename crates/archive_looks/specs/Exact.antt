@@ -21,10 +21,11 @@ IsExactSlip m None = Unit {0}
 IsExactSlip m (Some (change.Made n slip)) = get m n ≡ None
 IsExactSlip m (Some (change.Undone n)) = option_map (λ (s : Slip). s.is_undone) (get m n) ≡ Some false
 
--- the changes are of what differs, and of nothing else
+-- the changes are of what differs, and of nothing else. What is asked of slips, and of what is put back from one, is asked in a sound
+-- archive: elsewhere a slip may be anything
 pub record IsExact (c : Content) (changes : Changes) : Type 0 where
   -- the numbers that get a record ascend, so that each is there once; those whose records are taken out, too
-  pub puts : Ascends (put_numbers changes)
+  pub puts : IsSound c → Ascends (put_numbers changes)
   pub removals : Ascends changes.removals
   -- none gets a record and loses it
   pub apart : EachOf (λ n. list_any (λ m. m == n) (put_numbers changes) ≡ false) changes.removals
@@ -32,7 +33,7 @@ pub record IsExact (c : Content) (changes : Changes) : Type 0 where
   pub new : IsSound c → EachOf (λ (p : Numbered). get c.records p.number ≢ Some p.«record») changes.puts
   -- a record is taken out where one is
   pub there : EachOf (λ n. get c.records n ≢ None) changes.removals
-  pub slip : IsExactSlip c.slips changes.slip
+  pub slip : IsSound c → IsExactSlip c.slips changes.slip
 
 -- nothing changes
 pub record ChangesNothing (c : Content) (changes : Changes) : Type 0 where

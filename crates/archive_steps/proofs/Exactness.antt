@@ -66,27 +66,27 @@ pub one_is_exact : (c : Content) (n next : ℕ) (r : Record) (a : Answer) (chang
     → changes ≡ record { puts = record { number = n; «record» = r } ∷ []; removals = []; next = next; answer = a; kept = None; slip = None }
     → get c.records n ≢ Some r → IsExact c changes
 one_is_exact c n next r a changes e other =
-    subst (IsExact c) (sym e) (record { puts = (tt, tt); removals = tt; apart = tt; new = λ _. (other, tt); there = tt; slip = tt })
+    subst (IsExact c) (sym e) (record { puts = λ _. (tt, tt); removals = tt; apart = tt; new = λ _. (other, tt); there = tt; slip = λ _. tt })
 
 -- a new record, where a sound archive has none
 pub new_is_exact : (c : Content) (r : Record) (changes : Changes)
     → changes ≡ record { puts = record { number = c.next; «record» = r } ∷ []; removals = []; next = c.next + 1; answer = record { first = c.next; count = 1 }; kept = None; slip = None }
     → IsExact c changes
 new_is_exact c r changes e =
-    subst (IsExact c) (sym e) (record { puts = (tt, tt); removals = tt; apart = tt; new = λ sound. ((λ at. none_at_next c sound r at), tt); there = tt; slip = tt })
+    subst (IsExact c) (sym e) (record { puts = λ _. (tt, tt); removals = tt; apart = tt; new = λ sound. ((λ at. none_at_next c sound r at), tt); there = tt; slip = λ _. tt })
 
 -- one record is taken out, where one is
 pub removal_is_exact : (c : Content) (n next : ℕ) (a : Answer) (changes : Changes)
     → changes ≡ record { puts = []; removals = n ∷ []; next = next; answer = a; kept = None; slip = None }
     → get c.records n ≢ None → IsExact c changes
 removal_is_exact c n next a changes e there =
-    subst (IsExact c) (sym e) (record { puts = tt; removals = (tt, tt); apart = (refl, tt); new = λ _. tt; there = (there, tt); slip = tt })
+    subst (IsExact c) (sym e) (record { puts = λ _. tt; removals = (tt, tt); apart = (refl, tt); new = λ _. tt; there = (there, tt); slip = λ _. tt })
 
 -- nothing is put
 pub none_is_exact : (c : Content) (next : ℕ) (a : Answer) (changes : Changes)
     → changes ≡ record { puts = []; removals = []; next = next; answer = a; kept = None; slip = None } → IsExact c changes
 none_is_exact c next a changes e =
-    subst (IsExact c) (sym e) (record { puts = tt; removals = tt; apart = tt; new = λ _. tt; there = tt; slip = tt })
+    subst (IsExact c) (sym e) (record { puts = λ _. tt; removals = tt; apart = tt; new = λ _. tt; there = tt; slip = λ _. tt })
 
 -- what is kept does not matter
 pub kept_is_exact : (c : Content) (changes : Changes) (kept : Option Kept) → IsExact c changes → IsExact c (record changes { kept = kept })

@@ -290,12 +290,12 @@ pub made_is_exact : (c : Content) (source : ℕ) (rows : List EntryRow) (made : 
 made_is_exact c source rows made next a changes e is =
     let from : IsFrom c.next made = (row_count c source [] rows made e tt).0 in
     subst (IsExact c) (sym is) (record {
-      puts = ascending c.next made from;
+      puts = λ _. ascending c.next made from;
       removals = tt;
       apart = tt;
       new = λ sound. none_before c.records c.next made (none_later c sound) from;
       there = tt;
-      slip = tt;
+      slip = λ _. tt;
     })
 
 -- ---- the laws

@@ -90,18 +90,18 @@ apart_all (k ∷ ks) ps apart =
 
 -- ---- the rows of numbers at which nothing changes
 module _ (c : Content) (changes : Changes) (exact : IsExact c changes) where
-  put_there : EachOf (λ (p : Numbered). get (applied c changes).records p.number ≡ Some p.«record») changes.puts
-  put_there =
+  put_there : IsSound c → EachOf (λ (p : Numbered). get (applied c changes).records p.number ≡ Some p.«record») changes.puts
+  put_there sound =
       each_both (λ (p : Numbered). get (with_puts c.records changes.puts) p.number ≡ Some p.«record») (λ (p : Numbered). EachOf (λ k. k ≢ p.number) changes.removals)
       (λ (p : Numbered). get (applied c changes).records p.number ≡ Some p.«record»)
       (λ p here others. left_at changes.removals (with_puts c.records changes.puts) p.number others ∙ here)
-      changes.puts (each_put changes.puts c.records exact.puts) (apart_all changes.removals changes.puts exact.apart)
+      changes.puts (each_put changes.puts c.records (exact.puts sound)) (apart_all changes.removals changes.puts exact.apart)
 
   pub rows_stay : (rows : Rows) → IsSound c → KeepsRows c (applied c changes) rows (with_changes changes rows)
   rows_stay rows sound m same =
       others_stay changes rows m
       (each_both (λ (p : Numbered). get c.records p.number ≢ Some p.«record») (λ (p : Numbered). get (applied c changes).records p.number ≡ Some p.«record») (λ (p : Numbered). p.number ≢ m)
-      (λ p new there e. new (ap (get c.records) e ∙ same ∙ ap (get (applied c changes).records) (sym e) ∙ there)) changes.puts (exact.new sound) put_there)
+      (λ p new there e. new (ap (get c.records) e ∙ same ∙ ap (get (applied c changes).records) (sym e) ∙ there)) changes.puts (exact.new sound) (put_there sound))
       (each_both (λ n. get c.records n ≢ None) (λ n. get (applied c changes).records n ≡ None) (λ n. n ≢ m)
       (λ n there none e. there (ap (get c.records) e ∙ same ∙ ap (get (applied c changes).records) (sym e) ∙ none)) changes.removals exact.there
       (gone changes.removals (with_puts c.records changes.puts)))
