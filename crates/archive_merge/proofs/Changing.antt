@@ -19,6 +19,7 @@ use Rattle.archive_merge.proofs.Merged.{at_gone, at_keep, at_other, which}
 use Rattle.archive_merge.proofs.Picking.{key, entries_rise, filter_rises, pick, pick_none, pick_passed, pick_failed}
 use Rattle.archive_state.proofs.Putting.{one_number, itself}
 use Rattle.archive_merge.proofs.Once.{number_itself}
+use Rattle.archive_merge.proofs.Comparing.{IsNow}
 use Rattle.archive_merge.proofs.PutBack.{undone_over}
 
 -- ---- puts of changes
@@ -177,9 +178,9 @@ module _ (keep gone : ℕ) (m : Records) where
 
   -- ---- undone at once
   -- the records of before
-  pub undone_at : (n : ℕ) → get (undone_records (slip_of keep gone m) (merged_records keep gone m)) n ≡ get m n
-  undone_at n =
-      undone_over (slip_of keep gone m) changes_rise (merged_records keep gone m) n
+  pub undone_at : IsNow (merged_records keep gone m) (merge_changes keep gone m) → (n : ℕ) → get (undone_records (slip_of keep gone m) (merged_records keep gone m)) n ≡ get m n
+  undone_at now n =
+      undone_over (slip_of keep gone m) changes_rise (merged_records keep gone m) now n
       ∙ elim (get m n) as (λ o. get m n ≡ o → over (get (old_records (slip_of keep gone m)) n) (get (merged_records keep gone m) n) ≡ o) [
         | None ↦ λ e. ap (λ x. over x (get (merged_records keep gone m) n)) (old_none n e) ∙ made_none n e
         | Some r ↦ λ e. elim (is_changed keep gone m n r) as (λ b. is_changed keep gone m n r ≡ b → over (get (old_records (slip_of keep gone m)) n) (get (merged_records keep gone m) n) ≡ Some r) [
@@ -188,8 +189,8 @@ module _ (keep gone : ℕ) (m : Records) where
         ] refl
       ] refl
 
-  pub undone_merge : undone_records (slip_of keep gone m) (merged_records keep gone m) ≡ m
-  undone_merge = same_map nat_cmp_total nat_cmp-IsAntisymmetric (undone_records (slip_of keep gone m) (merged_records keep gone m)) m undone_at
+  pub undone_merge : IsNow (merged_records keep gone m) (merge_changes keep gone m) → undone_records (slip_of keep gone m) (merged_records keep gone m) ≡ m
+  undone_merge now = same_map nat_cmp_total nat_cmp-IsAntisymmetric (undone_records (slip_of keep gone m) (merged_records keep gone m)) m (undone_at now)
 
   -- each number of the slip has its new record then, so that the undoing is not refused
   pub each_found : (Q : ℕ × Record → Type 0) → ((n : ℕ) (r : Record) → get m n ≡ Some r → is_changed keep gone m n r ≡ true → Q (n, r)) → (es : List (ℕ × Record)) → EachOf (λ e. get m e.0 ≡ Some e.1) es → EachOf Q (filter test es)

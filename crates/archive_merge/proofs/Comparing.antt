@@ -10,9 +10,13 @@ use Rattle.records.proofs.Shallow.{stored_one}
 use Rattle.record_kinds.specs.declared.record.Record.{Record}
 use Rattle.archive_state.specs.Content.{Records}
 use Rattle.archive_state.specs.declared.slip.Change.{Change}
+use Rattle.record_shapes.specs.Lists.{EachOf}
 use Rattle.archive_merge.specs.Comparing.{is_same_text, is_same_target, is_same_label, are_same_lines, is_same_record, is_now}
 use Rattle.archive_merge.proofs.Once.{same_number, number_itself}
-use Rattle.archive_merge.proofs.PutBack.{IsNow}
+
+-- each number has its new record now
+abbrev pub IsNow : Records → List Change → Type 0
+IsNow m cs = EachOf (λ (c : Change). get m c.number ≡ c.new) cs
 
 both_yes : (a b : Bool) → (a && b) ≡ true → (a ≡ true) × (b ≡ true)
 both_yes true b e = (refl, e)
@@ -45,7 +49,7 @@ lines_are (a ∷ ls) (b ∷ ms) e =
 lines_are [] (b ∷ ms) e = absurd cc
 lines_are (a ∷ ls) [] e = absurd cc
 
-record_is : (r s : Option Record) → is_same_record r s ≡ true → r ≡ s
+pub record_is : (r s : Option Record) → is_same_record r s ≡ true → r ≡ s
 record_is None None e = refl
 record_is (Some r) (Some s) e = ap Some (stored_one r s (lines_are (stored r) (stored s) e))
 record_is None (Some s) e = absurd cc
@@ -74,7 +78,7 @@ lines_same : (ls : List (ℕ × Label)) → are_same_lines ls ls ≡ true
 lines_same [] = refl
 lines_same (a ∷ ls) = yes_both (a.0 == a.0) _ (number_itself a.0) (yes_both (is_same_label a.1 a.1) _ (label_same a.1) (lines_same ls))
 
-record_same : (r : Option Record) → is_same_record r r ≡ true
+pub record_same : (r : Option Record) → is_same_record r r ≡ true
 record_same None = refl
 record_same (Some r) = lines_same (stored r)
 

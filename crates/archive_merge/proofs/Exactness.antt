@@ -1,6 +1,6 @@
 -- The changes of a merge and of an undoing are of what differs, and of nothing else.
 use Rattle.std.proofs.Common.{◌≡◌, ℕ, ◌<◌, List, [], ◌∷◌, ◌++◌, true, false, refl, sym, ap, ◌∙◌, subst, arith}
-use Rattle.std.specs.Prelude.{◌≢◌, Option, Some, None, map, option_map, ◌||◌, ◌==◌}
+use Rattle.std.specs.Prelude.{◌≢◌, Option, Some, None, map, option_map, ◌||◌, ◌==◌, if◌then◌else◌}
 use Rattle.std.specs.List.{list_any, filter, flat_map}
 use Rattle.std.specs.FinMap.{get, entries}
 use Rattle.record_kinds.specs.Model as model
@@ -17,14 +17,15 @@ use Rattle.archive_state.specs.declared.changes.SlipChange.TheVariants as change
 use Rattle.archive_state.specs.declared.slip.Change.{Change}
 use Rattle.archive_looks.specs.Exact.{IsExact}
 use Rattle.archive_merge.specs.Looks.{made_changes}
-use Rattle.archive_merge.specs.Merges.{HasRealChanges, change_at, is_changed, merge_changes, put_new, put_of, put_old}
+use Rattle.archive_merge.specs.Comparing.{is_same_record}
+use Rattle.archive_merge.specs.Merges.{change_at, is_changed, merge_changes, put_new, put_of, put_old}
+use Rattle.archive_merge.proofs.Comparing.{IsNow, record_same}
 use Rattle.archive_merge.proofs.Changing.{changes_rise, each_found}
 use Rattle.archive_merge.proofs.Differs.{changed_differs}
 use Rattle.archive_merge.proofs.Lists.{each_to_flat, each_to_map}
 use Rattle.archive_merge.proofs.Merge.{entries_there}
 use Rattle.archive_merge.proofs.Merged.{at_gone}
 use Rattle.archive_merge.proofs.Once.{number_other}
-use Rattle.archive_merge.proofs.PutBack.{IsNow}
 
 abbrev number : Change → ℕ
 number c = c.number
@@ -49,9 +50,16 @@ puts_rise : (cs : List Change) → Ascends (map number cs) → Ascends (map put_
 puts_rise [] h = tt
 puts_rise (c ∷ cs) h = more_rise c.number c.new (flat_map put_new cs) (all_above c.number cs h.0) (puts_rise cs h.1)
 
-old_numbers : (cs : List Change) → map put_number (map put_old cs) ≡ map number cs
-old_numbers [] = refl
-old_numbers (c ∷ cs) = ap (λ l. c.number ∷ l) (old_numbers cs)
+abbrev back : Change → Option Record
+back c = if is_same_record (Some c.old) c.new then None else Some c.old
+
+old_above : (n : ℕ) (cs : List Change) → EachOf (λ j. n < j) (map number cs) → EachOf (λ j. n < j) (map put_number (flat_map put_old cs))
+old_above n [] h = tt
+old_above n (c ∷ cs) h = more_above n c.number (back c) (flat_map put_old cs) h.0 (old_above n cs h.1)
+
+old_rise : (cs : List Change) → Ascends (map number cs) → Ascends (map put_number (flat_map put_old cs))
+old_rise [] h = tt
+old_rise (c ∷ cs) h = more_rise c.number (back c) (flat_map put_old cs) (old_above c.number cs h.0) (old_rise cs h.1)
 
 -- the one that is gone is not put
 module _ (gone : ℕ) where
@@ -95,30 +103,39 @@ module _ (c : Content) (keep gone : ℕ) (k g : model.Person) (at_k : get c.reco
       (each_to_map (λ (x : Change). EachOf (λ (p : Numbered). get m p.number ≢ Some p.«record») (put_new x)) (change_at keep gone m) (filter (λ e. is_changed keep gone m e.0 e.1) (entries m))
       (each_found keep gone m (λ e. EachOf (λ (p : Numbered). get m p.number ≢ Some p.«record») (put_new (change_at keep gone m e))) change_differs (entries m) (entries_there m)))
 
-  pub merge_is_exact : IsSound c → IsExact c (made_changes keep gone c c.next)
-  merge_is_exact sound = record {
-    puts = puts_rise (merge_changes keep gone m) (changes_rise keep gone m);
+  pub merge_is_exact : IsExact c (made_changes keep gone c c.next)
+  merge_is_exact = record {
+    puts = λ _. puts_rise (merge_changes keep gone m) (changes_rise keep gone m);
     removals = (tt, tt);
     apart = (none_put gone (merge_changes keep gone m) (changes_apart (filter (λ e. is_changed keep gone m e.0 e.1) (entries m))), tt);
     new = λ _. all_differ;
     there = ((λ none. let never : Some (kind.Person g) ≡ None = sym at_g ∙ none in absurd cc), tt);
-    slip = free_slip c sound;
+    slip = free_slip c;
   }
 
 -- ---- an undoing
-old_differ : (m : Records) (cs : List Change) → IsNow m cs → EachOf (λ (x : Change). x.new ≢ Some x.old) cs → EachOf (λ (p : Numbered). get m p.number ≢ Some p.«record») (map put_old cs)
-old_differ m [] now differ = tt
-old_differ m (c ∷ cs) now differ = ((λ same. differ.0 (sym now.0 ∙ same)), old_differ m cs now.1 differ.1)
+back_differs : (m : Records) (c : Change) → get m c.number ≡ c.new → (r : Record) → back c ≡ Some r → get m c.number ≢ Some r
+back_differs m c now r = elim (is_same_record (Some c.old) c.new) as (λ b. is_same_record (Some c.old) c.new ≡ b → (if b then None else Some c.old) ≡ Some r → get m c.number ≢ Some r) [
+  | true ↦ λ q is. absurd cc
+  | false ↦ λ q is at.
+      let same : Some c.old ≡ c.new = is ∙ sym at ∙ now in
+      let yes : is_same_record (Some c.old) c.new ≡ true = ap (is_same_record (Some c.old)) (sym same) ∙ record_same (Some c.old) in
+      let both : true ≡ false = sym yes ∙ q in absurd cc
+] refl
 
-pub undo_is_exact : (c : Content) (n : ℕ) (s : Slip) (changes : Changes) → IsSound c → get c.slips n ≡ Some s → s.is_undone ≡ false → IsNow c.records s.changes → HasRealChanges s
-    → changes ≡ record { puts = map put_old s.changes; removals = []; next = c.next; answer = record { first = 0; count = 0 }; kept = None; slip = Some (change.Undone n) }
+old_differ : (m : Records) (cs : List Change) → IsNow m cs → EachOf (λ (x : Change). EachOf (λ (p : Numbered). get m p.number ≢ Some p.«record») (put_old x)) cs
+old_differ m [] now = tt
+old_differ m (c ∷ cs) now = (put_differs m c.number (back c) (back_differs m c now.0), old_differ m cs now.1)
+
+pub undo_is_exact : (c : Content) (n : ℕ) (s : Slip) (changes : Changes) → get c.slips n ≡ Some s → s.is_undone ≡ false → IsNow c.records s.changes
+    → changes ≡ record { puts = flat_map put_old s.changes; removals = []; next = c.next; answer = record { first = 0; count = 0 }; kept = None; slip = Some (change.Undone n) }
     → IsExact c changes
-undo_is_exact c n s changes sound there fresh now differ e =
+undo_is_exact c n s changes there fresh now e =
     subst (IsExact c) (sym e) (record {
-      puts = subst Ascends (sym (old_numbers s.changes)) (sound.slips n s there).ascending;
+      puts = λ sound. old_rise s.changes (sound.slips n s there).ascending;
       removals = tt;
       apart = tt;
-      new = λ _. old_differ c.records s.changes now differ;
+      new = λ _. each_to_flat (λ (p : Numbered). get c.records p.number ≢ Some p.«record») put_old s.changes (old_differ c.records s.changes now);
       there = tt;
-      slip = ap (option_map (λ (x : Slip). x.is_undone)) there ∙ ap Some fresh;
+      slip = λ _. ap (option_map (λ (x : Slip). x.is_undone)) there ∙ ap Some fresh;
     })

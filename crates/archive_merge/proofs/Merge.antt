@@ -16,6 +16,7 @@ use Rattle.archive_state.specs.declared.slip.Change.{Change}
 use Rattle.archive_state.specs.Sound.{EachIn, IsNumber, HasEventTag, HasSaidPlace, place_of, HasSoundRecords, Stands, StandsIfThere, IsPerson, IsEmptyPerson, new_names, change_names, old_records, IsSoundSlip, IsSound}
 use Rattle.record_shapes.specs.Lists.{EachOf, Ascends}
 use Rattle.archive_merge.specs.Merges.{is_empty, adds_nothing, is_changed, change_at, merge_changes, is_clash, merged_records, slip_of, with_merge}
+use Rattle.archive_merge.proofs.Comparing.{IsNow}
 use Rattle.archive_merge.proofs.Lists.{append_nothing, each_to_map, each_to_flat, each_mapped}
 use Rattle.archive_state.proofs.Each.{each_more, each_both, each_zip}
 use Rattle.archive_merge.proofs.Merged.{at_gone, at_keep, at_other, which, alike_before}
@@ -25,7 +26,6 @@ use Rattle.archive_merge.proofs.Picking.{key, entries_rise}
 use Rattle.archive_state.proofs.Putting.{one_number, itself, put_cases, put_elsewhere}
 use Rattle.archive_merge.proofs.Changing.{changes_rise, old_none, old_there, old_left, made_none, made_there, made_left, no_gone, each_found}
 use Rattle.archive_state.proofs.Keeping.{slip_later, keeps_sound}
-use Rattle.archive_merge.proofs.PutBack.{IsNow}
 use Rattle.record_shapes.specs.Paths.{has_part}
 use Rattle.archive_state.specs.Paths.{HasPath}
 use Rattle.archive_state.specs.Slips.{Slip}

@@ -24,7 +24,7 @@ use Rattle.archive_looks.specs.Checks.{need, next_free, person_at}
 use Rattle.archive_looks.specs.Exact.{IsExact}
 use Rattle.archive_merge.specs.Comparing.{is_now}
 use Rattle.archive_merge.specs.Looks.{changes_of, made_changes, may_undo}
-use Rattle.archive_merge.specs.Merges.{HasRealChanges, adds_nothing, is_clash, put_new, put_old, with_merge, with_number}
+use Rattle.archive_merge.specs.Merges.{adds_nothing, is_clash, put_new, put_old, with_merge, with_number}
 use Rattle.archive_merge.specs.Steps.{Step, merge_step, slip_at}
 use Rattle.archive_merge.proofs.Comparing.{now_is}
 use Rattle.archive_merge.proofs.Deciding.{changes_found}
@@ -98,29 +98,27 @@ module _ (c : Content) (keep gone n : ℕ) (k g : model.Person) (at_k : person_a
   merge_planned (Err e) h = ((λ sure. let never : true ≡ false = sym h ∙ sure in absurd cc), tt)
 
   pub merge_exact : (r : Result Changes RefusalKind)
-      → Looked r (λ made. (x y : Record) → get c.records keep ≡ Some x → get c.records gone ≡ Some y → b ≡ adds_nothing (Some y) → made ≡ made_changes keep gone c n) → IfOk r (λ made. IsSound c → IsExact c made)
-  merge_exact (Ok made) h = λ sound.
+      → Looked r (λ made. (x y : Record) → get c.records keep ≡ Some x → get c.records gone ≡ Some y → b ≡ adds_nothing (Some y) → made ≡ made_changes keep gone c n) → IfOk r (IsExact c)
+  merge_exact (Ok made) h =
       subst (IsExact c) (sym (made_is made h ∙ ap (made_changes keep gone c) (sym next_is)))
-      (merge_is_exact c keep gone k g (a_person (get c.records keep) k at_k) (a_person (get c.records gone) g at_g) apart sound)
+      (merge_is_exact c keep gone k g (a_person (get c.records keep) k at_k) (a_person (get c.records gone) g at_g) apart)
   merge_exact (Err e) h = tt
 
 -- ---- an undoing
 abbrev undone_by_changes : ℕ → ℕ → List Change → Changes
-undone_by_changes n next changes = record { puts = map put_old changes; removals = []; next = next; answer = record { first = 0; count = 0 }; kept = None; slip = Some (change.Undone n) }
+undone_by_changes n next changes = record { puts = flat_map put_old changes; removals = []; next = next; answer = record { first = 0; count = 0 }; kept = None; slip = Some (change.Undone n) }
 
 agreed : {A : Type 0} (r right : Result A RefusalKind) (a : A) → r ≡ Ok a → Agrees is_stop r right → right ≡ Ok a
 agreed r right a e h = subst (λ x. Agrees is_stop x right) e h
 
 pub undo_exact : (c : Content) (n next : ℕ) (s kept : Slip) (check : Result (Unit {0}) RefusalKind) (changes : Changes) → slip_at c n ≡ Ok s → Agrees is_stop check (may_undo c.records s) → check ≡ Ok tt → kept ≡ s → next ≡ c.next
-    → changes ≡ record { puts = map put_old kept.changes; removals = []; next = next; answer = record { first = 0; count = 0 }; kept = None; slip = Some (change.Undone n) }
-    → IsSound c → (t : Slip) → get c.slips n ≡ Some t → HasRealChanges t → IsExact c changes
-undo_exact c n next s kept check changes found agrees is_ok is now e sound t at real =
+    → changes ≡ record { puts = flat_map put_old kept.changes; removals = []; next = next; answer = record { first = 0; count = 0 }; kept = None; slip = Some (change.Undone n) }
+    → IsExact c changes
+undo_exact c n next s kept check changes found agrees is_ok is now e =
     let there : get c.slips n ≡ Some s = a_slip (get c.slips n) (get c.records n) s found in
-    let same : t ≡ s = let q : Some t ≡ Some s = sym at ∙ there in cc in
     let may : may_undo c.records s ≡ Ok tt = agreed check (may_undo c.records s) tt is_ok agrees in
     let first = passed (need (not s.is_undone) AlreadyUndone) (λ _. need (is_now c.records s.changes) ChangedSince) tt may in
-    undo_is_exact c n s changes sound there
+    undo_is_exact c n s changes there
     (turned s.is_undone (needed (not s.is_undone) AlreadyUndone first.0 first.1))
     (now_is c.records s.changes (needed (is_now c.records s.changes) ChangedSince tt first.2))
-    (subst HasRealChanges same real)
     (e ∙ ap (undone_by_changes n next) (ap (λ (x : Slip). x.changes) is) ∙ ap (λ j. undone_by_changes n j s.changes) now)

@@ -24,7 +24,7 @@ pub restored : (c after : Content) (n : ℕ) (a : Answer) → IsSound c → undo
 restored c after n a sound e =
     let h : Undone c n after = undone_by c after n a e in
     let rises = (sound.slips n h.slip h.there).ascending in
-    (h.slip, h.there, λ k. ap (λ (x : Content). get x.records k) (sym h.left) ∙ undone_over h.slip rises c.records k)
+    (h.slip, h.there, λ k. ap (λ (x : Content). get x.records k) (sym h.left) ∙ undone_over h.slip rises c.records h.now k)
 
 new_ones : (keep gone : ℕ) (m : Records) (es : List (ℕ × Record)) → EachOf (λ (x : Change). x.new ≡ merged keep gone (get m) x.number) (map (change_at keep gone m) es)
 new_ones keep gone m [] = tt

@@ -25,9 +25,8 @@ use Rattle.archive_merge.proofs.Once.{other_number}
 use Rattle.archive_state.proofs.Putting.{put_here}
 use Rattle.archive_merge.proofs.Changing.{undone_merge, made_there, each_found}
 use Rattle.archive_merge.proofs.Merge.{entries_there, no_clashes, made_merged, merge_sound}
-use Rattle.archive_merge.proofs.PutBack.{IsNow}
 use Rattle.archive_merge.proofs.Undo.{undo_sound}
-use Rattle.archive_merge.proofs.Comparing.{now_is, is_now_new}
+use Rattle.archive_merge.proofs.Comparing.{IsNow, now_is, is_now_new}
 
 -- what stands behind a check that passed
 pub passed : {A B : Type 0} (x : Result A RefusalKind) (f : A → Result B RefusalKind) (b : B) → and_then x f ≡ Ok b → (a : A) × (x ≡ Ok a) × (f a ≡ Ok b)
@@ -179,4 +178,4 @@ undo_merged c after keep gone a e =
     let step : undo_step x c.next ≡ Ok (with_undo c.next s x, answer) =
     ap (λ (y : Result Slip RefusalKind). and_then y (λ s. and_then (need (not s.is_undone) AlreadyUndone) (λ _. and_then (need (is_now x.records s.changes) ChangedSince) (λ _. Ok (with_undo c.next s x, answer))))) at
     ∙ ap (λ b. and_then (need b ChangedSince) (λ _. Ok (with_undo c.next s x, answer))) now in
-    (with_undo c.next s x, ap (λ y. undo_step y a.first) (sym h.left) ∙ ap (undo_step x) (sym h.first) ∙ step, undone_merge keep gone m)
+    (with_undo c.next s x, ap (λ y. undo_step y a.first) (sym h.left) ∙ ap (undo_step x) (sym h.first) ∙ step, undone_merge keep gone m (now_merged keep gone m))

@@ -15,9 +15,10 @@ use Rattle.archive_state.proofs.Keeping.{keeps_sound, if_there, nothing_at_zero,
 use Rattle.archive_state.proofs.Knowing.{AgreeAt}
 use Rattle.archive_state.proofs.Putting.{put_cases, put_elsewhere}
 use Rattle.archive_merge.specs.Merges.{over, undone_records, with_undo}
+use Rattle.archive_merge.proofs.Comparing.{IsNow}
 use Rattle.archive_merge.proofs.Keys.{keys_still}
 use Rattle.archive_merge.proofs.Merged.{renamed_other}
-use Rattle.archive_merge.proofs.PutBack.{IsNow, undone_over, new_now, undone_slip}
+use Rattle.archive_merge.proofs.PutBack.{undone_over, new_now, undone_slip}
 use Rattle.archive_merge.proofs.Undoing.{gone_or_there, gone_there, like, paths_same, person_then, undo_keeps, undo_path, was_entry}
 use Rattle.archive_merge.proofs.Untaken.{through}
 
@@ -32,7 +33,7 @@ module _ (c : Content) (n : ℕ) (s : Slip) (sound : IsSound c) (at : get c.slip
   slip = sound.slips n s at
 
   put : (k : ℕ) → get after k ≡ over (get (old_records s) k) (get m k)
-  put = undone_over s slip.ascending m
+  put = undone_over s slip.ascending m now
 
   new : (k : ℕ) (old : Record) → get (old_records s) k ≡ Some old → get m k ≡ merged s.keep s.gone (get (old_records s)) k
   new = new_now c.next n s slip m now

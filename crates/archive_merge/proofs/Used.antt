@@ -1,7 +1,7 @@
 -- A number that is used up stays so: no merge and no undoing puts a record there.
 use Rattle.std.proofs.Common.{◌≡◌, ℕ, ◌<◌, List, [], ◌∷◌, Bool, true, false, cond, refl, sym, ap, ◌∙◌, inl, inr, subst, arith}
-use Rattle.std.specs.Prelude.{Option, Some, None, Ok, map, is_none, ◌&&◌, ◌||◌, ◌==◌}
-use Rattle.std.specs.List.{filter, list_any}
+use Rattle.std.specs.Prelude.{Option, Some, None, Ok, map, is_none, ◌++◌, ◌&&◌, ◌||◌, ◌==◌, if◌then◌else◌}
+use Rattle.std.specs.List.{filter, flat_map, list_any}
 use Rattle.std.specs.FinMap.{get, insert, entries}
 use Rattle.record_kinds.specs.declared.record.Record.{Record}
 use Rattle.receipts.specs.declared.answer.Answer.{Answer}
@@ -10,14 +10,15 @@ use Rattle.archive_state.specs.Slips.{Slip}
 use Rattle.archive_state.specs.declared.slip.Change.{Change}
 use Rattle.record_shapes.specs.Lists.{EachOf}
 use Rattle.archive_state.specs.Applied.{as_undone, with_puts}
-use Rattle.archive_merge.specs.Merges.{change_at, is_changed, put_old, slip_of}
+use Rattle.archive_merge.specs.Comparing.{is_same_record}
+use Rattle.archive_merge.specs.Merges.{change_at, is_changed, put_of, put_old, slip_of}
 use Rattle.archive_merge.specs.Steps.{merge_step, undo_step}
 use Rattle.archive_looks.specs.Numbers.{IsUsedUp, takes_away}
 use Rattle.archive_state.proofs.Putting.{put_cases, put_elsewhere}
+use Rattle.archive_merge.proofs.Comparing.{IsNow}
 use Rattle.archive_merge.proofs.Changing.{made_none}
 use Rattle.archive_merge.proofs.Merge.{entries_there}
 use Rattle.archive_merge.proofs.Once.{number_itself, same_number}
-use Rattle.archive_merge.proofs.PutBack.{IsNow}
 use Rattle.archive_merge.proofs.Stepping.{Merged, merged_by, Undone, undone_by}
 
 abbrev takes : ℕ → Change → Bool
@@ -56,19 +57,22 @@ first_no : (a b : Bool) → (a || b) ≡ false → (a ≡ false) × (b ≡ false
 first_no true b e = absurd cc
 first_no false b e = (refl, e)
 
+taken_at : (n : ℕ) (c : Change) → c.number ≡ n → c.new ≡ None → takes n c ≡ true
+taken_at n c at new = ap (λ k. k == n && is_none c.new) at ∙ ap (λ o. n == n && is_none o) new ∙ ap (λ b. b && true) (number_itself n)
+
 -- what is put back leaves a number alone that has no record now, where its record was not taken away
-left_alone : (m : Records) (n : ℕ) (cs : List Change) (x : Records) → get m n ≡ None → IsNow m cs → list_any (takes n) cs ≡ false → get (with_puts x (map put_old cs)) n ≡ get x n
+left_alone : (m : Records) (n : ℕ) (cs : List Change) (x : Records) → get m n ≡ None → IsNow m cs → list_any (takes n) cs ≡ false → get (with_puts x (flat_map put_old cs)) n ≡ get x n
 left_alone m n [] x none now kept = refl
 left_alone m n (c ∷ cs) x none now kept =
     let no = first_no (takes n c) (list_any (takes n) cs) kept in
-    left_alone m n cs (insert x c.number c.old) none now.1 no.1
-    ∙ put_elsewhere x c.number c.old n (λ same.
-    let new : c.new ≡ None = sym now.0 ∙ ap (get m) (sym same) ∙ none in
-    let taken : takes n c ≡ true = taken_at c (sym same) new in
-    let both : true ≡ false = sym taken ∙ no.0 in absurd cc)
-  where
-    taken_at : (c : Change) → c.number ≡ n → c.new ≡ None → takes n c ≡ true
-    taken_at c at new = ap (λ k. k == n && is_none c.new) at ∙ ap (λ o. n == n && is_none o) new ∙ ap (λ b. b && true) (number_itself n)
+    elim (is_same_record (Some c.old) c.new) as (λ b. get (with_puts x (put_of c.number (if b then None else Some c.old) ++ flat_map put_old cs)) n ≡ get x n) [
+      | true ↦ left_alone m n cs x none now.1 no.1
+      | false ↦
+          left_alone m n cs (insert x c.number c.old) none now.1 no.1
+          ∙ put_elsewhere x c.number c.old n (λ same.
+          let new : c.new ≡ None = sym now.0 ∙ ap (get m) (sym same) ∙ none in
+          let both : true ≡ false = sym (taken_at n c (sym same) new) ∙ no.0 in absurd cc)
+    ]
 
 pub undo_keeps_used : (c after : Content) (k n : ℕ) (a : Answer) → undo_step c k ≡ Ok (after, a) → IsUsedUp c n → IsUsedUp after n
 undo_keeps_used c after k n a e (below, none, undone) =

@@ -1,5 +1,5 @@
 -- What a merge and its undoing make of records, by the numbers that they change. Rules of our own.
-use Rattle.std.specs.Prelude.{ℕ, ◌≡◌, ◌≢◌, List, [], ◌∷◌, map, Bool, true, false, not, ◌&&◌, ◌||◌, ◌==◌, nat_lt, Option, Some, None, is_none, if◌then◌else◌}
+use Rattle.std.specs.Prelude.{ℕ, ◌≡◌, List, [], ◌∷◌, map, Bool, true, false, not, ◌&&◌, ◌||◌, ◌==◌, nat_lt, Option, Some, None, is_none, if◌then◌else◌}
 use Rattle.std.specs.List.{list_any, filter, flat_map}
 use Rattle.std.specs.FinMap.{get, insert, remove, entries}
 use Rattle.record_kinds.specs.declared.record.Record.{Record}
@@ -14,6 +14,7 @@ use Rattle.archive_state.specs.Slips.{Slip}
 use Rattle.archive_state.specs.Sound.{old_records}
 use Rattle.archive_state.specs.declared.slip.Change.{Change}
 use Rattle.archive_state.specs.declared.changes.Numbered.{Numbered}
+use Rattle.archive_merge.specs.Comparing.{is_same_record}
 
 -- ---- what a merge changes
 abbrev pub is_empty : {A : Type 0} → List A → Bool
@@ -59,8 +60,9 @@ put_of n (Some r) = record { number = n; «record» = r } ∷ []
 abbrev pub put_new : Change → List Numbered
 put_new c = put_of c.number c.new
 
-abbrev pub put_old : Change → Numbered
-put_old c = record { number = c.number; «record» = c.old }
+-- an old record is put back where it is not the new one too
+abbrev pub put_old : Change → List Numbered
+put_old c = put_of c.number (if is_same_record (Some c.old) c.new then None else Some c.old)
 
 -- the new records, and no person that is gone
 abbrev pub merged_records : ℕ → ℕ → Records → Records
@@ -68,7 +70,7 @@ merged_records keep gone m = remove (with_puts m (flat_map put_new (merge_change
 
 -- the old records again
 abbrev pub undone_records : Slip → Records → Records
-undone_records s m = with_puts m (map put_old s.changes)
+undone_records s m = with_puts m (flat_map put_old s.changes)
 
 -- ---- the slip
 abbrev pub slip_of : ℕ → ℕ → Records → Slip
@@ -101,7 +103,3 @@ pub record HoldsChanges (keep gone : ℕ) (m : Records) (s : Slip) : Type 0 wher
   pub differs : (n : ℕ) (r : Record) → get (old_records s) n ≡ Some r → (get m n ≡ Some r) × (merged keep gone (get m) n ≡ Some r → ⊥)
   -- a number that is not in the slip has the record of before
   pub others : (n : ℕ) → get (old_records s) n ≡ None → merged keep gone (get m) n ≡ get m n
-
--- no record of the slip became what it was
-abbrev pub HasRealChanges : Slip → Type 0
-HasRealChanges s = EachOf (λ (x : Change). x.new ≢ Some x.old) s.changes

@@ -8,7 +8,6 @@ ghost use Rattle.record_kinds.specs.declared.record.Record.{Record as Rec};
 ghost use Rattle.record_kinds.specs.declared.record.Record.TheVariants as kind;
 ghost use Rattle.record_text.specs.declared.refusal.RefusalKind.TheVariants.{MergeWithinFamily};
 ghost use Rattle.archive_state.specs.Merging as merging;
-ghost use Rattle.archive_state.specs.Sound.{IsSound};
 ghost use Rattle.archive_state.specs.declared.changes.SlipChange.TheVariants as change;
 ghost use Rattle.archive_view.specs.Looks.{Agrees, CountsFailures, Looked, OnView, is_stop};
 ghost use Rattle.archive_looks.specs.Applied.{Plans};
@@ -36,7 +35,7 @@ pub fn merge<V: View>(
     ensures decides { OnView V.is_honest V.shows V.content view.old view.new
         (λ c. Plans c result (merge_step c keep gone)) }
     ensures exact { OnView V.is_honest V.shows V.content view.old view.new
-        (λ c. IfOk result (λ changes. IsSound c → IsExact c changes)) }
+        (λ c. IfOk result (IsExact c)) }
     ensures counts { CountsFailures (V.failed view.old) (V.failed view.new) result }
 {
     drop(person_at(alloc, view, keep)?);
@@ -290,11 +289,7 @@ fn new_puts(alloc: Global, changes: &[Change]) -> Result<Vec<Numbered>, AllocErr
     Ok(puts)
 }
 
-fn push_new(
-    alloc: Global,
-    puts: &mut Vec<Numbered>,
-    change: &Change,
-) -> Result<(), AllocError>
+fn push_new(alloc: Global, puts: &mut Vec<Numbered>, change: &Change) -> Result<(), AllocError>
     ensures { IfOk result (λ _. puts.new.items ≡ puts.old.items ++ specs.put_new change.now) }
 {
     if let Some(new) = &change.new {

@@ -1,9 +1,8 @@
 //! Decides the undoing of a merge over a view: what it changes, or its refusal.
 
-ghost use Rattle.std.specs.Prelude.{◌≡◌, [], Err, IfErr, IfOk, None, Ok, Some, map as each};
+ghost use Rattle.std.specs.Prelude.{◌≡◌, ◌++◌, [], Err, IfErr, IfOk, None, Ok, Some};
 ghost use Rattle.std.specs.FinMap as map;
-ghost use Rattle.archive_state.specs.Slips.{Slip as StateSlip};
-ghost use Rattle.archive_state.specs.Sound.{IsSound};
+ghost use Rattle.std.specs.List.{flat_map};
 ghost use Rattle.archive_state.specs.declared.changes.SlipChange.TheVariants as change;
 ghost use Rattle.archive_view.specs.Looks.{Agrees, CountsFailures, Looked, OnView, is_stop};
 ghost use Rattle.archive_looks.specs.Applied.{Plans};
@@ -15,7 +14,7 @@ ghost use Rattle.archive_merge.specs.Steps.{no_slip as why_none, slip_at as foun
 
 use archive_state::{Answer, Change, Changes, Numbered, Slip, SlipChange};
 use archive_view::View;
-use records::{Record, RefusalKind, lines_of};
+use records::{Record, RefusalKind, copy_record, lines_of};
 use std::alloc::{AllocError, Global};
 use stored_lines::are_same;
 
@@ -24,7 +23,7 @@ pub fn undo<V: View>(alloc: Global, view: &mut V, number: u32) -> Result<Changes
     ensures decides { OnView V.is_honest V.shows V.content view.old view.new
         (λ c. Plans c result (undo_step c number)) }
     ensures exact { OnView V.is_honest V.shows V.content view.old view.new
-        (λ c. IfOk result (λ changes. IsSound c → (s : StateSlip) → map.get c.slips number ≡ Some s → specs.HasRealChanges s → IsExact c changes)) }
+        (λ c. IfOk result (IsExact c)) }
     ensures counts { CountsFailures (V.failed view.old) (V.failed view.new) result }
 {
     let slip = slip_at(alloc, view, number)?;
@@ -136,7 +135,7 @@ fn changes_of_undoing(
     next: u64,
 ) -> Result<Changes, AllocError>
     ensures { IfOk result (λ made. made ≡ record {
-      puts = each specs.put_old slip.changes;
+      puts = flat_map specs.put_old slip.changes;
       removals = [];
       next = next;
       answer = record { first = 0; count = 0 };
@@ -150,8 +149,10 @@ fn changes_of_undoing(
         changes,
         is_undone: _,
     } = slip;
+    let puts = old_puts(alloc, changes.as_slice());
+    drop(changes);
     Ok(Changes {
-        puts: old_puts(alloc, changes)?,
+        puts: puts?,
         removals: Vec::new(alloc),
         next,
         answer: Answer { first: 0, count: 0 },
@@ -160,26 +161,37 @@ fn changes_of_undoing(
     })
 }
 
-/// The old records at their numbers.
-fn old_puts(alloc: Global, changes: Vec<Change>) -> Result<Vec<Numbered>, AllocError>
-    ensures { IfOk result (λ puts. puts.items ≡ each specs.put_old changes.items) }
+/// The old records at their numbers, but for those that are the new ones too.
+fn old_puts(alloc: Global, changes: &[Change]) -> Result<Vec<Numbered>, AllocError>
+    ensures { IfOk result (λ puts. puts.items ≡ flat_map specs.put_old changes.now) }
 {
     let mut puts = Vec::new(alloc);
-    let mut changes = changes.into_iter();
-    'changes: while let Some(change) = changes.next() {
-        puts.push(put_of(change))?;
+    'changes: for change in changes {
+        push_old(alloc, &mut puts, change)?;
     }
     Ok(puts)
 }
 
-fn put_of(change: Change) -> Numbered
-    ensures { result ≡ specs.put_old change }
+fn push_old(alloc: Global, puts: &mut Vec<Numbered>, change: &Change) -> Result<(), AllocError>
+    ensures { IfOk result (λ _. puts.new.items ≡ puts.old.items ++ specs.put_old change.now) }
 {
-    let Change { number, old, new } = change;
-    drop(new);
-    Numbered {
-        number,
-        record: old,
+    if !is_as_before(alloc, change)? {
+        let record = copy_record(alloc, &change.old)?;
+        puts.push(Numbered {
+            number: change.number,
+            record,
+        })?;
+    }
+    Ok(())
+}
+
+/// Whether a number has the same record before and after.
+fn is_as_before(alloc: Global, change: &Change) -> Result<bool, AllocError>
+    ensures { IfOk result (λ is. is ≡ is_same_record (Some change.now.old) change.now.new) }
+{
+    match &change.new {
+        None => Ok(false),
+        Some(new) => has_same_lines(alloc, &change.old, new),
     }
 }
 

@@ -86,6 +86,6 @@ pub fn changes_of_a_merge()
 /// The old records put, and the slip undone: these leave what the undoing leaves.
 pub fn changes_of_an_undoing()
     ensures { (c : Content) (n : ℕ) (s : Slip) (a : Answer) → get c.slips n ≡ Some s
-        → applied c (record { puts = map put_old s.changes; removals = []; next = c.next; answer = a; kept = None; slip = Some (change.Undone n) })
+        → applied c (record { puts = flat_map put_old s.changes; removals = []; next = c.next; answer = a; kept = None; slip = Some (change.Undone n) })
         ≡ with_undo n s c }
 {}
