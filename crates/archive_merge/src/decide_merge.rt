@@ -290,11 +290,7 @@ fn new_puts(alloc: Global, changes: &[Change]) -> Result<Vec<Numbered>, AllocErr
     Ok(puts)
 }
 
-fn push_new(
-    alloc: Global,
-    puts: &mut Vec<Numbered>,
-    change: &Change,
-) -> Result<(), AllocError>
+fn push_new(alloc: Global, puts: &mut Vec<Numbered>, change: &Change) -> Result<(), AllocError>
     ensures { IfOk result (λ _. puts.new.items ≡ puts.old.items ++ specs.put_new change.now) }
 {
     if let Some(new) = &change.new {

@@ -8,11 +8,7 @@ use records::{Carried, Person, Sex, Tag, Text, Value};
 use std::alloc::{AllocError, Global};
 
 /// The names and carried lines of both, and the sex of the first, or else of the other.
-pub(crate) fn joined_person(
-    alloc: Global,
-    keep: Person,
-    gone: Person,
-) -> Result<Person, AllocError>
+pub(crate) fn joined_person(alloc: Global, keep: Person, gone: Person) -> Result<Person, AllocError>
     ensures { IfOk result (λ p. p ≡ merging.joined_person keep gone) }
 {
     let mut both = keep;
