@@ -1,4 +1,4 @@
-use Rattle.std.proofs.Common.{◌∙◌, sym, ap}
+use Rattle.std.proofs.Common.{◌∙◌, ap}
 use Rattle.archive_merge.specs.Looks.{changes_of}
 use Rattle.archive_merge.proofs.Planning.{changes_made}
 use Rattle.archive_merge.proofs.decide_merge.made_changes.Goals as goal

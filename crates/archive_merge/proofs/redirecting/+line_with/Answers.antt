@@ -1,4 +1,4 @@
-use Rattle.std.proofs.Common.{◌≡◌, ◌<◌, ◌≤◌, ℕ, map, rules, ap, sym, arith}
+use Rattle.std.proofs.Common.{◌≡◌, ◌<◌, map, rules, ap, sym, arith}
 use Rattle.std.proofs.lemmas.Grind.{common_steps}
 use Rattle.stored_lines.specs.Tree.{relabel, forest_of}
 use Rattle.stored_lines.specs.Levels.{forest_levels}
