@@ -1,4 +1,4 @@
 mod Answering
-mod Entering
+mod Entered
 mod Opened
 mod Refusing

@@ -1,2 +1,2 @@
-mod Batches
 mod Ending
+mod Entered

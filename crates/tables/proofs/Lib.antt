@@ -1,4 +1,4 @@
-mod Entering
+mod Entered
 mod OnTheWay
 mod One
 mod Outcomes

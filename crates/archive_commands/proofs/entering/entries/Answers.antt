@@ -1,7 +1,7 @@
 use Rattle.std.proofs.Common.{ℕ, List, subst}
 use Rattle.std.specs.Prelude.{IfErr, IfOk, Ok}
 use Rattle.archive_commands.specs.Entering.{Entered, Unentered}
-use Rattle.archive_commands.proofs.Entering.{unnamed}
+use Rattle.archive_commands.proofs.Entered.{unnamed}
 use Rattle.archive_commands.proofs.entering.entries.Goals as goal
 
 pub returns-in-Ok-clause-entered : goal.returns-in-Ok-clause-entered

@@ -3,7 +3,7 @@ use Rattle.sqlite_wal.specs.Files.{image_at}
 use Rattle.record_text.specs.declared.refusal.Refusal.{Refusal}
 use Rattle.record_text.specs.declared.refusal.RefusalKind.{RefusalKind}
 use Rattle.archive_commands.specs.Opening.{Unopened}
-use Rattle.archive_commands.proofs.Entering.{all_entered, none_entered}
+use Rattle.archive_commands.proofs.Entered.{all_entered, none_entered}
 use Rattle.archive_commands.proofs.entering.entries_under.Goals as goal
 
 pub returns-in-Ok-clause-entered : goal.returns-in-Ok-clause-entered

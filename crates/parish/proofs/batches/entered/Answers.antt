@@ -1,5 +1,5 @@
 use Rattle.std.specs.Prelude.{is_ok}
-use Rattle.parish.proofs.Batches.{at_most, told_at, untold_at}
+use Rattle.parish.proofs.Entered.{at_most, told_at, untold_at}
 use Rattle.parish.proofs.batches.entered.Goals as goal
 
 pub returns-clause-status : goal.returns-clause-status

@@ -2,7 +2,7 @@ use Rattle.std.proofs.Common.{◌≡◌, ◌∙◌, refl, sym, codes, map, strin
 use Rattle.std.specs.Prelude.{List, ℕ, Option, Some, None, IfSome, IsSome}
 use Rattle.clap.specs.Words.{subcommand_of}
 use Rattle.command_line.specs.Commands.{IsTaken, command_named, name_of, program}
-use Rattle.parish.proofs.Batches.{entries_wanting}
+use Rattle.parish.proofs.Entered.{entries_wanting}
 use Rattle.parish.proofs.Ending.{apply_wanting, check_wanting, init_wanting, norm_wanting}
 use Rattle.parish.proofs.command.command.Goals as goal
 

@@ -1,7 +1,7 @@
 use Rattle.std.proofs.Common.{refl, subst}
 use Rattle.sqlite_wal.specs.Files.{image_at}
 use Rattle.command_line.specs.Commands.{HasWords}
-use Rattle.parish.proofs.Batches.{entries_ends}
+use Rattle.parish.proofs.Entered.{entries_ends}
 use Rattle.parish.proofs.Ending.{apply_ends, init_ends}
 use Rattle.parish.proofs.command.work.Goals as goal
 

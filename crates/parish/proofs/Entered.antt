@@ -50,11 +50,13 @@ module _ {D : Type 0} {g : disk.Ghosts D} (image : Image) where
     bound = bound;
     done = λ zero. let t = told zero in (t.0, if_ok_of o t.0 t.1 made, t.2);
     refused = λ one.
-        let u = untold one in
-        (u.0, elim u.1 [
-          | inl (is, kept) ↦ inl (if_err_of o u.0 is unmade, kept)
-          | inr (a, is, part) ↦ inr (a, if_ok_of o a is made, part)
-        ]);
+        let u = untold one in (
+          u.0,
+          elim u.1 [
+            | inl (is, kept) ↦ inl (if_err_of o u.0 is unmade, kept)
+            | inr (a, is, part) ↦ inr (a, if_ok_of o a is made, part)
+          ],
+        );
   }
 
   -- the same of the token and the source that the words name, and of the connection as it is handed on

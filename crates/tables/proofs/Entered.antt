@@ -15,7 +15,7 @@ module _ {S : Type 0} (g : Ghosts S) (token : List ℕ) (source : ℕ) (input : 
   entered_ok (Ok answer) did = (rows, read, did)
   entered_ok (Err e) did = tt
 
-  pub entered_err : {P : Refusal → Type 0} (o : Outcome) → Steps g (Ok (batch_request token source rows, o)) old new
+  pub entered_err : (P : Refusal → Type 0) (o : Outcome) → Steps g (Ok (batch_request token source rows, o)) old new
       → IfErr o (λ e. Enters g token source input old (Err e) new ⊎ P e)
-  entered_err (Ok answer) did = tt
-  entered_err (Err e) did = inl (rows, read, did)
+  entered_err P (Ok answer) did = tt
+  entered_err P (Err e) did = inl (rows, read, did)
