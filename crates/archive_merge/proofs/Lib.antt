@@ -22,12 +22,12 @@ mod Joining
 mod Merge
 mod Undoing
 mod Undo
-mod Stepping
+pub mod Stepping
 mod Differs
 mod Restoring
 mod Numbers
 mod Used
-mod Drawing
+pub mod Drawing
 mod Applying
 mod Deciding
 mod Exactness
