@@ -1,7 +1,6 @@
 use Rattle.std.proofs.Common.{ap, inl, inr, subst, sym}
 use Rattle.sqlite_wal.specs.Files.{image_at}
 use Rattle.record_text.specs.declared.refusal.Refusal.{Refusal}
-use Rattle.record_text.specs.declared.refusal.RefusalKind.{RefusalKind}
 use Rattle.archive_commands.specs.Opening.{Unopened}
 use Rattle.archive_commands.proofs.Entered.{all_entered, none_entered}
 use Rattle.archive_commands.proofs.entering.entries_under.Goals as goal
