@@ -1,7 +1,6 @@
 use Rattle.std.proofs.Common.{ap, inl, inr, subst, sym}
 use Rattle.sqlite_wal.specs.Files.{image_at}
 use Rattle.record_text.specs.declared.refusal.Refusal.{Refusal}
-use Rattle.record_text.specs.declared.refusal.RefusalKind.{RefusalKind}
 use Rattle.archive_commands.specs.Opening.{Unopened}
 use Rattle.archive_commands.proofs.Entered.{all_entered, none_entered}
 use Rattle.archive_commands.proofs.entering.entries_under.Goals as goal
@@ -9,12 +8,12 @@ use Rattle.archive_commands.proofs.entering.entries_under.Goals as goal
 pub returns-in-Ok-clause-entered : goal.returns-in-Ok-clause-entered
 returns-in-Ok-clause-entered g c =
     let taken = c.in-Ok.ensures.opened in
-    all_entered _ _ _ _ c.requires.word c.in-Ok.archive _ c.into_connection.result taken.0 taken.1 c.into_connection.ensures c.enter.result c.enter.ensures.entered
+    all_entered _ _ _ _ c.requires.word c.in-Ok.archive c.enter-outcome.new.archive c.into_connection.result taken.0 taken.1 c.into_connection.ensures c.enter-outcome.result c.enter-outcome.ensures.entered
 
 pub returns-in-Ok-clause-refused : goal.returns-in-Ok-clause-refused
 returns-in-Ok-clause-refused g c =
     let taken = c.in-Ok.ensures.opened in
-    none_entered _ _ _ _ c.requires.word c.in-Ok.archive _ c.into_connection.result taken.0 taken.1 c.into_connection.ensures c.enter.result _ c.enter.ensures.refused
+    none_entered _ _ _ _ c.requires.word c.in-Ok.archive c.enter-outcome.new.archive c.into_connection.result taken.0 taken.1 c.into_connection.ensures c.enter-outcome.result _ c.enter-outcome.ensures.refused
 
 pub returns-in-Err-clause-refused : goal.returns-in-Err-clause-refused
 returns-in-Err-clause-refused g c =
