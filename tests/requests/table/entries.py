@@ -277,6 +277,16 @@ PAGES = (
     *("Ashby register", "child", "John", "1", "BAPTISM"),
 )
 
+# Pages that lie in the key of their entry, which are those of at most 1,000 bytes, and longer ones.
+LONG_PAGES = ("x" * 1_000, "x" * 999 + "y", "é" * 500, "x" * 1_001, "x" * 1_000 + "y", "é" * 501, "é" * 500 + "x")
+
+
+def again(at, page):
+    """The entry of a page is made again, at the next number."""
+    number = 2 + 2 * len(LONG_PAGES) + at
+    return (makes(number, f"c{at}", *entry(1, page=page)), shows_entry(number, "BAPTISM", (page, 1), 1, "", ("child", "John")))
+
+
 KEYS = (
     scenario(
         "an entry of one source, kind, page and item is there once",
@@ -297,6 +307,19 @@ KEYS = (
         makes(10, "b1", *entry(6, mentions=("child", "John", "father", "Tom Lee"))),
         refuses(52, "b1", *entry(6, mentions=("child", "John"))),
         FIRST_ENTRY,
+    ),
+    scenario(
+        "pages of up to 1,000 bytes and longer ones, of one source and item",
+        source(1, "s", "Ashby register"),
+        [makes(number, f"a{number}", *entry(1, page=page)) for number, page in enumerate(LONG_PAGES, 2)],
+        refused_each(60, *(entry(1, page=page) for page in LONG_PAGES)),
+        [
+            makes(2 + len(LONG_PAGES) + at, f"b{at}", *entry(1, "BURIAL", page=page))
+            for at, page in enumerate(LONG_PAGES)
+        ],
+        refused_each(60, *(entry(1, kind, page=page) for kind in ("BAPTISM", "BURIAL") for page in LONG_PAGES)),
+        [step for at, page in enumerate(LONG_PAGES) for step in (changes(f"d{at}", "remove", 2 + at), *again(at, page))],
+        next_is(2 + 3 * len(LONG_PAGES)),
     ),
     scenario(
         "the key of an entry that was removed is free",
