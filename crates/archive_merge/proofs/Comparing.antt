@@ -10,13 +10,9 @@ use Rattle.records.proofs.Shallow.{stored_one}
 use Rattle.record_kinds.specs.declared.record.Record.{Record}
 use Rattle.archive_state.specs.Content.{Records}
 use Rattle.archive_state.specs.declared.slip.Change.{Change}
-use Rattle.record_shapes.specs.Lists.{EachOf}
+pub use Rattle.archive_merge.specs.Comparing.{IsNow}
 use Rattle.archive_merge.specs.Comparing.{is_same_text, is_same_target, is_same_label, are_same_lines, is_same_record, is_now}
 use Rattle.archive_merge.proofs.Once.{same_number, number_itself}
-
--- each number has its new record now
-abbrev pub IsNow : Records → List Change → Type 0
-IsNow m cs = EachOf (λ (c : Change). get m c.number ≡ c.new) cs
 
 both_yes : (a b : Bool) → (a && b) ≡ true → (a ≡ true) × (b ≡ true)
 both_yes true b e = (refl, e)

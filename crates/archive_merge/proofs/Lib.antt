@@ -29,6 +29,7 @@ mod Numbers
 mod Used
 pub mod Drawing
 mod Applying
+mod Judging
 mod Deciding
 mod Exactness
 mod Planning

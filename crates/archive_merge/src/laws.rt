@@ -1,6 +1,6 @@
 //! What holds of a merge, and of what undoes it.
 
-ghost use Rattle.std.specs.Prelude.{◌≡◌, ◌+◌, ℕ, [], ◌∷◌, Ok, Some, None, map};
+ghost use Rattle.std.specs.Prelude.{◌≡◌, ◌+◌, ℕ, [], ◌∷◌, true, false, Ok, Err, Some, None, map};
 ghost use Rattle.std.specs.List.{flat_map};
 ghost use Rattle.std.specs.FinMap.{get};
 ghost use Rattle.archive_state.specs.Applied.{applied};
@@ -11,7 +11,9 @@ ghost use Rattle.archive_state.specs.Sound.{IsSound, old_records};
 ghost use Rattle.archive_state.specs.declared.changes.SlipChange.TheVariants as change;
 ghost use Rattle.archive_state.specs.declared.slip.Change.{Change};
 ghost use Rattle.record_kinds.specs.declared.record.Record.{Record};
+ghost use Rattle.record_text.specs.declared.refusal.RefusalKind.TheVariants.{AlreadyUndone, ChangedSince};
 ghost use Rattle.receipts.specs.declared.answer.Answer.{Answer};
+ghost use Rattle.archive_merge.specs.Comparing.{IsNow};
 ghost use Rattle.archive_merge.specs.Merges.{HoldsChanges, changed_numbers, merge_changes, over, put_new, put_old, slip_of, with_merge, with_undo};
 ghost use Rattle.archive_merge.specs.Steps.{merge_step, undo_step};
 ghost use Rattle.archive_looks.specs.Numbers.{Draws, UsesNoneAgain};
@@ -62,6 +64,15 @@ pub fn an_undoing_uses_no_number_again()
 pub fn an_undoing_restores_its_slip()
     ensures { (c after : Content) (n : ℕ) (a : Answer) → IsSound c → undo_step c n ≡ Ok (after, a)
         → (s : Slip) × (get c.slips n ≡ Some s) × ((k : ℕ) → get after.records k ≡ over (get (old_records s) k) (get c.records k)) }
+{}
+
+/// The undoing of a slip that was undone is refused with `AlreadyUndone`, else that of one of which a number has not its new record
+/// with `ChangedSince`, and else it is done.
+pub fn an_undoing_is_done_where_nothing_changed_since()
+    ensures { (c : Content) (n : ℕ) (s : Slip) → get c.slips n ≡ Some s
+        → (s.is_undone ≡ true → undo_step c n ≡ Err AlreadyUndone)
+        × (s.is_undone ≡ false → IsNow c.records s.changes → undo_step c n ≡ Ok (with_undo n s c, record { first = 0; count = 0 }))
+        × (s.is_undone ≡ false → (IsNow c.records s.changes → ⊥) → undo_step c n ≡ Err ChangedSince) }
 {}
 
 /// The slip of a merge holds each number whose record differs, and no other.
