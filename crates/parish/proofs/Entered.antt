@@ -27,11 +27,11 @@ at_most true status e = omega (arith, e)
 at_most false status e = omega (arith, e)
 
 -- ---- what was entered
-if_ok_of : {A E : Type 0} {P : A → Type 0} (r : Result A E) (a : A) → r ≡ Ok a → IfOk r P → P a
-if_ok_of {P = P} r a is h = subst (λ x. IfOk x P) is h
+if_ok_of : {A E : Type 0} (P : A → Type 0) (r : Result A E) (a : A) → r ≡ Ok a → IfOk r P → P a
+if_ok_of P r a is h = subst (λ x. IfOk x P) is h
 
-if_err_of : {A E : Type 0} {P : E → Type 0} (r : Result A E) (e : E) → r ≡ Err e → IfErr r P → P e
-if_err_of {P = P} r e is h = subst (λ x. IfErr x P) is h
+if_err_of : {A E : Type 0} (P : E → Type 0) (r : Result A E) (e : E) → r ≡ Err e → IfErr r P → P e
+if_err_of P r e is h = subst (λ x. IfErr x P) is h
 
 module _ {D : Type 0} {g : disk.Ghosts D} (image : Image) where
   pub entries_wanting : (token : List ℕ) (source status : ℕ) (input old : Option (List ℕ)) (ReaderFailed WriterFailed : Type 0) → status ≡ 1
@@ -48,13 +48,13 @@ module _ {D : Type 0} {g : disk.Ghosts D} (image : Image) where
       → EntriesEnds image token source status input old new ReaderFailed WriterFailed left
   entries_by o token source status input old new ReaderFailed WriterFailed left bound made unmade told untold = record {
     bound = bound;
-    done = λ zero. let t = told zero in (t.0, if_ok_of o t.0 t.1 made, t.2);
+    done = λ zero. let t = told zero in (t.0, if_ok_of _ o t.0 t.1 made, t.2);
     refused = λ one.
         let u = untold one in (
           u.0,
           elim u.1 [
-            | inl (is, kept) ↦ inl (if_err_of o u.0 is unmade, kept)
-            | inr (a, is, part) ↦ inr (a, if_ok_of o a is made, part)
+            | inl (is, kept) ↦ inl (if_err_of _ o u.0 is unmade, kept)
+            | inr (a, is, part) ↦ inr (a, if_ok_of _ o a is made, part)
           ],
         );
   }

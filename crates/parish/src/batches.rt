@@ -1,6 +1,6 @@
 //! What is told of a batch of register entries.
 
-ghost use Rattle.std.specs.Prelude.{◌≡◌, ◌≤◌, IfErr, OnErr, OnOk};
+ghost use Rattle.std.specs.Prelude.{◌≡◌, ◌≤◌, IfErr, IfOk, OnErr, OnOk, string_bytes};
 ghost use Rattle.std.specs.Io.KnownBytes.{Appends};
 ghost use Rattle.devices.specs.Devices.{AppendsBeginning, Rose};
 ghost use Rattle.record_text.specs.declared.refusal.Refusal.{Refusal};
@@ -12,7 +12,7 @@ use gedcom_tree::{Device, TransferError, write_bytes};
 use receipts::Answer;
 use record_text::{Refusal, RefusalKind, RefusalText, Unit};
 use sqlite::Start;
-use std::alloc::Global;
+use std::alloc::{AllocError, Global};
 use std::io::Write;
 
 /// The status of a batch that was entered on an archive in a file, after its line on the output, or of one that was not, after the
@@ -63,12 +63,19 @@ fn tell_made<W: Write + Device>(
     ensures err { OnErr result (AppendsBeginning (W.contents output.old) (W.contents output.new) (made_text answer)) }
     ensures why { IfErr result (IsUnwritten (Rose (W.failed output.old) (W.failed output.new))) }
 {
-    let Answer { first, count } = answer;
-    let line = format!(in alloc; "made {count} entries, first {first}\n")?;
+    let line = made_line(alloc, answer)?;
     let before = output.failures();
     match write_bytes(output, before, line.as_bytes()) {
         Ok(()) => Ok(()),
         Err(TransferError::OutOfMemory) => Err(Refusal::from(RefusalKind::OutOfMemory)),
         Err(TransferError::Failed) => Err(Refusal::from(RefusalKind::WriteFailed)),
     }
+}
+
+/// How many entries were made, and the number of the first. Refused only for want of memory.
+fn made_line(alloc: Global, answer: Answer) -> Result<String, AllocError>
+    ensures { IfOk result (λ line. string_bytes line ≡ made_text answer) }
+{
+    let Answer { first, count } = answer;
+    format!(in alloc; "made {count} entries, first {first}\n")
 }
