@@ -71,7 +71,37 @@ def among(count: int) -> Scenario:
     )
 
 
+# A merge looks for its receipt, at both persons, for what names the one that is gone and at each of that, and at the next number; then
+# for what names it again, and at each number that it changes, at the one that stays with the other. An undoing looks for its receipt, for
+# its slip, at each number of it, and at the next number.
+MERGES = scenario(
+    "a merge and an undoing are refused as their look",
+    [makes(number, f"p{number}", "person", name, "") for number, name in ((1, "a"), (2, "b"), (3, "c"))],
+    makes(4, "f", "family", "", 2),
+    makes(5, "e", "event", 2, "BIRT", "", "", ""),
+    looks(2, "x", "merge", 9, 1),
+    looks(3, "x", "merge", 1, 4),
+    looks(3, "x", "merge", 1, 1),
+    looks(9, "x", "merge", 1, 3),
+    looks(13, "x", "merge", 1, 2),
+    looks(9, "x", "merge", 2, 1),
+    looks(3, "x", "undo", 9),
+    looks(3, "x", "undo", 1),
+    next_is(6),
+    makes(6, "m", "merge", 1, 2),
+    looks(2, "m", "merge", 1, 2),
+    looks(7, "x", "undo", 6),
+    changes("s", "sex", 1, "F"),
+    looks(3, "x", "undo", 6),
+    looks(3, "x", "remove", 6),
+    next_is(7),
+    makes(7, "g", "family", 1, 3),
+    looks(5, "x", "merge", 1, 3),
+    next_is(8),
+)
+
 SCENARIOS = (
+    MERGES,
     scenario(
         "a command is refused as its look",
         FAMILY,
