@@ -1,5 +1,5 @@
 -- What is kept while rows are applied one after the other, and what follows of it where a call ends.
-use Rattle.std.proofs.Common.{◌≡◌, ◌∙◌, ◌⊎◌, ◌+◌, ◌++◌, ◌∷◌, ℕ, true, false, List, [], Option, None, Some, Ok, Err, MatchBool, inl, inr, refl, ap, sym, subst, arith, length, length-append}
+use Rattle.std.proofs.Common.{◌≡◌, ◌∙◌, ◌⊎◌, ◌+◌, ◌++◌, ◌∷◌, ℕ, true, false, List, [], Option, None, Ok, Err, MatchBool, inl, inr, refl, ap, sym, subst, arith, length, length-append}
 use Rattle.std.specs.Io.KnownBytes.{Appends}
 use Rattle.std.proofs.KnownBytes.{Appends-nil, Appends-trans}
 use Rattle.std.proofs.lemmas.Bool.{false≢true}
@@ -20,7 +20,7 @@ use Rattle.store.specs.Histories.{in_doubt, is_storage}
 use Rattle.store.specs.declared.archive.Archive.{Archive}
 use Rattle.tables.specs.Answers.{Served, answer_text}
 use Rattle.tables.specs.Applying.{Applied, AreServed, Ended, Ends, IsServed, PerformsAll, Steps, WritesPart, answers, calls_of, is_in_doubt}
-use Rattle.batch_reading.specs.Input.{AreFirstRows, AreRows, Row}
+use Rattle.batch_reading.specs.Input.{AreRows, Row}
 use Rattle.batch_reading.proofs.Taking.{Took, took_first, took_none}
 use Rattle.tables.proofs.Outcomes.{by_bool}
 use Rattle.tables.proofs.Served.{answers_doubted, answers_sure, certain_more, kept_more, performed_more, served_more}
