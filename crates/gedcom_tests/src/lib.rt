@@ -7,7 +7,7 @@
 #[cfg(test)]
 mod batches;
 #[cfg(test)]
-mod commands;
+mod command_words;
 #[cfg(test)]
 mod days;
 #[cfg(test)]
