@@ -93,7 +93,7 @@ MERGES = scenario(
     looks(7, "x", "undo", 6),
     changes("s", "sex", 1, "F"),
     looks(3, "x", "undo", 6),
-    looks(3, "x", "remove", 6),
+    looks(2, "x", "remove", 6),
     next_is(7),
     makes(7, "g", "family", 1, 3),
     looks(5, "x", "merge", 1, 3),
