@@ -78,7 +78,7 @@ def records_of_before(tools):
         expect(at.apply(b"m,merge,1,2\n"), written(b"m,ok,12,1\n"))
         merged = at.rows_of(RECORDS)
         demand(all(dst != 2 and number != 2 for number, *_, dst in merged), "a line names the person that is gone")
-        demand((1, 4, 2, "SEX", "M", None) in merged, "the second sex is not carried")
+        demand((1, 5, 2, "SEX", "M", None) in merged, "the second sex is not carried")
         expect(at.apply(b"u,undo,12\n"), written(b"u,ok,0,0\n"))
         demand(at.rows_of(RECORDS) == before, "the lines of before are not there again")
         demand(at.rows_of("SELECT no, keep, gone, undone FROM slip") == [(12, 1, 2, 1)], "the slip is another one")
