@@ -20,10 +20,13 @@ keeps None = tt
 keeps (Some bytes) = refl
 
 -- the connection of an archive that was taken up, after calls on it
-module _ {D : Type 0} {g : disk.Ghosts D} (image : Image) (old new : Archive (FileStore D g) over_files) (conn : Held (FileStore D g)) (kept : old.is_lost ≡ false)
+module _ {D : Type 0} {g : disk.Ghosts D} (image : Image) (old new : Archive (FileStore D g) over_files)
+    (conn : Held (FileStore D g)) (kept : old.is_lost ≡ false)
     (taken : IsTakenUp image (file_state old.conn)) (same : conn ≡ new.conn) where
-  pub performed_on : (calls : List Done) → PerformsAll over_files old calls new → PerformsOn image calls (file_state conn)
-  performed_on calls all = subst (λ (x : Held (FileStore D g)). PerformsOn image calls (file_state x)) (sym same) (λ clean society c t holds is.
+  pub performed_on : (calls : List Done) → PerformsAll over_files old calls new
+      → PerformsOn image calls (file_state conn)
+  performed_on calls all = subst (λ (x : Held (FileStore D g)). PerformsOn image calls (file_state x)) (sym same)
+      (λ clean society c t holds is.
       let did = all clean kept in
       let has = (taken did.clean society c t holds is).0 in
       ((λ none. did.done none society c has), did.crash society c has))
@@ -41,8 +44,10 @@ module _ {D : Type 0} {g : disk.Ghosts D} (image : Image) (old new : Archive (Fi
   }
   all_answered (Err kind) input before after all = tt
 
-  pub part_answered : {A : Type 0} (r : Result A RefusalKind) (input before after : Option (List ℕ)) (ReaderFailed WriterFailed : Type 0)
-      → IfErr r (λ kind. Ended over_files kind input before after old new) → (r ≡ Err ReadFailed → ReaderFailed) → (r ≡ Err WriteFailed → WriterFailed)
+  pub part_answered : {A : Type 0} (r : Result A RefusalKind) (input before after : Option (List ℕ))
+      (ReaderFailed WriterFailed : Type 0)
+      → IfErr r (λ kind. Ended over_files kind input before after old new) → (r ≡ Err ReadFailed → ReaderFailed)
+      → (r ≡ Err WriteFailed → WriterFailed)
       → IfErr r (λ kind. Unanswered image kind input before after ReaderFailed WriterFailed (Some conn))
   part_answered (Ok a) input before after ReaderFailed WriterFailed part reads writes = tt
   part_answered (Err kind) input before after ReaderFailed WriterFailed part reads writes = inr (

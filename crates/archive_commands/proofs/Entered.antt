@@ -28,14 +28,17 @@ nothing_done image s taken = λ clean society c t holds is.
 
 module _ {D : Type 0} {g : disk.Ghosts D} (image : Image) (token : List ℕ) (source : ℕ) (input : Option (List ℕ)) where
   -- what a word is refused with
-  pub unnamed : (kind : RefusalKind) (e : Refusal) (Failed : Type 0) → e ≡ placeless kind → (kind ≡ OutOfMemory) ⊎ ((kind ≡ BadToken) × ¬ (IsToken token))
+  pub unnamed : (kind : RefusalKind) (e : Refusal) (Failed : Type 0) → e ≡ placeless kind → (kind ≡ OutOfMemory)
+      ⊎ ((kind ≡ BadToken) × ¬ (IsToken token))
       → Unentered {D = D} {g = g} image token source input e Failed None
   unnamed kind e Failed is (inl want) = inl (refl, inl (is ∙ ap placeless want))
   unnamed kind e Failed is (inr bad) = inl (refl, inr (is ∙ ap placeless bad.0, bad.1))
 
-  module _ (word : IsToken token) (old new : Archive (FileStore D g) over_files) (conn : Held (FileStore D g)) (kept : old.is_lost ≡ false)
+  module _ (word : IsToken token) (old new : Archive (FileStore D g) over_files) (conn : Held (FileStore D g))
+      (kept : old.is_lost ≡ false)
       (taken : IsTakenUp image (file_state old.conn)) (same : conn ≡ new.conn) where
-    entered : (o : Outcome) → Enters over_files token source input old o new → Entered image token source input o (Some conn)
+    entered : (o : Outcome) → Enters over_files token source input old o new
+        → Entered image token source input o (Some conn)
     entered o h = record {
       word = word;
       rows = h.0;
@@ -48,11 +51,13 @@ module _ {D : Type 0} {g : disk.Ghosts D} (image : Image) (token : List ℕ) (so
     all_entered (Ok answer) h = entered (Ok answer) h
     all_entered (Err e) h = tt
 
-    pub none_entered : (r : Outcome) (Failed : Type 0) → IfErr r (λ e. Enters over_files token source input old (Err e) new ⊎ ((new ≡ old) × IsNoBatch input e Failed))
+    pub none_entered : (r : Outcome) (Failed : Type 0)
+        → IfErr r (λ e. Enters over_files token source input old (Err e) new ⊎ ((new ≡ old) × IsNoBatch input e Failed))
         → IfErr r (λ e. Unentered image token source input e Failed (Some conn))
     none_entered (Ok answer) Failed h = tt
     none_entered (Err e) Failed (inl did) = inr (inr (inr (entered (Err e) did)))
     none_entered (Err e) Failed (inr (stays, bad)) =
         let back : conn ≡ old.conn = same ∙ ap (λ (a : Archive (FileStore D g) over_files). a.conn) stays in
-        let here : IsTakenUp image (file_state conn) = subst (λ (x : Held (FileStore D g)). IsTakenUp image (file_state x)) (sym back) taken in
+        let here : IsTakenUp image (file_state conn) = subst
+        (λ (x : Held (FileStore D g)). IsTakenUp image (file_state x)) (sym back) taken in
         inr (inr (inl (word, nothing_done image (file_state conn) here, bad)))

@@ -15,14 +15,18 @@ use Rattle.archive_commands.specs.Made.{IsUnmade, IsUnmadeIn, WasThere}
 use Rattle.archive_commands.specs.Opening.{WhereHeld}
 
 -- what a society's name is refused with, before a file is opened
-pub unnamed : (society : List ℕ) (kind : RefusalKind) → (kind ≡ OutOfMemory) ⊎ ((kind ≡ BadText) × ¬ IsSociety society) → IsUnmade society kind
+pub unnamed : (society : List ℕ) (kind : RefusalKind) → (kind ≡ OutOfMemory) ⊎ ((kind ≡ BadText) × ¬ IsSociety society)
+    → IsUnmade society kind
 unnamed society kind (inl want) = inr (inl want)
 unnamed society kind (inr bad) = inl bad
 
--- what a society with a name is refused, over a file that was opened; but for 80 the connection is the one that was given
-pub unmade : {D : Type 0} {g : disk.Ghosts D} (image : Image) (society : List ℕ) (kind : RefusalKind) (opened left : Held (FileStore D g)) → IsSociety society
+-- what a society with a name is refused, over a file that was opened; but for 80 the connection is the one that was
+-- given
+pub unmade : {D : Type 0} {g : disk.Ghosts D} (image : Image) (society : List ℕ) (kind : RefusalKind)
+    (opened left : Held (FileStore D g)) → IsSociety society
     → RefusesToCreate society (file_state opened) (file_state left) kind → (is_storage kind ≡ false → left ≡ opened)
-    → (HasCleanDisk (file_state opened) → WhereHeld image (λ held c. HasArchive held c (file_state opened))) → IsUnmadeIn image society kind (file_state left)
+    → (HasCleanDisk (file_state opened) → WhereHeld image (λ held c. HasArchive held c (file_state opened)))
+    → IsUnmadeIn image society kind (file_state left)
 unmade image society kind opened left is (inl bad) back held = absurd (bad.1 is)
 unmade {D} {g} image society kind opened left is (inr (named, inl made)) back held =
     let same = back (ap is_storage made.0) in

@@ -18,11 +18,12 @@ use Rattle.tables.specs.Applying.{AreServed, Ends, answers, calls_of}
 use Rattle.batch_reading.specs.Input.{AreFirstRows, AreRows, Row}
 use Rattle.archive_commands.specs.Opening.{Unopened, WhereHeld}
 
--- requests with their outcomes, on the archive that the file held: where none is in doubt it holds what they make of it, and in any
--- case a stop leaves what their history allows
+-- requests with their outcomes, on the archive that the file held: where none is in doubt it holds what they make of
+-- it, and in any case a stop leaves what their history allows
 abbrev pub PerformsOn : Image → List Done → State → Type 0
 PerformsOn image calls s = HasCleanDisk s → WhereHeld image (λ society c.
-    (in_doubt calls ≡ None → (after : Content) × Runs c calls after × HasArchive society after s) × LeavesArchive s society (MayBeFound c calls))
+    (in_doubt calls ≡ None → (after : Content) × Runs c calls after × HasArchive society after s)
+    × LeavesArchive s society (MayBeFound c calls))
 
 -- a device is blamed only where it failed in this call, by its count
 abbrev pub IsBlamed : RefusalKind → Type 0 → Type 0 → Type 0
@@ -34,7 +35,8 @@ module _ {D : Type 0} {g : disk.Ghosts D} where
   IsPerformed image calls left = IsSomeAnd left (λ conn. PerformsOn image calls (file_state conn))
 
   -- all rows of the input were served on the archive, none is in doubt, and their answers were written
-  pub record Answered (image : Image) (input before after : Option (List ℕ)) (left : Option (Held (FileStore D g))) : Type 0 where
+  pub record Answered (image : Image) (input before after : Option (List ℕ))
+      (left : Option (Held (FileStore D g))) : Type 0 where
     pub rows : List Row
     pub served : List Served
     pub all : AreRows input rows
@@ -44,7 +46,8 @@ module _ {D : Type 0} {g : disk.Ghosts D} where
     pub written : Appends before after (answers served)
 
   -- the first rows were served on it, and of their answers what the reason leaves was written
-  pub record PartAnswered (image : Image) (kind : RefusalKind) (input before after : Option (List ℕ)) (left : Option (Held (FileStore D g))) : Type 0 where
+  pub record PartAnswered (image : Image) (kind : RefusalKind) (input before after : Option (List ℕ))
+      (left : Option (Held (FileStore D g))) : Type 0 where
     pub rows : List Row
     pub served : List Served
     pub first : AreFirstRows input rows
@@ -53,10 +56,13 @@ module _ {D : Type 0} {g : disk.Ghosts D} where
     pub written : Ends kind served before after
 
   -- no archive was taken up, and nothing is written
-  abbrev pub Untouched : Image → RefusalKind → Option (List ℕ) → Option (List ℕ) → Option (Held (FileStore D g)) → Type 0
+  abbrev pub Untouched : Image → RefusalKind → Option (List ℕ) → Option (List ℕ)
+      → Option (Held (FileStore D g)) → Type 0
   Untouched image kind before after left = Unopened image kind left × Keeps before after
 
   -- either that; or not all rows were served, for that reason
-  abbrev pub Unanswered : Image → RefusalKind → Option (List ℕ) → Option (List ℕ) → Option (List ℕ) → Type 0 → Type 0 → Option (Held (FileStore D g)) → Type 0
+  abbrev pub Unanswered : Image → RefusalKind → Option (List ℕ) → Option (List ℕ) → Option (List ℕ) → Type 0 → Type 0
+      → Option (Held (FileStore D g)) → Type 0
   Unanswered image kind input before after ReaderFailed WriterFailed left =
-      Untouched image kind before after left ⊎ (IsBlamed kind ReaderFailed WriterFailed × PartAnswered image kind input before after left)
+      Untouched image kind before after left
+      ⊎ (IsBlamed kind ReaderFailed WriterFailed × PartAnswered image kind input before after left)

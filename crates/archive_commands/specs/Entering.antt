@@ -15,9 +15,10 @@ use Rattle.archive_commands.specs.Applying.{IsPerformed}
 use Rattle.archive_commands.specs.Opening.{Unopened}
 
 module _ {D : Type 0} {g : disk.Ghosts D} where
-  -- the rows of the input are a batch, and its request, under a token, was performed on the archive that the file held, with this
-  -- outcome
-  pub record Entered (image : Image) (token : List ℕ) (source : ℕ) (input : Option (List ℕ)) (outcome : Outcome) (left : Option (Held (FileStore D g))) : Type 0 where
+  -- the rows of the input are a batch, and its request, under a token, was performed on the archive that the file held,
+  -- with this outcome
+  pub record Entered (image : Image) (token : List ℕ) (source : ℕ) (input : Option (List ℕ)) (outcome : Outcome)
+      (left : Option (Held (FileStore D g))) : Type 0 where
     pub word : IsToken token
     pub rows : List EntryRow
     pub read : ReadsBatch input rows
@@ -25,7 +26,8 @@ module _ {D : Type 0} {g : disk.Ghosts D} where
 
   -- the word is no token, or memory was refused for it: no file is opened
   abbrev pub IsUnnamed : List ℕ → Refusal → Option (Held (FileStore D g)) → Type 0
-  IsUnnamed token e left = (left ≡ None) × ((e ≡ placeless OutOfMemory) ⊎ ((e ≡ placeless BadToken) × ¬ (IsToken token)))
+  IsUnnamed token e left = (left ≡ None)
+      × ((e ≡ placeless OutOfMemory) ⊎ ((e ≡ placeless BadToken) × ¬ (IsToken token)))
 
   -- no archive was taken up
   abbrev pub IsUntaken : Image → List ℕ → Refusal → Option (Held (FileStore D g)) → Type 0
@@ -33,9 +35,13 @@ module _ {D : Type 0} {g : disk.Ghosts D} where
 
   -- one was, and the rows are no batch: nothing is done on it
   abbrev pub IsUnread : Image → List ℕ → Option (List ℕ) → Refusal → Type 0 → Option (Held (FileStore D g)) → Type 0
-  IsUnread image token input e ReaderFailed left = IsToken token × IsPerformed image [] left × IsNoBatch input e ReaderFailed
+  IsUnread image token input e ReaderFailed left = IsToken token × IsPerformed image [] left
+      × IsNoBatch input e ReaderFailed
 
   -- why no batch was entered; the last: its request was refused, or is in doubt
-  abbrev pub Unentered : Image → List ℕ → ℕ → Option (List ℕ) → Refusal → Type 0 → Option (Held (FileStore D g)) → Type 0
+  abbrev pub Unentered : Image → List ℕ → ℕ → Option (List ℕ) → Refusal → Type 0
+      → Option (Held (FileStore D g)) → Type 0
   Unentered image token source input e ReaderFailed left =
-      IsUnnamed token e left ⊎ (IsUntaken image token e left ⊎ (IsUnread image token input e ReaderFailed left ⊎ Entered image token source input (Err e) left))
+      IsUnnamed token e left
+      ⊎ (IsUntaken image token e left
+      ⊎ (IsUnread image token input e ReaderFailed left ⊎ Entered image token source input (Err e) left))

@@ -16,7 +16,8 @@ use Rattle.archive_commands.specs.Opening.{WhereHeld}
 
 -- the archive of a society, in which nothing is yet; a crash leaves it
 abbrev pub IsMadeFor : List ℕ → State → Type 0
-IsMadeFor society s = IsSociety society × (HasCleanDisk s → HasArchive society nothing s × LeavesArchive s society (λ found. found ≡ nothing))
+IsMadeFor society s = IsSociety society
+    × (HasCleanDisk s → HasArchive society nothing s × LeavesArchive s society (λ found. found ≡ nothing))
 
 -- something was made in the file before; an archive that it held is as it was
 abbrev pub WasThere : Image → State → Type 0
@@ -24,7 +25,8 @@ WasThere image s = (s.now.schema ≢ no_schema) × (HasCleanDisk s → WhereHeld
 
 -- why no archive was made before a file was opened: 58, the society has no name; 1; 80, the file cannot be opened
 abbrev pub IsUnmade : List ℕ → RefusalKind → Type 0
-IsUnmade society kind = ((kind ≡ BadText) × ¬ IsSociety society) ⊎ ((kind ≡ OutOfMemory) ⊎ ((kind ≡ Storage) × IsSociety society))
+IsUnmade society kind = ((kind ≡ BadText) × ¬ IsSociety society)
+    ⊎ ((kind ≡ OutOfMemory) ⊎ ((kind ≡ Storage) × IsSociety society))
 
 -- and after it: 82, something was there; 80, the database failed
 abbrev pub IsUnmadeIn : Image → List ℕ → RefusalKind → State → Type 0

@@ -15,20 +15,23 @@ use Rattle.store.specs.Archives.{HasArchive, IsArchive, LeavesArchive}
 
 -- of each archive that the file with its log held, by its society and what it holds
 abbrev pub WhereHeld : Image → (List ℕ → Content → Type 0) → Type 0
-WhereHeld image P = (society : List ℕ) (c : Content) (t : Trees) → HoldsDatabase image t → IsArchive society c t → P society c
+WhereHeld image P = (society : List ℕ) (c : Content) (t : Trees) → HoldsDatabase image t
+    → IsArchive society c t → P society c
 
 -- the connection has the archive, and a crash leaves it
 abbrev pub IsTakenUp : Image → State → Type 0
-IsTakenUp image s = HasCleanDisk s → WhereHeld image (λ society c. HasArchive society c s × LeavesArchive s society (λ found. found ≡ c))
+IsTakenUp image s = HasCleanDisk s
+    → WhereHeld image (λ society c. HasArchive society c s × LeavesArchive s society (λ found. found ≡ c))
 
 -- why no file was opened: 82, there is none; 80, it cannot be opened
 abbrev pub IsUnopened : RefusalKind → Type 0
 IsUnopened kind = (kind ≡ NotAnArchive) ⊎ (kind ≡ Storage)
 
--- the file was opened, and an archive that it held is not taken up: only for want of memory, or because the database failed. A
--- crash leaves it
+-- the file was opened, and an archive that it held is not taken up: only for want of memory, or because the database
+-- failed. A crash leaves it
 abbrev pub IsLeft : Image → RefusalKind → State → Type 0
-IsLeft image kind s = HasCleanDisk s → WhereHeld image (λ society c. IsFailure kind × LeavesArchive s society (λ found. found ≡ c))
+IsLeft image kind s = HasCleanDisk s
+    → WhereHeld image (λ society c. IsFailure kind × LeavesArchive s society (λ found. found ≡ c))
 
 module _ {D : Type 0} {g : disk.Ghosts D} where
   -- no archive was taken up, with the connection where a file was opened

@@ -18,12 +18,13 @@ use std::io::Read;
 use std::rt::HostRuntime;
 use tables::enter;
 
-/// `entries`: the rows of the input as a batch of register entries of a source, entered on the archive in a file as one request
-/// under a token: all of them or none. It answers how many were made, with the connection over the file where one was opened.
+/// `entries`: the rows of the input as a batch of register entries of a source, entered on the archive in a file as one
+/// request under a token: all of them or none. It answers how many were made, with the connection over the file where
+/// one was opened.
 ///
-/// The first of these that is wrong is the refusal. 93: the word is no token; no file is opened. 82: there is no file, or it has no
-/// archive; 83: a later program made it; 80: it cannot be opened or is no database; at these nothing is read. Else it is that of
-/// `tables::enter`, which has a place where a row is to blame.
+/// The first of these that is wrong is the refusal. 93: the word is no token; no file is opened. 82: there is no file,
+/// or it has no archive; 83: a later program made it; 80: it cannot be opened or is no database; at these nothing is
+/// read. Else it is that of `tables::enter`, which has a place where a row is to blame.
 pub fn entries<S: Start, R: Read + Device>(
     rt: &HostRuntime,
     file: &str,
@@ -32,8 +33,10 @@ pub fn entries<S: Start, R: Read + Device>(
     start: S,
     input: &mut R,
 ) -> (Result<Answer, Refusal>, Option<OpenFile<S>>)
-    ensures entered { IfOk result.0 (λ answer. Entered (image_at S.Start) token.now source (row_bytes (R.remaining input.old)) (Ok answer) result.1) }
-    ensures refused { IfErr result.0 (λ e. Unentered (image_at S.Start) token.now source (row_bytes (R.remaining input.old)) e
+    ensures entered { IfOk result.0 (λ answer. Entered (image_at S.Start) token.now source
+        (row_bytes (R.remaining input.old)) (Ok answer) result.1) }
+    ensures refused { IfErr result.0
+        (λ e. Unentered (image_at S.Start) token.now source (row_bytes (R.remaining input.old)) e
         (Rose (R.failed input.old) (R.failed input.new)) result.1) }
 {
     match token_given(rt.alloc(), token) {
@@ -52,8 +55,10 @@ fn entries_under<S: Start, R: Read + Device>(
     input: &mut R,
 ) -> (Result<Answer, Refusal>, Option<OpenFile<S>>)
     requires word { IsToken token }
-    ensures entered { IfOk result.0 (λ answer. Entered (image_at S.Start) token source (row_bytes (R.remaining input.old)) (Ok answer) result.1) }
-    ensures refused { IfErr result.0 (λ e. Unentered (image_at S.Start) token source (row_bytes (R.remaining input.old)) e
+    ensures entered { IfOk result.0
+        (λ answer. Entered (image_at S.Start) token source (row_bytes (R.remaining input.old)) (Ok answer) result.1) }
+    ensures refused { IfErr result.0
+        (λ e. Unentered (image_at S.Start) token source (row_bytes (R.remaining input.old)) e
         (Rose (R.failed input.old) (R.failed input.new)) result.1) }
 {
     match open(rt, file, start) {

@@ -19,17 +19,18 @@ use store::{Archive, society_named};
 /// The connection over a file and its log. `S` is what they held as they were opened.
 pub type OpenFile<S> = Connection<FileStore<FileFrom<S>>>;
 
-/// The archive in a file. The file is looked for first, since to open a file that is not there would make it. Where the refusal
-/// came after the file was opened, its connection is handed back.
+/// The archive in a file. The file is looked for first, since to open a file that is not there would make it. Where the
+/// refusal came after the file was opened, its connection is handed back.
 ///
-/// 82: there is no file, or it has no archive. 83: a later program made it. 80: the file cannot be opened or is no database,
-/// or the database failed. 1: memory was refused.
+/// 82: there is no file, or it has no archive. 83: a later program made it. 80: the file cannot be opened or is no
+/// database, or the database failed. 1: memory was refused.
 pub(crate) fn open<S: Start>(
     rt: &HostRuntime,
     file: &str,
     start: S,
 ) -> Result<Archive<FileStore<FileFrom<S>>>, (RefusalKind, Option<OpenFile<S>>)>
-    ensures opened { IfOk result (λ taken. (taken.is_lost ≡ false) × IsTakenUp (image_at S.Start) (file_state taken.conn)) }
+    ensures opened { IfOk result (λ taken. (taken.is_lost ≡ false) × IsTakenUp (image_at S.Start)
+        (file_state taken.conn)) }
     ensures refused { IfErr result (λ e. Unopened (image_at S.Start) e.0 e.1) }
 {
     match fs::exists(rt, file) {
@@ -39,14 +40,15 @@ pub(crate) fn open<S: Start>(
     }
 }
 
-/// The archive in a file, which is made where there is none. Refusals as of `Archive::adopt`; 80 also where the file cannot be
-/// opened or is no database.
+/// The archive in a file, which is made where there is none. Refusals as of `Archive::adopt`; 80 also where the file
+/// cannot be opened or is no database.
 fn open_file<S: Start>(
     rt: &HostRuntime,
     file: &str,
     start: S,
 ) -> Result<Archive<FileStore<FileFrom<S>>>, (RefusalKind, Option<OpenFile<S>>)>
-    ensures opened { IfOk result (λ taken. (taken.is_lost ≡ false) × IsTakenUp (image_at S.Start) (file_state taken.conn)) }
+    ensures opened { IfOk result (λ taken. (taken.is_lost ≡ false) × IsTakenUp (image_at S.Start)
+        (file_state taken.conn)) }
     ensures refused { IfErr result (λ e. Unopened (image_at S.Start) e.0 e.1) }
 {
     match Connection::open_from(rt, file, false, start) {
@@ -61,8 +63,8 @@ fn open_file<S: Start>(
 /// A new archive of a society in a file, which is made where there is none. Where the refusal came after the file was
 /// opened, its connection is handed back.
 ///
-/// 58: the society is empty or no text; no file is made. 82: something was made in the file before; it is not changed. 80: the
-/// file cannot be opened or is no database, or the database failed. 1: memory was refused.
+/// 58: the society is empty or no text; no file is made. 82: something was made in the file before; it is not changed.
+/// 80: the file cannot be opened or is no database, or the database failed. 1: memory was refused.
 pub(crate) fn create<S: Start>(
     rt: &HostRuntime,
     file: &str,

@@ -16,8 +16,8 @@ use std::rt::HostRuntime;
 
 /// `init`: a new archive of a society in a file, with the connection over the file where one was opened.
 ///
-/// 58: the society is empty or no text. 82: something was made in the file before. 80: the file cannot be opened or is no
-/// database, or the database failed. 1: memory was refused.
+/// 58: the society is empty or no text. 82: something was made in the file before. 80: the file cannot be opened or is
+/// no database, or the database failed. 1: memory was refused.
 pub fn init<S: Start>(
     rt: &HostRuntime,
     file: &str,
@@ -33,11 +33,11 @@ pub fn init<S: Start>(
     }
 }
 
-/// `apply`: the requests of the rows of the input, done on the archive in a file, with their answers on the output; and the
-/// connection over the file where one was opened.
+/// `apply`: the requests of the rows of the input, done on the archive in a file, with their answers on the output; and
+/// the connection over the file where one was opened.
 ///
-/// 82: there is no file, or it has no archive. 83: a later program made it. 80: the file cannot be opened or is no database. At
-/// these nothing is read and nothing written. Else it ends as `tables::apply` does.
+/// 82: there is no file, or it has no archive. 83: a later program made it. 80: the file cannot be opened or is no
+/// database. At these nothing is read and nothing written. Else it ends as `tables::apply` does.
 pub fn apply<S: Start, R: Read + Device, W: Write + Device>(
     rt: &HostRuntime,
     file: &str,
@@ -45,8 +45,10 @@ pub fn apply<S: Start, R: Read + Device, W: Write + Device>(
     input: &mut R,
     output: &mut W,
 ) -> (Result<(), RefusalKind>, Option<OpenFile<S>>)
-    ensures answered { OnOk result.0 (Answered (image_at S.Start) (row_bytes (R.remaining input.old)) (W.contents output.old) (W.contents output.new) result.1) }
-    ensures stopped { IfErr result.0 (λ kind. Unanswered (image_at S.Start) kind (row_bytes (R.remaining input.old)) (W.contents output.old) (W.contents output.new)
+    ensures answered { OnOk result.0 (Answered (image_at S.Start) (row_bytes (R.remaining input.old))
+        (W.contents output.old) (W.contents output.new) result.1) }
+    ensures stopped { IfErr result.0 (λ kind. Unanswered (image_at S.Start) kind (row_bytes (R.remaining input.old))
+        (W.contents output.old) (W.contents output.new)
         (Rose (R.failed input.old) (R.failed input.new)) (Rose (W.failed output.old) (W.failed output.new)) result.1) }
 {
     match open(rt, file, start) {
@@ -58,8 +60,8 @@ pub fn apply<S: Start, R: Read + Device, W: Write + Device>(
     }
 }
 
-/// Closes the connection over a file where one was opened, which copies the log into the file. Where that fails nothing is lost:
-/// the log has what was committed.
+/// Closes the connection over a file where one was opened, which copies the log into the file. Where that fails nothing
+/// is lost: the log has what was committed.
 pub fn close<S: Start>(left: Option<OpenFile<S>>) {
     if let Some(conn) = left {
         let _ = conn.close();

@@ -12,7 +12,8 @@ use Rattle.archive_core.specs.Steps.{placed, step}
 use Rattle.archive_core.specs.Words.{HasUtf8Words}
 
 -- where a refusal is does not matter
-placed_follows : (W : Type 0) (c : Content) (place : Option ℕ) (s : RowStep) → Follows W c s → Follows W c (placed place s)
+placed_follows : (W : Type 0) (c : Content) (place : Option ℕ) (s : RowStep) → Follows W c s
+    → Follows W c (placed place s)
 placed_follows W c place (Ok done) h = h
 placed_follows W c place (Err e) h = tt
 

@@ -1,5 +1,25 @@
 -- Records that are put where there is room for them are put as they would be without.
-use Rattle.std.proofs.Common.{◌≡◌, ℕ, ◌+◌, ◌<◌, List, [], ◌∷◌, ◌++◌, true, false, refl, sym, ap, ◌∙◌, inl, inr, length, take, get_or}
+use Rattle.std.proofs.Common.{
+  ◌≡◌,
+  ℕ,
+  ◌+◌,
+  ◌<◌,
+  List,
+  [],
+  ◌∷◌,
+  ◌++◌,
+  true,
+  false,
+  refl,
+  sym,
+  ap,
+  ◌∙◌,
+  inl,
+  inr,
+  length,
+  take,
+  get_or,
+}
 use Rattle.std.proofs.lemmas.List.{take_more}
 use Rattle.std.specs.Prelude.{◌≢◌, Option, Some, None, is_some, if◌then◌else◌}
 use Rattle.std.specs.FinMap.{get, insert, remove, same_map, nat_cmp-IsAntisymmetric}
@@ -49,15 +69,17 @@ is_there None e none = absurd cc
 is_there (Some r) e none = absurd cc
 
 blank_there : (m : Records) (n : ℕ) → IsThere (with_blank m n) n
-blank_there m n = elim (is_some (get m n)) as (λ b. is_some (get m n) ≡ b → IsThere (if b then m else insert m n blank) n) [
-  | true ↦ λ e. is_there (get m n) e
-  | false ↦ λ e none. let both : Some blank ≡ None = sym (put_here m n blank) ∙ none in absurd cc
-] refl
+blank_there m n = elim (is_some (get m n)) as (λ b. is_some (get m n) ≡ b
+    → IsThere (if b then m else insert m n blank) n) [
+      | true ↦ λ e. is_there (get m n) e
+      | false ↦ λ e none. let both : Some blank ≡ None = sym (put_here m n blank) ∙ none in absurd cc
+    ] refl
 
 -- ---- room
 room_elsewhere : (puts : List Numbered) (m : Records) (q : ℕ) → IsApart q puts → get (with_room m puts) q ≡ get m q
 room_elsewhere [] m q apart = refl
-room_elsewhere (p ∷ puts) m q apart = room_elsewhere puts (with_blank m p.number) q apart.1 ∙ blank_elsewhere m p.number q apart.0
+room_elsewhere (p ∷ puts) m q apart = room_elsewhere puts (with_blank m p.number) q apart.1
+    ∙ blank_elsewhere m p.number q apart.0
 
 room_stays : (puts : List Numbered) (m : Records) (q : ℕ) → IsThere m q → IsThere (with_room m puts) q
 room_stays [] m q there = there
@@ -72,10 +94,13 @@ room_there m (p ∷ puts) = (
 )
 
 -- two maps that differ at the numbers that are put alone
-put_alike : (puts : List Numbered) (m other : Records) → ((q : ℕ) → IsApart q puts → get other q ≡ get m q) → with_puts other puts ≡ with_puts m puts
+put_alike : (puts : List Numbered) (m other : Records) → ((q : ℕ) → IsApart q puts → get other q ≡ get m q)
+    → with_puts other puts ≡ with_puts m puts
 put_alike [] m other alike = same_map nat_cmp_total nat_cmp-IsAntisymmetric _ _ (λ q. alike q tt)
-put_alike (p ∷ puts) m other alike = put_alike puts (insert m p.number p.«record») (insert other p.number p.«record») (λ q apart.
-    elim (put_cases m p.number p.«record» q (get (insert m p.number p.«record») q) refl) as (λ _. get (insert other p.number p.«record») q ≡ get (insert m p.number p.«record») q) [
+put_alike (p ∷ puts) m other alike = put_alike puts (insert m p.number p.«record»)
+    (insert other p.number p.«record») (λ q apart.
+    elim (put_cases m p.number p.«record» q (get (insert m p.number p.«record») q) refl) as (λ _. get
+    (insert other p.number p.«record») q ≡ get (insert m p.number p.«record») q) [
       | inl h ↦ ap (get (insert other p.number p.«record»)) h.0 ∙ put_here other p.number p.«record» ∙ h.1
       | inr h ↦ put_elsewhere other p.number p.«record» q h.0 ∙ alike q (h.0, apart) ∙ h.1
     ])
@@ -85,15 +110,19 @@ pub put_in_room : (m : Records) (puts : List Numbered) → with_puts (with_room 
 put_in_room m puts = put_alike puts m (with_room m puts) (room_elsewhere puts m)
 
 -- one more
-with_room-push : (m : Records) (puts : List Numbered) (p : Numbered) → with_room m (puts ++ (p ∷ [])) ≡ with_blank (with_room m puts) p.number
+with_room-push : (m : Records) (puts : List Numbered) (p : Numbered) → with_room m (puts ++ (p ∷ []))
+    ≡ with_blank (with_room m puts) p.number
 with_room-push m [] p = refl
 with_room-push m (x ∷ puts) p = with_room-push (with_blank m x.number) puts p
 
-pub room_for_one_more : (m : Records) (puts : List Numbered) (i : ℕ) (p : Numbered) → i < length puts → p ≡ get_or puts i p → with_room m (take (i + 1) puts) ≡ with_blank (with_room m (take i puts)) p.number
-room_for_one_more m puts i p h e = ap (with_room m) (take_more puts i p h ∙ ap (λ v. take i puts ++ v ∷ []) (sym e)) ∙ with_room-push m (take i puts) p
+pub room_for_one_more : (m : Records) (puts : List Numbered) (i : ℕ) (p : Numbered) → i < length puts
+    → p ≡ get_or puts i p → with_room m (take (i + 1) puts) ≡ with_blank (with_room m (take i puts)) p.number
+room_for_one_more m puts i p h e = ap (with_room m) (take_more puts i p h ∙ ap (λ v. take i puts ++ v ∷ []) (sym e))
+    ∙ with_room-push m (take i puts) p
 
 -- ---- what is there stays
-pub each_stays : (m : Records) (n : ℕ) (r : Record) (puts : List Numbered) → EachOf (IsThereFor m) puts → EachOf (IsThereFor (insert m n r)) puts
+pub each_stays : (m : Records) (n : ℕ) (r : Record) (puts : List Numbered) → EachOf (IsThereFor m) puts
+    → EachOf (IsThereFor (insert m n r)) puts
 each_stays m n r puts = each_more (IsThereFor m) (IsThereFor (insert m n r)) (λ p. put_stays m n r p.number) puts
 
 -- ---- a blank record is taken out again
@@ -107,7 +136,8 @@ blank_not_put m n e = ap (λ b. if b then m else insert m n blank) e
 pub blank_put : (m : Records) (n : ℕ) → is_some (get m n) ≡ false → with_blank m n ≡ insert m n blank
 blank_put m n e = ap (λ b. if b then m else insert m n blank) e
 
-pub blank_back : (m : Records) (n : ℕ) (ns : List ℕ) → is_some (get m n) ≡ false → without (insert m n blank) (n ∷ ns) ≡ without m ns
+pub blank_back : (m : Records) (n : ℕ) (ns : List ℕ) → is_some (get m n) ≡ false
+    → without (insert m n blank) (n ∷ ns) ≡ without m ns
 blank_back m n ns e = ap (λ x. without x ns) (taken_out m n blank (is_none (get m n) e))
 
 pub blank_gone : (m : Records) (n : ℕ) → is_some (get m n) ≡ false → remove (insert m n blank) n ≡ m

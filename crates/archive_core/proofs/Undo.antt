@@ -29,14 +29,22 @@ module _ {X : Type 0} where
 
   -- something stands where it was put
   pub stands : (m : FinMap nat_cmp X) (n : ℕ) (v : X) → get (insert m n v) n ≡ Some v
-  stands m n v = get-insert nat_cmp_total m n v n ∙ ap (λ b. cond b (Some v) (get m n)) ((eq_by_cmp_equiv nat_cmp_total).refl n)
+  stands m n v = get-insert nat_cmp_total m n v n ∙ ap (λ b. cond b (Some v) (get m n))
+      ((eq_by_cmp_equiv nat_cmp_total).refl n)
 
 -- ---- of what an archive holds
-pub slip_taken_out : (c after : Content) (m : Slips) (n : ℕ) (s : Slip) → after ≡ record c { slips = remove c.slips n } → c.slips ≡ insert m n s → None ≡ get m n → after ≡ record c { slips = m }
-slip_taken_out c after m n s is e none = is ∙ ap (λ x. record c { slips = x }) (ap (λ x. remove x n) e ∙ taken_out m n s (sym none))
+pub slip_taken_out : (c after : Content) (m : Slips) (n : ℕ) (s : Slip) → after ≡ record c { slips = remove c.slips n }
+    → c.slips ≡ insert m n s → None ≡ get m n → after ≡ record c { slips = m }
+slip_taken_out c after m n s is e none = is ∙ ap (λ x. record c { slips = x })
+    (ap (λ x. remove x n) e ∙ taken_out m n s (sym none))
 
-pub slip_put_over : (c after : Content) (m : Slips) (n : ℕ) (s old : Slip) → after ≡ record c { slips = insert c.slips n old } → c.slips ≡ insert m n s → Some old ≡ get m n → after ≡ record c { slips = m }
-slip_put_over c after m n s old is e some = is ∙ ap (λ x. record c { slips = x }) (ap (λ x. insert x n old) e ∙ put_over m n s old (sym some))
+pub slip_put_over : (c after : Content) (m : Slips) (n : ℕ) (s old : Slip)
+    → after ≡ record c { slips = insert c.slips n old } → c.slips ≡ insert m n s → Some old ≡ get m n
+    → after ≡ record c { slips = m }
+slip_put_over c after m n s old is e some = is ∙ ap (λ x. record c { slips = x })
+    (ap (λ x. insert x n old) e ∙ put_over m n s old (sym some))
 
-pub slip_stands : (c after : Content) (m : Slips) (n : ℕ) (s : Slip) → get c.slips n ≡ None → c.slips ≡ insert m n s → after ≡ record c { slips = m }
-slip_stands c after m n s none e = let both : Some s ≡ None = sym (stands m n s) ∙ ap (λ x. get x n) (sym e) ∙ none in absurd cc
+pub slip_stands : (c after : Content) (m : Slips) (n : ℕ) (s : Slip) → get c.slips n ≡ None → c.slips ≡ insert m n s
+    → after ≡ record c { slips = m }
+slip_stands c after m n s none e = let both : Some s ≡ None = sym (stands m n s) ∙ ap (λ x. get x n) (sym e)
+    ∙ none in absurd cc

@@ -7,10 +7,14 @@ use Rattle.commands.specs.Bytes.{digest_of}
 use Rattle.archive_looks.specs.Exact.{IsExact, ChangesNothing}
 use Rattle.archive_core.specs.declared.request.Request.{Request}
 
--- where an answer is kept under the token nothing changes; else the answer is kept under it, with the digest of the command
+-- where an answer is kept under the token nothing changes; else the answer is kept under it, with the digest of the
+-- command
 abbrev pub KeepsOnce : Content → Request → Changes → Type 0
 KeepsOnce c r changes = MatchOption (get c.receipts r.token)
-    (changes.kept ≡ Some (record { token = r.token; receipt = record { digest = digest_of r.command; answer = changes.answer } }))
+    (changes.kept ≡ Some (record {
+      token = r.token;
+      receipt = record { digest = digest_of r.command; answer = changes.answer };
+    }))
     (λ receipt. ChangesNothing c changes)
 
 -- what a request changes is no more than it has to be

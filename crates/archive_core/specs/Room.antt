@@ -1,4 +1,5 @@
--- Room for records that are put: a blank record wherever there is none. No clause that callers see names these definitions.
+-- Room for records that are put: a blank record wherever there is none. No clause that callers see names these
+-- definitions.
 use Rattle.std.specs.Prelude.{ℕ, List, [], ◌∷◌, None, is_some, if◌then◌else◌}
 use Rattle.std.specs.FinMap.{get, insert}
 use Rattle.record_kinds.specs.declared.record.Record.{Record}

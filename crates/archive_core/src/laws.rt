@@ -44,14 +44,14 @@ pub fn an_answer_has_the_numbers_drawn()
     ensures { (c after : Content) (command : Command) (a : Answer) → step c command ≡ Ok (after, a) → Draws c a after }
 {}
 
-/// No number is used twice: over a run the next number does not fall, no slip is at a number below it where none was, and a
-/// number that is used up stays so.
+/// No number is used twice: over a run the next number does not fall, no slip is at a number below it where none was,
+/// and a number that is used up stays so.
 pub fn no_number_is_used_twice()
     ensures { (dones : List Done) (c after : Content) → Runs c dones after → UsesNoneAgain c after }
 {}
 
-/// A request leaves a sound archive sound, accepted or refused. Its words are what a `String` can hold: the type of a request
-/// keeps that, and here any request is meant.
+/// A request leaves a sound archive sound, accepted or refused. Its words are what a `String` can hold: the type of a
+/// request keeps that, and here any request is meant.
 pub fn a_request_keeps_an_archive_sound()
     ensures { (c after : Content) (r : Request) (o : Result Answer Refusal)
         → HasUtf8Words r.command → IsSound c → Does c r o after → IsSound after }

@@ -41,12 +41,12 @@ fn decide_over(alloc: Global, state: &State, request: &Request) -> Result<Change
 
 /// What a request changes, and its answer. A request whose token is kept is answered from what is kept, and refused
 /// where its command is another (`TokenReused`). Else the first check that fails gives the refusal: first the texts
-/// (`BadText`), then each number in the order of its field (`NoSuch`, `WrongKind`, and `BadText` for a place whose path has
-/// empty parts alone), then what is the command's own (`SamePerson`, `AlreadyInFamily`, `NotOfKind`), and last whether a
-/// number is left (`Full`). Of a batch of register entries the source is looked at first, and then each row so, behind the
-/// rows before it: the first refusal is the batch's, with the place of its row, and the source's has none.
-/// The stops may come in place of any answer: `OutOfMemory`, and where a look of the view fails
-/// `BadStored` and `Storage`. Whatever it answers, the words of the request are UTF-8, by the type of the request.
+/// (`BadText`), then each number in the order of its field (`NoSuch`, `WrongKind`, and `BadText` for a place whose path
+/// has empty parts alone), then what is the command's own (`SamePerson`, `AlreadyInFamily`, `NotOfKind`), and last
+/// whether a number is left (`Full`). Of a batch of register entries the source is looked at first, and then each row
+/// so, behind the rows before it: the first refusal is the batch's, with the place of its row, and the source's has
+/// none. The stops may come in place of any answer: `OutOfMemory`, and where a look of the view fails `BadStored` and
+/// `Storage`. Whatever it answers, the words of the request are UTF-8, by the type of the request.
 pub fn decide<V: View>(alloc: Global, view: &mut V, request: &Request) -> Result<Changes, Refusal>
     ensures decides { OnView V.is_honest V.shows V.content view.old view.new
         (λ c. Decides c result (outcome c request.now)) }

@@ -8,7 +8,18 @@ use Rattle.record_kinds.specs.declared.record.Record.{Record}
 use Rattle.record_kinds.specs.declared.record.Record.TheVariants as kind
 use Rattle.record_links.specs.Links.{a_person, a_place, a_holder, is_wanted}
 use Rattle.record_shapes.specs.Tags.{event_tags}
-use Rattle.archive_looks.specs.Checks.{person_in, family_in, event_in, place_in, owner_in, need, wanted_of, demanded_in, passed, tags_of}
+use Rattle.archive_looks.specs.Checks.{
+  person_in,
+  family_in,
+  event_in,
+  place_in,
+  owner_in,
+  need,
+  wanted_of,
+  demanded_in,
+  passed,
+  tags_of,
+}
 use Rattle.archive_looks.specs.declared.kinds.Demand.{Demand}
 use Rattle.archive_looks.specs.declared.looks.Owner.{Owner}
 use Rattle.archive_looks.specs.declared.looks.Owner.TheVariants as owner
@@ -62,23 +73,28 @@ place_found (Some (kind.Entry y)) x e = absurd cc
 place_found (Some (kind.Other y)) x e = absurd cc
 
 -- an owner that may have events is there, with the tags of its kind
-pub owner_found : (o : Option Record) (x : Owner) → owner_in o ≡ Ok x → (old : Record) × (o ≡ Some old) × (is_wanted a_holder old ≡ true) × (event_tags old ≡ tags_of x)
+pub owner_found : (o : Option Record) (x : Owner) → owner_in o ≡ Ok x → (old : Record) × (o ≡ Some old)
+    × (is_wanted a_holder old ≡ true) × (event_tags old ≡ tags_of x)
 owner_found None x e = absurd cc
 owner_found (Some (kind.Place y)) x e = absurd cc
 owner_found (Some (kind.Repo y)) x e = absurd cc
 owner_found (Some (kind.Source y)) x e = absurd cc
-owner_found (Some (kind.Person y)) x e = let same : owner.Person ≡ x = cc in (kind.Person y, refl, refl, ap tags_of same)
-owner_found (Some (kind.Family y)) x e = let same : owner.Family ≡ x = cc in (kind.Family y, refl, refl, ap tags_of same)
+owner_found (Some (kind.Person y)) x e = let same : owner.Person ≡ x = cc in
+    (kind.Person y, refl, refl, ap tags_of same)
+owner_found (Some (kind.Family y)) x e = let same : owner.Family ≡ x = cc in
+    (kind.Family y, refl, refl, ap tags_of same)
 owner_found (Some (kind.Citation y)) x e = absurd cc
 owner_found (Some (kind.Event y)) x e = absurd cc
 owner_found (Some (kind.Entry y)) x e = absurd cc
 owner_found (Some (kind.Other y)) x e = absurd cc
 
 -- ---- what stands there is what a link demands
-pub person_stands : (o : Option Record) (x : model.Person) → person_in o ≡ Ok x → option_map (is_wanted a_person) o ≡ Some true
+pub person_stands : (o : Option Record) (x : model.Person) → person_in o ≡ Ok x
+    → option_map (is_wanted a_person) o ≡ Some true
 person_stands o x e = ap (option_map (is_wanted a_person)) (person_found o x e)
 
-pub place_stands : (o : Option Record) (x : model.Place) → place_in o ≡ Ok x → option_map (is_wanted a_place) o ≡ Some true
+pub place_stands : (o : Option Record) (x : model.Place) → place_in o ≡ Ok x
+    → option_map (is_wanted a_place) o ≡ Some true
 place_stands o x e = ap (option_map (is_wanted a_place)) (place_found o x e)
 
 pub owner_stands : (o : Option Record) (x : Owner) → owner_in o ≡ Ok x → option_map (is_wanted a_holder) o ≡ Some true
@@ -89,7 +105,8 @@ pub needed : (b : Bool) (k : RefusalKind) (u : Unit {0}) → need b k ≡ Ok u �
 needed true k u e = refl
 needed false k u e = absurd cc
 
-pub demanded_stands : (d : Demand) (o : Option Record) (u : Unit {0}) → demanded_in d o ≡ Ok u → option_map (is_wanted (wanted_of d)) o ≡ Some true
+pub demanded_stands : (d : Demand) (o : Option Record) (u : Unit {0}) → demanded_in d o ≡ Ok u
+    → option_map (is_wanted (wanted_of d)) o ≡ Some true
 demanded_stands d None u e = absurd cc
 demanded_stands d (Some r) u e = ap Some (needed (is_wanted (wanted_of d) r) WrongKind u e)
 

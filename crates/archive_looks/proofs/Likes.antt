@@ -1,5 +1,26 @@
 -- Whether an entry of a key is among the records: what a look for the key answers is what the test on their list says.
-use Rattle.std.proofs.Common.{◌≡◌, ℕ, List, [], ◌∷◌, Bool, true, false, not, ◌&&◌, ◌||◌, ◌==◌, refl, sym, ap, subst, ◌∙◌, cond, eqb-true, eq-eqb}
+use Rattle.std.proofs.Common.{
+  ◌≡◌,
+  ℕ,
+  List,
+  [],
+  ◌∷◌,
+  Bool,
+  true,
+  false,
+  not,
+  ◌&&◌,
+  ◌||◌,
+  ◌==◌,
+  refl,
+  sym,
+  ap,
+  subst,
+  ◌∙◌,
+  cond,
+  eqb-true,
+  eq-eqb,
+}
 use Rattle.std.specs.Prelude.{Option, Some, None, Result, Ok, Err, T, bytes_eq}
 use Rattle.std.specs.Cmp.{nat_cmp_is, ranked}
 use Rattle.std.specs.FinMap.{find, get, entries, entries_sorted, get-entries, is_sorted}
@@ -49,7 +70,8 @@ same_kind a b e = let both : Some a ≡ Some b = sym (entry_kind_back a) ∙ ap 
 not_found : (k : ℕ) (es : List (ℕ × Record)) → T (below_all nat_cmp k es) → find nat_cmp k es ≡ None
 not_found k [] h = refl
 not_found k (e ∷ es) h =
-    elim (nat_cmp k e.0) as (λ o. T (is_lt o && below_all nat_cmp k es) → cond (is_eq o) (Some e.1) (find nat_cmp k es) ≡ None) [
+    elim (nat_cmp k e.0) as (λ o. T (is_lt o && below_all nat_cmp k es) → cond (is_eq o) (Some e.1)
+    (find nat_cmp k es) ≡ None) [
       | Less ↦ λ p. not_found k es p
       | Equal ↦ λ p. absurd p
       | Greater ↦ λ p. absurd p
@@ -57,13 +79,15 @@ not_found k (e ∷ es) h =
 
 module _ (f : Record → Bool) where
   -- a record that stands at a number passes, and so one of the list does
-  any_at : (n : ℕ) (r : Record) (es : List (ℕ × Record)) → find nat_cmp n es ≡ Some r → f r ≡ true → list_any (λ e. f e.1) es ≡ true
+  any_at : (n : ℕ) (r : Record) (es : List (ℕ × Record)) → find nat_cmp n es ≡ Some r → f r ≡ true
+      → list_any (λ e. f e.1) es ≡ true
   any_at n r [] found h = absurd cc
   any_at n r (e ∷ es) found h =
       elim (f e.1) as (λ b. f e.1 ≡ b → (b || list_any (λ x. f x.1) es) ≡ true) [
         | true ↦ λ q. refl
         | false ↦ λ q.
-            elim (nat_cmp n e.0) as (λ o. cond (is_eq o) (Some e.1) (find nat_cmp n es) ≡ Some r → list_any (λ x. f x.1) es ≡ true) [
+            elim (nat_cmp n e.0) as (λ o. cond (is_eq o) (Some e.1) (find nat_cmp n es) ≡ Some r
+            → list_any (λ x. f x.1) es ≡ true) [
               | Less ↦ λ g. any_at n r es g h
               | Equal ↦ λ g. let it : e.1 ≡ r = cc in let wrong : true ≡ false = sym h ∙ ap f (sym it) ∙ q in absurd cc
               | Greater ↦ λ g. any_at n r es g h
@@ -71,20 +95,31 @@ module _ (f : Record → Bool) where
       ] refl
 
   -- where one of the list passes, a record that stands at a number does
-  at_any : (es : List (ℕ × Record)) → T (is_sorted nat_cmp es) → list_any (λ e. f e.1) es ≡ true → (n : ℕ) × (r : Record) × (find nat_cmp n es ≡ Some r) × (f r ≡ true)
+  at_any : (es : List (ℕ × Record)) → T (is_sorted nat_cmp es) → list_any (λ e. f e.1) es ≡ true
+      → (n : ℕ) × (r : Record) × (find nat_cmp n es ≡ Some r) × (f r ≡ true)
   at_any [] rises h = absurd cc
   at_any (e ∷ es) rises h =
       elim (f e.1) as (λ b. f e.1 ≡ b → (b || list_any (λ x. f x.1) es) ≡ true
-      → (n : ℕ) × (r : Record) × (cond (is_eq (nat_cmp n e.0)) (Some e.1) (find nat_cmp n es) ≡ Some r) × (f r ≡ true)) [
-        | true ↦ λ q g. (e.0, e.1, ap (λ o. cond (is_eq o) (Some e.1) (find nat_cmp e.0 es)) (sym (nat_cmp_is e.0 e.0 Equal refl)), q)
+      → (n : ℕ) × (r : Record) × (cond (is_eq (nat_cmp n e.0)) (Some e.1) (find nat_cmp n es) ≡ Some r)
+      × (f r ≡ true)) [
+        | true ↦ λ q g. (
+          e.0,
+          e.1,
+          ap (λ o. cond (is_eq o) (Some e.1) (find nat_cmp e.0 es))
+              (sym (nat_cmp_is e.0 e.0 Equal refl)),
+          q,
+        )
         | false ↦ λ q g.
             let more = at_any es (behind (below_all nat_cmp e.0 es) (is_sorted nat_cmp es) rises) g in
-            let apart : (o : Ordering) → nat_cmp more.0 e.0 ≡ o → cond (is_eq o) (Some e.1) (find nat_cmp more.0 es) ≡ Some more.1 =
-            λ o. elim o as (λ o. nat_cmp more.0 e.0 ≡ o → cond (is_eq o) (Some e.1) (find nat_cmp more.0 es) ≡ Some more.1) [
+            let apart : (o : Ordering) → nat_cmp more.0 e.0 ≡ o → cond (is_eq o) (Some e.1)
+            (find nat_cmp more.0 es) ≡ Some more.1 =
+            λ o. elim o as (λ o. nat_cmp more.0 e.0 ≡ o → cond (is_eq o) (Some e.1) (find nat_cmp more.0 es)
+            ≡ Some more.1) [
               | Less ↦ λ is. more.2
               | Equal ↦ λ is.
                   let same : more.0 ≡ e.0 = ranked more.0 e.0 Equal (sym is) in
-                  let gone : find nat_cmp more.0 es ≡ None = ap (λ k. find nat_cmp k es) same ∙ not_found e.0 es (below (below_all nat_cmp e.0 es) (is_sorted nat_cmp es) rises) in
+                  let gone : find nat_cmp more.0 es ≡ None = ap (λ k. find nat_cmp k es) same
+                  ∙ not_found e.0 es (below (below_all nat_cmp e.0 es) (is_sorted nat_cmp es) rises) in
                   let wrong : None ≡ Some more.1 = sym gone ∙ more.2 in absurd cc
               | Greater ↦ λ is. more.2
             ] in
@@ -94,22 +129,33 @@ module _ (f : Record → Bool) where
 module _ (source : ℕ) (k : EntryKind) (page : List ℕ) (item : Item) where
   has_key : (e : model.Entry) → HasKey source k page item e → is_like source k page item (kind.Entry e) ≡ true
   has_key e (is, same, on, of) =
-      ap (λ b. b && (bytes_eq (entry_kind_word e.kind) (entry_kind_word k) && (bytes_eq e.page page && e.item.number == item.number))) (eq-eqb e.source source is)
-      ∙ ap (λ b. b && (bytes_eq e.page page && e.item.number == item.number)) (bytes_same (entry_kind_word e.kind) (entry_kind_word k) (ap entry_kind_word same))
+      ap (λ b. b && (bytes_eq (entry_kind_word e.kind) (entry_kind_word k) &&
+      (bytes_eq e.page page && e.item.number == item.number))) (eq-eqb e.source source is)
+      ∙ ap (λ b. b && (bytes_eq e.page page && e.item.number == item.number))
+      (bytes_same (entry_kind_word e.kind) (entry_kind_word k) (ap entry_kind_word same))
       ∙ ap (λ b. b && e.item.number == item.number) (bytes_same e.page page on)
       ∙ eq-eqb e.item.number item.number (ap (λ (x : Item). x.number) of)
 
   key_of : (e : model.Entry) → is_like source k page item (kind.Entry e) ≡ true → HasKey source k page item e
   key_of e h =
-      let rest = second (e.source == source) (bytes_eq (entry_kind_word e.kind) (entry_kind_word k) && (bytes_eq e.page page && e.item.number == item.number)) h in
-      let last = second (bytes_eq (entry_kind_word e.kind) (entry_kind_word k)) (bytes_eq e.page page && e.item.number == item.number) rest in (
-        eqb-true e.source source (first (e.source == source) (bytes_eq (entry_kind_word e.kind) (entry_kind_word k) && (bytes_eq e.page page && e.item.number == item.number)) h),
-        same_kind e.kind k (bytes_are (entry_kind_word e.kind) (entry_kind_word k) (first (bytes_eq (entry_kind_word e.kind) (entry_kind_word k)) (bytes_eq e.page page && e.item.number == item.number) rest)),
+      let rest = second (e.source == source)
+      (bytes_eq (entry_kind_word e.kind) (entry_kind_word k) &&
+      (bytes_eq e.page page && e.item.number == item.number)) h in
+      let last = second (bytes_eq (entry_kind_word e.kind) (entry_kind_word k))
+      (bytes_eq e.page page && e.item.number == item.number) rest in (
+        eqb-true e.source source
+            (first (e.source == source) (bytes_eq (entry_kind_word e.kind) (entry_kind_word k) &&
+            (bytes_eq e.page page && e.item.number == item.number)) h),
+        same_kind e.kind k (bytes_are (entry_kind_word e.kind) (entry_kind_word k)
+            (first (bytes_eq (entry_kind_word e.kind) (entry_kind_word k))
+            (bytes_eq e.page page && e.item.number == item.number) rest)),
         bytes_are e.page page (first (bytes_eq e.page page) (e.item.number == item.number) last),
-        same_item e.item item (eqb-true e.item.number item.number (second (bytes_eq e.page page) (e.item.number == item.number) last)),
+        same_item e.item item
+            (eqb-true e.item.number item.number (second (bytes_eq e.page page) (e.item.number == item.number) last)),
       )
 
-  like_is : (r : Record) → is_like source k page item r ≡ true → (e : model.Entry) × (r ≡ kind.Entry e) × HasKey source k page item e
+  like_is : (r : Record) → is_like source k page item r ≡ true → (e : model.Entry) × (r ≡ kind.Entry e)
+      × HasKey source k page item e
   like_is (kind.Entry e) h = (e, refl, key_of e h)
   like_is (kind.Place p) h = absurd cc
   like_is (kind.Repo p) h = absurd cc
@@ -120,31 +166,38 @@ module _ (source : ℕ) (k : EntryKind) (page : List ℕ) (item : Item) where
   like_is (kind.Event p) h = absurd cc
   like_is (kind.Other p) h = absurd cc
 
-  like_there : (m : Records) (n : ℕ) → IsEntryAt m source k page item n → list_any (λ e. is_like source k page item e.1) (entries m) ≡ true
-  like_there m n (e, at, key) = any_at (is_like source k page item) n (kind.Entry e) (entries m) (sym (get-entries m n) ∙ at) (has_key e key)
+  like_there : (m : Records) (n : ℕ) → IsEntryAt m source k page item n → list_any (λ e. is_like source k page item e.1)
+      (entries m) ≡ true
+  like_there m n (e, at, key) = any_at (is_like source k page item) n (kind.Entry e) (entries m)
+      (sym (get-entries m n) ∙ at) (has_key e key)
 
-  there_like : (m : Records) → list_any (λ e. is_like source k page item e.1) (entries m) ≡ true → (n : ℕ) × IsEntryAt m source k page item n
+  there_like : (m : Records) → list_any (λ e. is_like source k page item e.1) (entries m) ≡ true
+      → (n : ℕ) × IsEntryAt m source k page item n
   there_like m h =
       let one = at_any (is_like source k page item) (entries m) (entries_sorted m) h in
       let it = like_is one.1 one.3 in
       (one.0, (it.0, get-entries m one.0 ∙ one.2 ∙ ap Some it.1, it.2))
 
   -- where a look finds no entry of the key, the key is free; where it finds one, it is taken
-  pub key_free : (m : Records) → IsLowest (λ n. IsEntryAt m source k page item n) None → key_is_free m source k page item ≡ Ok tt
+  pub key_free : (m : Records) → IsLowest (λ n. IsEntryAt m source k page item n) None
+      → key_is_free m source k page item ≡ Ok tt
   key_free m none =
-      elim (list_any (λ e. is_like source k page item e.1) (entries m)) as (λ b. list_any (λ e. is_like source k page item e.1) (entries m) ≡ b
+      elim (list_any (λ e. is_like source k page item e.1) (entries m)) as (λ b. list_any
+      (λ e. is_like source k page item e.1) (entries m) ≡ b
       → ◌≡◌ {A = Result (Unit {0}) RefusalKind} (need (not b) DuplicateEntry) (Ok tt)) [
         | true ↦ λ q. let one = there_like m q in absurd (none one.0 one.1)
         | false ↦ λ q. refl
       ] refl
 
-  pub key_taken : (m : Records) (o : Option ℕ) (n : ℕ) → o ≡ Some n → IsLowest (λ j. IsEntryAt m source k page item j) o → key_is_free m source k page item ≡ Err DuplicateEntry
+  pub key_taken : (m : Records) (o : Option ℕ) (n : ℕ) → o ≡ Some n → IsLowest (λ j. IsEntryAt m source k page item j) o
+      → key_is_free m source k page item ≡ Err DuplicateEntry
   key_taken m o n is found =
       let there = subst (IsLowest (λ j. IsEntryAt m source k page item j)) is found in
       rw (like_there m n there.0) refl
 
   -- where a key is free, no entry has it
-  pub none_there : (m : Records) (u : Unit {0}) → key_is_free m source k page item ≡ Ok u → (n : ℕ) → IsEntryAt m source k page item n → ⊥
+  pub none_there : (m : Records) (u : Unit {0}) → key_is_free m source k page item ≡ Ok u → (n : ℕ)
+      → IsEntryAt m source k page item n → ⊥
   none_there m u e n there =
       let taken : key_is_free m source k page item ≡ Err DuplicateEntry = rw (like_there m n there) refl in
       let wrong : ◌≡◌ {A = Result (Unit {0}) RefusalKind} (Err DuplicateEntry) (Ok u) = sym taken ∙ e in cc

@@ -30,7 +30,8 @@ is_not_normal (b ∷ bs) e = ap (λ x. if x then Ok (b ∷ bs) else Err BadText)
 pub name_taken : (t name : List ℕ) → place_name t ≡ Ok name → (t ≡ name) × IsNormal name
 name_taken [] name e = absurd cc
 name_taken (b ∷ bs) name e =
-    elim (bytes_eq (normal (b ∷ bs)) (b ∷ bs)) as (λ x. bytes_eq (normal (b ∷ bs)) (b ∷ bs) ≡ x → (if x then Ok (b ∷ bs) else Err BadText) ≡ Ok name → (b ∷ bs ≡ name) × IsNormal name) [
+    elim (bytes_eq (normal (b ∷ bs)) (b ∷ bs)) as (λ x. bytes_eq (normal (b ∷ bs)) (b ∷ bs) ≡ x
+    → (if x then Ok (b ∷ bs) else Err BadText) ≡ Ok name → (b ∷ bs ≡ name) × IsNormal name) [
       | true ↦ λ q f. let it : b ∷ bs ≡ name = cc in (it, subst IsNormal it (bytes_are (normal (b ∷ bs)) (b ∷ bs) q))
       | false ↦ λ q f. absurd cc
     ] refl e

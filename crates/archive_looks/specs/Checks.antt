@@ -1,5 +1,29 @@
--- What a command looks at before it does anything, one check after the other (`and_then` of `commands`). Rules of our own.
-use Rattle.std.specs.Prelude.{ℕ, zero, suc, List, [], ◌∷◌, Bool, true, false, not, ◌&&◌, ◌||◌, ◌==◌, nat_le, nat_lt, Option, Some, None, Result, Ok, Err, if◌then◌else◌}
+-- What a command looks at before it does anything, one check after the other (`and_then` of `commands`). Rules of our
+-- own.
+use Rattle.std.specs.Prelude.{
+  ℕ,
+  zero,
+  suc,
+  List,
+  [],
+  ◌∷◌,
+  Bool,
+  true,
+  false,
+  not,
+  ◌&&◌,
+  ◌||◌,
+  ◌==◌,
+  nat_le,
+  nat_lt,
+  Option,
+  Some,
+  None,
+  Result,
+  Ok,
+  Err,
+  if◌then◌else◌,
+}
 use Rattle.std.specs.List.{list_any}
 use Rattle.std.specs.Str.{bytes_eq}
 use Rattle.std.specs.FinMap.{get}
@@ -153,7 +177,8 @@ abbrev pub tag_in : Owner → List ℕ → Result (List ℕ) RefusalKind
 tag_in o tag = if is_tag_of o tag then Ok tag else Err NotOfKind
 
 -- ---- places
--- a name with a part between commas that is not empty, spaces at its ends apart: a character that is neither comma nor space
+-- a name with a part between commas that is not empty, spaces at its ends apart: a character that is neither comma nor
+-- space
 abbrev pub says_something : List ℕ → Bool
 says_something name = list_any (λ b. not (b == 44 || b == 32)) name
 
@@ -167,8 +192,8 @@ abbrev pub is_within_with : Records → ℕ → (ℕ → model.Place → Bool) �
 is_within_with m n f None = false
 is_within_with m n f (Some q) = nat_lt q n && is_place_with (f q) (get m q)
 
--- the place of a number, or one that it is within, has a name that says something. Each has a smaller number than the one
--- before it, so that as many steps as the number says are enough
+-- the place of a number, or one that it is within, has a name that says something. Each has a smaller number than the
+-- one before it, so that as many steps as the number says are enough
 abbrev pub is_said : ℕ → Records → ℕ → model.Place → Bool
 is_said zero m n p = says_something p.name
 is_said (suc steps) m n p = says_something p.name || is_within_with m n (λ q r. is_said steps m q r) p.parent

@@ -1,9 +1,33 @@
 -- What a command on register entries looks at: its words, its mentions, and what is there already. Rules of our own.
-use Rattle.std.specs.Prelude.{ℕ, List, [], ◌∷◌, Bool, false, not, ◌&&◌, ◌==◌, Option, Some, None, Result, Ok, Err, bytes_eq, if◌then◌else◌}
+use Rattle.std.specs.Prelude.{
+  ℕ,
+  List,
+  [],
+  ◌∷◌,
+  Bool,
+  false,
+  not,
+  ◌&&◌,
+  ◌==◌,
+  Option,
+  Some,
+  None,
+  Result,
+  Ok,
+  Err,
+  bytes_eq,
+  if◌then◌else◌,
+}
 use Rattle.std.specs.List.{list_any}
 use Rattle.std.specs.FinMap.{entries, get}
 use Rattle.record_text.specs.declared.refusal.RefusalKind.{RefusalKind}
-use Rattle.record_text.specs.declared.refusal.RefusalKind.TheVariants.{NoSuch, WrongKind, BadText, NotOfKind, DuplicateEntry}
+use Rattle.record_text.specs.declared.refusal.RefusalKind.TheVariants.{
+  NoSuch,
+  WrongKind,
+  BadText,
+  NotOfKind,
+  DuplicateEntry,
+}
 use Rattle.record_fields.specs.Words.{entry_kind_word, role_of}
 use Rattle.record_fields.specs.declared.entry_words.EntryKind.{EntryKind}
 use Rattle.record_fields.specs.declared.entry_words.Role.{Role}
@@ -22,7 +46,8 @@ use Rattle.archive_looks.specs.Checks.{date_in, each, need, passed, text_in}
 -- roles and names are texts
 abbrev pub mentions_fit : List GivenMention → Result (Unit {0}) RefusalKind
 mentions_fit [] = Ok tt
-mentions_fit (m ∷ ms) = and_then (passed (text_in m.role)) (λ _. and_then (passed (text_in m.name)) (λ _. mentions_fit ms))
+mentions_fit (m ∷ ms) = and_then (passed (text_in m.role))
+    (λ _. and_then (passed (text_in m.name)) (λ _. mentions_fit ms))
 
 -- all words of an entry are texts, and its date is one of the archive
 abbrev pub texts_fit : EntryRow → Result (Unit {0}) RefusalKind
@@ -73,9 +98,11 @@ entry_at c n = entry_in (get c.records n)
 -- an entry of that source, kind, page and item
 abbrev pub is_like : ℕ → EntryKind → List ℕ → Item → Record → Bool
 is_like source k page item (kind.Entry e) =
-    e.source == source && (bytes_eq (entry_kind_word e.kind) (entry_kind_word k) && (bytes_eq e.page page && e.item.number == item.number))
+    e.source == source && (bytes_eq (entry_kind_word e.kind) (entry_kind_word k) &&
+    (bytes_eq e.page page && e.item.number == item.number))
 is_like source k page item _ = false
 
 -- no such entry is there
 abbrev pub key_is_free : Records → ℕ → EntryKind → List ℕ → Item → Result (Unit {0}) RefusalKind
-key_is_free m source k page item = need (not (list_any (λ e. is_like source k page item e.1) (entries m))) DuplicateEntry
+key_is_free m source k page item =
+    need (not (list_any (λ e. is_like source k page item e.1) (entries m))) DuplicateEntry

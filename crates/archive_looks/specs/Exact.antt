@@ -21,8 +21,8 @@ IsExactSlip m None = Unit {0}
 IsExactSlip m (Some (change.Made n slip)) = get m n ≡ None
 IsExactSlip m (Some (change.Undone n)) = option_map (λ (s : Slip). s.is_undone) (get m n) ≡ Some false
 
--- the changes are of what differs, and of nothing else. What is asked of slips, and of what is put back from one, is asked in a sound
--- archive: elsewhere a slip may be anything
+-- the changes are of what differs, and of nothing else. What is asked of slips, and of what is put back from one, is
+-- asked in a sound archive: elsewhere a slip may be anything
 pub record IsExact (c : Content) (changes : Changes) : Type 0 where
   -- the numbers that get a record ascend, so that each is there once; those whose records are taken out, too
   pub puts : IsSound c → Ascends (put_numbers changes)

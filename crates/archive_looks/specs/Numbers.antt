@@ -11,8 +11,8 @@ use Rattle.receipts.specs.declared.answer.Answer.{Answer}
 abbrev pub IsTaken : Content → ℕ → Type 0
 IsTaken c n = (get c.records n ≢ None) ⊎ (get c.slips n ≢ None)
 
--- the numbers from the next one of before up to that of after are drawn, each for a record or a slip, and the answer is the
--- first of them with their count; or it is 0 and 0, and none is drawn
+-- the numbers from the next one of before up to that of after are drawn, each for a record or a slip, and the answer is
+-- the first of them with their count; or it is 0 and 0, and none is drawn
 abbrev pub Draws : Content → Answer → Content → Type 0
 Draws c a after =
     (after.next ≡ c.next + a.count) × ((a.first ≡ c.next) ⊎ ((a.first ≡ 0) × (a.count ≡ 0)))
@@ -22,8 +22,8 @@ Draws c a after =
 abbrev pub takes_away : Slip → ℕ → Bool
 takes_away s n = list_any (λ (x : Change). x.number == n && is_none x.new) s.changes
 
--- a number that is used up: it is below the next one, no record has it, and each merge that took its record away was undone,
--- so that none can bring it back
+-- a number that is used up: it is below the next one, no record has it, and each merge that took its record away was
+-- undone, so that none can bring it back
 abbrev pub IsUsedUp : Content → ℕ → Type 0
 IsUsedUp c n =
     (n < c.next) × (get c.records n ≡ None)

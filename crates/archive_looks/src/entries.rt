@@ -47,8 +47,8 @@ fn check_mentions(alloc: Global, mentions: &[GivenMention]) -> Result<(), Refusa
     }
 }
 
-/// Adds the mentions that a row gives of an entry of that kind, each of no person. Refused is a role that is none of the
-/// kind's (`NotOfKind`), and a name that is no text (`BadText`).
+/// Adds the mentions that a row gives of an entry of that kind, each of no person. Refused is a role that is none of
+/// the kind's (`NotOfKind`), and a name that is no text (`BadText`).
 pub fn push_mentions(
     alloc: Global,
     kind: EntryKind,

@@ -1,9 +1,11 @@
-//! What a command looks at before it makes anything: the texts that its words are, and the records that its numbers name.
+//! What a command looks at before it makes anything: the texts that its words are, and the records that its numbers
+//! name.
 //!
-//! It uses `archive_view`, through which an archive is looked at, `records` for what is in it, `commands` for the words of
-//! a command, and `place_paths` for the names and paths of places.
+//! It uses `archive_view`, through which an archive is looked at, `records` for what is in it, `commands` for the words
+//! of a command, and `place_paths` for the names and paths of places.
 //!
-//! Callers may rely on: each look answers what its definition says of what the view shows, or its refusal, and changes nothing.
+//! Callers may rely on: each look answers what its definition says of what the view shows, or its refusal, and changes
+//! nothing.
 #![tactic(auto)]
 
 mod entries;

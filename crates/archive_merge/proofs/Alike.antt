@@ -3,12 +3,40 @@ use Rattle.std.proofs.Common.{◌≡◌, ℕ, refl, sym, ◌∙◌}
 use Rattle.record_kinds.specs.Model as model
 use Rattle.record_kinds.specs.declared.record.Record.{Record}
 use Rattle.record_kinds.specs.declared.record.Record.TheVariants as kind
-use Rattle.record_links.specs.Links.{Wanted, a_place, a_repo, a_source, a_person, a_holder, a_cited, at_level_0, is_wanted}
-use Rattle.archive_state.specs.Merging.{record_with, once_in, merged_record, place_with, source_with, person_with, family_with, citation_with, event_with, entry_with, other_with, lines_with}
+use Rattle.record_links.specs.Links.{
+  Wanted,
+  a_place,
+  a_repo,
+  a_source,
+  a_person,
+  a_holder,
+  a_cited,
+  at_level_0,
+  is_wanted,
+}
+use Rattle.archive_state.specs.Merging.{
+  record_with,
+  once_in,
+  merged_record,
+  place_with,
+  source_with,
+  person_with,
+  family_with,
+  citation_with,
+  event_with,
+  entry_with,
+  other_with,
+  lines_with,
+}
 use Rattle.archive_state.proofs.Keeping.{IsAlike, alike_itself}
 
 pub alike_back : (x y : Record) → IsAlike x y → IsAlike y x
-alike_back x y h = record { wanted = λ w. sym (h.wanted w); events = sym h.events; written = sym h.written; room = sym h.room }
+alike_back x y h = record {
+  wanted = λ w. sym (h.wanted w);
+  events = sym h.events;
+  written = sym h.written;
+  room = sym h.room;
+}
 
 pub alike_then : (x y z : Record) → IsAlike x y → IsAlike y z → IsAlike x z
 alike_then x y z h k = record {

@@ -11,7 +11,14 @@ use Rattle.record_kinds.specs.declared.record.Record.{Record}
 use Rattle.archive_state.specs.Content.{Records}
 use Rattle.archive_state.specs.declared.slip.Change.{Change}
 pub use Rattle.archive_merge.specs.Comparing.{IsNow}
-use Rattle.archive_merge.specs.Comparing.{is_same_text, is_same_target, is_same_label, are_same_lines, is_same_record, is_now}
+use Rattle.archive_merge.specs.Comparing.{
+  is_same_text,
+  is_same_target,
+  is_same_label,
+  are_same_lines,
+  is_same_record,
+  is_now,
+}
 use Rattle.archive_merge.proofs.Once.{same_number, number_itself}
 
 both_yes : (a b : Bool) → (a && b) ≡ true → (a ≡ true) × (b ≡ true)
@@ -34,7 +41,11 @@ label_is : (a b : Label) → is_same_label a b ≡ true → a ≡ b
 label_is a b e =
     let x = both_yes (bytes_eq a.tag b.tag) (is_same_text a.text b.text && is_same_target a.target b.target) e in
     let y = both_yes (is_same_text a.text b.text) (is_same_target a.target b.target) x.1 in
-    λ i. record { tag = bytes_are a.tag b.tag x.0 i; text = text_is a.text b.text y.0 i; target = target_is a.target b.target y.1 i }
+    λ i. record {
+      tag = bytes_are a.tag b.tag x.0 i;
+      text = text_is a.text b.text y.0 i;
+      target = target_is a.target b.target y.1 i;
+    }
 
 lines_are : (ls ms : List (ℕ × Label)) → are_same_lines ls ms ≡ true → ls ≡ ms
 lines_are [] [] e = refl
@@ -53,7 +64,8 @@ record_is (Some r) None e = absurd cc
 
 pub now_is : (m : Records) (cs : List Change) → is_now m cs ≡ true → IsNow m cs
 now_is m [] e = tt
-now_is m (c ∷ cs) e = let x = both_yes (is_same_record (get m c.number) c.new) (is_now m cs) e in (record_is (get m c.number) c.new x.0, now_is m cs x.1)
+now_is m (c ∷ cs) e = let x = both_yes (is_same_record (get m c.number) c.new) (is_now m cs) e in
+    (record_is (get m c.number) c.new x.0, now_is m cs x.1)
 
 -- ---- and back
 text_same : (t : Option (List ℕ)) → is_same_text t t ≡ true
@@ -68,11 +80,13 @@ yes_both : (a b : Bool) → a ≡ true → b ≡ true → (a && b) ≡ true
 yes_both a b e f = ap (λ x. x && b) e ∙ f
 
 label_same : (a : Label) → is_same_label a a ≡ true
-label_same a = yes_both (bytes_eq a.tag a.tag) _ (bytes_same a.tag a.tag refl) (yes_both (is_same_text a.text a.text) _ (text_same a.text) (target_same a.target))
+label_same a = yes_both (bytes_eq a.tag a.tag) _ (bytes_same a.tag a.tag refl)
+    (yes_both (is_same_text a.text a.text) _ (text_same a.text) (target_same a.target))
 
 lines_same : (ls : List (ℕ × Label)) → are_same_lines ls ls ≡ true
 lines_same [] = refl
-lines_same (a ∷ ls) = yes_both (a.0 == a.0) _ (number_itself a.0) (yes_both (is_same_label a.1 a.1) _ (label_same a.1) (lines_same ls))
+lines_same (a ∷ ls) = yes_both (a.0 == a.0) _ (number_itself a.0)
+    (yes_both (is_same_label a.1 a.1) _ (label_same a.1) (lines_same ls))
 
 pub record_same : (r : Option Record) → is_same_record r r ≡ true
 record_same None = refl
@@ -80,7 +94,8 @@ record_same (Some r) = lines_same (stored r)
 
 pub is_now_new : (m : Records) (cs : List Change) → IsNow m cs → is_now m cs ≡ true
 is_now_new m [] h = refl
-is_now_new m (c ∷ cs) h = yes_both (is_same_record (get m c.number) c.new) _ (ap (is_same_record (get m c.number)) (sym h.0) ∙ record_same (get m c.number)) (is_now_new m cs h.1)
+is_now_new m (c ∷ cs) h = yes_both (is_same_record (get m c.number) c.new) _
+    (ap (is_same_record (get m c.number)) (sym h.0) ∙ record_same (get m c.number)) (is_now_new m cs h.1)
 
 -- ---- by a test of lines
 true_false : true ≡ false → ⊥
@@ -89,7 +104,8 @@ true_false e = absurd cc
 yes_is : (b : Bool) (ls ms : List (ℕ × Label)) → (IsTrue b → ls ≡ ms) → b ≡ true → b ≡ are_same_lines ls ms
 yes_is b ls ms h e = e ∙ sym (ap (are_same_lines ls) (sym (h e)) ∙ lines_same ls)
 
-pub same_by_test : (b : Bool) (ls ms : List (ℕ × Label)) (r s : Record) → ls ≡ stored r → ms ≡ stored s → (IsTrue b → ls ≡ ms) × (ls ≡ ms → IsTrue b) → b ≡ is_same_record (Some r) (Some s)
+pub same_by_test : (b : Bool) (ls ms : List (ℕ × Label)) (r s : Record) → ls ≡ stored r → ms ≡ stored s
+    → (IsTrue b → ls ≡ ms) × (ls ≡ ms → IsTrue b) → b ≡ is_same_record (Some r) (Some s)
 same_by_test b ls ms r s e f h =
     elim b as (λ x. b ≡ x → b ≡ are_same_lines ls ms) [
       | true ↦ λ q. yes_is b ls ms h.0 q

@@ -1,5 +1,31 @@
 -- What looks in a row show, and what they find of a merge.
-use Rattle.std.proofs.Common.{◌≡◌, ℕ, ◌+◌, ◌<◌, ◌⊎◌, inl, inr, List, [], ◌∷◌, ◌++◌, Bool, true, false, cond, refl, sym, ap, ◌∙◌, length, take, get_or, arith, zero, suc}
+use Rattle.std.proofs.Common.{
+  ◌≡◌,
+  ℕ,
+  ◌+◌,
+  ◌<◌,
+  ◌⊎◌,
+  inl,
+  inr,
+  List,
+  [],
+  ◌∷◌,
+  ◌++◌,
+  Bool,
+  true,
+  false,
+  cond,
+  refl,
+  sym,
+  ap,
+  ◌∙◌,
+  length,
+  take,
+  get_or,
+  arith,
+  zero,
+  suc,
+}
 use Rattle.std.specs.Prelude.{Some, map, not, ◌||◌, ◌&&◌, ◌==◌}
 use Rattle.std.specs.List.{list_any, filter, flat_map}
 use Rattle.std.specs.FinMap.{get, entries}
@@ -23,21 +49,26 @@ use Rattle.archive_merge.proofs.Merge.{entries_there}
 use Rattle.archive_merge.proofs.Numbers.{numbers_found}
 
 -- ---- looks in a row
-pub then_look : {S Held : Type 0} (honest : S → Type 0) (shows : S → Held → Type 0) (content : Held → Content) (a b c : S) (P Q R : Content → Type 0)
-    → OnView honest shows content a b P → OnView honest shows content b c Q → ((x : Content) → P x → Q x → R x) → OnView honest shows content a c R
+pub then_look : {S Held : Type 0} (honest : S → Type 0) (shows : S → Held → Type 0) (content : Held → Content)
+    (a b c : S) (P Q R : Content → Type 0)
+    → OnView honest shows content a b P → OnView honest shows content b c Q → ((x : Content) → P x → Q x → R x)
+    → OnView honest shows content a c R
 then_look honest shows content a b c P Q R p q r h =
     let second = q h in
     let first = p second.0 in
     (first.0, λ held s. let x = first.1 held s in let y = second.1 held x.0 in (y.0, r (content held) x.1 y.1))
 
 -- ---- tests of one number after the other
-one_more : (P : ℕ → Bool) (ns : List ℕ) (i n : ℕ) → i < length ns → n ≡ get_or ns i n → list_any P (take (i + 1) ns) ≡ (list_any P (take i ns) || (P n || false))
-one_more P ns i n h e = ap (list_any P) (take_more ns i n h) ∙ list_any-append P (take i ns) (get_or ns i n ∷ []) ∙ ap (λ k. list_any P (take i ns) || (P k || false)) (sym e)
+one_more : (P : ℕ → Bool) (ns : List ℕ) (i n : ℕ) → i < length ns → n ≡ get_or ns i n
+    → list_any P (take (i + 1) ns) ≡ (list_any P (take i ns) || (P n || false))
+one_more P ns i n h e = ap (list_any P) (take_more ns i n h) ∙ list_any-append P (take i ns) (get_or ns i n ∷ [])
+    ∙ ap (λ k. list_any P (take i ns) || (P k || false)) (sym e)
 
 neither : (a b : Bool) → a ≡ false → b ≡ false → (a || (b || false)) ≡ false
 neither a b e f = ap (λ x. x || (b || false)) e ∙ ap (λ x. x || false) f
 
-pub none_more : (P : ℕ → Bool) (ns : List ℕ) (i n : ℕ) → i < length ns → n ≡ get_or ns i n → list_any P (take i ns) ≡ false → P n ≡ false → list_any P (take (i + 1) ns) ≡ false
+pub none_more : (P : ℕ → Bool) (ns : List ℕ) (i n : ℕ) → i < length ns → n ≡ get_or ns i n
+    → list_any P (take i ns) ≡ false → P n ≡ false → list_any P (take (i + 1) ns) ≡ false
 none_more P ns i n h e was is = one_more P ns i n h e ∙ neither (list_any P (take i ns)) (P n) was is
 
 either : (a : Bool) → (a || true) ≡ true
@@ -50,7 +81,8 @@ first_yes a b e = ap (λ x. x || b) e
 second_yes : (a b : Bool) → b ≡ true → (a || b) ≡ true
 second_yes a b e = ap (λ x. a || x) e ∙ either a
 
-pub one_there : (P : ℕ → Bool) (ns : List ℕ) (i n : ℕ) → i < length ns → n ≡ get_or ns i n → P n ≡ true → list_any P ns ≡ true
+pub one_there : (P : ℕ → Bool) (ns : List ℕ) (i n : ℕ) → i < length ns → n ≡ get_or ns i n → P n ≡ true
+    → list_any P ns ≡ true
 one_there P [] i n h e is = absurd (omega arith)
 one_there P (k ∷ ns) zero n h e is = first_yes (P k) (list_any P ns) (ap P (sym e) ∙ is)
 one_there P (k ∷ ns) (suc i) n h e is = second_yes (P k) (list_any P ns) (one_there P ns i n (omega arith) e is)
@@ -67,12 +99,14 @@ module _ {A : Type 0} where
   any_back P xs ys e = list_any-append P xs ys ∙ second_yes (list_any P xs) (list_any P ys) e
 
 module _ {A B : Type 0} where
-  any_flat : (P : B → Bool) (p : A → Bool) (h : A → List B) → ((a : A) → p a ≡ true → list_any P (h a) ≡ true) → (xs : List A) → list_any p xs ≡ true → list_any P (flat_map h xs) ≡ true
+  any_flat : (P : B → Bool) (p : A → Bool) (h : A → List B) → ((a : A) → p a ≡ true → list_any P (h a) ≡ true)
+      → (xs : List A) → list_any p xs ≡ true → list_any P (flat_map h xs) ≡ true
   any_flat P p h f [] e = absurd cc
-  any_flat P p h f (x ∷ xs) e = elim (one_of (p x) (list_any p xs) e) as (λ _. list_any P (h x ++ flat_map h xs) ≡ true) [
-    | inl y ↦ any_front P (h x) (flat_map h xs) (f x y)
-    | inr y ↦ any_back P (h x) (flat_map h xs) (any_flat P p h f xs y)
-  ]
+  any_flat P p h f (x ∷ xs) e =
+      elim (one_of (p x) (list_any p xs) e) as (λ _. list_any P (h x ++ flat_map h xs) ≡ true) [
+        | inl y ↦ any_front P (h x) (flat_map h xs) (f x y)
+        | inr y ↦ any_back P (h x) (flat_map h xs) (any_flat P p h f xs y)
+      ]
 
 -- ---- families of both
 both_yes : (a b : Bool) → (a && b) ≡ true → (a ≡ true) × (b ≡ true)
@@ -90,13 +124,16 @@ module _ (n : ℕ) where
   child_named p e = first_yes (p.person == n) _ e
 
   member_named : (x : model.Family) → has_member n x ≡ true → is_among n (links (kind.Family x)) ≡ true
-  member_named x e = elim (one_of (list_any (λ (p : model.Partner). p.person == n) x.partners) (has_child n x) e) as (λ _. list_any is_it (family_links x) ≡ true) [
-    | inl y ↦ any_front is_it (flat_map partner_links x.partners) (flat_map child_links x.children ++ carried_links x.carried)
-        (any_flat is_it (λ (p : model.Partner). p.person == n) partner_links partner_named x.partners y)
-    | inr y ↦ any_back is_it (flat_map partner_links x.partners) (flat_map child_links x.children ++ carried_links x.carried)
-        (any_front is_it (flat_map child_links x.children) (carried_links x.carried)
-        (any_flat is_it (λ (p : model.Child). p.person == n) child_links child_named x.children y))
-  ]
+  member_named x e = elim (one_of (list_any (λ (p : model.Partner). p.person == n) x.partners)
+      (has_child n x) e) as (λ _. list_any is_it (family_links x) ≡ true) [
+        | inl y ↦ any_front is_it (flat_map partner_links x.partners)
+            (flat_map child_links x.children ++ carried_links x.carried)
+            (any_flat is_it (λ (p : model.Partner). p.person == n) partner_links partner_named x.partners y)
+        | inr y ↦ any_back is_it (flat_map partner_links x.partners)
+            (flat_map child_links x.children ++ carried_links x.carried)
+            (any_front is_it (flat_map child_links x.children) (carried_links x.carried)
+            (any_flat is_it (λ (p : model.Child). p.person == n) child_links child_named x.children y))
+      ]
 
 module _ (keep gone : ℕ) (m : Records) where
   -- a family of both names the one that is gone
@@ -123,21 +160,28 @@ module _ (keep gone : ℕ) (m : Records) where
   abbrev names_gone : ℕ × Record → Bool
   names_gone e = is_among gone (links e.1)
 
-  among_named : (es : List (ℕ × Record)) → EachOf (λ (d : ℕ × Record). get m d.0 ≡ Some d.1) es → clashes_among keep gone m (naming gone es) ≡ list_any (λ e. clashes keep gone e.1) es
+  among_named : (es : List (ℕ × Record)) → EachOf (λ (d : ℕ × Record). get m d.0 ≡ Some d.1) es
+      → clashes_among keep gone m (naming gone es) ≡ list_any (λ e. clashes keep gone e.1) es
   among_named [] h = refl
   among_named (e ∷ es) h = elim (names_gone e) as (λ b. names_gone e ≡ b
-      → clashes_among keep gone m (map (λ (d : ℕ × Record). d.0) (cond b (e ∷ filter names_gone es) (filter names_gone es))) ≡ (clashes keep gone e.1 || list_any (λ e. clashes keep gone e.1) es)) [
-        | true ↦ λ q. ap (λ o. clashes_in keep gone o || clashes_among keep gone m (naming gone es)) h.0 ∙ ap (λ b. clashes keep gone e.1 || b) (among_named es h.1)
-        | false ↦ λ q. among_named es h.1 ∙ ap (λ b. b || list_any (λ e. clashes keep gone e.1) es) (sym (no_clash e.1 q))
+      → clashes_among keep gone m
+      (map (λ (d : ℕ × Record). d.0) (cond b (e ∷ filter names_gone es) (filter names_gone es)))
+      ≡ (clashes keep gone e.1 || list_any (λ e. clashes keep gone e.1) es)) [
+        | true ↦ λ q. ap (λ o. clashes_in keep gone o || clashes_among keep gone m (naming gone es)) h.0
+            ∙ ap (λ b. clashes keep gone e.1 || b) (among_named es h.1)
+        | false ↦ λ q. among_named es h.1 ∙ ap (λ b. b || list_any (λ e. clashes keep gone e.1) es)
+            (sym (no_clash e.1 q))
       ] refl
 
 -- the records that name the one that is gone are enough to look at
-pub clashes_named : (keep gone : ℕ) (c : Content) → clashes_among keep gone c.records (referrers c gone) ≡ is_clash keep gone c.records
+pub clashes_named : (keep gone : ℕ) (c : Content) → clashes_among keep gone c.records (referrers c gone)
+    ≡ is_clash keep gone c.records
 clashes_named keep gone c = among_named keep gone c.records (entries c.records) (entries_there c.records)
 
 -- ---- the changes of the numbers that were found
 module _ (keep gone : ℕ) (m : Records) where
-  filtered : (Q : ℕ × Record → Type 0) (test : ℕ × Record → Bool) (es : List (ℕ × Record)) → EachOf Q es → EachOf Q (filter test es)
+  filtered : (Q : ℕ × Record → Type 0) (test : ℕ × Record → Bool) (es : List (ℕ × Record)) → EachOf Q es
+      → EachOf Q (filter test es)
   filtered Q test [] h = tt
   filtered Q test (e ∷ es) h = elim (test e) as (λ b. EachOf Q (cond b (e ∷ filter test es) (filter test es))) [
     | true ↦ (h.0, filtered Q test es h.1)
@@ -145,27 +189,34 @@ module _ (keep gone : ℕ) (m : Records) where
   ]
 
   changes_there : (es : List (ℕ × Record)) → EachOf (λ (d : ℕ × Record). get m d.0 ≡ Some d.1) es
-      → changes_of keep gone m (map (λ (x : Change). x.number) (map (change_at keep gone m) es)) ≡ map (change_at keep gone m) es
+      → changes_of keep gone m (map (λ (x : Change). x.number) (map (change_at keep gone m) es))
+      ≡ map (change_at keep gone m) es
   changes_there [] h = refl
-  changes_there (e ∷ es) h = ap (λ o. change_of keep gone m e.0 o ++ changes_of keep gone m (map (λ (x : Change). x.number) (map (change_at keep gone m) es))) h.0
+  changes_there (e ∷ es) h =
+      ap (λ o. change_of keep gone m e.0 o ++ changes_of keep gone m
+      (map (λ (x : Change). x.number) (map (change_at keep gone m) es))) h.0
       ∙ ap (λ l. change_at keep gone m e ∷ l) (changes_there es h.1)
 
-pub changes_found : (keep gone : ℕ) (c : Content) (k g : Record) → get c.records keep ≡ Some k → get c.records gone ≡ Some g
+pub changes_found : (keep gone : ℕ) (c : Content) (k g : Record) → get c.records keep ≡ Some k
+    → get c.records gone ≡ Some g
     → changes_of keep gone c.records (changed_numbers keep gone c) ≡ merge_changes keep gone c.records
 changes_found keep gone c k g at_k at_g =
     ap (changes_of keep gone c.records) (sym (numbers_found keep gone c k g at_k at_g))
     ∙ changes_there keep gone c.records (filter (λ e. is_changed keep gone c.records e.0 e.1) (entries c.records))
-    (filtered keep gone c.records (λ (d : ℕ × Record). get c.records d.0 ≡ Some d.1) (λ e. is_changed keep gone c.records e.0 e.1) (entries c.records) (entries_there c.records))
+    (filtered keep gone c.records (λ (d : ℕ × Record). get c.records d.0 ≡ Some d.1)
+    (λ e. is_changed keep gone c.records e.0 e.1) (entries c.records) (entries_there c.records))
 
 -- the changes of one number more
-pub one_change_more : (f : ℕ → List Change) (ns : List ℕ) (i n : ℕ) (cs ds : List Change) → i < length ns → n ≡ get_or ns i n → cs ≡ flat_map f (take i ns) → ds ≡ cs ++ f n → ds ≡ flat_map f (take (i + 1) ns)
+pub one_change_more : (f : ℕ → List Change) (ns : List ℕ) (i n : ℕ) (cs ds : List Change) → i < length ns
+    → n ≡ get_or ns i n → cs ≡ flat_map f (take i ns) → ds ≡ cs ++ f n → ds ≡ flat_map f (take (i + 1) ns)
 one_change_more f ns i n cs ds h e was more =
     more ∙ ap (λ l. l ++ f n) was ∙ ap (λ l. flat_map f (take i ns) ++ l) (sym (append_nothing (f n)))
     ∙ ap (λ k. flat_map f (take i ns) ++ (f k ++ [])) e
     ∙ sym (ap (flat_map f) (take_more ns i n h) ∙ flat_both f (take i ns) (get_or ns i n ∷ []))
 
 -- ---- families that are looked at
-pub clash_found : (keep gone : ℕ) (c : Content) (ns : List ℕ) (b : Bool) → ns ≡ referrers c gone → b ≡ clashes_among keep gone c.records ns → b ≡ is_clash keep gone c.records
+pub clash_found : (keep gone : ℕ) (c : Content) (ns : List ℕ) (b : Bool) → ns ≡ referrers c gone
+    → b ≡ clashes_among keep gone c.records ns → b ≡ is_clash keep gone c.records
 clash_found keep gone c ns b e f = f ∙ ap (clashes_among keep gone c.records) e ∙ clashes_named keep gone c
 
 -- ---- new records, one change after the other
@@ -180,15 +231,20 @@ nothing false = refl
 module _ (m : Records) where
   now_more : (cs ds : List Change) → is_now m (cs ++ ds) ≡ (is_now m cs && is_now m ds)
   now_more [] ds = refl
-  now_more (c ∷ cs) ds = ap (λ b. is_same_record (get m c.number) c.new && b) (now_more cs ds) ∙ grouped (is_same_record (get m c.number) c.new) (is_now m cs) (is_now m ds)
+  now_more (c ∷ cs) ds = ap (λ b. is_same_record (get m c.number) c.new && b) (now_more cs ds)
+      ∙ grouped (is_same_record (get m c.number) c.new) (is_now m cs) (is_now m ds)
 
-  pub still_now : (cs : List Change) (i : ℕ) (c : Change) → i < length cs → c ≡ get_or cs i c → is_now m (take i cs) ≡ true → is_same_record (get m c.number) c.new ≡ true → is_now m (take (i + 1) cs) ≡ true
+  pub still_now : (cs : List Change) (i : ℕ) (c : Change) → i < length cs → c ≡ get_or cs i c
+      → is_now m (take i cs) ≡ true → is_same_record (get m c.number) c.new ≡ true → is_now m (take (i + 1) cs) ≡ true
   still_now cs i c h e was is =
       ap (is_now m) (take_more cs i c h) ∙ now_more (take i cs) (get_or cs i c ∷ [])
       ∙ ap (λ (d : Change). is_now m (take i cs) && (is_same_record (get m d.number) d.new && true)) (sym e)
       ∙ ap (λ b. b && (is_same_record (get m c.number) c.new && true)) was ∙ ap (λ b. b && true) is
 
-  pub one_changed : (cs : List Change) (i : ℕ) (c : Change) → i < length cs → c ≡ get_or cs i c → is_same_record (get m c.number) c.new ≡ false → is_now m cs ≡ false
+  pub one_changed : (cs : List Change) (i : ℕ) (c : Change) → i < length cs → c ≡ get_or cs i c
+      → is_same_record (get m c.number) c.new ≡ false → is_now m cs ≡ false
   one_changed [] i c h e is = absurd (omega arith)
-  one_changed (d ∷ cs) zero c h e is = ap (λ b. b && is_now m cs) (ap (λ (x : Change). is_same_record (get m x.number) x.new) (sym e) ∙ is)
-  one_changed (d ∷ cs) (suc i) c h e is = ap (λ b. is_same_record (get m d.number) d.new && b) (one_changed cs i c (omega arith) e is) ∙ nothing (is_same_record (get m d.number) d.new)
+  one_changed (d ∷ cs) zero c h e is = ap (λ b. b && is_now m cs)
+      (ap (λ (x : Change). is_same_record (get m x.number) x.new) (sym e) ∙ is)
+  one_changed (d ∷ cs) (suc i) c h e is = ap (λ b. is_same_record (get m d.number) d.new && b)
+      (one_changed cs i c (omega arith) e is) ∙ nothing (is_same_record (get m d.number) d.new)

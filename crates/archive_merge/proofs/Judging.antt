@@ -14,10 +14,14 @@ use Rattle.archive_merge.specs.Steps.{Step, slip_in, undo_step}
 use Rattle.archive_merge.proofs.Comparing.{is_now_new, now_is}
 
 abbrev judged : Content → ℕ → Slip → Bool → Bool → Step
-judged c n s undone now = and_then (need (not undone) AlreadyUndone) (λ _. and_then (need now ChangedSince) (λ _. Ok (with_undo n s c, record { first = 0; count = 0 })))
+judged c n s undone now = and_then (need (not undone) AlreadyUndone)
+    (λ _. and_then (need now ChangedSince) (λ _. Ok (with_undo n s c, record { first = 0; count = 0 })))
 
-by_two : (c : Content) (n : ℕ) (s : Slip) → get c.slips n ≡ Some s → undo_step c n ≡ judged c n s s.is_undone (is_now c.records s.changes)
-by_two c n s there = ap (λ o. and_then (slip_in o (get c.records n)) (λ (x : Slip). judged c n x x.is_undone (is_now c.records x.changes))) there
+by_two : (c : Content) (n : ℕ) (s : Slip) → get c.slips n ≡ Some s → undo_step c n ≡ judged c n s s.is_undone
+    (is_now c.records s.changes)
+by_two c n s there = ap
+    (λ o. and_then (slip_in o (get c.records n)) (λ (x : Slip). judged c n x x.is_undone (is_now c.records x.changes)))
+    there
 
 not_now : (c : Content) (s : Slip) → (IsNow c.records s.changes → ⊥) → is_now c.records s.changes ≡ false
 not_now c s h = elim (is_now c.records s.changes) as (λ b. is_now c.records s.changes ≡ b → b ≡ false) [
@@ -27,7 +31,8 @@ not_now c s h = elim (is_now c.records s.changes) as (λ b. is_now c.records s.c
 
 pub when_undone : (c : Content) (n : ℕ) (s : Slip) → get c.slips n ≡ Some s
     → (s.is_undone ≡ true → undo_step c n ≡ Err AlreadyUndone)
-    × (s.is_undone ≡ false → IsNow c.records s.changes → undo_step c n ≡ Ok (with_undo n s c, record { first = 0; count = 0 }))
+    × (s.is_undone ≡ false → IsNow c.records s.changes → undo_step c n ≡ Ok
+    (with_undo n s c, record { first = 0; count = 0 }))
     × (s.is_undone ≡ false → (IsNow c.records s.changes → ⊥) → undo_step c n ≡ Err ChangedSince)
 when_undone c n s there =
     let now = is_now c.records s.changes in

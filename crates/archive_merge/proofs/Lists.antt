@@ -14,7 +14,8 @@ module _ {A : Type 0} where
   each_all P f [] = tt
   each_all P f (x ∷ xs) = (f x, each_all P f xs)
 
-  pub each_zip : (P Q R : A → Type 0) → ((a : A) → P a → Q a → R a) → (xs : List A) → EachOf P xs → EachOf Q xs → EachOf R xs
+  pub each_zip : (P Q R : A → Type 0) → ((a : A) → P a → Q a → R a) → (xs : List A) → EachOf P xs
+      → EachOf Q xs → EachOf R xs
   each_zip P Q R f [] h k = tt
   each_zip P Q R f (x ∷ xs) h k = (f x h.0 k.0, each_zip P Q R f xs h.1 k.1)
 
@@ -41,7 +42,8 @@ module _ {A : Type 0} where
 module _ {A B : Type 0} where
   -- one more of a list that is mapped from its start on
   pub mapped_more : (f : A → B) (xs : List A) (i : ℕ) (x : A) (made more : List B) (y : B)
-      → i < length xs → x ≡ get_or xs i x → made ≡ map f (take i xs) → y ≡ f x → more ≡ made ++ (y ∷ []) → more ≡ map f (take (i + 1) xs)
+      → i < length xs → x ≡ get_or xs i x → made ≡ map f (take i xs) → y ≡ f x → more ≡ made ++ (y ∷ [])
+      → more ≡ map f (take (i + 1) xs)
   mapped_more f xs i x made more y h e was is pushed =
       pushed ∙ ap (λ l. l ++ (y ∷ [])) was ∙ ap (λ z. map f (take i xs) ++ (z ∷ [])) (is ∙ ap f e)
       ∙ sym (ap (map f) (take_more xs i x h) ∙ map_push f (take i xs) (get_or xs i x))
@@ -60,13 +62,19 @@ module _ {A B : Type 0} where
 
   pub flat_both : (f : A → List B) (xs ys : List A) → flat_map f (xs ++ ys) ≡ flat_map f xs ++ flat_map f ys
   flat_both f [] ys = refl
-  flat_both f (x ∷ xs) ys = ap (λ l. f x ++ l) (flat_both f xs ys) ∙ sym (append_more (f x) (flat_map f xs) (flat_map f ys))
+  flat_both f (x ∷ xs) ys = ap (λ l. f x ++ l) (flat_both f xs ys)
+      ∙ sym (append_more (f x) (flat_map f xs) (flat_map f ys))
 
-  pub each_flat : (P : B → Type 0) (f : A → List B) (xs : List A) → EachOf P (flat_map f xs) → EachOf (λ a. EachOf P (f a)) xs
+  pub each_flat : (P : B → Type 0) (f : A → List B) (xs : List A) → EachOf P (flat_map f xs)
+      → EachOf (λ a. EachOf P (f a)) xs
   each_flat P f [] h = tt
-  each_flat P f (x ∷ xs) h = (each_front P (f x) (flat_map f xs) h, each_flat P f xs (each_back P (f x) (flat_map f xs) h))
+  each_flat P f (x ∷ xs) h = (
+    each_front P (f x) (flat_map f xs) h,
+    each_flat P f xs (each_back P (f x) (flat_map f xs) h),
+  )
 
-  pub each_to_flat : (P : B → Type 0) (f : A → List B) (xs : List A) → EachOf (λ a. EachOf P (f a)) xs → EachOf P (flat_map f xs)
+  pub each_to_flat : (P : B → Type 0) (f : A → List B) (xs : List A) → EachOf (λ a. EachOf P (f a)) xs
+      → EachOf P (flat_map f xs)
   each_to_flat P f [] h = tt
   each_to_flat P f (x ∷ xs) h = each_both P (f x) (flat_map f xs) h.0 (each_to_flat P f xs h.1)
 
@@ -75,6 +83,8 @@ module _ {A B : Type 0} where
   cat m xs ys us vs e g = ap (λ l. l ++ vs) e ∙ ap (λ l. map m xs ++ l) g ∙ sym (map_both m xs ys)
 
 module _ {A B C : Type 0} where
-  pub flat_cat : (m : B → C) (g : A → A) (h : A → List B) (k : A → List C) → ((a : A) → k (g a) ≡ map m (h a)) → (xs : List A) → flat_map k (map g xs) ≡ map m (flat_map h xs)
+  pub flat_cat : (m : B → C) (g : A → A) (h : A → List B) (k : A → List C) → ((a : A) → k (g a) ≡ map m (h a))
+      → (xs : List A) → flat_map k (map g xs) ≡ map m (flat_map h xs)
   flat_cat m g h k e [] = refl
-  flat_cat m g h k e (x ∷ xs) = cat m (h x) (flat_map h xs) (k (g x)) (flat_map k (map g xs)) (e x) (flat_cat m g h k e xs)
+  flat_cat m g h k e (x ∷ xs) = cat m (h x) (flat_map h xs) (k (g x)) (flat_map k (map g xs)) (e x)
+      (flat_cat m g h k e xs)

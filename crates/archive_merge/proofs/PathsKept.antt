@@ -10,7 +10,8 @@ use Rattle.archive_state.specs.Known.{path_with, path_by, path_of}
 use Rattle.archive_state.specs.Paths.{Climbs, HasPath}
 use Rattle.archive_state.proofs.Known.{path_known}
 
-person_path_by : (steps : ℕ) (m : Records) (n : ℕ) (p : model.Person) → get m n ≡ Some (kind.Person p) → path_by steps m n ≡ None
+person_path_by : (steps : ℕ) (m : Records) (n : ℕ) (p : model.Person) → get m n ≡ Some (kind.Person p)
+    → path_by steps m n ≡ None
 person_path_by zero m n p at = refl
 person_path_by (suc steps) m n p at = ap (path_with n (path_by steps m)) at
 
@@ -23,7 +24,8 @@ module _ (part all : Records) (within : (n : ℕ) (r : Record) → get part n �
   climbs_within : (n : ℕ) (names : List (List ℕ)) → Climbs part n names → Climbs all n names
   climbs_within n [] h = h
   climbs_within n (name ∷ []) (p, at, is, alone) = (p, within n (kind.Place p) at, is, alone)
-  climbs_within n (name ∷ (above ∷ names)) (p, at, is, (u, parent, less, more)) = (p, within n (kind.Place p) at, is, (u, parent, less, climbs_within u (above ∷ names) more))
+  climbs_within n (name ∷ (above ∷ names)) (p, at, is, (u, parent, less, more)) =
+      (p, within n (kind.Place p) at, is, (u, parent, less, climbs_within u (above ∷ names) more))
 
   pub path_within : (n : ℕ) (path : List ℕ) → HasPath part n path → HasPath all n path
   path_within n path (names, climbs, e) = (names, climbs_within n names climbs, e)

@@ -5,7 +5,13 @@ use Rattle.std.proofs.lemmas.Bool.Decides.{nat_tests}
 use Rattle.std.specs.List.{filter}
 use Rattle.std.specs.FinMap.{get, entries}
 use Rattle.record_text.specs.declared.refusal.RefusalKind.{RefusalKind}
-use Rattle.record_text.specs.declared.refusal.RefusalKind.TheVariants.{SamePerson, MergeWithinFamily, ChangedSince, AlreadyUndone, Full}
+use Rattle.record_text.specs.declared.refusal.RefusalKind.TheVariants.{
+  SamePerson,
+  MergeWithinFamily,
+  ChangedSince,
+  AlreadyUndone,
+  Full,
+}
 use Rattle.record_kinds.specs.Model as model
 use Rattle.record_kinds.specs.declared.record.Record.{Record}
 use Rattle.record_kinds.specs.declared.record.Record.TheVariants as kind
@@ -19,7 +25,16 @@ use Rattle.commands.specs.Rows.{and_then}
 use Rattle.archive_looks.specs.Checks.{need, person_in, person_at, next_free}
 use Rattle.archive_merge.specs.Steps.{slip_in, slip_at, Step, merge_step, undo_step}
 use Rattle.archive_merge.specs.Comparing.{is_now}
-use Rattle.archive_merge.specs.Merges.{is_changed, change_at, merge_changes, is_clash, merged_records, slip_of, with_merge, with_undo}
+use Rattle.archive_merge.specs.Merges.{
+  is_changed,
+  change_at,
+  merge_changes,
+  is_clash,
+  merged_records,
+  slip_of,
+  with_merge,
+  with_undo,
+}
 use Rattle.archive_merge.proofs.Lists.{each_to_map}
 use Rattle.archive_merge.proofs.Once.{other_number}
 use Rattle.archive_state.proofs.Putting.{put_here}
@@ -29,7 +44,8 @@ use Rattle.archive_merge.proofs.Undo.{undo_sound}
 use Rattle.archive_merge.proofs.Comparing.{IsNow, now_is, is_now_new}
 
 -- what stands behind a check that passed
-pub passed : {A B : Type 0} (x : Result A RefusalKind) (f : A → Result B RefusalKind) (b : B) → and_then x f ≡ Ok b → (a : A) × (x ≡ Ok a) × (f a ≡ Ok b)
+pub passed : {A B : Type 0} (x : Result A RefusalKind) (f : A → Result B RefusalKind) (b : B) → and_then x f ≡ Ok b
+    → (a : A) × (x ≡ Ok a) × (f a ≡ Ok b)
 passed (Ok a) f b e = (a, refl, e)
 passed (Err k) f b e = absurd cc
 
@@ -63,10 +79,11 @@ a_slip None (Some r) s e = absurd cc
 
 -- a number is left
 pub the_next : (c : Content) (n : ℕ) → next_free c ≡ Ok n → (c.next ≡ n) × (c.next ≤ 4294967295)
-the_next c n e = elim (nat_le c.next 4_294_967_295) as (λ b. nat_le c.next 4_294_967_295 ≡ b → (if b then Ok c.next else Err Full) ≡ Ok n → (c.next ≡ n) × (c.next ≤ 4294967295)) [
-  | true ↦ λ less q. (cc, within c.next less)
-  | false ↦ λ less q. absurd cc
-] refl e
+the_next c n e = elim (nat_le c.next 4_294_967_295) as (λ b. nat_le c.next 4_294_967_295 ≡ b
+    → (if b then Ok c.next else Err Full) ≡ Ok n → (c.next ≡ n) × (c.next ≤ 4294967295)) [
+      | true ↦ λ less q. (cc, within c.next less)
+      | false ↦ λ less q. absurd cc
+    ] refl e
 
 -- what an accepted merge was of
 pub record Merged (c : Content) (keep gone : ℕ) (after : Content) (a : Answer) : Type 0 where
@@ -81,7 +98,8 @@ pub record Merged (c : Content) (keep gone : ℕ) (after : Content) (a : Answer)
   pub room : c.next ≤ 4294967295
   pub count : a.count ≡ 1
 
-pub merged_by : (c after : Content) (keep gone : ℕ) (a : Answer) → merge_step c keep gone ≡ Ok (after, a) → Merged c keep gone after a
+pub merged_by : (c after : Content) (keep gone : ℕ) (a : Answer) → merge_step c keep gone ≡ Ok (after, a)
+    → Merged c keep gone after a
 merged_by c after keep gone a e =
     let rest5 : ℕ → Step = λ n. Ok (with_merge keep gone c (n + 1), record { first = n; count = 1 }) in
     let rest4 : Unit {0} → Step = λ _. and_then (next_free c) rest5 in
@@ -95,29 +113,35 @@ merged_by c after keep gone a e =
     let h5 = passed (next_free c) rest5 (after, a) h4.2 in
     let room = the_next c h5.0 h5.1 in
     let next : c.next ≡ h5.0 = room.0 in
-    let both : ◌≡◌ {A = Content × Answer} (with_merge keep gone c (h5.0 + 1), record { first = h5.0; count = 1 }) (after, a) = let q = h5.2 in cc in
+    let both : ◌≡◌ {A = Content × Answer} (with_merge keep gone c (h5.0 + 1), record { first = h5.0; count = 1 })
+    (after, a) = let q = h5.2 in cc in
     record {
       k = h1.0;
       g = h2.0;
       at_k = a_person (get c.records keep) h1.0 h1.1;
       at_g = a_person (get c.records gone) h2.0 h2.1;
       apart = other_number keep gone (turned (keep == gone) (needed (not (keep == gone)) SamePerson h3.0 h3.1));
-      free = turned (is_clash keep gone c.records) (needed (not (is_clash keep gone c.records)) MergeWithinFamily h4.0 h4.1);
+      free = turned (is_clash keep gone c.records)
+          (needed (not (is_clash keep gone c.records)) MergeWithinFamily h4.0 h4.1);
       left = ap (λ n. with_merge keep gone c (n + 1)) next ∙ ap (λ (x : Content × Answer). x.0) both;
       first = next ∙ ap (λ (x : Content × Answer). x.1.first) both;
       room = room.1;
       count = sym (ap (λ (x : Content × Answer). x.1.count) both);
     }
 
-pub merged_sound : (c after : Content) (keep gone : ℕ) (a : Answer) → IsSound c → merge_step c keep gone ≡ Ok (after, a) → IsSound after
+pub merged_sound : (c after : Content) (keep gone : ℕ) (a : Answer) → IsSound c → merge_step c keep gone
+    ≡ Ok (after, a) → IsSound after
 merged_sound c after keep gone a sound e =
     let h : Merged c keep gone after a = merged_by c after keep gone a e in
-    subst IsSound h.left (merge_sound c keep gone h.k h.g sound h.at_k h.at_g h.apart (no_clashes keep gone c.records h.free) h.room)
+    subst IsSound h.left (merge_sound c keep gone h.k h.g sound h.at_k h.at_g h.apart
+    (no_clashes keep gone c.records h.free) h.room)
 
-pub merged_all : (c after : Content) (keep gone : ℕ) (a : Answer) (n : ℕ) → IsSound c → merge_step c keep gone ≡ Ok (after, a) → get after.records n ≡ merged keep gone (get c.records) n
+pub merged_all : (c after : Content) (keep gone : ℕ) (a : Answer) (n : ℕ) → IsSound c
+    → merge_step c keep gone ≡ Ok (after, a) → get after.records n ≡ merged keep gone (get c.records) n
 merged_all c after keep gone a n sound e =
     let h : Merged c keep gone after a = merged_by c after keep gone a e in
-    ap (λ (x : Content). get x.records n) (sym h.left) ∙ made_merged c keep gone h.k h.g sound h.at_k h.at_g h.apart (no_clashes keep gone c.records h.free) n
+    ap (λ (x : Content). get x.records n) (sym h.left) ∙ made_merged c keep gone h.k h.g sound h.at_k h.at_g h.apart
+    (no_clashes keep gone c.records h.free) n
 
 -- what an accepted undoing was of
 pub record Undone (c : Content) (n : ℕ) (after : Content) : Type 0 where
@@ -135,7 +159,8 @@ undone_by c after n a e =
     let h1 = passed (slip_at c n) rest1 (after, a) e in
     let h2 = passed (need (not h1.0.is_undone) AlreadyUndone) (rest2 h1.0) (after, a) h1.2 in
     let h3 = passed (need (is_now c.records h1.0.changes) ChangedSince) (rest3 h1.0) (after, a) h2.2 in
-    let both : ◌≡◌ {A = Content × Answer} (with_undo n h1.0 c, record { first = 0; count = 0 }) (after, a) = let q = h3.2 in cc in
+    let both : ◌≡◌ {A = Content × Answer} (with_undo n h1.0 c, record { first = 0; count = 0 }) (after, a) =
+    let q = h3.2 in cc in
     record {
       slip = h1.0;
       there = a_slip (get c.slips n) (get c.records n) h1.0 h1.1;
@@ -145,7 +170,8 @@ undone_by c after n a e =
     }
 
 -- its answer is 0 and 0
-pub undone_answer : (c after : Content) (n : ℕ) (a : Answer) → undo_step c n ≡ Ok (after, a) → (a.first ≡ 0) × (a.count ≡ 0)
+pub undone_answer : (c after : Content) (n : ℕ) (a : Answer) → undo_step c n ≡ Ok (after, a)
+    → (a.first ≡ 0) × (a.count ≡ 0)
 undone_answer c after n a e =
     let rest3 : Slip → Unit {0} → Step = λ s _. Ok (with_undo n s c, record { first = 0; count = 0 }) in
     let rest2 : Slip → Unit {0} → Step = λ s _. and_then (need (is_now c.records s.changes) ChangedSince) (rest3 s) in
@@ -153,29 +179,41 @@ undone_answer c after n a e =
     let h1 = passed (slip_at c n) rest1 (after, a) e in
     let h2 = passed (need (not h1.0.is_undone) AlreadyUndone) (rest2 h1.0) (after, a) h1.2 in
     let h3 = passed (need (is_now c.records h1.0.changes) ChangedSince) (rest3 h1.0) (after, a) h2.2 in
-    let both : ◌≡◌ {A = Content × Answer} (with_undo n h1.0 c, record { first = 0; count = 0 }) (after, a) = let q = h3.2 in cc in
+    let both : ◌≡◌ {A = Content × Answer} (with_undo n h1.0 c, record { first = 0; count = 0 }) (after, a) =
+    let q = h3.2 in cc in
     (sym (ap (λ (x : Content × Answer). x.1.first) both), sym (ap (λ (x : Content × Answer). x.1.count) both))
 
 pub undone_sound : (c after : Content) (n : ℕ) (a : Answer) → IsSound c → undo_step c n ≡ Ok (after, a) → IsSound after
-undone_sound c after n a sound e = let h : Undone c n after = undone_by c after n a e in subst IsSound h.left (undo_sound c n h.slip sound h.there h.now)
+undone_sound c after n a sound e = let h : Undone c n after = undone_by c after n a e in
+    subst IsSound h.left (undo_sound c n h.slip sound h.there h.now)
 
 -- ---- a merge that is undone at once
 now_merged : (keep gone : ℕ) (m : Records) → IsNow (merged_records keep gone m) (merge_changes keep gone m)
 now_merged keep gone m =
     let Q : Change → Type 0 = λ x. get (merged_records keep gone m) x.number ≡ x.new in
-    each_to_map Q (change_at keep gone m) (filter (λ e. is_changed keep gone m e.0 e.1) (entries m)) (each_found keep gone m (λ e. Q (change_at keep gone m e)) (λ n r at t. made_there keep gone m n r at t) (entries m) (entries_there m))
+    each_to_map Q (change_at keep gone m) (filter (λ e. is_changed keep gone m e.0 e.1) (entries m))
+    (each_found keep gone m (λ e. Q (change_at keep gone m e)) (λ n r at t. made_there keep gone m n r at t)
+    (entries m) (entries_there m))
 
 -- the undoing is accepted, and leaves the records of before
-pub undo_merged : (c after : Content) (keep gone : ℕ) (a : Answer) → merge_step c keep gone ≡ Ok (after, a) → (back : Content) × (undo_step after a.first ≡ Ok (back, record { first = 0; count = 0 })) × (back.records ≡ c.records)
+pub undo_merged : (c after : Content) (keep gone : ℕ) (a : Answer) → merge_step c keep gone ≡ Ok (after, a)
+    → (back : Content) × (undo_step after a.first ≡ Ok (back, record { first = 0; count = 0 }))
+    × (back.records ≡ c.records)
 undo_merged c after keep gone a e =
     let h : Merged c keep gone after a = merged_by c after keep gone a e in
     let m : Records = c.records in
     let s : Slip = slip_of keep gone m in
     let x : Content = with_merge keep gone c (c.next + 1) in
     let at : slip_at x c.next ≡ Ok s = ap (λ o. slip_in o (get x.records c.next)) (put_here c.slips c.next s) in
-    let now : is_now x.records s.changes ≡ true = is_now_new (merged_records keep gone m) (merge_changes keep gone m) (now_merged keep gone m) in
+    let now : is_now x.records s.changes ≡ true = is_now_new (merged_records keep gone m) (merge_changes keep gone m)
+    (now_merged keep gone m) in
     let answer : Answer = record { first = 0; count = 0 } in
     let step : undo_step x c.next ≡ Ok (with_undo c.next s x, answer) =
-    ap (λ (y : Result Slip RefusalKind). and_then y (λ s. and_then (need (not s.is_undone) AlreadyUndone) (λ _. and_then (need (is_now x.records s.changes) ChangedSince) (λ _. Ok (with_undo c.next s x, answer))))) at
-    ∙ ap (λ b. and_then (need b ChangedSince) (λ _. Ok (with_undo c.next s x, answer))) now in
-    (with_undo c.next s x, ap (λ y. undo_step y a.first) (sym h.left) ∙ ap (undo_step x) (sym h.first) ∙ step, undone_merge keep gone m (now_merged keep gone m))
+    ap (λ (y : Result Slip RefusalKind). and_then y
+    (λ s. and_then (need (not s.is_undone) AlreadyUndone)
+    (λ _. and_then (need (is_now x.records s.changes) ChangedSince) (λ _. Ok (with_undo c.next s x, answer))))) at
+    ∙ ap (λ b. and_then (need b ChangedSince) (λ _. Ok (with_undo c.next s x, answer))) now in (
+      with_undo c.next s x,
+      ap (λ y. undo_step y a.first) (sym h.left) ∙ ap (undo_step x) (sym h.first) ∙ step,
+      undone_merge keep gone m (now_merged keep gone m),
+    )

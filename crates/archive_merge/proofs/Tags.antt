@@ -43,7 +43,8 @@ module _ (f : ℕ → ℕ) where
   own_moved (kind.Entry x) = refl
   own_moved (kind.Other x) = refl
 
-  pub of_records_with : (r : Record) → EachOf IsOfRecords (own_tags r ++ carried_tags r) → EachOf IsOfRecords (own_tags (record_with f r) ++ carried_tags (record_with f r))
+  pub of_records_with : (r : Record) → EachOf IsOfRecords (own_tags r ++ carried_tags r)
+      → EachOf IsOfRecords (own_tags (record_with f r) ++ carried_tags (record_with f r))
   of_records_with r h = subst (EachOf IsOfRecords) (λ i. sym (own_moved r) i ++ sym (tags_moved r) i) h
 
 -- each line of a list has tags that may stand in a record
@@ -61,11 +62,14 @@ own_once n (kind.Event x) = refl
 own_once n (kind.Entry x) = refl
 own_once n (kind.Other x) = refl
 
-pub of_records_once : (n : ℕ) (r : Record) → EachOf IsOfRecords (own_tags r ++ carried_tags r) → EachOf IsOfRecords (own_tags (once_in n r) ++ carried_tags (once_in n r))
+pub of_records_once : (n : ℕ) (r : Record) → EachOf IsOfRecords (own_tags r ++ carried_tags r)
+    → EachOf IsOfRecords (own_tags (once_in n r) ++ carried_tags (once_in n r))
 of_records_once n r h =
     each_both IsOfRecords (own_tags (once_in n r)) (carried_tags (once_in n r))
     (subst (EachOf IsOfRecords) (sym (own_once n r)) (each_front IsOfRecords (own_tags r) (carried_tags r) h))
-    (each_to_flat IsOfRecords tags (carried (once_in n r)) (lines_once OfLine n r (each_flat IsOfRecords tags (carried r) (each_back IsOfRecords (own_tags r) (carried_tags r) h))))
+    (each_to_flat IsOfRecords tags (carried (once_in n r))
+    (lines_once OfLine n r
+    (each_flat IsOfRecords tags (carried r) (each_back IsOfRecords (own_tags r) (carried_tags r) h))))
 
 -- ---- two persons
 first_code : List ℕ → ℕ
@@ -85,7 +89,10 @@ sex_lines None t = tt
 sex_lines (Some s) None = tt
 sex_lines (Some s) (Some t) = ((sex_tag, tt), tt)
 
-pub of_records_joined : (k g : model.Person) → EachOf IsOfRecords (carried_tags (kind.Person k)) → EachOf IsOfRecords (carried_tags (kind.Person g)) → EachOf IsOfRecords (carried_tags (kind.Person (joined_person k g)))
+pub of_records_joined : (k g : model.Person) → EachOf IsOfRecords (carried_tags (kind.Person k))
+    → EachOf IsOfRecords (carried_tags (kind.Person g)) → EachOf IsOfRecords
+    (carried_tags (kind.Person (joined_person k g)))
 of_records_joined k g h i =
     each_to_flat IsOfRecords tags (carried (kind.Person (joined_person k g)))
-    (lines_joined OfLine k g (each_flat IsOfRecords tags (carried (kind.Person k)) h) (each_flat IsOfRecords tags (carried (kind.Person g)) i) (sex_lines k.sex g.sex))
+    (lines_joined OfLine k g (each_flat IsOfRecords tags (carried (kind.Person k)) h)
+    (each_flat IsOfRecords tags (carried (kind.Person g)) i) (sex_lines k.sex g.sex))

@@ -1,5 +1,22 @@
 -- The texts in a record after a merge.
-use Rattle.std.proofs.Common.{◌≡◌, ℕ, ◌<◌, zero, suc, List, [], ◌∷◌, ◌++◌, slice_index, refl, sym, ap, ◌∙◌, subst, arith}
+use Rattle.std.proofs.Common.{
+  ◌≡◌,
+  ℕ,
+  ◌<◌,
+  zero,
+  suc,
+  List,
+  [],
+  ◌∷◌,
+  ◌++◌,
+  slice_index,
+  refl,
+  sym,
+  ap,
+  ◌∙◌,
+  subst,
+  arith,
+}
 use Rattle.std.specs.Prelude.{map, Option, Some, None, option_map}
 use Rattle.std.specs.List.{flat_map}
 use Rattle.std.specs.Str.{IsUtf8}
@@ -17,18 +34,43 @@ use Rattle.record_kinds.specs.declared.record.Record.{Record}
 use Rattle.record_kinds.specs.declared.record.Record.TheVariants as kind
 use Rattle.record_links.specs.Carried.{carried}
 use Rattle.record_shapes.specs.Lists.{EachOf}
-use Rattle.archive_state.specs.Merging.{value_with, line_with, lines_with, holding_with, name_with, participant_with, link_with, mention_with, record_with, once_in, joined_person, second_sex}
-use Rattle.archive_state.specs.Texts.{there, date_texts, value_texts, reason_texts, mention_texts, own_texts, line_texts, forest_texts, carried_texts}
+use Rattle.archive_state.specs.Merging.{
+  value_with,
+  line_with,
+  lines_with,
+  holding_with,
+  name_with,
+  participant_with,
+  link_with,
+  mention_with,
+  record_with,
+  once_in,
+  joined_person,
+  second_sex,
+}
+use Rattle.archive_state.specs.Texts.{
+  there,
+  date_texts,
+  value_texts,
+  reason_texts,
+  mention_texts,
+  own_texts,
+  line_texts,
+  forest_texts,
+  carried_texts,
+}
 use Rattle.archive_state.proofs.Each.{each_both, each_front, each_back}
 use Rattle.archive_merge.proofs.Lists.{map_both, each_flat, each_to_flat}
 use Rattle.archive_merge.proofs.Carrying.{carried_moved, lines_once, lines_joined}
 
 -- what does not look at numbers is the same of each of a list
-map_same : {A B : Type 0} (k : A → B) (g : A → A) → ((a : A) → k (g a) ≡ k a) → (xs : List A) → map k (map g xs) ≡ map k xs
+map_same : {A B : Type 0} (k : A → B) (g : A → A) → ((a : A) → k (g a) ≡ k a) → (xs : List A)
+    → map k (map g xs) ≡ map k xs
 map_same k g e [] = refl
 map_same k g e (x ∷ xs) = λ i. e x i ∷ map_same k g e xs i
 
-flat_same : {A B : Type 0} (k : A → List B) (g : A → A) → ((a : A) → k (g a) ≡ k a) → (xs : List A) → flat_map k (map g xs) ≡ flat_map k xs
+flat_same : {A B : Type 0} (k : A → List B) (g : A → A) → ((a : A) → k (g a) ≡ k a) → (xs : List A)
+    → flat_map k (map g xs) ≡ flat_map k xs
 flat_same k g e [] = refl
 flat_same k g e (x ∷ xs) = λ i. e x i ++ flat_same k g e xs i
 
@@ -58,18 +100,22 @@ module _ (f : ℕ → ℕ) where
   own_written : (r : Record) → own_texts (record_with f r) ≡ own_texts r
   own_written (kind.Place x) = refl
   own_written (kind.Repo x) = refl
-  own_written (kind.Source x) = ap (λ l. there x.title ++ (there x.author ++ (there x.publisher ++ l))) (flat_same (λ (h : model.Holding). there h.call_number) (holding_with f) (λ h. refl) x.holdings)
+  own_written (kind.Source x) = ap (λ l. there x.title ++ (there x.author ++ (there x.publisher ++ l)))
+      (flat_same (λ (h : model.Holding). there h.call_number) (holding_with f) (λ h. refl) x.holdings)
   own_written (kind.Person x) = map_same (λ (n : model.Name). n.text) (name_with f) (λ n. refl) x.names
   own_written (kind.Family x) = refl
   own_written (kind.Citation x) = refl
-  own_written (kind.Event x) = ap (λ l. x.value ∷ (date_texts x.date ++ l)) (map_same (λ (p : model.Participant). p.role) (participant_with f) (λ p. refl) x.participants)
-  own_written (kind.Entry x) = ap (λ l. x.page ∷ (x.text ∷ (date_texts x.date ++ l))) (flat_same mention_texts (mention_with f) mention_written x.mentions)
+  own_written (kind.Event x) = ap (λ l. x.value ∷ (date_texts x.date ++ l))
+      (map_same (λ (p : model.Participant). p.role) (participant_with f) (λ p. refl) x.participants)
+  own_written (kind.Entry x) = ap (λ l. x.page ∷ (x.text ∷ (date_texts x.date ++ l)))
+      (flat_same mention_texts (mention_with f) mention_written x.mentions)
   own_written (kind.Other x) = value_written x.value
 
   carried_written : (r : Record) → carried_texts (record_with f r) ≡ carried_texts r
   carried_written r = ap (flat_map line_texts) (carried_moved f r) ∙ all_written (carried r)
 
-  pub texts_with : (r : Record) → EachOf IsText (own_texts r ++ carried_texts r) → EachOf IsText (own_texts (record_with f r) ++ carried_texts (record_with f r))
+  pub texts_with : (r : Record) → EachOf IsText (own_texts r ++ carried_texts r)
+      → EachOf IsText (own_texts (record_with f r) ++ carried_texts (record_with f r))
   texts_with r h = subst (EachOf IsText) (λ i. sym (own_written r) i ++ sym (carried_written r) i) h
 
 abbrev OfLine : Tree Line → Type 0
@@ -86,11 +132,14 @@ own_once n (kind.Event x) = refl
 own_once n (kind.Entry x) = refl
 own_once n (kind.Other x) = refl
 
-pub texts_once : (n : ℕ) (r : Record) → EachOf IsText (own_texts r ++ carried_texts r) → EachOf IsText (own_texts (once_in n r) ++ carried_texts (once_in n r))
+pub texts_once : (n : ℕ) (r : Record) → EachOf IsText (own_texts r ++ carried_texts r)
+    → EachOf IsText (own_texts (once_in n r) ++ carried_texts (once_in n r))
 texts_once n r h =
     each_both IsText (own_texts (once_in n r)) (carried_texts (once_in n r))
     (subst (EachOf IsText) (sym (own_once n r)) (each_front IsText (own_texts r) (carried_texts r) h))
-    (each_to_flat IsText line_texts (carried (once_in n r)) (lines_once OfLine n r (each_flat IsText line_texts (carried r) (each_back IsText (own_texts r) (carried_texts r) h))))
+    (each_to_flat IsText line_texts (carried (once_in n r))
+    (lines_once OfLine n r
+    (each_flat IsText line_texts (carried r) (each_back IsText (own_texts r) (carried_texts r) h))))
 
 -- ---- two persons
 -- a text of one ASCII letter
@@ -111,15 +160,20 @@ sex_lines None t = tt
 sex_lines (Some s) None = tt
 sex_lines (Some s) (Some t) = ((sex_written t, tt), tt)
 
-pub texts_joined : (k g : model.Person) → EachOf IsText (own_texts (kind.Person k) ++ carried_texts (kind.Person k)) → EachOf IsText (own_texts (kind.Person g) ++ carried_texts (kind.Person g))
+pub texts_joined : (k g : model.Person) → EachOf IsText (own_texts (kind.Person k) ++ carried_texts (kind.Person k))
+    → EachOf IsText (own_texts (kind.Person g) ++ carried_texts (kind.Person g))
     → EachOf IsText (own_texts (kind.Person (joined_person k g)) ++ carried_texts (kind.Person (joined_person k g)))
 texts_joined k g h i =
     let text_of : model.Name → List ℕ = λ n. n.text in
     let both : model.Person = joined_person k g in
     each_both IsText (own_texts (kind.Person both)) (carried_texts (kind.Person both))
-    (subst (EachOf IsText) (sym (map_both text_of k.names g.names)) (each_both IsText (map text_of k.names) (map text_of g.names)
-    (each_front IsText (own_texts (kind.Person k)) (carried_texts (kind.Person k)) h) (each_front IsText (own_texts (kind.Person g)) (carried_texts (kind.Person g)) i)))
+    (subst (EachOf IsText) (sym (map_both text_of k.names g.names))
+    (each_both IsText (map text_of k.names) (map text_of g.names)
+    (each_front IsText (own_texts (kind.Person k)) (carried_texts (kind.Person k)) h)
+    (each_front IsText (own_texts (kind.Person g)) (carried_texts (kind.Person g)) i)))
     (each_to_flat IsText line_texts (carried (kind.Person both)) (lines_joined OfLine k g
-    (each_flat IsText line_texts (carried (kind.Person k)) (each_back IsText (own_texts (kind.Person k)) (carried_texts (kind.Person k)) h))
-    (each_flat IsText line_texts (carried (kind.Person g)) (each_back IsText (own_texts (kind.Person g)) (carried_texts (kind.Person g)) i))
+    (each_flat IsText line_texts (carried (kind.Person k))
+    (each_back IsText (own_texts (kind.Person k)) (carried_texts (kind.Person k)) h))
+    (each_flat IsText line_texts (carried (kind.Person g))
+    (each_back IsText (own_texts (kind.Person g)) (carried_texts (kind.Person g)) i))
     (sex_lines k.sex g.sex)))

@@ -19,10 +19,20 @@ use Rattle.archive_merge.proofs.Comparing.{IsNow}
 use Rattle.archive_merge.proofs.Keys.{keys_still}
 use Rattle.archive_merge.proofs.Merged.{renamed_other}
 use Rattle.archive_merge.proofs.PutBack.{undone_over, new_now, undone_slip}
-use Rattle.archive_merge.proofs.Undoing.{gone_or_there, gone_there, like, paths_same, person_then, undo_keeps, undo_path, was_entry}
+use Rattle.archive_merge.proofs.Undoing.{
+  gone_or_there,
+  gone_there,
+  like,
+  paths_same,
+  person_then,
+  undo_keeps,
+  undo_path,
+  was_entry,
+}
 use Rattle.archive_merge.proofs.Untaken.{through}
 
-module _ (c : Content) (n : ℕ) (s : Slip) (sound : IsSound c) (at : get c.slips n ≡ Some s) (now : IsNow c.records s.changes) where
+module _ (c : Content) (n : ℕ) (s : Slip) (sound : IsSound c) (at : get c.slips n ≡ Some s)
+    (now : IsNow c.records s.changes) where
   abbrev m : Records
   m = c.records
 
@@ -35,7 +45,8 @@ module _ (c : Content) (n : ℕ) (s : Slip) (sound : IsSound c) (at : get c.slip
   put : (k : ℕ) → get after k ≡ over (get (old_records s) k) (get m k)
   put = undone_over s slip.ascending m now
 
-  new : (k : ℕ) (old : Record) → get (old_records s) k ≡ Some old → get m k ≡ merged s.keep s.gone (get (old_records s)) k
+  new : (k : ℕ) (old : Record) → get (old_records s) k ≡ Some old → get m k ≡ merged s.keep s.gone
+      (get (old_records s)) k
   new = new_now c.next n s slip m now
 
   -- nothing stands at 0, and it stays itself
@@ -46,7 +57,8 @@ module _ (c : Content) (n : ℕ) (s : Slip) (sound : IsSound c) (at : get c.slip
   ]
 
   zero_stays : renamed s.keep s.gone 0 ≡ 0
-  zero_stays = renamed_other s.keep s.gone 0 (λ same. let more : 0 < s.gone = slip.numbered.1.1.0.0 in absurd (omega arith))
+  zero_stays = renamed_other s.keep s.gone 0 (λ same. let more : 0 < s.gone = slip.numbered.1.1.0.0 in
+      absurd (omega arith))
 
   zero_same : AgreeAt (through (renamed s.keep s.gone) (known_of m)) (known_of after) 0
   zero_same =
@@ -54,7 +66,8 @@ module _ (c : Content) (n : ℕ) (s : Slip) (sound : IsSound c) (at : get c.slip
       let left : get after 0 ≡ None = put 0 ∙ ap (λ x. over x (get m 0)) no_old ∙ none in
       record {
         tag = ap tag_at (ap (get m) zero_stays ∙ none) ∙ sym (ap tag_at left);
-        path = ap (path_of m) zero_stays ∙ sym (paths_same c.next n s slip m after put new sound.named (sound.stayed n s at) 0);
+        path = ap (path_of m) zero_stays
+            ∙ sym (paths_same c.next n s slip m after put new sound.named (sound.stayed n s at) 0);
       }
 
   there : (k : ℕ) (r : Record) → get after k ≡ Some r → (k ≡ s.gone) ⊎ ((x : Record) × (get m k ≡ Some x))
@@ -62,23 +75,28 @@ module _ (c : Content) (n : ℕ) (s : Slip) (sound : IsSound c) (at : get c.slip
 
   -- what has no slip has none when the slip is undone
   still_none : (k : ℕ) → get c.slips k ≡ None → get (insert c.slips n (as_undone s)) k ≡ None
-  still_none k none = put_elsewhere c.slips n (as_undone s) k (λ same. let both : Some s ≡ None = sym at ∙ ap (get c.slips) (sym same) ∙ none in absurd cc) ∙ none
+  still_none k none = put_elsewhere c.slips n (as_undone s) k
+      (λ same. let both : Some s ≡ None = sym at ∙ ap (get c.slips) (sym same) ∙ none in absurd cc) ∙ none
 
   -- each slip of then is one of now, but for being undone
-  was_slip : (k : ℕ) (x : Slip) → get (insert c.slips n (as_undone s)) k ≡ Some x → (old : Slip) × (get c.slips k ≡ Some old) × (old.keep ≡ x.keep) × (old.gone ≡ x.gone)
-  was_slip k x e = elim (put_cases c.slips n (as_undone s) k (Some x) e) as (λ _. (old : Slip) × (get c.slips k ≡ Some old) × (old.keep ≡ x.keep) × (old.gone ≡ x.gone)) [
-    | inl h ↦
-        let same : as_undone s ≡ x = let g = h.1 in cc in
-        (s, ap (get c.slips) h.0 ∙ at, ap (λ (y : Slip). y.keep) same, ap (λ (y : Slip). y.gone) same)
-    | inr h ↦ (x, h.1, refl, refl)
-  ]
+  was_slip : (k : ℕ) (x : Slip) → get (insert c.slips n (as_undone s)) k ≡ Some x → (old : Slip)
+      × (get c.slips k ≡ Some old) × (old.keep ≡ x.keep) × (old.gone ≡ x.gone)
+  was_slip k x e = elim (put_cases c.slips n (as_undone s) k (Some x) e) as (λ _. (old : Slip)
+      × (get c.slips k ≡ Some old) × (old.keep ≡ x.keep) × (old.gone ≡ x.gone)) [
+        | inl h ↦
+            let same : as_undone s ≡ x = let g = h.1 in cc in
+            (s, ap (get c.slips) h.0 ∙ at, ap (λ (y : Slip). y.keep) same, ap (λ (y : Slip). y.gone) same)
+        | inr h ↦ (x, h.1, refl, refl)
+      ]
 
   -- whoever stands where a person stayed is one
   person_there : (k : ℕ) (x : Slip) → get c.slips k ≡ Some x → (r : Record) → get after x.keep ≡ Some r → IsPerson r
   person_there k x e r is = elim (there x.keep r is) as (λ _. IsPerson r) [
     | inl gone ↦
         let one = gone_there c.next n s slip in
-        let same : kind.Person one.0 ≡ r = let q : Some (kind.Person one.0) ≡ Some r = sym (person_then c.next n s slip m after put new sound.named (sound.stayed n s at)) ∙ ap (get after) (sym gone) ∙ is in cc in
+        let same : kind.Person one.0 ≡ r = let q : Some (kind.Person one.0) ≡ Some r = sym
+        (person_then c.next n s slip m after put new sound.named (sound.stayed n s at))
+        ∙ ap (get after) (sym gone) ∙ is in cc in
         subst IsPerson same tt
     | inr old ↦
         let y = like c.next n s slip m after put new sound.named (sound.stayed n s at) x.keep old.0 old.1 in
@@ -95,12 +113,18 @@ module _ (c : Content) (n : ℕ) (s : Slip) (sound : IsSound c) (at : get c.slip
       | inl gone ↦ ap (get c.slips) gone ∙ sound.free n s at
       | inr old ↦ sound.distinct k old.0 old.1
     ]);
-    paths = λ k path h. sound.rules.paths k path (undo_path c.next n s slip m after put new sound.named (sound.stayed n s at) k path h);
-    keys = keys_still m after (was_entry c.next n s slip m after put new sound.named (sound.stayed n s at)) sound.rules.keys;
+    paths = λ k path h. sound.rules.paths k path
+        (undo_path c.next n s slip m after put new sound.named (sound.stayed n s at) k path h);
+    keys = keys_still m after (was_entry c.next n s slip m after put new sound.named (sound.stayed n s at))
+        sound.rules.keys;
     slips = λ k x e. elim (put_cases c.slips n (as_undone s) k (Some x) e) as (λ _. IsSoundSlip c.next k x) [
-      | inl h ↦ let same : as_undone s ≡ x = let g = h.1 in cc in subst (λ i. IsSoundSlip c.next i x) (sym h.0) (subst (IsSoundSlip c.next n) same (undone_slip c.next n s slip))
+      | inl h ↦ let same : as_undone s ≡ x = let g = h.1 in cc in
+          subst (λ i. IsSoundSlip c.next i x) (sym h.0)
+          (subst (IsSoundSlip c.next n) same (undone_slip c.next n s slip))
       | inr h ↦ sound.slips k x h.1
     ];
-    stayed = λ k x e. let old = was_slip k x e in if_there (get after x.keep) IsPerson (λ r is. person_there k old.0 old.1 r (ap (get after) old.2 ∙ is));
-    free = λ k x e. let old = was_slip k x e in still_none x.gone (ap (get c.slips) (sym old.3) ∙ sound.free k old.0 old.1);
+    stayed = λ k x e. let old = was_slip k x e in
+        if_there (get after x.keep) IsPerson (λ r is. person_there k old.0 old.1 r (ap (get after) old.2 ∙ is));
+    free = λ k x e. let old = was_slip k x e in
+        still_none x.gone (ap (get c.slips) (sym old.3) ∙ sound.free k old.0 old.1);
   })

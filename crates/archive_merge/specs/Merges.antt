@@ -1,5 +1,25 @@
 -- What a merge and its undoing make of records, by the numbers that they change. Rules of our own.
-use Rattle.std.specs.Prelude.{ℕ, ◌≡◌, List, [], ◌∷◌, map, Bool, true, false, not, ◌&&◌, ◌||◌, ◌==◌, nat_lt, Option, Some, None, is_none, if◌then◌else◌}
+use Rattle.std.specs.Prelude.{
+  ℕ,
+  ◌≡◌,
+  List,
+  [],
+  ◌∷◌,
+  map,
+  Bool,
+  true,
+  false,
+  not,
+  ◌&&◌,
+  ◌||◌,
+  ◌==◌,
+  nat_lt,
+  Option,
+  Some,
+  None,
+  is_none,
+  if◌then◌else◌,
+}
 use Rattle.std.specs.List.{list_any, filter, flat_map}
 use Rattle.std.specs.FinMap.{get, insert, remove, entries}
 use Rattle.record_kinds.specs.declared.record.Record.{Record}
@@ -26,7 +46,8 @@ abbrev pub adds_nothing : Option Record → Bool
 adds_nothing (Some (kind.Person p)) = is_empty p.names && (is_none p.sex && is_empty p.carried)
 adds_nothing _ = false
 
--- the person that is gone; the one that stays, where the other adds something; each record that names the one that is gone
+-- the person that is gone; the one that stays, where the other adds something; each record that names the one that is
+-- gone
 abbrev pub is_changed : ℕ → ℕ → Records → ℕ → Record → Bool
 is_changed keep gone m n r = n == gone || ((n == keep && not (adds_nothing (get m gone))) || is_among gone (links r))
 
@@ -45,7 +66,8 @@ with_number n (k ∷ ks) = if n == k then k ∷ ks else (if nat_lt n k then n �
 
 -- the same numbers, of the records that name the one that is gone
 abbrev pub changed_numbers : ℕ → ℕ → Content → List ℕ
-changed_numbers keep gone c = with_number gone (if adds_nothing (get c.records gone) then referrers c gone else with_number keep (referrers c gone))
+changed_numbers keep gone c = with_number gone
+    (if adds_nothing (get c.records gone) then referrers c gone else with_number keep (referrers c gone))
 
 -- some record is a family of both, and not of both as children
 abbrev pub is_clash : ℕ → ℕ → Records → Bool
@@ -100,6 +122,7 @@ pub record HoldsChanges (keep gone : ℕ) (m : Records) (s : Slip) : Type 0 wher
   -- with what each becomes
   pub new : EachOf (λ (x : Change). x.new ≡ merged keep gone (get m) x.number) s.changes
   -- a number in the slip has another record then
-  pub differs : (n : ℕ) (r : Record) → get (old_records s) n ≡ Some r → (get m n ≡ Some r) × (merged keep gone (get m) n ≡ Some r → ⊥)
+  pub differs : (n : ℕ) (r : Record) → get (old_records s) n ≡ Some r → (get m n ≡ Some r)
+      × (merged keep gone (get m) n ≡ Some r → ⊥)
   -- a number that is not in the slip has the record of before
   pub others : (n : ℕ) → get (old_records s) n ≡ None → merged keep gone (get m) n ≡ get m n

@@ -3,7 +3,14 @@
 use Rattle.std.specs.Prelude.{ℕ, ◌+◌, not, ◌==◌, Option, Some, None, Result, Ok, Err}
 use Rattle.std.specs.FinMap.{get}
 use Rattle.record_text.specs.declared.refusal.RefusalKind.{RefusalKind}
-use Rattle.record_text.specs.declared.refusal.RefusalKind.TheVariants.{NoSuch, WrongKind, SamePerson, MergeWithinFamily, ChangedSince, AlreadyUndone}
+use Rattle.record_text.specs.declared.refusal.RefusalKind.TheVariants.{
+  NoSuch,
+  WrongKind,
+  SamePerson,
+  MergeWithinFamily,
+  ChangedSince,
+  AlreadyUndone,
+}
 use Rattle.receipts.specs.declared.answer.Answer.{Answer}
 use Rattle.record_kinds.specs.declared.record.Record.{Record}
 use Rattle.archive_state.specs.Content.{Content}

@@ -218,7 +218,8 @@ fn new_at<V: View>(
     old: &Record,
 ) -> Result<Option<Record>, RefusalKind>
     ensures shows { OnView V.is_honest V.shows V.content view.old view.new
-        (λ c. Looked result (λ new. map.get c.records number ≡ Some old.now → new ≡ merging.merged keep gone (map.get c.records) number)) }
+        (λ c. Looked result (λ new. map.get c.records number ≡ Some old.now → new ≡ merging.merged keep gone
+        (map.get c.records) number)) }
     ensures counts { CountsFailures (V.failed view.old) (V.failed view.new) result }
 {
     if number == gone {
@@ -253,7 +254,8 @@ fn changes_of_merge(
       next = number + 1;
       answer = record { first = number; count = 1 };
       kept = None;
-      slip = Some (change.Made number (record { keep = keep; gone = gone; changes = changes.items; is_undone = false }));
+      slip = Some (change.Made number
+          (record { keep = keep; gone = gone; changes = changes.items; is_undone = false }));
     }) }
 {
     let puts = new_puts(alloc, &changes)?;

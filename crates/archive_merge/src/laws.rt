@@ -14,13 +14,24 @@ ghost use Rattle.record_kinds.specs.declared.record.Record.{Record};
 ghost use Rattle.record_text.specs.declared.refusal.RefusalKind.TheVariants.{AlreadyUndone, ChangedSince};
 ghost use Rattle.receipts.specs.declared.answer.Answer.{Answer};
 ghost use Rattle.archive_merge.specs.Comparing.{IsNow};
-ghost use Rattle.archive_merge.specs.Merges.{HoldsChanges, changed_numbers, merge_changes, over, put_new, put_old, slip_of, with_merge, with_undo};
+ghost use Rattle.archive_merge.specs.Merges.{
+  HoldsChanges,
+  changed_numbers,
+  merge_changes,
+  over,
+  put_new,
+  put_old,
+  slip_of,
+  with_merge,
+  with_undo,
+};
 ghost use Rattle.archive_merge.specs.Steps.{merge_step, undo_step};
 ghost use Rattle.archive_looks.specs.Numbers.{Draws, UsesNoneAgain};
 
 /// A merge leaves a sound archive sound, with its slip.
 pub fn a_merge_keeps_an_archive_sound()
-    ensures { (c after : Content) (keep gone : ℕ) (a : Answer) → IsSound c → merge_step c keep gone ≡ Ok (after, a) → IsSound after }
+    ensures { (c after : Content) (keep gone : ℕ) (a : Answer) → IsSound c → merge_step c keep gone ≡ Ok (after, a)
+        → IsSound after }
 {}
 
 /// So does the undoing of a slip, at whatever time.
@@ -30,24 +41,28 @@ pub fn an_undoing_keeps_an_archive_sound()
 
 /// A merge changes the number in all records, and makes one person of two.
 pub fn a_merge_is_of_all_records()
-    ensures { (c after : Content) (keep gone : ℕ) (a : Answer) (n : ℕ) → IsSound c → merge_step c keep gone ≡ Ok (after, a)
+    ensures { (c after : Content) (keep gone : ℕ) (a : Answer) (n : ℕ) → IsSound c
+        → merge_step c keep gone ≡ Ok (after, a)
         → get after.records n ≡ merged keep gone (get c.records) n }
 {}
 
 /// A merge that is undone at once gives the records of before.
 pub fn a_merge_is_undone()
     ensures { (c after : Content) (keep gone : ℕ) (a : Answer) → merge_step c keep gone ≡ Ok (after, a)
-        → (back : Content) × (undo_step after a.first ≡ Ok (back, record { first = 0; count = 0 })) × (back.records ≡ c.records) }
+        → (back : Content) × (undo_step after a.first ≡ Ok (back, record { first = 0; count = 0 }))
+        × (back.records ≡ c.records) }
 {}
 
 /// A merge draws one number, that of its slip.
 pub fn a_merge_draws_its_slip()
-    ensures { (c after : Content) (keep gone : ℕ) (a : Answer) → merge_step c keep gone ≡ Ok (after, a) → Draws c a after }
+    ensures { (c after : Content) (keep gone : ℕ) (a : Answer) → merge_step c keep gone ≡ Ok (after, a)
+        → Draws c a after }
 {}
 
 /// No number is used twice when persons are merged, and one that is used up stays so.
 pub fn a_merge_uses_no_number_again()
-    ensures { (c after : Content) (keep gone : ℕ) (a : Answer) → merge_step c keep gone ≡ Ok (after, a) → UsesNoneAgain c after }
+    ensures { (c after : Content) (keep gone : ℕ) (a : Answer) → merge_step c keep gone ≡ Ok (after, a)
+        → UsesNoneAgain c after }
 {}
 
 /// An undoing draws no number.
@@ -63,15 +78,17 @@ pub fn an_undoing_uses_no_number_again()
 /// An undoing puts back the old records of its slip, and leaves all others.
 pub fn an_undoing_restores_its_slip()
     ensures { (c after : Content) (n : ℕ) (a : Answer) → IsSound c → undo_step c n ≡ Ok (after, a)
-        → (s : Slip) × (get c.slips n ≡ Some s) × ((k : ℕ) → get after.records k ≡ over (get (old_records s) k) (get c.records k)) }
+        → (s : Slip) × (get c.slips n ≡ Some s)
+        × ((k : ℕ) → get after.records k ≡ over (get (old_records s) k) (get c.records k)) }
 {}
 
-/// The undoing of a slip that was undone is refused with `AlreadyUndone`, else that of one of which a number has not its new record
-/// with `ChangedSince`, and else it is done.
+/// The undoing of a slip that was undone is refused with `AlreadyUndone`, else that of one of which a number has not
+/// its new record with `ChangedSince`, and else it is done.
 pub fn an_undoing_is_done_where_nothing_changed_since()
     ensures { (c : Content) (n : ℕ) (s : Slip) → get c.slips n ≡ Some s
         → (s.is_undone ≡ true → undo_step c n ≡ Err AlreadyUndone)
-        × (s.is_undone ≡ false → IsNow c.records s.changes → undo_step c n ≡ Ok (with_undo n s c, record { first = 0; count = 0 }))
+        × (s.is_undone ≡ false → IsNow c.records s.changes → undo_step c n ≡ Ok
+        (with_undo n s c, record { first = 0; count = 0 }))
         × (s.is_undone ≡ false → (IsNow c.records s.changes → ⊥) → undo_step c n ≡ Err ChangedSince) }
 {}
 
@@ -90,13 +107,27 @@ pub fn changed_numbers_are_of_referrers()
 /// The new records put, the one that is gone taken out and the slip made: these changes leave what the merge leaves.
 pub fn changes_of_a_merge()
     ensures { (c : Content) (keep gone : ℕ) (a : Answer)
-        → applied c (record { puts = flat_map put_new (merge_changes keep gone c.records); removals = gone ∷ []; next = c.next + 1; answer = a; kept = None; slip = Some (change.Made c.next (slip_of keep gone c.records)) })
+        → applied c (record {
+          puts = flat_map put_new (merge_changes keep gone c.records);
+          removals = gone ∷ [];
+          next = c.next + 1;
+          answer = a;
+          kept = None;
+          slip = Some (change.Made c.next (slip_of keep gone c.records));
+        })
         ≡ with_merge keep gone c (c.next + 1) }
 {}
 
 /// The old records put, and the slip undone: these leave what the undoing leaves.
 pub fn changes_of_an_undoing()
     ensures { (c : Content) (n : ℕ) (s : Slip) (a : Answer) → get c.slips n ≡ Some s
-        → applied c (record { puts = flat_map put_old s.changes; removals = []; next = c.next; answer = a; kept = None; slip = Some (change.Undone n) })
+        → applied c (record {
+          puts = flat_map put_old s.changes;
+          removals = [];
+          next = c.next;
+          answer = a;
+          kept = None;
+          slip = Some (change.Undone n);
+        })
         ≡ with_undo n s c }
 {}

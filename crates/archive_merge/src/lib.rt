@@ -1,5 +1,5 @@
-//! Merging two persons into one, and undoing it: what a merge changes, the slip that is kept of it, and that both leave a
-//! sound archive sound.
+//! Merging two persons into one, and undoing it: what a merge changes, the slip that is kept of it, and that both leave
+//! a sound archive sound.
 //!
 //! It uses `archive_looks` for what a command looks at, and `archive_state` for what an archive holds.
 //!

@@ -22,6 +22,7 @@ pub each_all : {A : Type 0} (P : A → Type 0) → ((a : A) → P a) → (xs : L
 each_all P f [] = tt
 each_all P f (x ∷ xs) = (f x, each_all P f xs)
 
-pub each_zip : {A : Type 0} (P Q R : A → Type 0) → ((a : A) → P a → Q a → R a) → (xs : List A) → EachOf P xs → EachOf Q xs → EachOf R xs
+pub each_zip : {A : Type 0} (P Q R : A → Type 0) → ((a : A) → P a → Q a → R a) → (xs : List A) → EachOf P xs
+    → EachOf Q xs → EachOf R xs
 each_zip P Q R f [] h k = tt
 each_zip P Q R f (x ∷ xs) h k = (f x h.0 k.0, each_zip P Q R f xs h.1 k.1)

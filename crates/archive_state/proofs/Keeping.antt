@@ -1,6 +1,25 @@
--- What keeps an archive sound, whatever changes in it: each record was there before, and what it names has stayed alike, or it
--- keeps the rules on records by itself.
-use Rattle.std.proofs.Common.{◌≡◌, ◌⊎◌, ℕ, ◌<◌, ◌≤◌, List, ◌∷◌, ◌++◌, true, refl, nat_lt, sym, ap, ◌∙◌, inl, inr, subst, arith}
+-- What keeps an archive sound, whatever changes in it: each record was there before, and what it names has stayed
+-- alike, or it keeps the rules on records by itself.
+use Rattle.std.proofs.Common.{
+  ◌≡◌,
+  ◌⊎◌,
+  ℕ,
+  ◌<◌,
+  ◌≤◌,
+  List,
+  ◌∷◌,
+  ◌++◌,
+  true,
+  refl,
+  nat_lt,
+  sym,
+  ap,
+  ◌∙◌,
+  inl,
+  inr,
+  subst,
+  arith,
+}
 use Rattle.std.specs.Prelude.{Option, Some, None, option_map, IfSome, if◌then◌else◌}
 use Rattle.std.specs.FinMap.{get}
 use Rattle.std.specs.List.{list_any, flat_map}
@@ -8,7 +27,23 @@ use Rattle.std.specs.Str.{bytes_eq}
 use Rattle.record_kinds.specs.Model as model
 use Rattle.record_kinds.specs.declared.record.Record.{Record}
 use Rattle.record_kinds.specs.declared.record.Record.TheVariants as kind
-use Rattle.record_links.specs.Links.{Link, Wanted, a_place, a_person, a_holder, a_cited, at_level_0, links, field_links, place_line_links, participant_links, mention_links, value_links, carried_links, is_wanted}
+use Rattle.record_links.specs.Links.{
+  Link,
+  Wanted,
+  a_place,
+  a_person,
+  a_holder,
+  a_cited,
+  at_level_0,
+  links,
+  field_links,
+  place_line_links,
+  participant_links,
+  mention_links,
+  value_links,
+  carried_links,
+  is_wanted,
+}
 use Rattle.record_links.specs.Carried.{carried_tags}
 use Rattle.record_text.specs.Text.{IsText}
 use Rattle.record_shapes.specs.Lists.{EachOf}
@@ -22,14 +57,36 @@ use Rattle.archive_state.specs.Known.{tag_at, written_tag, path_of, known_of, kn
 use Rattle.archive_state.specs.Paths.{HasPath}
 use Rattle.archive_state.specs.Slips.{Slip}
 use Rattle.archive_state.specs.Texts.{own_texts, carried_texts}
-use Rattle.archive_state.specs.Sound.{EachIn, IsNumber, HasSmallerParent, HasNormalName, HasMembersOnce, HasSaidPlace, HasEventTag, HasSoundMentions, IsNoTrailer, own_tags, IsOfRecords, HasOwnShape, owner_in, HasSoundRecords, Stands, IsPerson, IsSoundSlip, IsSound, place_of, change_names, old_records}
+use Rattle.archive_state.specs.Sound.{
+  EachIn,
+  IsNumber,
+  HasSmallerParent,
+  HasNormalName,
+  HasMembersOnce,
+  HasSaidPlace,
+  HasEventTag,
+  HasSoundMentions,
+  IsNoTrailer,
+  own_tags,
+  IsOfRecords,
+  HasOwnShape,
+  owner_in,
+  HasSoundRecords,
+  Stands,
+  IsPerson,
+  IsSoundSlip,
+  IsSound,
+  place_of,
+  change_names,
+  old_records,
+}
 use Rattle.archive_state.proofs.Each.{each_more, each_zip, each_front, each_back}
 use Rattle.archive_state.proofs.Known.{path_known}
 use Rattle.archive_state.proofs.Knowing.{AgreeAt, untaken_same, entry_same}
 
 -- ---- what stays
--- a record of the kind of another: it is wanted where the other is, has events of the same tags, is written with the same tag,
--- and leaves as much room below it
+-- a record of the kind of another: it is wanted where the other is, has events of the same tags, is written with the
+-- same tag, and leaves as much room below it
 pub record IsAlike (old r : Record) : Type 0 where
   pub wanted : (w : Wanted) → is_wanted w old ≡ is_wanted w r
   pub events : event_tags old ≡ event_tags r
@@ -103,7 +160,8 @@ pub record KeepsRules (next : ℕ) (m : Records) (n : ℕ) (r : Record) : Type 0
   pub levels : HasRoom (owner_in m r) r
 
 -- each record of a sound archive does
-pub kept_rules : (c : Content) (n : ℕ) (r : Record) → IsSound c → get c.records n ≡ Some r → KeepsRules c.next c.records n r
+pub kept_rules : (c : Content) (n : ℕ) (r : Record) → IsSound c → get c.records n ≡ Some r
+    → KeepsRules c.next c.records n r
 kept_rules c n r sound at = record {
   number = sound.rules.numbered n r at;
   named = sound.named n r at;
@@ -128,7 +186,8 @@ HasLimits m = (n : ℕ) (path : List ℕ) → HasPath m n path → IsWithinLimit
 
 -- no two entries agree in source, kind, page and item
 abbrev pub HasKeys : Records → Type 0
-HasKeys m = (n k : ℕ) (e : model.Entry) → get m n ≡ Some (kind.Entry e) → IsEntryAt m e.source e.kind e.page e.item k → n ≡ k
+HasKeys m = (n k : ℕ) (e : model.Entry) → get m n ≡ Some (kind.Entry e)
+    → IsEntryAt m e.source e.kind e.page e.item k → n ≡ k
 
 -- from one content to another: what has to hold of what changed
 pub record Keeps (c after : Content) : Type 0 where
@@ -136,7 +195,8 @@ pub record Keeps (c after : Content) : Type 0 where
   pub later : c.next ≤ after.next
   pub bounded : after.next ≤ 4294967296
   -- each record stays, or keeps the rules
-  pub records : EachIn after.records (λ n r. Stays c.records after.records n r ⊎ KeepsRules after.next after.records n r)
+  pub records : EachIn after.records (λ n r. Stays c.records after.records n r
+      ⊎ KeepsRules after.next after.records n r)
   -- no number is that of a record and of a slip
   pub distinct : EachIn after.records (λ n r. get after.slips n ≡ None)
   pub paths : HasLimits after.records
@@ -147,12 +207,14 @@ pub record Keeps (c after : Content) : Type 0 where
   pub free : EachIn after.slips (λ n s. get after.slips s.gone ≡ None)
 
 -- ---- what a link names
-pub stands_as : (w : Wanted) (o : Option Record) → option_map (is_wanted w) o ≡ Some true → (old : Record) × (o ≡ Some old) × (is_wanted w old ≡ true)
+pub stands_as : (w : Wanted) (o : Option Record) → option_map (is_wanted w) o ≡ Some true → (old : Record)
+    × (o ≡ Some old) × (is_wanted w old ≡ true)
 stands_as w None h = absurd cc
 stands_as w (Some old) h = (old, refl, cc)
 
 -- ---- the place of a record is among what it names
-line_named : (Q : Link → Type 0) (o : Option model.EventPlace) → EachOf Q (place_line_links o) → IfSome (option_map (λ (p : model.EventPlace). p.place) o) (λ n. Q (n, a_place))
+line_named : (Q : Link → Type 0) (o : Option model.EventPlace) → EachOf Q (place_line_links o)
+    → IfSome (option_map (λ (p : model.EventPlace). p.place) o) (λ n. Q (n, a_place))
 line_named Q None h = tt
 line_named Q (Some p) h = h.0
 
@@ -161,8 +223,10 @@ field_named Q None h = tt
 field_named Q (Some n) h = h.0
 
 place_named : (Q : Link → Type 0) (r : Record) → EachOf Q (links r) → IfSome (place_of r) (λ n. Q (n, a_place))
-place_named Q (kind.Event e) h = line_named Q e.place (each_front Q (place_line_links e.place) (flat_map participant_links e.participants ++ carried_links e.carried) h.1)
-place_named Q (kind.Entry e) h = field_named Q e.place (each_front Q (field_links a_place e.place) (flat_map mention_links e.mentions) h.1)
+place_named Q (kind.Event e) h = line_named Q e.place
+    (each_front Q (place_line_links e.place) (flat_map participant_links e.participants ++ carried_links e.carried) h.1)
+place_named Q (kind.Entry e) h = field_named Q e.place
+    (each_front Q (field_links a_place e.place) (flat_map mention_links e.mentions) h.1)
 place_named Q (kind.Place p) h = tt
 place_named Q (kind.Repo p) h = tt
 place_named Q (kind.Source p) h = tt
@@ -171,7 +235,8 @@ place_named Q (kind.Family p) h = tt
 place_named Q (kind.Citation p) h = tt
 place_named Q (kind.Other p) h = tt
 
-if_both : {A : Type 0} (P Q R : A → Type 0) → ((a : A) → P a → Q a → R a) → (o : Option A) → IfSome o P → IfSome o Q → IfSome o R
+if_both : {A : Type 0} (P Q R : A → Type 0) → ((a : A) → P a → Q a → R a) → (o : Option A) → IfSome o P
+    → IfSome o Q → IfSome o R
 if_both P Q R f None h k = tt
 if_both P Q R f (Some a) h k = f a h k
 
@@ -182,11 +247,14 @@ module _ (m after : Records) (none_before : get m 0 ≡ None) (none_after : get 
   abbrev Is : Link → Type 0
   Is l = StaysAlike m after l.0 × Stands m l
 
-  are_there : (r : Record) → EachOf (λ (l : Link). StaysAlike m after l.0) (links r) → EachOf (Stands m) (links r) → EachOf Is (links r)
-  are_there r stays stands = each_zip (λ (l : Link). StaysAlike m after l.0) (Stands m) Is (λ l s t. (s, t)) (links r) stays stands
+  are_there : (r : Record) → EachOf (λ (l : Link). StaysAlike m after l.0) (links r) → EachOf (Stands m) (links r)
+      → EachOf Is (links r)
+  are_there r stays stands = each_zip (λ (l : Link). StaysAlike m after l.0) (Stands m) Is (λ l s t. (s, t))
+      (links r) stays stands
 
   -- what stands there after, of what stood there before
-  stood : (l : Link) → Is l → (old : Record) × (get m l.0 ≡ Some old) × (is_wanted l.1 old ≡ true) × ((r : Record) × (get after l.0 ≡ Some r) × IsAlike old r)
+  stood : (l : Link) → Is l → (old : Record) × (get m l.0 ≡ Some old) × (is_wanted l.1 old ≡ true)
+      × ((r : Record) × (get after l.0 ≡ Some r) × IsAlike old r)
   stood l h = let old = stands_as l.1 (get m l.0) h.1 in (old.0, old.1, old.2, h.0.alike old.0 old.1)
 
   -- a link to it stands
@@ -212,21 +280,29 @@ module _ (m after : Records) (none_before : get m 0 ≡ None) (none_after : get 
   no_path o e = rw e refl
 
   zero_still : AgreeAt (known_of m) (known_of after) 0
-  zero_still = record { tag = ap tag_at (none_before ∙ sym none_after); path = no_path m none_before ∙ sym (no_path after none_after) }
+  zero_still = record {
+    tag = ap tag_at (none_before ∙ sym none_after);
+    path = no_path m none_before
+        ∙ sym (no_path after none_after);
+  }
 
   -- ---- rule by rule
   said_still : (r : Record) → EachOf Is (links r) → HasSaidPlace m r → HasSaidPlace after r
   said_still r h said =
-      if_both (λ n. Is (n, a_place)) (λ n. (path : List ℕ) → HasPath m n path → has_part path ≡ true) (λ n. (path : List ℕ) → HasPath after n path → has_part path ≡ true)
+      if_both (λ n. Is (n, a_place)) (λ n. (path : List ℕ) → HasPath m n path → has_part path ≡ true)
+      (λ n. (path : List ℕ) → HasPath after n path → has_part path ≡ true)
       (λ n is old path there. old path ((path_known m n path).1 (is.0.path ∙ (path_known after n path).0 there)))
       (place_of r) (place_named Is r h) said
 
-  owner_tag : (tag : List ℕ) (n : ℕ) → Is (n, a_holder) → IfSome (get m n) (λ owner. is_event_tag tag owner ≡ true) → IfSome (get after n) (λ owner. is_event_tag tag owner ≡ true)
+  owner_tag : (tag : List ℕ) (n : ℕ) → Is (n, a_holder) → IfSome (get m n) (λ owner. is_event_tag tag owner ≡ true)
+      → IfSome (get after n) (λ owner. is_event_tag tag owner ≡ true)
   owner_tag tag n h old =
       let was = stood (n, a_holder) h in
       let now = was.3 in
-      let before : is_event_tag tag was.0 ≡ true = subst (λ (o : Option Record). IfSome o (λ owner. is_event_tag tag owner ≡ true)) was.1 old in
-      subst (λ (o : Option Record). IfSome o (λ owner. is_event_tag tag owner ≡ true)) (sym now.1) (ap (list_any (bytes_eq tag)) (sym now.2.events) ∙ before)
+      let before : is_event_tag tag was.0 ≡ true = subst
+      (λ (o : Option Record). IfSome o (λ owner. is_event_tag tag owner ≡ true)) was.1 old in
+      subst (λ (o : Option Record). IfSome o (λ owner. is_event_tag tag owner ≡ true)) (sym now.1)
+      (ap (list_any (bytes_eq tag)) (sym now.2.events) ∙ before)
 
   event_still : (r : Record) → EachOf Is (links r) → HasEventTag m r → HasEventTag after r
   event_still (kind.Event e) h old = owner_tag e.tag e.owner h.0 old
@@ -239,14 +315,17 @@ module _ (m after : Records) (none_before : get m 0 ≡ None) (none_after : get 
   event_still (kind.Entry p) h old = tt
   event_still (kind.Other p) h old = tt
 
-  untaken_still : (n : ℕ) (r : Record) → EachOf Is (links r) → HasUntaken (known_before m n) (known_of m) r → HasUntaken (known_before after n) (known_of after) r
-  untaken_still n r h old = untaken_same Is (known_of m) (known_of after) known_still (known_before m n) (known_before after n) r (λ k is. ap (λ x. if nat_lt k n then x else None) is.0.path) h old
+  untaken_still : (n : ℕ) (r : Record) → EachOf Is (links r) → HasUntaken (known_before m n) (known_of m) r
+      → HasUntaken (known_before after n) (known_of after) r
+  untaken_still n r h old = untaken_same Is (known_of m) (known_of after) known_still (known_before m n)
+      (known_before after n) r (λ k is. ap (λ x. if nat_lt k n then x else None) is.0.path) h old
 
   shape_still : (r : Record) → EachOf Is (links r) → HasOwnShape m r → HasOwnShape after r
   shape_still (kind.Other o) h old = record {
     own = old.own;
     no_entry = λ e.
-        sym (entry_same Is (known_of m) (known_of after) known_still zero_still o.value o.carried (each_back Is (value_links o.value) (carried_links o.carried) h))
+        sym (entry_same Is (known_of m) (known_of after) known_still zero_still o.value o.carried
+        (each_back Is (value_links o.value) (carried_links o.carried) h))
         ∙ old.no_entry e;
   }
   shape_still (kind.Event p) h old = tt
@@ -276,7 +355,8 @@ module _ (m after : Records) (none_before : get m 0 ≡ None) (none_after : get 
   room_still (kind.Other p) h room = room
 
   -- a record whose links stay alike keeps the rules that it kept, with a next number that did not fall
-  pub rules_still : (next later n : ℕ) (r : Record) → next ≤ later → EachOf (λ (l : Link). StaysAlike m after l.0) (links r) → KeepsRules next m n r → KeepsRules later after n r
+  pub rules_still : (next later n : ℕ) (r : Record) → next ≤ later → EachOf (λ (l : Link). StaysAlike m after l.0)
+      (links r) → KeepsRules next m n r → KeepsRules later after n r
   rules_still next later n r more stays old =
       let there : EachOf Is (links r) = are_there r stays old.named in
       let less : n < next = old.number.1 in
@@ -299,8 +379,11 @@ module _ (m after : Records) (none_before : get m 0 ≡ None) (none_after : get 
 
 -- ---- all of an archive
 -- an archive is sound where each record keeps the rules on one record, and the rules on all of them hold
-sound_if : (c : Content) → 0 < c.next → c.next ≤ 4294967296 → EachIn c.records (KeepsRules c.next c.records) → EachIn c.records (λ n r. get c.slips n ≡ None) → HasLimits c.records → HasKeys c.records → EachIn c.slips (IsSoundSlip c.next)
-    → EachIn c.slips (λ n s. IfSome (get c.records s.keep) IsPerson) → EachIn c.slips (λ n s. get c.slips s.gone ≡ None) → IsSound c
+sound_if : (c : Content) → 0 < c.next → c.next ≤ 4294967296 → EachIn c.records (KeepsRules c.next c.records)
+    → EachIn c.records (λ n r. get c.slips n ≡ None) → HasLimits c.records → HasKeys c.records
+    → EachIn c.slips (IsSoundSlip c.next)
+    → EachIn c.slips (λ n s. IfSome (get c.records s.keep) IsPerson)
+    → EachIn c.slips (λ n s. get c.slips s.gone ≡ None) → IsSound c
 sound_if c begun bounded each distinct paths keys slips stayed free = record {
   begun = begun;
   bounded = bounded;
@@ -352,7 +435,8 @@ keeps_sound c after sound keeps =
     ]) in
     sound_if after (omega arith) keeps.bounded
     (λ k r e. elim (keeps.records k r e) as (λ _. KeepsRules after.next n k r) [
-      | inl stays ↦ rules_still m n none_before none_after c.next after.next k r later stays.named (kept_rules c k r sound stays.there)
+      | inl stays ↦ rules_still m n none_before none_after c.next after.next k r later stays.named
+          (kept_rules c k r sound stays.there)
       | inr new ↦ new
     ])
     keeps.distinct keeps.paths keeps.keys keeps.slips keeps.stayed keeps.free
@@ -393,13 +477,16 @@ pub stays_below : (c : Content) (n : ℕ) (s : Slip) → IsSound c → get c.sli
 stays_below c n s sound e from = let less : s.keep < c.next = (sound.slips n s e).numbered.1.0.1 in absurd (omega arith)
 
 -- where a person stood that a slip says to stay
-pub stayed_at : (c : Content) (k n : ℕ) (s : Slip) (r : Record) → IsSound c → get c.slips k ≡ Some s → s.keep ≡ n → get c.records n ≡ Some r → IsPerson r
-stayed_at c k n s r sound e same at = there_is (get c.records s.keep) IsPerson (sound.stayed k s e) r (ap (get c.records) same ∙ at)
+pub stayed_at : (c : Content) (k n : ℕ) (s : Slip) (r : Record) → IsSound c → get c.slips k ≡ Some s → s.keep ≡ n
+    → get c.records n ≡ Some r → IsPerson r
+stayed_at c k n s r sound e same at = there_is (get c.records s.keep) IsPerson (sound.stayed k s e) r
+    (ap (get c.records) same ∙ at)
 
 -- a sound slip stays so
 pub slip_later : (a b : ℕ) → a ≤ b → (n : ℕ) (s : Slip) → IsSoundSlip a n s → IsSoundSlip b n s
 slip_later a b h n s sound = record {
-  numbered = each_more (IsNumber a) (IsNumber b) (number_later a b h) (n ∷ (s.keep ∷ (s.gone ∷ flat_map change_names s.changes))) sound.numbered;
+  numbered = each_more (IsNumber a) (IsNumber b) (number_later a b h)
+      (n ∷ (s.keep ∷ (s.gone ∷ flat_map change_names s.changes))) sound.numbered;
   ascending = sound.ascending;
   gone = sound.gone;
   keep = sound.keep;

@@ -1,5 +1,25 @@
 -- The path of a place is what is known of it.
-use Rattle.std.proofs.Common.{◌≡◌, ℕ, ◌+◌, zero, suc, ◌<◌, List, [], ◌∷◌, ◌++◌, refl, sym, ap, ◌∙◌, ◌↔◌, true, false, nat_lt, arith}
+use Rattle.std.proofs.Common.{
+  ◌≡◌,
+  ℕ,
+  ◌+◌,
+  zero,
+  suc,
+  ◌<◌,
+  List,
+  [],
+  ◌∷◌,
+  ◌++◌,
+  refl,
+  sym,
+  ap,
+  ◌∙◌,
+  ◌↔◌,
+  true,
+  false,
+  nat_lt,
+  arith,
+}
 use Rattle.std.specs.Prelude.{Option, Some, None, option_map, codes, if◌then◌else◌}
 use Rattle.std.proofs.lemmas.Bool.Decides.{nat_tests}
 use Rattle.std.specs.FinMap.{get}
@@ -20,7 +40,8 @@ less_is : (a b : ℕ) → nat_lt a b ≡ true → a < b
 less_is a b h = grind (arith, nat_tests)
 
 -- ---- a path is known
-known_climbs : (steps : ℕ) (m : Records) (n : ℕ) (names : List (List ℕ)) → n < steps → Climbs m n names → path_by steps m n ≡ Some (joined names)
+known_climbs : (steps : ℕ) (m : Records) (n : ℕ) (names : List (List ℕ)) → n < steps → Climbs m n names
+    → path_by steps m n ≡ Some (joined names)
 known_climbs zero m n names less h = absurd (omega arith)
 known_climbs (suc steps) m n [] less h = absurd h
 known_climbs (suc steps) m n (name ∷ []) less (p, at, is, alone) =
@@ -33,18 +54,22 @@ known_climbs (suc steps) m n (name ∷ (above ∷ names)) less (p, at, is, (q, u
     ∙ ap (λ t. Some (t ++ (codes ", " ++ joined (above ∷ names)))) is
 
 -- ---- what is known is a path
-from_above : (m : Records) (n q : ℕ) (p : model.Place) → IsPlaceAt m n p → p.parent ≡ Some q → q < n → (o : Option (List ℕ)) → ((rest : List ℕ) → o ≡ Some rest → HasPath m q rest)
+from_above : (m : Records) (n q : ℕ) (p : model.Place) → IsPlaceAt m n p → p.parent ≡ Some q → q < n
+    → (o : Option (List ℕ)) → ((rest : List ℕ) → o ≡ Some rest → HasPath m q rest)
     → (path : List ℕ) → option_map (path_below p.name) o ≡ Some path → HasPath m n path
 from_above m n q p at is less None up path e = absurd cc
 from_above m n q p at is less (Some rest) up path e =
     let same : path_below p.name rest ≡ path = cc in
     goes_path m n p path (Some q) at is (less, (rest, sym same, up rest refl))
 
-module _ (m : Records) (n : ℕ) (above : ℕ → Option (List ℕ)) (up : (q : ℕ) (rest : List ℕ) → above q ≡ Some rest → HasPath m q rest) where
-  from_parent : (p : model.Place) → IsPlaceAt m n p → (o : Option ℕ) → p.parent ≡ o → (path : List ℕ) → path_under n above p.name o ≡ Some path → HasPath m n path
+module _ (m : Records) (n : ℕ) (above : ℕ → Option (List ℕ)) (up : (q : ℕ) (rest : List ℕ) → above q ≡ Some rest
+    → HasPath m q rest) where
+  from_parent : (p : model.Place) → IsPlaceAt m n p → (o : Option ℕ) → p.parent ≡ o → (path : List ℕ)
+      → path_under n above p.name o ≡ Some path → HasPath m n path
   from_parent p at None is path e = let same : p.name ≡ path = cc in goes_path m n p path None at is (sym same)
   from_parent p at (Some q) is path e =
-      elim (nat_lt q n) as (λ b. nat_lt q n ≡ b → (if b then option_map (path_below p.name) (above q) else None) ≡ Some path → HasPath m n path) [
+      elim (nat_lt q n) as (λ b. nat_lt q n ≡ b → (if b then option_map (path_below p.name) (above q) else None)
+      ≡ Some path → HasPath m n path) [
         | true ↦ λ less f. from_above m n q p at is (less_is q n less) (above q) (up q) path f
         | false ↦ λ less f. absurd cc
       ] refl e
@@ -56,7 +81,8 @@ module _ (m : Records) (n : ℕ) (above : ℕ → Option (List ℕ)) (up : (q : 
 
 climbs_known : (steps : ℕ) (m : Records) (n : ℕ) (path : List ℕ) → path_by steps m n ≡ Some path → HasPath m n path
 climbs_known zero m n path e = absurd cc
-climbs_known (suc steps) m n path e = from_record m n (path_by steps m) (λ q rest f. climbs_known steps m q rest f) (get m n) refl path e
+climbs_known (suc steps) m n path e = from_record m n (path_by steps m) (λ q rest f. climbs_known steps m q rest f)
+    (get m n) refl path e
 
 pub path_known : (m : Records) (n : ℕ) (path : List ℕ) → HasPath m n path ↔ (path_of m n ≡ Some path)
 unfolding path_of
@@ -66,10 +92,15 @@ path_known m n path = (
 )
 
 -- ---- the same places have the same paths
-same_by : (steps : ℕ) (m other : Records) → ((n : ℕ) (above : ℕ → Option (List ℕ)) → path_with n above (get other n) ≡ path_with n above (get m n)) → (n : ℕ) → path_by steps other n ≡ path_by steps m n
+same_by : (steps : ℕ) (m other : Records)
+    → ((n : ℕ) (above : ℕ → Option (List ℕ)) → path_with n above (get other n) ≡ path_with n above (get m n)) → (n : ℕ)
+    → path_by steps other n ≡ path_by steps m n
 same_by zero m other h n = refl
-same_by (suc steps) m other h n = h n (path_by steps other) ∙ ap (λ up. path_with n up (get m n)) (λ i k. same_by steps m other h k i)
+same_by (suc steps) m other h n = h n (path_by steps other) ∙ ap (λ up. path_with n up (get m n))
+    (λ i k. same_by steps m other h k i)
 
-pub path_same : (m other : Records) → ((n : ℕ) (above : ℕ → Option (List ℕ)) → path_with n above (get other n) ≡ path_with n above (get m n)) → (n : ℕ) → path_of other n ≡ path_of m n
+pub path_same : (m other : Records)
+    → ((n : ℕ) (above : ℕ → Option (List ℕ)) → path_with n above (get other n) ≡ path_with n above (get m n)) → (n : ℕ)
+    → path_of other n ≡ path_of m n
 unfolding path_of
 path_same m other h n = same_by (n + 1) m other h n

@@ -12,16 +12,20 @@ pub itself : (n : ℕ) → eq_by_cmp nat_cmp n n ≡ true
 itself n = (eq_by_cmp_equiv nat_cmp_total).refl n
 
 not_one : (n k : ℕ) → eq_by_cmp nat_cmp n k ≡ false → n ≡ k → ⊥
-not_one n k e same = let both : true ≡ false = sym (itself k) ∙ (ap (λ x. eq_by_cmp nat_cmp x k) (sym same) ∙ e) in absurd cc
+not_one n k e same = let both : true ≡ false = sym (itself k) ∙ (ap (λ x. eq_by_cmp nat_cmp x k) (sym same) ∙ e) in
+    absurd cc
 
 module _ {X : Type 0} where
-  found : (m : FinMap nat_cmp X) (k : ℕ) (v : X) (n : ℕ) (b : Bool) → eq_by_cmp nat_cmp n k ≡ b → get (insert m k v) n ≡ cond b (Some v) (get m n)
+  found : (m : FinMap nat_cmp X) (k : ℕ) (v : X) (n : ℕ) (b : Bool) → eq_by_cmp nat_cmp n k ≡ b
+      → get (insert m k v) n ≡ cond b (Some v) (get m n)
   found m k v n b e = get-insert nat_cmp_total m k v n ∙ ap (λ x. cond x (Some v) (get m n)) e
 
   -- what stands at a number is what was put there, or what stood there
-  pub put_cases : (m : FinMap nat_cmp X) (k : ℕ) (v : X) (n : ℕ) (o : Option X) → get (insert m k v) n ≡ o → ((n ≡ k) × (Some v ≡ o)) ⊎ ((n ≡ k → ⊥) × (get m n ≡ o))
+  pub put_cases : (m : FinMap nat_cmp X) (k : ℕ) (v : X) (n : ℕ) (o : Option X) → get (insert m k v) n ≡ o
+      → ((n ≡ k) × (Some v ≡ o)) ⊎ ((n ≡ k → ⊥) × (get m n ≡ o))
   put_cases m k v n o e =
-      elim (eq_by_cmp nat_cmp n k) as (λ b. eq_by_cmp nat_cmp n k ≡ b → ((n ≡ k) × (Some v ≡ o)) ⊎ ((n ≡ k → ⊥) × (get m n ≡ o))) [
+      elim (eq_by_cmp nat_cmp n k) as (λ b. eq_by_cmp nat_cmp n k ≡ b → ((n ≡ k) × (Some v ≡ o))
+      ⊎ ((n ≡ k → ⊥) × (get m n ≡ o))) [
         | true ↦ λ q. inl (one_number n k q, sym (found m k v n true q) ∙ e)
         | false ↦ λ q. inr (not_one n k q, sym (found m k v n false q) ∙ e)
       ] refl

@@ -7,8 +7,8 @@ use Rattle.record_shapes.specs.Forms.{Known}
 use Rattle.record_shapes.specs.Fields.{path_below}
 use Rattle.archive_state.specs.Content.{Records}
 
--- the tag of a record at level 0 (The GEDCOM Standard Release 5.5.1, chapter 2, record structures; places and register entries
--- are ours); an event or a citation is written below another record
+-- the tag of a record at level 0 (The GEDCOM Standard Release 5.5.1, chapter 2, record structures; places and register
+-- entries are ours); an event or a citation is written below another record
 abbrev pub written_tag : Record → List ℕ
 written_tag (kind.Place p) = codes "_LOC"
 written_tag (kind.Repo r) = codes "REPO"

@@ -1,6 +1,25 @@
 -- What a merge makes of records: in all of them one person's number becomes another's, and the two persons become one.
 -- A rule of our own.
-use Rattle.std.specs.Prelude.{ℕ, List, [], ◌∷◌, ◌++◌, map, Bool, false, not, ◌&&◌, ◌||◌, Option, Some, None, option_map, codes, ◌==◌, if◌then◌else◌}
+use Rattle.std.specs.Prelude.{
+  ℕ,
+  List,
+  [],
+  ◌∷◌,
+  ◌++◌,
+  map,
+  Bool,
+  false,
+  not,
+  ◌&&◌,
+  ◌||◌,
+  Option,
+  Some,
+  None,
+  option_map,
+  codes,
+  ◌==◌,
+  if◌then◌else◌,
+}
 use Rattle.std.specs.List.{list_any}
 use Rattle.stored_lines.specs.Tree.{node, none, relabel}
 use Rattle.stored_lines.specs.Line.{Line, Lines}
@@ -83,7 +102,11 @@ abbrev pub mention_with : (ℕ → ℕ) → model.Mention → model.Mention
 mention_with f m = record m { link = option_map (link_with f) m.link }
 
 abbrev pub entry_with : (ℕ → ℕ) → model.Entry → model.Entry
-entry_with f e = record e { source = f e.source; place = option_map f e.place; mentions = map (mention_with f) e.mentions }
+entry_with f e = record e {
+  source = f e.source;
+  place = option_map f e.place;
+  mentions = map (mention_with f) e.mentions;
+}
 
 abbrev pub other_with : (ℕ → ℕ) → model.Other → model.Other
 other_with f o = record o { value = value_with f o.value; carried = lines_with f o.carried }
@@ -154,7 +177,8 @@ has_member n x = list_any (λ (p : model.Partner). p.person == n) x.partners || 
 
 -- a family of both, but with both as its children
 abbrev pub clashes : ℕ → ℕ → Record → Bool
-clashes keep gone (kind.Family x) = (has_member keep x && has_member gone x) && not (has_child keep x && has_child gone x)
+clashes keep gone (kind.Family x) = (has_member keep x && has_member gone x) && not
+    (has_child keep x && has_child gone x)
 clashes keep gone _ = false
 
 -- ---- all records

@@ -1,4 +1,5 @@
--- A record of an archive with what it owns, as it is written in a file, and what its lines show of others. Rules of our own.
+-- A record of an archive with what it owns, as it is written in a file, and what its lines show of others. Rules of our
+-- own.
 use Rattle.std.specs.Prelude.{ℕ, ◌≡◌, List, ◌++◌, Some}
 use Rattle.std.specs.FinMap.{get}
 use Rattle.stored_lines.specs.Tree.{Tree, node, none, list_of}
@@ -12,7 +13,8 @@ use Rattle.archive_state.specs.Paths.{HasPath}
 
 -- a citation of that owner, with nothing below it
 abbrev pub IsCitationOf : Records → ℕ → Tree Record → Type 0
-IsCitationOf m owner (node (kind.Citation c) f) = (k : ℕ) × (get m k ≡ Some (kind.Citation c)) × (c.owner ≡ owner) × (f ≡ none)
+IsCitationOf m owner (node (kind.Citation c) f) = (k : ℕ) × (get m k ≡ Some (kind.Citation c))
+    × (c.owner ≡ owner) × (f ≡ none)
 IsCitationOf m owner (node _ f) = ⊥
 
 -- an event of that owner, with citations of the event below it
@@ -29,7 +31,8 @@ pub record AreOwned (m : Records) (owner : ℕ) (under : List (Tree Record)) : T
   pub are_events : EachOf (IsEventOf m owner) events
   pub are_citations : EachOf (IsCitationOf m owner) citations
 
--- a record that is written at level 0, with what it owns: a person or a family has events and citations, no other has any
+-- a record that is written at level 0, with what it owns: a person or a family has events and citations, no other has
+-- any
 abbrev pub IsWithOwned : Records → ℕ → Tree Record → Type 0
 IsWithOwned m n (node (kind.Person p) f) = (get m n ≡ Some (kind.Person p)) × AreOwned m n (list_of f)
 IsWithOwned m n (node (kind.Family x) f) = (get m n ≡ Some (kind.Family x)) × AreOwned m n (list_of f)

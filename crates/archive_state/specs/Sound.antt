@@ -1,6 +1,26 @@
 -- What holds of a state that commands have made: each rule has a name. Rules of our own, so that what
 -- an archive holds can be written as GEDCOM and read again.
-use Rattle.std.specs.Prelude.{ℕ, ◌≡◌, ◌≢◌, ◌<◌, ◌≤◌, List, [], ◌∷◌, ◌++◌, Option, Some, None, true, false, map, option_map, codes, MatchOption, IfSome}
+use Rattle.std.specs.Prelude.{
+  ℕ,
+  ◌≡◌,
+  ◌≢◌,
+  ◌<◌,
+  ◌≤◌,
+  List,
+  [],
+  ◌∷◌,
+  ◌++◌,
+  Option,
+  Some,
+  None,
+  true,
+  false,
+  map,
+  option_map,
+  codes,
+  MatchOption,
+  IfSome,
+}
 use Rattle.std.specs.List.{flat_map}
 use Rattle.std.specs.FinMap.{FinMap, get, from_entries}
 use Rattle.std.specs.Ordering.{nat_cmp}
@@ -65,7 +85,8 @@ HasEventTag m _ = Unit {0}
 
 -- an entry has 1 to 100 mentions, with roles of its kind
 abbrev pub HasSoundMentions : Record → Type 0
-HasSoundMentions (kind.Entry e) = HasMentions e × EachOf (λ (x : model.Mention). is_role_of e.kind x.role ≡ true) e.mentions
+HasSoundMentions (kind.Entry e) = HasMentions e
+    × EachOf (λ (x : model.Mention). is_role_of e.kind x.role ≡ true) e.mentions
 HasSoundMentions _ = Unit {0}
 
 -- a record of no other kind is no trailer
@@ -124,7 +145,8 @@ pub record HasSoundRecords (next : ℕ) (m : Records) : Type 0 where
   -- no line of a record is below level 98 in a file
   pub levels : EachIn m (λ n r. HasRoom (owner_in m r) r)
   -- no two entries agree in source, kind, page and item
-  pub keys : (n k : ℕ) (e : model.Entry) → get m n ≡ Some (kind.Entry e) → IsEntryAt m e.source e.kind e.page e.item k → n ≡ k
+  pub keys : (n k : ℕ) (e : model.Entry) → get m n ≡ Some (kind.Entry e)
+      → IsEntryAt m e.source e.kind e.page e.item k → n ≡ k
 
 -- ---- links
 -- what a link names is there, and of the kind that is demanded

@@ -27,7 +27,8 @@ value_texts (value.Ref n) = []
 
 -- title, author and publisher of a source, and its number where it is kept
 abbrev pub source_texts : model.Source → List (List ℕ)
-source_texts s = there s.title ++ (there s.author ++ (there s.publisher ++ flat_map (λ (h : model.Holding). there h.call_number) s.holdings))
+source_texts s = there s.title
+    ++ (there s.author ++ (there s.publisher ++ flat_map (λ (h : model.Holding). there h.call_number) s.holdings))
 
 abbrev pub event_texts : model.Event → List (List ℕ)
 event_texts e = e.value ∷ (date_texts e.date ++ map (λ (p : model.Participant). p.role) e.participants)

@@ -73,5 +73,12 @@ impl Model for Changes {
 
     ghost coded = { Prim.hlevel (codes, lines_code, value_code) };
 
-    ghost view = { λ a. record { puts = a.puts.items; removals = a.removals.items; next = a.next; answer = a.answer; kept = a.kept; slip = a.slip } };
+    ghost view = { λ a. record {
+      puts = a.puts.items;
+      removals = a.removals.items;
+      next = a.next;
+      answer = a.answer;
+      kept = a.kept;
+      slip = a.slip;
+    } };
 }

@@ -38,9 +38,10 @@ pub fn the_entry_of_a_key_is_found()
         → (found ≡ Some n) ↔ IsEntryAt c.records source kind page item n }
 {}
 
-/// In a sound archive each record that is written at level 0 can be read again from its lines, with the events and citations
-/// that it owns.
+/// In a sound archive each record that is written at level 0 can be read again from its lines, with the events and
+/// citations that it owns.
 pub fn a_sound_archive_is_readable()
-    ensures { (c : Content) (a : Around) (n : ℕ) (t : Tree Record) → IsSound c → IsAround c.records a → IsWithOwned c.records n t
+    ensures { (c : Content) (a : Around) (n : ℕ) (t : Tree Record) → IsSound c → IsAround c.records a
+        → IsWithOwned c.records n t
         → IsReadable (known_before c.records n) (known_of c.records) a n t }
 {}

@@ -38,7 +38,12 @@ impl Model for State {
 
     ghost coded = { Prim.hlevel (codes, map.code, lines_code, value_code) };
 
-    ghost view = { λ a. record { records = map.from_entries a.records.entries; next = a.next; receipts = content.receipts_of a.receipts.entries; slips = map.from_entries a.slips.entries } };
+    ghost view = { λ a. record {
+      records = map.from_entries a.records.entries;
+      next = a.next;
+      receipts = content.receipts_of a.receipts.entries;
+      slips = map.from_entries a.slips.entries;
+    } };
 }
 
 impl State {

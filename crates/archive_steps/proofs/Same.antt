@@ -16,4 +16,5 @@ module _ {X : Type 0} where
   -- what is there is put there
   pub put_same : (m : FinMap nat_cmp X) (n : ℕ) (v : X) → get m n ≡ Some v → insert m n v ≡ m
   put_same m n v e = same_map nat_cmp_total nat_cmp-IsAntisymmetric _ _ (λ q.
-      get-insert nat_cmp_total m n v q ∙ once (eq_by_cmp nat_cmp q n) v (get m q) (λ t. ap (get m) (one_number q n t) ∙ e))
+      get-insert nat_cmp_total m n v q ∙ once (eq_by_cmp nat_cmp q n) v (get m q)
+      (λ t. ap (get m) (one_number q n t) ∙ e))

@@ -38,7 +38,8 @@ abbrev pub IsMaybeText : Option (List ℕ) → Type 0
 IsMaybeText o = EachOf IsText (texts.there o)
 
 -- ---- repositories
-pub new_repo_fits : (c : Content) (name : List ℕ) → IsSound c → IsText name → IsFit c c.next (kind.Repo (plain_repo name))
+pub new_repo_fits : (c : Content) (name : List ℕ) → IsSound c → IsText name
+    → IsFit c c.next (kind.Repo (plain_repo name))
 new_repo_fits c name sound is = record {
   alike = anew c (kind.Repo (plain_repo name)) sound;
   fresh = fresh_at_next c;
@@ -60,7 +61,11 @@ new_repo_fits c name sound is = record {
 }
 
 -- ---- sources
-source_fits : (c : Content) (s : model.Source) → IsSound c → EachOf (Stands c.records) (links (kind.Source s)) → EachOf IsOfRecords (carried_tags (kind.Source s)) → EachOf IsText (own_texts (kind.Source s) ++ carried_texts (kind.Source s)) → HasUntaken (known_before c.records c.next) (known_of c.records) (kind.Source s) → HasRoom None (kind.Source s) → IsFit c c.next (kind.Source s)
+source_fits : (c : Content) (s : model.Source) → IsSound c → EachOf (Stands c.records) (links (kind.Source s))
+    → EachOf IsOfRecords (carried_tags (kind.Source s))
+    → EachOf IsText (own_texts (kind.Source s) ++ carried_texts (kind.Source s))
+    → HasUntaken (known_before c.records c.next) (known_of c.records) (kind.Source s) → HasRoom None (kind.Source s)
+    → IsFit c c.next (kind.Source s)
 source_fits c s sound named carry written untaken levels = record {
   alike = anew c (kind.Source s) sound;
   fresh = fresh_at_next c;
@@ -82,10 +87,19 @@ source_fits c s sound named carry written untaken levels = record {
 }
 
 -- the texts of a source, before what its holdings have
-source_written : (title : List ℕ) (author publisher : Option (List ℕ)) (rest : List (List ℕ)) → IsText title → IsMaybeText author → IsMaybeText publisher → EachOf IsText rest → EachOf IsText (title ∷ (texts.there author ++ (texts.there publisher ++ rest)))
-source_written title author publisher rest t a p h = (t, each_both IsText (texts.there author) (texts.there publisher ++ rest) a (each_both IsText (texts.there publisher) rest p h))
+source_written : (title : List ℕ) (author publisher : Option (List ℕ)) (rest : List (List ℕ)) → IsText title
+    → IsMaybeText author → IsMaybeText publisher → EachOf IsText rest
+    → EachOf IsText (title ∷ (texts.there author ++ (texts.there publisher ++ rest)))
+source_written title author publisher rest t a p h = (
+  t,
+  each_both IsText (texts.there author) (texts.there publisher ++ rest) a
+      (each_both IsText (texts.there publisher) rest p h),
+)
 
-pub new_source_fits : (c : Content) (title : List ℕ) (author publisher : Option (List ℕ)) (repo : Option ℕ) (call_number : Option (List ℕ)) → IsSound c → IsText title → IsMaybeText author → IsMaybeText publisher → IsMaybeText call_number → RepoAt c repo → IsFit c c.next (kind.Source (plain_source title author publisher repo call_number))
+pub new_source_fits : (c : Content) (title : List ℕ) (author publisher : Option (List ℕ)) (repo : Option ℕ)
+    (call_number : Option (List ℕ)) → IsSound c → IsText title → IsMaybeText author → IsMaybeText publisher
+    → IsMaybeText call_number → RepoAt c repo
+    → IsFit c c.next (kind.Source (plain_source title author publisher repo call_number))
 new_source_fits c title author publisher None call_number sound t a p n at =
     let s : Record = kind.Source (plain_source title author publisher None call_number) in
     source_fits c (plain_source title author publisher None call_number) sound tt tt
@@ -94,11 +108,15 @@ new_source_fits c title author publisher None call_number sound t a p n at =
 new_source_fits c title author publisher (Some k) call_number sound t a p n at =
     let s : Record = kind.Source (plain_source title author publisher (Some k) call_number) in
     source_fits c (plain_source title author publisher (Some k) call_number) sound (at, tt) tt
-    (each_both IsText (own_texts s) (carried_texts s) (source_written title author publisher (texts.there call_number ++ []) t a p (each_both IsText (texts.there call_number) [] n tt)) tt)
+    (each_both IsText (own_texts s) (carried_texts s)
+    (source_written title author publisher (texts.there call_number ++ []) t a p
+    (each_both IsText (texts.there call_number) [] n tt)) tt)
     ((refl, tt), refl) ((none_within 97, tt), none_within 98)
 
 -- ---- citations
-pub new_citation_fits : (c : Content) (owner source : ℕ) (page : Option (List ℕ)) (quality : Option Quality) → IsSound c → IsMaybeText page → Stands c.records (owner, a_cited) → Stands c.records (source, a_source) → IsFit c c.next (kind.Citation (plain_citation owner source page quality))
+pub new_citation_fits : (c : Content) (owner source : ℕ) (page : Option (List ℕ)) (quality : Option Quality) → IsSound c
+    → IsMaybeText page → Stands c.records (owner, a_cited) → Stands c.records (source, a_source)
+    → IsFit c c.next (kind.Citation (plain_citation owner source page quality))
 new_citation_fits c owner source page quality sound is of cites = record {
   alike = anew c (kind.Citation (plain_citation owner source page quality)) sound;
   fresh = fresh_at_next c;
@@ -120,7 +138,8 @@ new_citation_fits c owner source page quality sound is of cites = record {
 }
 
 -- ---- the words of a source
-both_are : {A B : Type 0} (r : Result A RefusalKind) (f : A → Result B RefusalKind) (b : B) → and_then r f ≡ Ok b → (a : A) × (r ≡ Ok a) × (f a ≡ Ok b)
+both_are : {A B : Type 0} (r : Result A RefusalKind) (f : A → Result B RefusalKind) (b : B) → and_then r f ≡ Ok b
+    → (a : A) × (r ≡ Ok a) × (f a ≡ Ok b)
 both_are (Ok a) f b e = (a, refl, e)
 both_are (Err k) f b e = absurd cc
 
@@ -129,7 +148,8 @@ none_or_text [] is = tt
 none_or_text (b ∷ bs) is = (is, tt)
 
 -- words that are taken as a text, or as none
-pub maybe_text_found : (words : List ℕ) (o : Option (List ℕ)) → IsUtf8 words → maybe_text_in words ≡ Ok o → IsMaybeText o
+pub maybe_text_found : (words : List ℕ) (o : Option (List ℕ)) → IsUtf8 words → maybe_text_in words
+    ≡ Ok o → IsMaybeText o
 maybe_text_found words o utf8 e =
     let t = both_are (text_in words) (λ t. Ok (or_no_text t)) o e in
     let same : or_no_text t.0 ≡ o = let f : Ok (or_no_text t.0) ≡ Ok o = t.2 in cc in
@@ -147,17 +167,24 @@ pub record IsGiven (s : model.Source) (repo : Option ℕ) : Type 0 where
   pub publisher_is : IsMaybeText publisher
   pub call_number_is : IsMaybeText call_number
 
-pub source_found : (title author publisher : List ℕ) (repo : Option ℕ) (call_number : List ℕ) (s : model.Source) → IsUtf8 title → IsUtf8 author → IsUtf8 publisher → IsUtf8 call_number → given_source title author publisher repo call_number ≡ Ok s → IsGiven s repo
+pub source_found : (title author publisher : List ℕ) (repo : Option ℕ) (call_number : List ℕ) (s : model.Source)
+    → IsUtf8 title → IsUtf8 author → IsUtf8 publisher → IsUtf8 call_number
+    → given_source title author publisher repo call_number ≡ Ok s → IsGiven s repo
 source_found title author publisher repo call_number s t-utf8 a-utf8 p-utf8 n-utf8 e =
-    let t = both_are (text_in title) (λ t. and_then (maybe_text_in author) (λ a. and_then (maybe_text_in publisher) (λ p. and_then (maybe_text_in call_number) (λ n.
+    let t = both_are (text_in title)
+    (λ t. and_then (maybe_text_in author)
+    (λ a. and_then (maybe_text_in publisher) (λ p. and_then (maybe_text_in call_number) (λ n.
     and_then (need (not (lacks_repo repo n)) BadText) (λ _. Ok (plain_source t a p repo n)))))) s e in
-    let a = both_are (maybe_text_in author) (λ a. and_then (maybe_text_in publisher) (λ p. and_then (maybe_text_in call_number) (λ n.
+    let a = both_are (maybe_text_in author)
+    (λ a. and_then (maybe_text_in publisher) (λ p. and_then (maybe_text_in call_number) (λ n.
     and_then (need (not (lacks_repo repo n)) BadText) (λ _. Ok (plain_source t.0 a p repo n))))) s t.2 in
     let p = both_are (maybe_text_in publisher) (λ p. and_then (maybe_text_in call_number) (λ n.
     and_then (need (not (lacks_repo repo n)) BadText) (λ _. Ok (plain_source t.0 a.0 p repo n)))) s a.2 in
-    let n = both_are (maybe_text_in call_number) (λ n. and_then (need (not (lacks_repo repo n)) BadText) (λ _. Ok (plain_source t.0 a.0 p.0 repo n))) s p.2 in
+    let n = both_are (maybe_text_in call_number)
+    (λ n. and_then (need (not (lacks_repo repo n)) BadText) (λ _. Ok (plain_source t.0 a.0 p.0 repo n))) s p.2 in
     let u = both_are (need (not (lacks_repo repo n.0)) BadText) (λ _. Ok (plain_source t.0 a.0 p.0 repo n.0)) s n.2 in
-    let same : s ≡ plain_source t.0 a.0 p.0 repo n.0 = let f : Ok (plain_source t.0 a.0 p.0 repo n.0) ≡ Ok s = u.2 in cc in
+    let same : s ≡ plain_source t.0 a.0 p.0 repo n.0 = let f : Ok (plain_source t.0 a.0 p.0 repo n.0)
+    ≡ Ok s = u.2 in cc in
     record {
       title = t.0;
       author = a.0;
@@ -170,6 +197,8 @@ source_found title author publisher repo call_number s t-utf8 a-utf8 p-utf8 n-ut
       call_number_is = maybe_text_found call_number n.0 n-utf8 n.1;
     }
 
-pub given_fits : (c : Content) (s : model.Source) (repo : Option ℕ) → IsSound c → IsGiven s repo → RepoAt c repo → IsFit c c.next (kind.Source s)
+pub given_fits : (c : Content) (s : model.Source) (repo : Option ℕ) → IsSound c → IsGiven s repo → RepoAt c repo
+    → IsFit c c.next (kind.Source s)
 given_fits c s repo sound g at =
-    rw g.is (new_source_fits c g.title g.author g.publisher repo g.call_number sound g.title_is g.author_is g.publisher_is g.call_number_is at)
+    rw g.is (new_source_fits c g.title g.author g.publisher repo g.call_number sound g.title_is g.author_is
+    g.publisher_is g.call_number_is at)

@@ -30,10 +30,11 @@ there None a e = absurd cc
 there (Some b) a e = let same : b ≡ a = cc in ap Some same
 
 text_is : (words t : List ℕ) → IsUtf8 words → text_of words ≡ Some t → IsText t
-text_is words t utf8 e = elim (is_text words) as (λ b. is_text words ≡ b → (if b then Some words else None) ≡ Some t → IsText t) [
-  | true ↦ λ q f. let same : words ≡ t = cc in subst IsText same (as_text words utf8 q)
-  | false ↦ λ q f. absurd cc
-] refl e
+text_is words t utf8 e = elim (is_text words) as (λ b. is_text words ≡ b → (if b then Some words else None)
+    ≡ Some t → IsText t) [
+      | true ↦ λ q f. let same : words ≡ t = cc in subst IsText same (as_text words utf8 q)
+      | false ↦ λ q f. absurd cc
+    ] refl e
 
 -- words that are taken as a text
 pub text_found : (words t : List ℕ) → IsUtf8 words → text_in words ≡ Ok t → IsText t
@@ -43,12 +44,14 @@ date_found : (given : GivenDate) (d : Date) → IsUtf8Date given → date_in giv
 date_found given d is e =
     text_is given.spelling d.text is.0 (sym is.1.said ∙ ap (option_map date_text) (there given.date d e))
 
-taken : {A : Type 0} (r : Result A RefusalKind) (o : Option A) → and_then r (λ a. Ok (Some a)) ≡ Ok o → (a : A) × (r ≡ Ok a) × (Some a ≡ o)
+taken : {A : Type 0} (r : Result A RefusalKind) (o : Option A) → and_then r (λ a. Ok (Some a)) ≡ Ok o
+    → (a : A) × (r ≡ Ok a) × (Some a ≡ o)
 taken (Ok a) o e = (a, refl, cc)
 taken (Err k) o e = absurd cc
 
 -- a date that is taken
-pub maybe_date : (date : Option GivenDate) (d : Option Date) → WhereSome IsUtf8Date date → each date_in date ≡ Ok d → EachOf IsText (date_texts d)
+pub maybe_date : (date : Option GivenDate) (d : Option Date) → WhereSome IsUtf8Date date → each date_in date ≡ Ok d
+    → EachOf IsText (date_texts d)
 maybe_date None d is e = let same : None ≡ d = cc in subst (λ o. EachOf IsText (date_texts o)) same tt
 maybe_date (Some given) d is e =
     let t = taken (date_in given) d e in

@@ -1,10 +1,41 @@
--- What each command makes of an archive, or the refusal that it gets: the texts are looked at first, then each number in
--- the order of its field, then what is the command's own, and last whether a number is left. Rules of our own.
-use Rattle.std.specs.Prelude.{ℕ, ◌+◌, List, [], ◌∷◌, ◌++◌, Bool, true, false, not, ◌&&◌, ◌||◌, ◌==◌, ◌-◌, nat_le, length, take, drop, Option, Some, None, option_map, Result, Ok}
+-- What each command makes of an archive, or the refusal that it gets: the texts are looked at first, then each number
+-- in the order of its field, then what is the command's own, and last whether a number is left. Rules of our own.
+use Rattle.std.specs.Prelude.{
+  ℕ,
+  ◌+◌,
+  List,
+  [],
+  ◌∷◌,
+  ◌++◌,
+  Bool,
+  true,
+  false,
+  not,
+  ◌&&◌,
+  ◌||◌,
+  ◌==◌,
+  ◌-◌,
+  nat_le,
+  length,
+  take,
+  drop,
+  Option,
+  Some,
+  None,
+  option_map,
+  Result,
+  Ok,
+}
 use Rattle.std.specs.List.{list_any}
 use Rattle.std.specs.FinMap.{insert, remove}
 use Rattle.record_text.specs.declared.refusal.RefusalKind.{RefusalKind}
-use Rattle.record_text.specs.declared.refusal.RefusalKind.TheVariants.{SamePerson, AlreadyInFamily, BadText, NoSuchMention, StillNamed}
+use Rattle.record_text.specs.declared.refusal.RefusalKind.TheVariants.{
+  SamePerson,
+  AlreadyInFamily,
+  BadText,
+  NoSuchMention,
+  StillNamed,
+}
 use Rattle.record_fields.specs.declared.date.Date.{Date}
 use Rattle.record_fields.specs.declared.words.Quality.{Quality}
 use Rattle.record_fields.specs.declared.words.Sex.{Sex}
@@ -20,7 +51,25 @@ use Rattle.commands.specs.Rows.{and_then}
 use Rattle.commands.specs.declared.entry_row.EntryRow.{EntryRow}
 use Rattle.commands.specs.declared.row_command.RowCommand.{RowCommand}
 use Rattle.commands.specs.declared.row_command.RowCommand.TheVariants as row_command
-use Rattle.archive_looks.specs.Checks.{need, passed, each, place_name_in, path_fits, text_in, maybe_text_in, date_in, person_at, family_at, event_at, record_at, demanded_at, is_named, event_tag, said_place_at, next_free}
+use Rattle.archive_looks.specs.Checks.{
+  need,
+  passed,
+  each,
+  place_name_in,
+  path_fits,
+  text_in,
+  maybe_text_in,
+  date_in,
+  person_at,
+  family_at,
+  event_at,
+  record_at,
+  demanded_at,
+  is_named,
+  event_tag,
+  said_place_at,
+  next_free,
+}
 use Rattle.archive_looks.specs.Entries.{texts_fit, reason_in, mentions_in, entry_at, key_is_free}
 use Rattle.archive_looks.specs.declared.kinds.Demand.TheVariants as demand
 use Rattle.archive_merge.specs.Steps.{merge_step, undo_step}
@@ -148,7 +197,13 @@ given_source title author publisher repo call_number =
     Ok (plain_source t a p repo n))))))
 
 abbrev pub plain_citation : ℕ → ℕ → Option (List ℕ) → Option Quality → model.Citation
-plain_citation owner source page quality = record { owner = owner; source = source; page = page; quality = quality; carried = [] }
+plain_citation owner source page quality = record {
+  owner = owner;
+  source = source;
+  page = page;
+  quality = quality;
+  carried = [];
+}
 
 -- ---- register entries
 -- the entry that a row gives of a source; its mentions are of no person yet
@@ -158,7 +213,16 @@ entry_of source e =
     and_then (text_in e.text) (λ t.
     and_then (each date_in e.date) (λ d.
     and_then (mentions_in e.kind e.mentions) (λ ms.
-    Ok (record { source = source; kind = e.kind; page = p; item = e.item; date = d; place = e.place; text = t; mentions = ms })))))
+    Ok (record {
+      source = source;
+      kind = e.kind;
+      page = p;
+      item = e.item;
+      date = d;
+      place = e.place;
+      text = t;
+      mentions = ms;
+    })))))
 
 -- a mention of that place, from 1, is there
 abbrev pub has_mention : ℕ → model.Entry → Bool
@@ -306,7 +370,8 @@ row_step c (row_command.Amend event value date place) = amend_event c event valu
 row_step c (row_command.Participant event person role) = add_participant c event person role
 row_step c (row_command.Place name parent) = new_place c name parent
 row_step c (row_command.Repo name) = new_repo c name
-row_step c (row_command.Source title author publisher repo call_number) = new_source c title author publisher repo call_number
+row_step c (row_command.Source title author publisher repo call_number) =
+    new_source c title author publisher repo call_number
 row_step c (row_command.Citation owner source page quality) = new_citation c owner source page quality
 row_step c (row_command.Entry source entry) = new_entry c source entry
 row_step c (row_command.Link entry mention person reason) = link_mention c entry mention person reason

@@ -31,7 +31,8 @@ IsUtf8Row (row_command.Amend event value date place) = IsUtf8 value × WhereSome
 IsUtf8Row (row_command.Participant event person role) = IsUtf8 role
 IsUtf8Row (row_command.Place name parent) = IsUtf8 name
 IsUtf8Row (row_command.Repo name) = IsUtf8 name
-IsUtf8Row (row_command.Source title author publisher repo call_number) = IsUtf8 title × IsUtf8 author × IsUtf8 publisher × IsUtf8 call_number
+IsUtf8Row (row_command.Source title author publisher repo call_number) = IsUtf8 title × IsUtf8 author × IsUtf8 publisher
+    × IsUtf8 call_number
 IsUtf8Row (row_command.Citation owner source page quality) = IsUtf8 page
 IsUtf8Row (row_command.Entry source entry) = IsUtf8Entry entry
 IsUtf8Row (row_command.Link entry mention person reason) = IsUtf8 reason

@@ -119,7 +119,8 @@ fn relinked<V: View>(
     link: Option<Link>,
 ) -> Result<Changes, RefusalKind>
     ensures decides { OnView V.is_honest V.shows V.content view.old view.new
-        (λ c. map.get c.records number ≡ Some (kind.Entry entry) → Plans c result (steps.relinked c number entry mention link)) }
+        (λ c. map.get c.records number ≡ Some (kind.Entry entry)
+        → Plans c result (steps.relinked c number entry mention link)) }
     ensures exact { OnView V.is_honest V.shows V.content view.old view.new
         (λ c. map.get c.records number ≡ Some (kind.Entry entry) → IfOk result (IsExact c)) }
     ensures counts { CountsFailures (V.failed view.old) (V.failed view.new) result }

@@ -107,7 +107,8 @@ fn plain_family(
     husband: Option<u32>,
     wife: Option<u32>,
 ) -> Result<Family, AllocError>
-    ensures { IfOk result (λ f. f ≡ record { partners = steps.plain_partners husband wife; children = []; carried = [] }) }
+    ensures { IfOk result
+        (λ f. f ≡ record { partners = steps.plain_partners husband wife; children = []; carried = [] }) }
 {
     let mut partners = Vec::new(alloc);
     if let Some(person) = husband {

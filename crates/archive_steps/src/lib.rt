@@ -1,5 +1,5 @@
-//! What each command of one row makes of an archive: what it looks at over a view, in which order it is refused, and which
-//! records it puts.
+//! What each command of one row makes of an archive: what it looks at over a view, in which order it is refused, and
+//! which records it puts.
 //!
 //! It uses `archive_view` and `archive_state` for the view of an archive and for what changes, `records` for what is in
 //! it, and `commands` for the commands.

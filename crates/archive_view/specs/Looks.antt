@@ -38,8 +38,10 @@ abbrev pub Looked : {A : Type 0} → Result A RefusalKind → (A → Type 0) →
 Looked (Ok a) P = P a
 Looked (Err e) P = is_stop e ≡ true
 
--- a view that is honest at the end was so at the start; what it showed then it shows still, and P holds of the content of that
-abbrev pub OnView : {S Held : Type 0} → (S → Type 0) → (S → Held → Type 0) → (Held → Content) → S → S → (Content → Type 0) → Type 0
+-- a view that is honest at the end was so at the start; what it showed then it shows still, and P holds of the content
+-- of that
+abbrev pub OnView : {S Held : Type 0} → (S → Type 0) → (S → Held → Type 0) → (Held → Content) → S → S
+    → (Content → Type 0) → Type 0
 OnView {S} {Held} honest shows content before after P =
     honest after → honest before × ((held : Held) → shows before held → shows after held × P (content held))
 

@@ -7,8 +7,8 @@ use archive_state::State;
 use std::alloc::Global;
 use std::marker::Model;
 
-/// A state in which the living are masked, so that all of it may be shown. Contracts see its records and its next number;
-/// it has no receipts and no slips.
+/// A state in which the living are masked, so that all of it may be shown. Contracts see its records and its next
+/// number; it has no receipts and no slips.
 ///
 /// `sheets` makes it of a state and a day; what it leaves out is said there.
 #[derive(Drop)]

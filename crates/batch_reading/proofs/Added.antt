@@ -12,17 +12,23 @@ use Rattle.batch_reading.specs.Input.{Row}
 
 module _ (row : Row) where
   -- the fields are texts
-  pub of_texts : (fields : Row) (r : Result EntryRow RefusalKind) → AllText row → fields ≡ row → Decided r (ReadsEntry fields) → Decided r (ReadsRow row)
+  pub of_texts : (fields : Row) (r : Result EntryRow RefusalKind) → AllText row → fields ≡ row
+      → Decided r (ReadsEntry fields) → Decided r (ReadsRow row)
   of_texts fields (Ok entry) all same h = inl (all, subst (λ (fs : Row). ReadsEntry fs (Ok entry)) same h)
   of_texts fields (Err kind) all same h = λ w. inl (all, subst (λ (fs : Row). ReadsEntry fs (Err kind)) same (h w))
 
   module _ (kind : RefusalKind) (number : ℕ) (e : Refusal) where
-    told_by : (b : Bool) → (b ≡ false → ReadsRow row (Err kind)) → e ≡ (if b then placeless OutOfMemory else record { kind = kind; at = Some number })
+    told_by : (b : Bool) → (b ≡ false → ReadsRow row (Err kind))
+        → e ≡ (if b then placeless OutOfMemory else record { kind = kind; at = Some number })
         → (e ≡ placeless OutOfMemory) ⊎ (ReadsRow row (Err e.kind) × (e.at ≡ Some number))
     told_by true reads is = inl is
-    told_by false reads is = inr (subst (λ (x : Refusal). ReadsRow row (Err x.kind)) (sym is) (reads refl), ap (λ (x : Refusal). x.at) is)
+    told_by false reads is = inr (
+      subst (λ (x : Refusal). ReadsRow row (Err x.kind)) (sym is) (reads refl),
+      ap (λ (x : Refusal). x.at) is,
+    )
 
     -- the refusal of a row, with its place
-    pub told : (is_want kind ≡ false → ReadsRow row (Err kind)) → e ≡ (if is_want kind then placeless OutOfMemory else record { kind = kind; at = Some number })
+    pub told : (is_want kind ≡ false → ReadsRow row (Err kind))
+        → e ≡ (if is_want kind then placeless OutOfMemory else record { kind = kind; at = Some number })
         → (e ≡ placeless OutOfMemory) ⊎ (ReadsRow row (Err e.kind) × (e.at ≡ Some number))
     told reads is = told_by (is_want kind) reads is

@@ -1,5 +1,5 @@
--- The register entries of an input's rows: kind, page, item, date, place, text, and then role and name of each mention. A row has
--- neither token, verb nor source. Rules of our own.
+-- The register entries of an input's rows: kind, page, item, date, place, text, and then role and name of each mention.
+-- A row has neither token, verb nor source. Rules of our own.
 use Rattle.std.specs.Prelude.{◌≡◌, ◌⊎◌, ◌+◌, ◌++◌, ℕ, List, [], ◌∷◌, length, Option, Some, None, Result, Ok, Err}
 use Rattle.csv.specs.Records.{AllText}
 use Rattle.record_text.specs.declared.refusal.Refusal.{Refusal}

@@ -20,4 +20,5 @@ AreRows (Some bytes) rows = AreRecords default_config state.StartRecord bytes ro
 -- these rows are the first of them
 abbrev pub AreFirstRows : Option (List ℕ) → List Row → Type 0
 AreFirstRows None rows = Unit {0}
-AreFirstRows (Some bytes) rows = (s : State) × (left : List ℕ) × Reached default_config state.StartRecord bytes rows s left
+AreFirstRows (Some bytes) rows = (s : State) × (left : List ℕ) × Reached default_config state.StartRecord
+    bytes rows s left

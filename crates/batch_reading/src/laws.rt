@@ -7,10 +7,12 @@ ghost use Rattle.batch_reading.specs.Batches.{ReadsBatch, ReadsRow};
 
 /// A row is one register entry, or is refused for one reason.
 pub fn a_row_is_one_entry()
-    ensures { (row : List (List ℕ)) (first second : Result EntryRow RefusalKind) → ReadsRow row first → ReadsRow row second → first ≡ second }
+    ensures { (row : List (List ℕ)) (first second : Result EntryRow RefusalKind) → ReadsRow row first
+        → ReadsRow row second → first ≡ second }
 {}
 
 /// The rows of known bytes are one list of register entries, where they are any.
 pub fn bytes_are_one_batch()
-    ensures { (bytes : List ℕ) (first second : List EntryRow) → ReadsBatch (Some bytes) first → ReadsBatch (Some bytes) second → first ≡ second }
+    ensures { (bytes : List ℕ) (first second : List EntryRow) → ReadsBatch (Some bytes) first
+        → ReadsBatch (Some bytes) second → first ≡ second }
 {}

@@ -1,7 +1,31 @@
 //! All rows of an input, read as the register entries of a batch.
 
-ghost use Rattle.std.specs.Prelude.{◌≡◌, ◌⊎◌, ◌++◌, ◌∷◌, [], true, Err, IfErr, IfOk, IsTrue, Ok, OnOk, Some, if◌then◌else◌, map};
-ghost use Rattle.csv.specs.Reading.{Ready, default_config, is_flexible, reader_config, reader_state, reader_trim, source_of};
+ghost use Rattle.std.specs.Prelude.{
+  ◌≡◌,
+  ◌⊎◌,
+  ◌++◌,
+  ◌∷◌,
+  [],
+  true,
+  Err,
+  IfErr,
+  IfOk,
+  IsTrue,
+  Ok,
+  OnOk,
+  Some,
+  if◌then◌else◌,
+  map,
+};
+ghost use Rattle.csv.specs.Reading.{
+  Ready,
+  default_config,
+  is_flexible,
+  reader_config,
+  reader_state,
+  reader_trim,
+  source_of,
+};
 ghost use Rattle.csv.specs.Records.{fields_of};
 ghost use Rattle.csv.specs.declared.parser.State.TheVariants as state;
 ghost use Rattle.csv.specs.declared.reader.Trim.TheVariants as trim;
@@ -20,13 +44,14 @@ use record_text::{Refusal, RefusalKind};
 use std::alloc::Global;
 use std::io::{ErrorKind, Read};
 
-/// Reads the rows of a batch of register entries. A row is kind, page, item, date, place, text, and then role and name of each
-/// mention, 1 to 100. There is no header row; empty lines are no rows, and a byte order mark before the first is taken off.
+/// Reads the rows of a batch of register entries. A row is kind, page, item, date, place, text, and then role and name
+/// of each mention, 1 to 100. There is no header row; empty lines are no rows, and a byte order mark before the first
+/// is taken off.
 ///
-/// Refused is the first row that is no entry, with its number from 1, in this order: 90: a field is not UTF-8. 92: there are too
-/// few or too many fields, or a role without a name. 90: a field is not of its type. Without a place come 94: the reader failed
-/// in this call, by its count; and 1: memory was refused, the reader did not count its error, or there are more rows than
-/// numbers of 32 bits.
+/// Refused is the first row that is no entry, with its number from 1, in this order: 90: a field is not UTF-8. 92:
+/// there are too few or too many fields, or a role without a name. 90: a field is not of its type. Without a place come
+/// 94: the reader failed in this call, by its count; and 1: memory was refused, the reader did not count its error, or
+/// there are more rows than numbers of 32 bits.
 pub fn read_entries<R: Read + Device>(alloc: Global, input: &mut R) -> Result<EntryRows, Refusal>
     ensures read { IfOk result (ReadsBatch (row_bytes (R.remaining input.old))) }
     ensures refused { IfErr result (IsRefused (row_bytes (R.remaining input.old))) }
@@ -126,7 +151,10 @@ fn add(entry: EntryRow, entries: &mut Vec<EntryRow>) -> Result<(), Refusal>
 
 /// The refusal of the row with this number. Want of memory is no fault of a row.
 fn refused_row(kind: RefusalKind, number: u32) -> Refusal
-    ensures { result ≡ (if is_want kind then placeless refusal.OutOfMemory else record { kind = kind; at = Some number }) }
+    ensures { result ≡ (if is_want kind then placeless refusal.OutOfMemory else record {
+      kind = kind;
+      at = Some number;
+    }) }
 {
     match kind {
         RefusalKind::OutOfMemory => Refusal::from(kind),

@@ -45,7 +45,8 @@ CivilCounts = (y : ℤ) (m d : ℕ) → 1 ≤ d → days_from_civil y m d ≡ da
 abbrev pub JulianCounts : Type 0
 JulianCounts =
     (y m d : ℕ) → 1 ≤ y → 1 ≤ d
-    → day_number Julian (pos y) m d ≡ pos (365 * (y - 1) + (y - 1) / 4 + (days_of_months Julian (pos y) (m - 1) + d)) -ℤ pos 719165
+    → day_number Julian (pos y) m d ≡ pos (365 * (y - 1) + (y - 1) / 4 + (days_of_months Julian (pos y) (m - 1) + d)) -ℤ
+    pos 719165
 
 -- The number of the n-th day of the Julian year y, in years before Christ too, of which n B.C. is the year 1 - n:
 -- 365(y - 1) + (y - 1) / 4 + n - 2 - 719163, where the division rounds down.

@@ -1,9 +1,37 @@
 //! The first and the last day of a date, and the number of a day.
 
-ghost use Rattle.std.specs.Prelude.{◌≡◌, ◌≤◌, ◌<◌, ◌-◌, ◌≤ℤ◌, ◌+ℤ◌, ◌-ℤ◌, ◌+◌, ◌%◌, ◌==◌, ◌&&◌, nat_lt, if◌then◌else◌, pos, negsuc, ℤ};
+ghost use Rattle.std.specs.Prelude.{
+  ◌≡◌,
+  ◌≤◌,
+  ◌<◌,
+  ◌-◌,
+  ◌≤ℤ◌,
+  ◌+ℤ◌,
+  ◌-ℤ◌,
+  ◌+◌,
+  ◌%◌,
+  ◌==◌,
+  ◌&&◌,
+  nat_lt,
+  if◌then◌else◌,
+  pos,
+  negsuc,
+  ℤ,
+};
 ghost use Rattle.jiff_core.specs.Calendar.{days_from_civil};
 ghost use Rattle.calendar_days.specs.Bounds.{IsLeast, IsGreatest};
-ghost use Rattle.calendar_days.specs.Calendars.{HasDay, last_month, IsCounted, leap, day_number, month_days, days_of_months, counted, opening, days_before_month};
+ghost use Rattle.calendar_days.specs.Calendars.{
+  HasDay,
+  last_month,
+  IsCounted,
+  leap,
+  day_number,
+  month_days,
+  days_of_months,
+  counted,
+  opening,
+  days_before_month,
+};
 ghost use Rattle.calendar_days.specs.Laws.{julian_formula};
 ghost use Rattle.calendar_days.specs.Told.{told};
 ghost use Rattle.calendar_days.specs.Within.{IsIn};

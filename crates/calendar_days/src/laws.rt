@@ -1,6 +1,13 @@
 //! Laws of days, over the definitions that the contracts cite.
 
-ghost use Rattle.calendar_days.specs.Laws.{IsConsecutive, IsApart, IsComplete, CivilCounts, JulianCounts, JulianCountsBothWays};
+ghost use Rattle.calendar_days.specs.Laws.{
+  IsConsecutive,
+  IsApart,
+  IsComplete,
+  CivilCounts,
+  JulianCounts,
+  JulianCountsBothWays,
+};
 ghost use Rattle.calendar_days.specs.declared.calendar.Calendar.{Calendar};
 
 /// Consecutive dates have consecutive numbers, and each number is that of one day of each calendar,

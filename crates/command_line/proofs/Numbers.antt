@@ -1,5 +1,23 @@
 -- The number of a word, by what the library parses.
-use Rattle.std.proofs.Common.{◌≡◌, ◌<◌, ◌≤◌, ◌^◌, ◌∙◌, ℕ, Bool, true, false, Result, Ok, Err, arith, refl, ap, sym, subst}
+use Rattle.std.proofs.Common.{
+  ◌≡◌,
+  ◌<◌,
+  ◌≤◌,
+  ◌^◌,
+  ◌∙◌,
+  ℕ,
+  Bool,
+  true,
+  false,
+  Result,
+  Ok,
+  Err,
+  arith,
+  refl,
+  ap,
+  sym,
+  subst,
+}
 use Rattle.std.specs.Result.{OkIff}
 use Rattle.std.specs.Prelude.{if◌then◌else◌}
 use Rattle.std.specs.Str.Parse.{IsNumeral, ParsesUnsigned, digits_value, without_leading_plus}
@@ -29,4 +47,5 @@ module _ {E : Type 0} (word : Text) (r : Result ℕ E) (h : ParsesUnsigned 32 10
       let v = digits_value 10 ds in
       let k = subst (λ x. OkIff x (IsNumeral 10 ds × (v < 2 ^ 32)) v) is h in
       refused (is_unsigned_in 0 4294967295 word) v
-      (λ fits. let a = accepts-Accepts false (vp.Unsigned 0 4294967295) word fits in let most : v ≤ 4294967295 = a.3 in k (a.0, omega arith))
+      (λ fits. let a = accepts-Accepts false (vp.Unsigned 0 4294967295) word fits in let most : v ≤ 4294967295 = a.3 in
+      k (a.0, omega arith))

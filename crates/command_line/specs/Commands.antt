@@ -1,5 +1,25 @@
 -- The commands of the program, and which of them a command line names, by the grammar of `clap`.
-use Rattle.std.specs.Prelude.{◌≡◌, ℕ, ⊤, List, [], ◌∷◌, Option, Some, None, IfSome, IsSome, MatchResult, Result, true, codes, option_and_then, option_map, unwrap_or, if◌then◌else◌}
+use Rattle.std.specs.Prelude.{
+  ◌≡◌,
+  ℕ,
+  ⊤,
+  List,
+  [],
+  ◌∷◌,
+  Option,
+  Some,
+  None,
+  IfSome,
+  IsSome,
+  MatchResult,
+  Result,
+  true,
+  codes,
+  option_and_then,
+  option_map,
+  unwrap_or,
+  if◌then◌else◌,
+}
 use Rattle.std.specs.Str.Parse.{digits_value, without_leading_plus}
 use Rattle.clap.specs.Words.{App, Row, Rule, Shape, Text, fault_of, first_of, new_rule, subcommand_of, with_subcommand}
 use Rattle.clap.specs.Simple.{new_shape}
@@ -28,7 +48,12 @@ file_rule = record (new_rule (codes "FILE")) { action = Some Set; required = tru
 
 -- `--society NAME`, which has to be there
 abbrev pub society_rule : Rule
-society_rule = record (new_rule (codes "society")) { long = Some (codes "society"); action = Some Set; value_names = 1; required = true }
+society_rule = record (new_rule (codes "society")) {
+  long = Some (codes "society");
+  action = Some Set;
+  value_names = 1;
+  required = true;
+}
 
 -- `--source N`, which has to be there, a number of a record
 abbrev pub source_rule : Rule
@@ -42,7 +67,12 @@ source_rule = record (new_rule (codes "source")) {
 
 -- `--token T`, which has to be there
 abbrev pub token_rule : Rule
-token_rule = record (new_rule (codes "token")) { long = Some (codes "token"); action = Some Set; value_names = 1; required = true }
+token_rule = record (new_rule (codes "token")) {
+  long = Some (codes "token");
+  action = Some Set;
+  value_names = 1;
+  required = true;
+}
 
 abbrev pub init_shape : Shape
 init_shape = record (new_shape (codes "init")) { rules = file_rule ∷ society_rule ∷ [] }
@@ -84,10 +114,12 @@ number_of word = if is_unsigned_in 0 4294967295 word then digits_value 10 (witho
 
 -- what is asked for has the words that the command is given
 abbrev pub HasWords : Option (Text × List Row) → Asked → Type 0
-HasWords found (Init file society) = (file.now ≡ word_in found (codes "FILE")) × (society.now ≡ word_in found (codes "society"))
+HasWords found (Init file society) = (file.now ≡ word_in found (codes "FILE"))
+    × (society.now ≡ word_in found (codes "society"))
 HasWords found (Apply file) = file.now ≡ word_in found (codes "FILE")
 HasWords found (Entries file source token) =
-    (file.now ≡ word_in found (codes "FILE")) × (source ≡ number_of (word_in found (codes "source"))) × (token.now ≡ word_in found (codes "token"))
+    (file.now ≡ word_in found (codes "FILE")) × (source ≡ number_of (word_in found (codes "source")))
+    × (token.now ≡ word_in found (codes "token"))
 HasWords found _ = ⊤
 
 -- the words are those of a command, with nothing that it does not take: the grammar has no fault to find in them
@@ -101,7 +133,8 @@ batch_words name =
 
 -- work is asked for only by words that are taken, that name its command, and that it has
 abbrev pub Asks : List Text → Asked → Type 0
-Asks words asked = IfSome (name_of asked) (λ name. IsTaken words × (command_named words ≡ Some name)) × HasWords (subcommand_of program words) asked
+Asks words asked = IfSome (name_of asked) (λ name. IsTaken words × (command_named words ≡ Some name))
+    × HasWords (subcommand_of program words) asked
 
 -- work is asked for, unless memory is wanting
 abbrev pub AsksForWork : Result Asked Refused → Type 0

@@ -3,7 +3,18 @@
 ghost use Rattle.std.specs.Prelude.{◌≡◌, IfOk, codes, false};
 ghost use Rattle.clap.specs.Words.{app_of, new_app, rule_of, shape_of};
 ghost use Rattle.clap.specs.declared.builder.command.Command.TheViews.{out-Command};
-ghost use Rattle.command_line.specs.Commands.{apply_shape, bare, entries_shape, file_rule, init_shape, program, society_rule, source_rule, token_rule, with_streams_alone};
+ghost use Rattle.command_line.specs.Commands.{
+  apply_shape,
+  bare,
+  entries_shape,
+  file_rule,
+  init_shape,
+  program,
+  society_rule,
+  source_rule,
+  token_rule,
+  with_streams_alone,
+};
 
 use clap::builder::ValueParser;
 use clap::{Arg, ArgAction, Command};

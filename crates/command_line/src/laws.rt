@@ -13,7 +13,10 @@ pub fn each_command_is_taken()
 /// A batch is taken as the help of `entries` shows it, and has the file, the source and the token that are told there.
 pub fn a_batch_is_taken()
     ensures taken { (name : Text) → IsTaken (batch_words name) }
-    ensures file { (name : Text) → word_in (subcommand_of program (batch_words name)) (codes "FILE") ≡ codes "ashby.db" }
-    ensures source { (name : Text) → number_of (word_in (subcommand_of program (batch_words name)) (codes "source")) ≡ 3 }
-    ensures token { (name : Text) → word_in (subcommand_of program (batch_words name)) (codes "token") ≡ codes "page-12" }
+    ensures file { (name : Text) → word_in (subcommand_of program (batch_words name)) (codes "FILE")
+        ≡ codes "ashby.db" }
+    ensures source { (name : Text) → number_of (word_in (subcommand_of program (batch_words name)) (codes "source"))
+        ≡ 3 }
+    ensures token { (name : Text) → word_in (subcommand_of program (batch_words name)) (codes "token")
+        ≡ codes "page-12" }
 {}

@@ -25,8 +25,8 @@ pub enum Asked<'a> {
     Apply {
         file: &'a str,
     },
-    /// `entries`: the rows of standard input as new register entries of a source of the archive in a file, under a token. The
-    /// token may be any word.
+    /// `entries`: the rows of standard input as new register entries of a source of the archive in a file, under a
+    /// token. The token may be any word.
     Entries {
         file: &'a str,
         source: u32,

@@ -1,10 +1,48 @@
 -- The date that words give, and that there is one for all words.
-use Rattle.std.specs.Prelude.{◌≡◌, ◌≢◌, ◌⊎◌, ℕ, List, [], ◌∷◌, ◌++◌, ◌==◌, ◌≤◌, length, Bool, true, false, Option, Some, None, option_map, refl, MatchOption, Result, Ok, Err, IfOk}
+use Rattle.std.specs.Prelude.{
+  ◌≡◌,
+  ◌≢◌,
+  ◌⊎◌,
+  ℕ,
+  List,
+  [],
+  ◌∷◌,
+  ◌++◌,
+  ◌==◌,
+  ◌≤◌,
+  length,
+  Bool,
+  true,
+  false,
+  Option,
+  Some,
+  None,
+  option_map,
+  refl,
+  MatchOption,
+  Result,
+  Ok,
+  Err,
+  IfOk,
+}
 use Rattle.std.specs.List.{list_any}
 use Rattle.std.specs.Str.{IsUtf8}
 use Rattle.std.proofs.lemmas.Bool.Decides.{nat_tests}
 use Rattle.std.proofs.Common.{ap, sym, ◌∙◌, subst, inl, inr, arith}
-use Rattle.gedcom_date.specs.Form.{Form, OnDate, NearDate, BeforeDate, AfterDate, BetweenDates, SinceDate, UntilDate, FromToDates, InterpretedDate, PhraseAlone, VerbatimText}
+use Rattle.gedcom_date.specs.Form.{
+  Form,
+  OnDate,
+  NearDate,
+  BeforeDate,
+  AfterDate,
+  BetweenDates,
+  SinceDate,
+  UntilDate,
+  FromToDates,
+  InterpretedDate,
+  PhraseAlone,
+  VerbatimText,
+}
 use Rattle.gedcom_date.specs.Grammar.{Says, Fits, FitsNone, IsOfForm, IsPhrased}
 use Rattle.gedcom_date.specs.Spelling.{spelling}
 use Rattle.gedcom_date.specs.View.{view}
@@ -39,11 +77,13 @@ no-phrase (b ∷ front) phrase h = let e : [] ≡ b ∷ front ++ 40 ∷ phrase +
 
 no-form : (f : Form) → ¬ (IsOfForm [] f)
 no-form f h = elim (either [] f h) [
-  | inl worded ↦ (let found : word_form [] ≡ Some f = subst (λ ws. word_form ws ≡ Some f) no-words (word_only (words []) f worded) in let none : word_form [] ≡ None = no-form-of-words in absurd cc)
+  | inl worded ↦ (let found : word_form [] ≡ Some f = subst (λ ws. word_form ws ≡ Some f) no-words
+      (word_only (words []) f worded) in let none : word_form [] ≡ None = no-form-of-words in absurd cc)
   | inr k ↦ no-phrase k.0 k.1 k.2
 ]
 
-verbatim : (text : List ℕ) (f : Form) → ((g : Form) → ¬ (Fits text g)) → Fits text f ⊎ ((f ≡ VerbatimText text) × FitsNone text) → f ≡ VerbatimText text
+verbatim : (text : List ℕ) (f : Form) → ((g : Form) → ¬ (Fits text g)) → Fits text f
+    ⊎ ((f ≡ VerbatimText text) × FitsNone text) → f ≡ VerbatimText text
 verbatim text f lacks (inl h) = absurd (lacks f h)
 verbatim text f lacks (inr h) = h.0
 
@@ -51,7 +91,8 @@ verbatim text f lacks (inr h) = h.0
 nothing-said : (f : Form) → Says [] f → f ≡ VerbatimText []
 nothing-said f h = verbatim [] f (λ g fits. no-form g fits.0) h
 
-kept-text : (text t : List ℕ) → Fits text (VerbatimText t) ⊎ ((VerbatimText t ≡ VerbatimText text) × FitsNone text) → t ≡ text
+kept-text : (text t : List ℕ) → Fits text (VerbatimText t) ⊎ ((VerbatimText t ≡ VerbatimText text) × FitsNone text)
+    → t ≡ text
 unfolding IsOfForm
 kept-text text t (inl h) = absurd h.0
 kept-text text t (inr h) = let e : VerbatimText t ≡ VerbatimText text = h.0 in cc
@@ -105,10 +146,14 @@ pub gives_new : (words : List ℕ) (value : DateValue) (found : Option GivenDate
     → MatchOption found (spelling (view value) ≡ []) (λ given. given.spelling ≡ spelling (view value))
     → MatchOption found (Unit {0}) (λ given. IsGiven given.spelling given.date) → Gives words found
 gives_new words value None h e is = empty-said words (view value) h e
-gives_new words value (Some given) h e is =
-    (some-words words (view value) h (λ none. is.some (e ∙ none)), is, λ f said. e ∙ ap spelling (one_said words (view value) f h said))
+gives_new words value (Some given) h e is = (
+  some-words words (view value) h (λ none. is.some (e ∙ none)),
+  is,
+  λ f said. e ∙ ap spelling (one_said words (view value) f h said),
+)
 
-pub gives_ok : {E : Type 0} (words : List ℕ) (value : DateValue) (r : Result (Option GivenDate) E) → Says words (view value)
+pub gives_ok : {E : Type 0} (words : List ℕ) (value : DateValue) (r : Result (Option GivenDate) E)
+    → Says words (view value)
     → IfOk r (λ found. MatchOption found (spelling (view value) ≡ []) (λ given. given.spelling ≡ spelling (view value)))
     → IfOk r (λ found. MatchOption found (Unit {0}) (λ given. IsGiven given.spelling given.date)) → IfOk r (Gives words)
 gives_ok words value (Ok found) h e is = gives_new words value found h e is
@@ -129,17 +174,20 @@ is-as-text spelling h =
     let short : length spelling ≤ 1048576 = h.short in
     grind (arith, nat_tests)
 
-no-text : (spelling : List ℕ) (b : Bool) → is_text spelling ≡ b → IsUtf8 spelling → ¬ (IsText spelling) → None ≡ text_of spelling
+no-text : (spelling : List ℕ) (b : Bool) → is_text spelling ≡ b → IsUtf8 spelling → ¬ (IsText spelling)
+    → None ≡ text_of spelling
 no-text spelling true e utf8 lacks = absurd (lacks (as-text spelling utf8 e))
 no-text spelling false e utf8 lacks = rw e refl
 
 some-text : (spelling : List ℕ) → is_text spelling ≡ true → text_of spelling ≡ Some spelling
 some-text spelling e = rw e refl
 
-pub said_date : (spelling : List ℕ) (date : Option Date) → IsUtf8 spelling → MatchOption date (¬ (IsText spelling)) (λ d. d.text ≡ spelling)
+pub said_date : (spelling : List ℕ) (date : Option Date) → IsUtf8 spelling → MatchOption date (¬ (IsText spelling))
+    (λ d. d.text ≡ spelling)
     → MatchOption date (Unit {0}) (λ d. IsText d.text) → option_map date_text date ≡ text_of spelling
 said_date spelling None utf8 lacks is = no-text spelling (is_text spelling) refl utf8 lacks
-said_date spelling (Some d) utf8 same is = ap Some same ∙ sym (some-text spelling (is-as-text spelling (subst IsText same is)))
+said_date spelling (Some d) utf8 same is = ap Some same
+    ∙ sym (some-text spelling (is-as-text spelling (subst IsText same is)))
 
 -- ---- the date of words, by their value
 date-found : (spelling : List ℕ) → IsWritten spelling → option_map date_text (date_of spelling) ≡ Some spelling
@@ -147,12 +195,14 @@ date-found spelling written =
     let d : Date = record { text = spelling; written = written } in
     ap (option_map date_text) (date_back (Some d))
 
-date-said : (spelling : List ℕ) (b : Bool) → is_text spelling ≡ b → IsWritten spelling → option_map date_text (date_from (text_of spelling)) ≡ text_of spelling
+date-said : (spelling : List ℕ) (b : Bool) → is_text spelling ≡ b → IsWritten spelling
+    → option_map date_text (date_from (text_of spelling)) ≡ text_of spelling
 date-said spelling true e written = rw e (date-found spelling written)
 date-said spelling false e written = rw e refl
 
 spelt-written : (words : List ℕ) → IsWritten (spelt words)
-spelt-written words = let said = some_value words in written_by (spelling said.0) said.0 (again words said.0 said.1) refl
+spelt-written words = let said = some_value words in
+    written_by (spelling said.0) said.0 (again words said.0 said.1) refl
 
 spelt-some : (words : List ℕ) → words ≢ [] → spelt words ≢ []
 spelt-some words some e = let said = some_value words in some (empty-said words said.0 said.1 e)
@@ -183,7 +233,8 @@ same-text (Some d) None h = absurd cc
 same-text (Some d) (Some e) h = ap Some (same_date d e (let same : d.text ≡ e.text = cc in same))
 
 same-given : (g h : GivenDate) → g.spelling ≡ h.spelling → g.date ≡ h.date → g ≡ h
-same-given g h e f = let made : List ℕ → Option Date → GivenDate = λ s d. record { spelling = s; date = d } in ap (made g.spelling) f ∙ ap (λ s. made s h.date) e
+same-given g h e f = let made : List ℕ → Option Date → GivenDate = λ s d. record { spelling = s; date = d } in
+    ap (made g.spelling) f ∙ ap (λ s. made s h.date) e
 
 both-given : (g h : GivenDate) → IsGiven g.spelling g.date → IsGiven h.spelling h.date → g.spelling ≡ h.spelling → g ≡ h
 both-given g h x y e = same-given g h e (same-text g.date h.date (x.said ∙ ap text_of e ∙ sym y.said))
@@ -193,8 +244,10 @@ one_given words None None e f = refl
 one_given words None (Some h) e f = absurd (f.0 e)
 one_given words (Some g) None e f = absurd (e.0 f)
 one_given words (Some g) (Some h) e f =
-    ap Some (both-given g h e.1 f.1 (e.2 (some_value words).0 (some_value words).1 ∙ sym (f.2 (some_value words).0 (some_value words).1)))
+    ap Some (both-given g h e.1 f.1 (e.2 (some_value words).0 (some_value words).1
+    ∙ sym (f.2 (some_value words).0 (some_value words).1)))
 
-pub given_same : {E : Type 0} (words : List ℕ) (r : Result (Option GivenDate) E) → IfOk r (Gives words) → IfOk r (λ found. found ≡ given_of words)
+pub given_same : {E : Type 0} (words : List ℕ) (r : Result (Option GivenDate) E) → IfOk r (Gives words)
+    → IfOk r (λ found. found ≡ given_of words)
 given_same words (Ok found) h = one_given words found (given_of words) h (gives_of words)
 given_same words (Err x) h = tt

@@ -1,5 +1,26 @@
 -- A command that a row is read as has numbers in range, and dates as their type keeps them.
-use Rattle.std.specs.Prelude.{◌≡◌, ◌≤◌, ◌&&◌, nat_le, ℕ, List, [], ◌∷◌, length, Bool, true, false, cond, Option, Some, None, Result, Ok, Err, refl}
+use Rattle.std.specs.Prelude.{
+  ◌≡◌,
+  ◌≤◌,
+  ◌&&◌,
+  nat_le,
+  ℕ,
+  List,
+  [],
+  ◌∷◌,
+  length,
+  Bool,
+  true,
+  false,
+  cond,
+  Option,
+  Some,
+  None,
+  Result,
+  Ok,
+  Err,
+  refl,
+}
 use Rattle.std.specs.Char.{is_ascii_digit}
 use Rattle.std.specs.List.{list_all}
 use Rattle.std.specs.Str.Parse.{digits_value}
@@ -11,7 +32,23 @@ use Rattle.record_fields.specs.declared.entry_words.EntryKind.{EntryKind}
 use Rattle.record_fields.specs.declared.item.Item.{Item}
 use Rattle.commands.specs.Given.{GivenDate, Gives}
 use Rattle.commands.specs.Mentions.{IsCount}
-use Rattle.commands.specs.Rows.{Reads, ReadsEntry, and_then, is_number, item_in, kind_in, mentions_in, number_in, ok_or, or_none, quality_in, read_entry, read_fields, read_row, sex_in}
+use Rattle.commands.specs.Rows.{
+  Reads,
+  ReadsEntry,
+  and_then,
+  is_number,
+  item_in,
+  kind_in,
+  mentions_in,
+  number_in,
+  ok_or,
+  or_none,
+  quality_in,
+  read_entry,
+  read_fields,
+  read_row,
+  sex_in,
+}
 use Rattle.commands.specs.Sound.{IsDate, IsNumber, IsSoundEntry, IsSoundRow, WhereSome}
 use Rattle.commands.specs.Verbs.{verb_of}
 use Rattle.commands.specs.declared.entry_row.EntryRow.{EntryRow}
@@ -26,18 +63,23 @@ use Rattle.commands.proofs.Mentions.{mentions_bound}
 ok-is : {A : Type 0} (a b : A) → ◌≡◌ {A = Result A RefusalKind} (Ok a) (Ok b) → a ≡ b
 ok-is a b e = cc
 
-in-range : (d : Bool) (l v : ℕ) → (d && nat_le 1 l && nat_le l 10 && nat_le 1 v && nat_le v 4294967295) ≡ true → IsNumber v
-in-range d l v e = let least : 1 ≤ v = grind (arith, nat_tests) in let most : v ≤ 4294967295 = grind (arith, nat_tests) in (least, most)
+in-range : (d : Bool) (l v : ℕ) → (d && nat_le 1 l && nat_le l 10 && nat_le 1 v && nat_le v 4294967295)
+    ≡ true → IsNumber v
+in-range d l v e = let least : 1 ≤ v = grind (arith, nat_tests) in
+    let most : v ≤ 4294967295 = grind (arith, nat_tests) in (least, most)
 
-number-if : (v n : ℕ) (b : Bool) → (b ≡ true → IsNumber v) → ◌≡◌ {A = Result ℕ RefusalKind} (cond b (Ok v) (Err BadRow)) (Ok n) → IsNumber n
+number-if : (v n : ℕ) (b : Bool) → (b ≡ true → IsNumber v) → ◌≡◌ {A = Result ℕ RefusalKind} (cond b (Ok v) (Err BadRow))
+    (Ok n) → IsNumber n
 number-if v n true h e = subst IsNumber (ok-is v n e) (h refl)
 number-if v n false h e = absurd cc
 
 number-in : (field : List ℕ) (n : ℕ) → number_in field ≡ Ok n → IsNumber n
 unfolding number_in
-number-in field n e = number-if (digits_value 10 field) n (is_number field) (λ t. in-range (list_all is_ascii_digit field) (length field) (digits_value 10 field) t) e
+number-in field n e = number-if (digits_value 10 field) n (is_number field)
+    (λ t. in-range (list_all is_ascii_digit field) (length field) (digits_value 10 field) t) e
 
-number-some : (r : Result ℕ RefusalKind) (n : Option ℕ) → ((m : ℕ) → r ≡ Ok m → IsNumber m) → and_then r (λ a. Ok (Some a)) ≡ Ok n → WhereSome IsNumber n
+number-some : (r : Result ℕ RefusalKind) (n : Option ℕ) → ((m : ℕ) → r ≡ Ok m → IsNumber m)
+    → and_then r (λ a. Ok (Some a)) ≡ Ok n → WhereSome IsNumber n
 number-some (Ok m) n h e = subst (WhereSome IsNumber) (ok-is (Some m) n e) (h m refl)
 number-some (Err x) n h e = absurd cc
 
@@ -50,7 +92,8 @@ date-sound words None h = tt
 date-sound words (Some g) h = h.1
 
 -- what is read in two steps
-then-is : {A B : Type 0} (r : Result A RefusalKind) (P : A → Type 0) (f : A → Result B RefusalKind) (Q : B → Type 0) (b : B)
+then-is : {A B : Type 0} (r : Result A RefusalKind) (P : A → Type 0) (f : A → Result B RefusalKind)
+    (Q : B → Type 0) (b : B)
     → ((a : A) → r ≡ Ok a → P a) → ((a : A) → P a → f a ≡ Ok b → Q b) → and_then r f ≡ Ok b → Q b
 then-is (Ok a) P f Q b h k e = k a (h a refl) e
 then-is (Err x) P f Q b h k e = absurd cc
@@ -62,18 +105,22 @@ entry-sound given (kind ∷ page ∷ item ∷ date ∷ place ∷ text ∷ fields
     let made : List GivenMention → EntryKind → Item → Option ℕ → EntryRow =
     λ ms k i p. record { kind = k; page = page; item = i; date = given date; place = p; text = text; mentions = ms } in
     then-is (mentions_in fields) (λ ms. IsCount ms)
-    (λ ms. and_then (kind_in kind) (λ k. and_then (item_in item) (λ i. and_then (or_none number_in place) (λ p. Ok (made ms k i p)))))
+    (λ ms. and_then (kind_in kind)
+    (λ k. and_then (item_in item) (λ i. and_then (or_none number_in place) (λ p. Ok (made ms k i p)))))
     IsSoundEntry entry (mentions_bound fields)
     (λ ms few. then-is (kind_in kind) (λ k. Unit {0})
-    (λ k. and_then (item_in item) (λ i. and_then (or_none number_in place) (λ p. Ok (made ms k i p)))) IsSoundEntry entry (λ k h. tt)
+    (λ k. and_then (item_in item) (λ i. and_then (or_none number_in place) (λ p. Ok (made ms k i p)))) IsSoundEntry
+    entry (λ k h. tt)
     (λ k h. then-is (item_in item) (λ i. Unit {0})
     (λ i. and_then (or_none number_in place) (λ p. Ok (made ms k i p))) IsSoundEntry entry (λ i x. tt)
-    (λ i x. then-is (or_none number_in place) (WhereSome IsNumber) (λ p. Ok (made ms k i p)) IsSoundEntry entry (number-or-none place)
+    (λ i x. then-is (or_none number_in place) (WhereSome IsNumber) (λ p. Ok (made ms k i p)) IsSoundEntry entry
+    (number-or-none place)
     (λ p number same. subst IsSoundEntry (ok-is (made ms k i p) entry same) (dates date, number, few))))) e
 entry-sound given _ entry dates e = absurd cc
 
 -- ---- rows
-then-sound : {A : Type 0} (r : Result A RefusalKind) (P : A → Type 0) (f : A → Result RowCommand RefusalKind) (c : RowCommand)
+then-sound : {A : Type 0} (r : Result A RefusalKind) (P : A → Type 0) (f : A → Result RowCommand RefusalKind)
+    (c : RowCommand)
     → ((a : A) → r ≡ Ok a → P a) → ((a : A) → P a → f a ≡ Ok c → IsSoundRow c) → and_then r f ≡ Ok c → IsSoundRow c
 then-sound r P f c h k e = then-is r P f IsSoundRow c h k e
 
@@ -83,72 +130,101 @@ is-that d c e h = subst IsSoundRow (ok-is d c e) h
 fields-sound : (given : List ℕ → Option GivenDate) (v : Verb) (fields : List (List ℕ)) (c : RowCommand)
     → ((words : List ℕ) → WhereSome IsDate (given words)) → read_fields given v fields ≡ Ok c → IsSoundRow c
 fields-sound given verb.Person (name ∷ sex ∷ []) c dates e =
-    then-sound (or_none sex_in sex) (λ s. Unit {0}) (λ s. Ok (row_command.Person name s)) c (λ s h. tt) (λ s h. λ same. is-that (row_command.Person name s) c same tt) e
+    then-sound (or_none sex_in sex) (λ s. Unit {0}) (λ s. Ok (row_command.Person name s)) c (λ s h. tt)
+    (λ s h. λ same. is-that (row_command.Person name s) c same tt) e
 fields-sound given verb.Name (person ∷ name ∷ []) c dates e =
-    then-sound (number_in person) IsNumber (λ p. Ok (row_command.Name p name)) c (number-in person) (λ p h same. is-that (row_command.Name p name) c same h) e
+    then-sound (number_in person) IsNumber (λ p. Ok (row_command.Name p name)) c (number-in person)
+    (λ p h same. is-that (row_command.Name p name) c same h) e
 fields-sound given verb.Sex (person ∷ sex ∷ []) c dates e =
-    then-sound (number_in person) IsNumber (λ p. and_then (sex_in sex) (λ s. Ok (row_command.Sex p s))) c (number-in person)
-    (λ p h. then-sound (sex_in sex) (λ s. Unit {0}) (λ s. Ok (row_command.Sex p s)) c (λ s i. tt) (λ s i same. is-that (row_command.Sex p s) c same h)) e
+    then-sound (number_in person) IsNumber (λ p. and_then (sex_in sex) (λ s. Ok (row_command.Sex p s))) c
+    (number-in person)
+    (λ p h. then-sound (sex_in sex) (λ s. Unit {0}) (λ s. Ok (row_command.Sex p s)) c (λ s i. tt)
+    (λ s i same. is-that (row_command.Sex p s) c same h)) e
 fields-sound given verb.Family (husband ∷ wife ∷ []) c dates e =
-    then-sound (or_none number_in husband) (WhereSome IsNumber) (λ h. and_then (or_none number_in wife) (λ w. Ok (row_command.Family h w))) c (number-or-none husband)
-    (λ h x. then-sound (or_none number_in wife) (WhereSome IsNumber) (λ w. Ok (row_command.Family h w)) c (number-or-none wife)
+    then-sound (or_none number_in husband) (WhereSome IsNumber)
+    (λ h. and_then (or_none number_in wife) (λ w. Ok (row_command.Family h w))) c (number-or-none husband)
+    (λ h x. then-sound (or_none number_in wife) (WhereSome IsNumber) (λ w. Ok (row_command.Family h w)) c
+    (number-or-none wife)
     (λ w y same. is-that (row_command.Family h w) c same (x, y))) e
 fields-sound given verb.Child (family ∷ person ∷ []) c dates e =
-    then-sound (number_in family) IsNumber (λ f. and_then (number_in person) (λ p. Ok (row_command.Child f p))) c (number-in family)
+    then-sound (number_in family) IsNumber (λ f. and_then (number_in person) (λ p. Ok (row_command.Child f p))) c
+    (number-in family)
     (λ f x. then-sound (number_in person) IsNumber (λ p. Ok (row_command.Child f p)) c (number-in person)
     (λ p y same. is-that (row_command.Child f p) c same (x, y))) e
 fields-sound given verb.Event (owner ∷ tag ∷ value ∷ date ∷ place ∷ []) c dates e =
-    then-sound (number_in owner) IsNumber (λ o. and_then (or_none number_in place) (λ p. Ok (row_command.Event o tag value (given date) p))) c (number-in owner)
-    (λ o x. then-sound (or_none number_in place) (WhereSome IsNumber) (λ p. Ok (row_command.Event o tag value (given date) p)) c (number-or-none place)
+    then-sound (number_in owner) IsNumber
+    (λ o. and_then (or_none number_in place) (λ p. Ok (row_command.Event o tag value (given date) p))) c
+    (number-in owner)
+    (λ o x. then-sound (or_none number_in place) (WhereSome IsNumber)
+    (λ p. Ok (row_command.Event o tag value (given date) p)) c (number-or-none place)
     (λ p y same. is-that (row_command.Event o tag value (given date) p) c same (x, dates date, y))) e
 fields-sound given verb.Amend (event ∷ value ∷ date ∷ place ∷ []) c dates e =
-    then-sound (number_in event) IsNumber (λ v. and_then (or_none number_in place) (λ p. Ok (row_command.Amend v value (given date) p))) c (number-in event)
-    (λ v x. then-sound (or_none number_in place) (WhereSome IsNumber) (λ p. Ok (row_command.Amend v value (given date) p)) c (number-or-none place)
+    then-sound (number_in event) IsNumber
+    (λ v. and_then (or_none number_in place) (λ p. Ok (row_command.Amend v value (given date) p))) c
+    (number-in event)
+    (λ v x. then-sound (or_none number_in place) (WhereSome IsNumber)
+    (λ p. Ok (row_command.Amend v value (given date) p)) c (number-or-none place)
     (λ p y same. is-that (row_command.Amend v value (given date) p) c same (x, dates date, y))) e
 fields-sound given verb.Participant (event ∷ person ∷ role ∷ []) c dates e =
-    then-sound (number_in event) IsNumber (λ v. and_then (number_in person) (λ p. Ok (row_command.Participant v p role))) c (number-in event)
+    then-sound (number_in event) IsNumber
+    (λ v. and_then (number_in person) (λ p. Ok (row_command.Participant v p role))) c (number-in event)
     (λ v x. then-sound (number_in person) IsNumber (λ p. Ok (row_command.Participant v p role)) c (number-in person)
     (λ p y same. is-that (row_command.Participant v p role) c same (x, y))) e
 fields-sound given verb.Place (name ∷ parent ∷ []) c dates e =
-    then-sound (or_none number_in parent) (WhereSome IsNumber) (λ p. Ok (row_command.Place name p)) c (number-or-none parent)
+    then-sound (or_none number_in parent) (WhereSome IsNumber) (λ p. Ok (row_command.Place name p)) c
+    (number-or-none parent)
     (λ p x same. is-that (row_command.Place name p) c same x) e
 fields-sound given verb.Repo (name ∷ []) c dates e = is-that (row_command.Repo name) c e tt
 fields-sound given verb.Source (title ∷ author ∷ publisher ∷ repo ∷ call_number ∷ []) c dates e =
-    then-sound (or_none number_in repo) (WhereSome IsNumber) (λ r. Ok (row_command.Source title author publisher r call_number)) c (number-or-none repo)
+    then-sound (or_none number_in repo) (WhereSome IsNumber)
+    (λ r. Ok (row_command.Source title author publisher r call_number)) c (number-or-none repo)
     (λ r x same. is-that (row_command.Source title author publisher r call_number) c same x) e
 fields-sound given verb.Citation (owner ∷ source ∷ page ∷ quality ∷ []) c dates e =
-    then-sound (number_in owner) IsNumber (λ o. and_then (number_in source) (λ s. and_then (or_none quality_in quality) (λ q. Ok (row_command.Citation o s page q)))) c (number-in owner)
-    (λ o x. then-sound (number_in source) IsNumber (λ s. and_then (or_none quality_in quality) (λ q. Ok (row_command.Citation o s page q))) c (number-in source)
-    (λ s y. then-sound (or_none quality_in quality) (λ q. Unit {0}) (λ q. Ok (row_command.Citation o s page q)) c (λ q i. tt)
+    then-sound (number_in owner) IsNumber
+    (λ o. and_then (number_in source)
+    (λ s. and_then (or_none quality_in quality) (λ q. Ok (row_command.Citation o s page q)))) c (number-in owner)
+    (λ o x. then-sound (number_in source) IsNumber
+    (λ s. and_then (or_none quality_in quality) (λ q. Ok (row_command.Citation o s page q))) c (number-in source)
+    (λ s y. then-sound (or_none quality_in quality) (λ q. Unit {0})
+    (λ q. Ok (row_command.Citation o s page q)) c (λ q i. tt)
     (λ q i same. is-that (row_command.Citation o s page q) c same (x, y)))) e
 fields-sound given verb.Entry (source ∷ fields) c dates e =
-    then-sound (read_entry given fields) IsSoundEntry (λ r. and_then (number_in source) (λ s. Ok (row_command.Entry s r))) c (λ r. entry-sound given fields r dates)
+    then-sound (read_entry given fields) IsSoundEntry
+    (λ r. and_then (number_in source) (λ s. Ok (row_command.Entry s r))) c (λ r. entry-sound given fields r dates)
     (λ r x. then-sound (number_in source) IsNumber (λ s. Ok (row_command.Entry s r)) c (number-in source)
     (λ s y same. is-that (row_command.Entry s r) c same (y, x))) e
 fields-sound given verb.Link (entry ∷ mention ∷ person ∷ reason ∷ []) c dates e =
-    then-sound (number_in entry) IsNumber (λ r. and_then (number_in mention) (λ m. and_then (number_in person) (λ p. Ok (row_command.Link r m p reason)))) c (number-in entry)
-    (λ r x. then-sound (number_in mention) IsNumber (λ m. and_then (number_in person) (λ p. Ok (row_command.Link r m p reason))) c (number-in mention)
+    then-sound (number_in entry) IsNumber
+    (λ r. and_then (number_in mention) (λ m. and_then (number_in person) (λ p. Ok (row_command.Link r m p reason))))
+    c (number-in entry)
+    (λ r x. then-sound (number_in mention) IsNumber
+    (λ m. and_then (number_in person) (λ p. Ok (row_command.Link r m p reason))) c (number-in mention)
     (λ m y. then-sound (number_in person) IsNumber (λ p. Ok (row_command.Link r m p reason)) c (number-in person)
     (λ p z same. is-that (row_command.Link r m p reason) c same (x, y, z)))) e
 fields-sound given verb.Unlink (entry ∷ mention ∷ []) c dates e =
-    then-sound (number_in entry) IsNumber (λ r. and_then (number_in mention) (λ m. Ok (row_command.Unlink r m))) c (number-in entry)
+    then-sound (number_in entry) IsNumber (λ r. and_then (number_in mention) (λ m. Ok (row_command.Unlink r m))) c
+    (number-in entry)
     (λ r x. then-sound (number_in mention) IsNumber (λ m. Ok (row_command.Unlink r m)) c (number-in mention)
     (λ m y same. is-that (row_command.Unlink r m) c same (x, y))) e
 fields-sound given verb.Merge (keep ∷ gone ∷ []) c dates e =
-    then-sound (number_in keep) IsNumber (λ k. and_then (number_in gone) (λ g. Ok (row_command.Merge k g))) c (number-in keep)
+    then-sound (number_in keep) IsNumber (λ k. and_then (number_in gone) (λ g. Ok (row_command.Merge k g))) c
+    (number-in keep)
     (λ k x. then-sound (number_in gone) IsNumber (λ g. Ok (row_command.Merge k g)) c (number-in gone)
     (λ g y same. is-that (row_command.Merge k g) c same (x, y))) e
 fields-sound given verb.Undo (slip ∷ []) c dates e =
-    then-sound (number_in slip) IsNumber (λ n. Ok (row_command.Undo n)) c (number-in slip) (λ n h same. is-that (row_command.Undo n) c same h) e
+    then-sound (number_in slip) IsNumber (λ n. Ok (row_command.Undo n)) c (number-in slip)
+    (λ n h same. is-that (row_command.Undo n) c same h) e
 fields-sound given verb.Remove (number ∷ []) c dates e =
-    then-sound (number_in number) IsNumber (λ n. Ok (row_command.Remove n)) c (number-in number) (λ n h same. is-that (row_command.Remove n) c same h) e
+    then-sound (number_in number) IsNumber (λ n. Ok (row_command.Remove n)) c (number-in number)
+    (λ n h same. is-that (row_command.Remove n) c same h) e
 fields-sound given _ _ c dates e = absurd cc
 
 row-sound : (given : List ℕ → Option GivenDate) (row : List (List ℕ)) (c : RowCommand)
     → ((words : List ℕ) → WhereSome IsDate (given words)) → read_row given row ≡ Ok c → IsSoundRow c
 row-sound given [] c dates e = absurd cc
 row-sound given (word ∷ fields) c dates e =
-    then-sound (ok_or UnknownVerb (verb_of word)) (λ v. Unit {0}) (λ v. read_fields given v fields) c (λ v h. tt) (λ v h same. fields-sound given v fields c dates same) e
+    then-sound (ok_or UnknownVerb (verb_of word)) (λ v. Unit {0}) (λ v. read_fields given v fields) c (λ v h. tt)
+    (λ v h same. fields-sound given v fields c dates same) e
 
 pub read_sound : (row : List (List ℕ)) (c : RowCommand) → Reads row (Ok c) → IsSoundRow c
 read_sound row c x = row-sound x.0 row c (λ words. date-sound words (x.0 words) (x.1 words)) (sym x.2)

@@ -12,7 +12,8 @@ in-range n l h = grind (arith, nat_tests)
 item-if : (i : Item) (n : ℕ) (b : Bool) (e : is_item n ≡ b) → n ≡ i.number → item_if n b e ≡ Some i
 item-if i n true e h = ap Some (same_item (record { number = n; in_range = item_range n e }) i h)
 item-if i n false e h =
-    let good : is_item n ≡ true = subst (λ (m : ℕ). is_item m ≡ true) (sym h) (in-range i.number i.in_range.0 i.in_range.1) in
+    let good : is_item n ≡ true = subst (λ (m : ℕ). is_item m ≡ true) (sym h)
+    (in-range i.number i.in_range.0 i.in_range.1) in
     absurd cc
 
 none-if : (n : ℕ) (b : Bool) (e : is_item n ≡ b) → ¬ ((1 ≤ n) × (n ≤ 999999)) → None ≡ item_if n b e
@@ -23,7 +24,8 @@ pub item_back : (i : Item) → item_at i.number ≡ Some i
 unfolding item_at
 item_back i = item-if i i.number (is_item i.number) refl refl
 
-pub item_found : (n : ℕ) (r : Option Item) → MatchOption r (¬ ((1 ≤ n) × (n ≤ 999999))) (λ i. i.number ≡ n) → r ≡ item_at n
+pub item_found : (n : ℕ) (r : Option Item) → MatchOption r (¬ ((1 ≤ n) × (n ≤ 999999)))
+    (λ i. i.number ≡ n) → r ≡ item_at n
 unfolding item_at
 item_found n (Some i) is = sym (item-if i n (is_item n) refl (sym is))
 item_found n None lacks = none-if n (is_item n) refl lacks

@@ -1,5 +1,33 @@
 -- The fields of mentions, and the mentions of fields.
-use Rattle.std.specs.Prelude.{map, ◌≡◌, ◌≤◌, ◌<◌, ◌*◌, ◌-◌, ◌++◌, ◌&&◌, nat_le, ℕ, List, [], ◌∷◌, length, Bool, true, false, cond, Option, Some, None, option_map, Result, Ok, Err, suc, refl}
+use Rattle.std.specs.Prelude.{
+  map,
+  ◌≡◌,
+  ◌≤◌,
+  ◌<◌,
+  ◌*◌,
+  ◌-◌,
+  ◌++◌,
+  ◌&&◌,
+  nat_le,
+  ℕ,
+  List,
+  [],
+  ◌∷◌,
+  length,
+  Bool,
+  true,
+  false,
+  cond,
+  Option,
+  Some,
+  None,
+  option_map,
+  Result,
+  Ok,
+  Err,
+  suc,
+  refl,
+}
 use Rattle.std.proofs.Common.{ap, ◌∙◌, subst, arith, append_assoc, get_or, take, drop, Bor}
 use Rattle.std.proofs.lemmas.List.{length-map, take_all}
 use Rattle.std.proofs.lemmas.Bool.Decides.{nat_tests}
@@ -48,10 +76,12 @@ mentions_back ms h = ap (λ o. and_then (ok_or FieldCount o) counted) (pairs_bac
 -- ---- what fields are read as
 counted-bound : (b : Bool) (ms ns : List GivenMention) → is_count ms ≡ b
     → ◌≡◌ {A = Result (List GivenMention) RefusalKind} (cond b (Ok ms) (Err FieldCount)) (Ok ns) → IsCount ns
-counted-bound true ms ns few same = let e : ms ≡ ns = cc in few-is ns (subst (λ (l : List GivenMention). is_count l ≡ true) e few)
+counted-bound true ms ns few same = let e : ms ≡ ns = cc in
+    few-is ns (subst (λ (l : List GivenMention). is_count l ≡ true) e few)
 counted-bound false ms ns few same = absurd cc
 
-option-bound : (o : Option (List GivenMention)) (ns : List GivenMention) → and_then (ok_or FieldCount o) counted ≡ Ok ns → IsCount ns
+option-bound : (o : Option (List GivenMention)) (ns : List GivenMention) → and_then (ok_or FieldCount o) counted
+    ≡ Ok ns → IsCount ns
 option-bound None ns e = absurd cc
 option-bound (Some ms) ns e = counted-bound (is_count ms) ms ns refl e
 
@@ -60,7 +90,8 @@ mentions_bound fields ns e = option-bound (pairs fields) ns e
 
 -- two fields for each
 mutual-length : (o : Option (List GivenMention)) (n : ℕ) (m : GivenMention) (ns : List GivenMention)
-    → ((ms : List GivenMention) → o ≡ Some ms → n ≡ 2 * length ms) → option_map (λ ms. m ∷ ms) o ≡ Some ns → suc (suc n) ≡ 2 * length ns
+    → ((ms : List GivenMention) → o ≡ Some ms → n ≡ 2 * length ms) → option_map (λ ms. m ∷ ms) o ≡ Some ns
+    → suc (suc n) ≡ 2 * length ns
 mutual-length None n m ns h e = absurd cc
 mutual-length (Some ms) n m ns h e =
     let same : m ∷ ms ≡ ns = cc in
@@ -82,7 +113,8 @@ option-many fields (Some ms) e h =
     let more : 100 < length ms = omega arith in
     counted-not ms (λ bound. let most : length ms ≤ 100 = bound.1 in absurd (omega arith))
 
-pub many_mentions : (fields : List (Bor (List ℕ))) → 200 < length fields → Err FieldCount ≡ mentions_in (map (λ f. f.now) fields)
+pub many_mentions : (fields : List (Bor (List ℕ))) → 200 < length fields → Err FieldCount ≡ mentions_in
+    (map (λ f. f.now) fields)
 many_mentions fields h =
     let words : List (List ℕ) = map (λ f. f.now) fields in
     option-many words (pairs words) refl (rw (length-map fields (λ f. f.now)) h)
@@ -102,26 +134,33 @@ then-read (Ok ms) p q e h = h ∙ e
 then-read (Err k) p q e h = λ w. h w ∙ e
 
 -- behind the first two fields
-pub two_more : (have all : List GivenMention) (fields : List (Bor (List ℕ))) (else : Bor (List ℕ)) (r : Result (List GivenMention) RefusalKind)
-    → 2 ≤ length fields → all ≡ have ++ (record { role = (get_or fields 0 else).now; name = (get_or fields 1 else).now } ∷ [])
+pub two_more : (have all : List GivenMention) (fields : List (Bor (List ℕ))) (else : Bor (List ℕ))
+    (r : Result (List GivenMention) RefusalKind)
+    → 2 ≤ length fields → all ≡ have
+    ++ (record { role = (get_or fields 0 else).now; name = (get_or fields 1 else).now } ∷ [])
     → Decided r (λ x. x ≡ behind all (pairs (map (λ f. f.now) (take (length fields - 2) (drop 2 fields)))))
     → Decided r (λ x. x ≡ behind have (pairs (map (λ f. f.now) fields)))
 two_more have all [] else r l e h = absurd (omega arith)
 two_more have all (role ∷ []) else r l e h = absurd (omega arith)
 two_more have all (role ∷ name ∷ more) else r l e h =
     let m : GivenMention = record { role = role.now; name = name.now } in
-    let rest : take (suc (suc (length more)) - 2) more ≡ more = take_all (suc (suc (length more)) - 2) more (omega arith) in
-    then-read r (behind all (pairs (map (λ f. f.now) (take (suc (suc (length more)) - 2) more)))) (behind have (pairs (role.now ∷ name.now ∷ map (λ f. f.now) more)))
+    let rest : take (suc (suc (length more)) - 2) more ≡ more = take_all (suc (suc (length more)) - 2) more
+    (omega arith) in
+    then-read r (behind all (pairs (map (λ f. f.now) (take (suc (suc (length more)) - 2) more))))
+    (behind have (pairs (role.now ∷ name.now ∷ map (λ f. f.now) more)))
     (ap (λ (fs : List (Bor (List ℕ))). behind all (pairs (map (λ f. f.now) fs))) rest
-    ∙ ap (λ (l : List GivenMention). behind l (pairs (map (λ f. f.now) more))) e ∙ one-more have m (pairs (map (λ f. f.now) more))) h
+    ∙ ap (λ (l : List GivenMention). behind l (pairs (map (λ f. f.now) more))) e ∙ one-more have m
+    (pairs (map (λ f. f.now) more))) h
 
 -- behind none: all of them
 behind-none : (o : Option (List GivenMention)) → behind [] o ≡ and_then (ok_or FieldCount o) counted
 behind-none None = refl
 behind-none (Some ms) = refl
 
-pub all_mentions : (none : List GivenMention) (fields : List (Bor (List ℕ))) (r : Result (List GivenMention) RefusalKind) → none ≡ []
-    → Decided r (λ x. x ≡ behind none (pairs (map (λ f. f.now) fields))) → Decided r (λ x. x ≡ mentions_in (map (λ f. f.now) fields))
+pub all_mentions : (none : List GivenMention) (fields : List (Bor (List ℕ)))
+    (r : Result (List GivenMention) RefusalKind) → none ≡ []
+    → Decided r (λ x. x ≡ behind none (pairs (map (λ f. f.now) fields)))
+    → Decided r (λ x. x ≡ mentions_in (map (λ f. f.now) fields))
 all_mentions none fields r e decided =
     let words : List (List ℕ) = map (λ f. f.now) fields in
     then-read r (behind none (pairs words)) (mentions_in words)

@@ -1,5 +1,26 @@
 -- Numbers of a row, by what the library parses.
-use Rattle.std.specs.Prelude.{◌≡◌, ◌≢◌, ◌≤◌, ◌<◌, ◌^◌, ℕ, ◌&&◌, nat_le, List, [], ◌∷◌, length, Bool, true, false, Result, Ok, Err, refl, decimal}
+use Rattle.std.specs.Prelude.{
+  ◌≡◌,
+  ◌≢◌,
+  ◌≤◌,
+  ◌<◌,
+  ◌^◌,
+  ℕ,
+  ◌&&◌,
+  nat_le,
+  List,
+  [],
+  ◌∷◌,
+  length,
+  Bool,
+  true,
+  false,
+  Result,
+  Ok,
+  Err,
+  refl,
+  decimal,
+}
 use Rattle.std.specs.Result.{OkIff}
 use Rattle.std.specs.Char.{is_ascii_digit}
 use Rattle.std.specs.List.{list_all}
@@ -27,10 +48,12 @@ long d l v h = grind (arith, nat_tests)
 nothing : (d : Bool) (l v : ℕ) → v ≡ 0 → (d && nat_le 1 l && nat_le l 10 && nat_le 1 v && nat_le v 4294967295) ≡ false
 nothing d l v h = grind (arith, nat_tests)
 
-outside : (d : Bool) (l v : ℕ) → ¬ ((0 < l) × (v < 2 ^ 32)) → (d && nat_le 1 l && nat_le l 10 && nat_le 1 v && nat_le v 4294967295) ≡ false
+outside : (d : Bool) (l v : ℕ) → ¬ ((0 < l) × (v < 2 ^ 32))
+    → (d && nat_le 1 l && nat_le l 10 && nat_le 1 v && nat_le v 4294967295) ≡ false
 outside d l v h = grind (arith, nat_tests)
 
-inside : (d : Bool) (l v : ℕ) → d ≡ true → 1 ≤ l → l ≤ 10 → 1 ≤ v → v ≤ 4294967295 → (d && nat_le 1 l && nat_le l 10 && nat_le 1 v && nat_le v 4294967295) ≡ true
+inside : (d : Bool) (l v : ℕ) → d ≡ true → 1 ≤ l → l ≤ 10 → 1 ≤ v → v ≤ 4294967295
+    → (d && nat_le 1 l && nat_le l 10 && nat_le 1 v && nat_le v 4294967295) ≡ true
 inside d l v e a b c f = grind (arith, nat_tests)
 
 -- more than ten bytes
@@ -50,11 +73,13 @@ own : IsNumeralModel (λ ds. all_ascii_digits ds ≡ true) (digits_value 10)
 own = numerals_by_value (λ ds. all_ascii_digits ds ≡ true) tells_all_ascii_digits
 
 -- where the digits are not too many, they are parsed as their value
-parsed : {E : Type 0} (field : List ℕ) (r : Result ℕ E) → ParsesUnsigned 32 10 field r → list_all is_ascii_digit field ≡ true
+parsed : {E : Type 0} (field : List ℕ) (r : Result ℕ E) → ParsesUnsigned 32 10 field r
+    → list_all is_ascii_digit field ≡ true
     → OkIff r ((0 < length field) × (digits_value 10 field < 2 ^ 32)) (digits_value 10 field)
 parsed field r h digits = parse_digits own 32 field r h (all-digits field ∙ digits)
 
-pub number_parsed : {E : Type 0} (field : List ℕ) (r : Result ℕ E) (n : ℕ) → ParsesUnsigned 32 10 field r → list_all is_ascii_digit field ≡ true
+pub number_parsed : {E : Type 0} (field : List ℕ) (r : Result ℕ E) (n : ℕ) → ParsesUnsigned 32 10 field r
+    → list_all is_ascii_digit field ≡ true
     → length field ≤ 10 → r ≡ Ok n → n ≢ 0 → Ok n ≡ number_in field
 number_parsed field r n h digits short is some =
     let v = digits_value 10 field in
@@ -63,16 +88,19 @@ number_parsed field r n h digits short is some =
     let most : v < 2 ^ 32 = k.0.1 in
     let same : n ≡ v = k.1 in
     let least : 1 ≤ v = omega arith in
-    ap Ok same ∙ number-ok field (inside (list_all is_ascii_digit field) (length field) v digits (omega arith) short least (omega arith))
+    ap Ok same ∙ number-ok field (inside (list_all is_ascii_digit field) (length field) v digits
+    (omega arith) short least (omega arith))
 
-pub number_zero : {E : Type 0} (field : List ℕ) (r : Result ℕ E) (n : ℕ) → ParsesUnsigned 32 10 field r → list_all is_ascii_digit field ≡ true
+pub number_zero : {E : Type 0} (field : List ℕ) (r : Result ℕ E) (n : ℕ) → ParsesUnsigned 32 10 field r
+    → list_all is_ascii_digit field ≡ true
     → r ≡ Ok n → n ≡ 0 → Err BadRow ≡ number_in field
 number_zero field r n h digits is none =
     let v = digits_value 10 field in
     let k = subst (λ x. OkIff x ((0 < length field) × (v < 2 ^ 32)) v) is (parsed field r h digits) in
     number-bad field (nothing (list_all is_ascii_digit field) (length field) v (sym k.1 ∙ none))
 
-pub number_unparsed : {E : Type 0} (field : List ℕ) (r : Result ℕ E) (e : E) → ParsesUnsigned 32 10 field r → list_all is_ascii_digit field ≡ true
+pub number_unparsed : {E : Type 0} (field : List ℕ) (r : Result ℕ E) (e : E) → ParsesUnsigned 32 10 field r
+    → list_all is_ascii_digit field ≡ true
     → r ≡ Err e → Err BadRow ≡ number_in field
 number_unparsed field r e h digits is =
     let v = digits_value 10 field in
@@ -91,4 +119,5 @@ number_back n l h =
     let value : digits_value 10 (decimal n) ≡ n = digits_value-decimal own n small in
     let short : length (decimal n) ≤ 10 = length-decimal-le 10 n (omega arith) (omega arith) small in
     let some : 1 ≤ length (decimal n) = (decimal_is_IsNumeral n small).0.0 in
-    sym (number-ok (decimal n) (inside (list_all is_ascii_digit (decimal n)) (length (decimal n)) (digits_value 10 (decimal n)) digits some short (omega arith) (omega arith))) ∙ ap Ok value
+    sym (number-ok (decimal n) (inside (list_all is_ascii_digit (decimal n)) (length (decimal n))
+    (digits_value 10 (decimal n)) digits some short (omega arith) (omega arith))) ∙ ap Ok value

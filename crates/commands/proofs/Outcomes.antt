@@ -17,14 +17,19 @@ is_reading row r e = (given_of, gives_of, e)
 
 by-verb : (word : List ℕ) (fields : List (List ℕ)) (o : Option Verb) → verb_of word ≡ o
     → read_row given_of (word ∷ fields) ≡ and_then (ok_or UnknownVerb o) (λ v. read_fields given_of v fields)
-by-verb word fields o e = ap (λ (x : Option Verb). and_then (ok_or UnknownVerb x) (λ v. read_fields given_of v fields)) e
+by-verb word fields o e = ap (λ (x : Option Verb). and_then (ok_or UnknownVerb x) (λ v. read_fields given_of v fields))
+    e
 
-pub read_by_verb : (word : List ℕ) (fields : List (List ℕ)) (v : Verb) (r : Result RowCommand RefusalKind) → Some v ≡ verb_of word
+pub read_by_verb : (word : List ℕ) (fields : List (List ℕ)) (v : Verb) (r : Result RowCommand RefusalKind)
+    → Some v ≡ verb_of word
     → Decided r (λ x. x ≡ read_fields given_of v fields) → Decided r (Reads (word ∷ fields))
-read_by_verb word fields v (Ok c) e h = is_reading (word ∷ fields) (Ok c) (h ∙ sym (by-verb word fields (Some v) (sym e)))
-read_by_verb word fields v (Err k) e h = λ w. is_reading (word ∷ fields) (Err k) (h w ∙ sym (by-verb word fields (Some v) (sym e)))
+read_by_verb word fields v (Ok c) e h = is_reading (word ∷ fields) (Ok c)
+    (h ∙ sym (by-verb word fields (Some v) (sym e)))
+read_by_verb word fields v (Err k) e h = λ w. is_reading (word ∷ fields) (Err k)
+    (h w ∙ sym (by-verb word fields (Some v) (sym e)))
 
-pub read_unknown : (word : List ℕ) (fields : List (List ℕ)) → None ≡ verb_of word → Reads (word ∷ fields) (Err UnknownVerb)
+pub read_unknown : (word : List ℕ) (fields : List (List ℕ)) → None ≡ verb_of word
+    → Reads (word ∷ fields) (Err UnknownVerb)
 read_unknown word fields e = is_reading (word ∷ fields) (Err UnknownVerb) (sym (by-verb word fields None (sym e)))
 
 -- ---- rows of a batch

@@ -1,5 +1,26 @@
 -- No two wordings have the same bytes.
-use Rattle.std.specs.Prelude.{map, ◌≡◌, ◌≢◌, ◌≤◌, ◌++◌, ◌&&◌, ◌||◌, ℕ, List, [], ◌∷◌, Bool, true, false, codes, Option, Some, None, refl, decimal}
+use Rattle.std.specs.Prelude.{
+  map,
+  ◌≡◌,
+  ◌≢◌,
+  ◌≤◌,
+  ◌++◌,
+  ◌&&◌,
+  ◌||◌,
+  ℕ,
+  List,
+  [],
+  ◌∷◌,
+  Bool,
+  true,
+  false,
+  codes,
+  Option,
+  Some,
+  None,
+  refl,
+  decimal,
+}
 use Rattle.std.specs.Char.{is_ascii_digit}
 use Rattle.std.specs.List.{flat_map, list_all, list_any}
 use Rattle.std.proofs.Common.{ap, sym, ◌∙◌, subst, arith, append_assoc}
@@ -11,7 +32,20 @@ use Rattle.csv.specs.Writing.{default_writer, fields_text, is_blank, needs_byte,
 use Rattle.csv.specs.declared.parser.State.TheVariants as st
 use Rattle.csv.proofs.RoundTrip.{read-write}
 use Rattle.record_fields.specs.Words.{entry_kind_word}
-use Rattle.commands.specs.Bytes.{Wording, Row, Batch, Import, bytes_of, entry_fields, mention_fields, or_empty, row_of, spelt, wording_of, written}
+use Rattle.commands.specs.Bytes.{
+  Wording,
+  Row,
+  Batch,
+  Import,
+  bytes_of,
+  entry_fields,
+  mention_fields,
+  or_empty,
+  row_of,
+  spelt,
+  wording_of,
+  written,
+}
 use Rattle.commands.specs.Sound.{BeginsWithVerb, HaveFields, IsSound, IsSoundWording}
 use Rattle.commands.specs.Verbs.{verb_of, verb_word}
 use Rattle.commands.specs.declared.command.Command.{Command}
@@ -41,18 +75,22 @@ and-right false b e = absurd cc
 plain-digits : (ds : List ℕ) → list_all is_ascii_digit ds ≡ true → list_any (needs_byte default_writer) ds ≡ false
 plain-digits [] h = refl
 plain-digits (c ∷ cs) h =
-    or-false (needs_byte default_writer c) (list_any (needs_byte default_writer) cs) (plain-digit c (and-left (is_ascii_digit c) (list_all is_ascii_digit cs) h))
+    or-false (needs_byte default_writer c) (list_any (needs_byte default_writer) cs)
+    (plain-digit c (and-left (is_ascii_digit c) (list_all is_ascii_digit cs) h))
     (plain-digits cs (and-right (is_ascii_digit c) (list_all is_ascii_digit cs) h))
 
 -- `entries,`, digits and LF are a row
-plain-row : (word ds tail : List ℕ) → list_any (needs_byte default_writer) word ≡ false → list_any (needs_byte default_writer) ds ≡ false
+plain-row : (word ds tail : List ℕ) → list_any (needs_byte default_writer) word ≡ false
+    → list_any (needs_byte default_writer) ds ≡ false
     → row_text default_writer (word ∷ ds ∷ []) ++ tail ≡ word ++ 44 ∷ ds ++ 10 ∷ tail
 unfolding is_blank fields_text
 plain-row word ds tail w d = rw (w, d) (simp append_assoc)
 
 head-row : (source : ℕ) (tail : List ℕ) → source ≤ 4294967295
-    → row_text default_writer (codes "entries" ∷ decimal source ∷ []) ++ tail ≡ codes "entries," ++ decimal source ++ 10 ∷ tail
-head-row source tail h = plain-row (codes "entries") (decimal source) tail refl (plain-digits (decimal source) (decimal_digits source h))
+    → row_text default_writer (codes "entries" ∷ decimal source ∷ []) ++ tail ≡ codes "entries,"
+    ++ decimal source ++ 10 ∷ tail
+head-row source tail h = plain-row (codes "entries") (decimal source) tail refl
+    (plain-digits (decimal source) (decimal_digits source h))
 
 import-row : (tail : List ℕ) → row_text default_writer (codes "import" ∷ []) ++ tail ≡ codes "import" ++ 10 ∷ tail
 unfolding is_blank fields_text
@@ -71,7 +109,8 @@ behind (Batch source rows) = flat_map (row_text default_writer) rows
 behind (Import text) = text
 
 row-read : (row : List (List ℕ)) (rest : List ℕ) → row ≢ []
-    → next_record default_config st.StartRecord [] [] (row_text default_writer row ++ rest) ≡ Some (row, st.StartRecord, rest)
+    → next_record default_config st.StartRecord [] [] (row_text default_writer row ++ rest) ≡ Some
+    (row, st.StartRecord, rest)
 row-read [] rest some = absurd (some refl)
 row-read (field ∷ fields) rest some = read-write (field ∷ fields) rest
 
@@ -115,12 +154,14 @@ rest-in (Some p) = p.2
 same-first : (a b : Wording) → IsSoundWording a → IsSoundWording b → written a ≡ written b → first-row a ≡ first-row b
 same-first a b x y e =
     ap row-in (sym (is-read a x))
-    ∙ ap (λ (bytes : List ℕ). row-in (next_record default_config st.StartRecord [] [] bytes)) e ∙ ap row-in (is-read b y)
+    ∙ ap (λ (bytes : List ℕ). row-in (next_record default_config st.StartRecord [] [] bytes)) e
+    ∙ ap row-in (is-read b y)
 
 same-behind : (a b : Wording) → IsSoundWording a → IsSoundWording b → written a ≡ written b → behind a ≡ behind b
 same-behind a b x y e =
     ap rest-in (sym (is-read a x))
-    ∙ ap (λ (bytes : List ℕ). rest-in (next_record default_config st.StartRecord [] [] bytes)) e ∙ ap rest-in (is-read b y)
+    ∙ ap (λ (bytes : List ℕ). rest-in (next_record default_config st.StartRecord [] [] bytes)) e
+    ∙ ap rest-in (is-read b y)
 
 -- ---- the rows of a batch
 nothing-read : next_record default_config st.StartRecord [] [] [] ≡ None
@@ -143,10 +184,13 @@ same-rows (r ∷ rows) (s ∷ more) x y e =
     let left = row-read r (flat_map (row_text default_writer) rows) x.0 in
     let right = row-read s (flat_map (row_text default_writer) more) y.0 in
     let row : r ≡ s =
-    ap row-in (sym left) ∙ ap (λ (bytes : List ℕ). row-in (next_record default_config st.StartRecord [] [] bytes)) e ∙ ap row-in right in
+    ap row-in (sym left) ∙ ap (λ (bytes : List ℕ). row-in (next_record default_config st.StartRecord [] [] bytes)) e
+    ∙ ap row-in right in
     let rest : flat_map (row_text default_writer) rows ≡ flat_map (row_text default_writer) more =
-    ap rest-in (sym left) ∙ ap (λ (bytes : List ℕ). rest-in (next_record default_config st.StartRecord [] [] bytes)) e ∙ ap rest-in right in
-    ap (λ (z : List (List ℕ)). z ∷ rows) row ∙ ap (λ (zs : List (List (List ℕ))). s ∷ zs) (same-rows rows more x.1 y.1 rest)
+    ap rest-in (sym left) ∙ ap (λ (bytes : List ℕ). rest-in (next_record default_config st.StartRecord [] [] bytes)) e
+    ∙ ap rest-in right in
+    ap (λ (z : List (List ℕ)). z ∷ rows) row ∙ ap (λ (zs : List (List (List ℕ))). s ∷ zs)
+    (same-rows rows more x.1 y.1 rest)
 
 -- ---- no two wordings
 -- a row of a verb begins with neither of the other words
@@ -171,7 +215,8 @@ not-import (word ∷ more) fields h e =
 entries-no-import : (a b : List (List ℕ)) → codes "entries" ∷ a ≢ codes "import" ∷ b
 entries-no-import a b e = let words : codes "entries" ≡ codes "import" = cc in absurd cc
 
-same-wording : (a b : Wording) → IsSoundWording a → IsSoundWording b → first-row a ≡ first-row b → behind a ≡ behind b → a ≡ b
+same-wording : (a b : Wording) → IsSoundWording a → IsSoundWording b → first-row a ≡ first-row b
+    → behind a ≡ behind b → a ≡ b
 same-wording (Row f) (Row g) x y e d = ap Row e
 same-wording (Row f) (Batch t q) x y e d = absurd (not-entries f (decimal t ∷ []) x e)
 same-wording (Row f) (Import t) x y e d = absurd (not-import f [] x e)
@@ -212,7 +257,8 @@ row-begins (row_command.Remove number) = (verb.Remove, refl)
 some-fields : (rows : List EntryRow) → HaveFields (map entry_fields rows)
 some-fields [] = tt
 some-fields (e ∷ rows) = (
-  some-cons (entry_kind_word e.kind) (e.page ∷ decimal e.item.number ∷ or_empty spelt e.date ∷ or_empty decimal e.place ∷ e.text ∷ mention_fields e.mentions),
+  some-cons (entry_kind_word e.kind) (e.page ∷ decimal e.item.number ∷ or_empty spelt e.date ∷ or_empty decimal e.place
+      ∷ e.text ∷ mention_fields e.mentions),
   some-fields rows,
 )
 
@@ -221,7 +267,8 @@ sound-wording (command.Row c) h = row-begins c
 sound-wording (command.Entries source rows) h = (h.0.1, some-fields rows)
 
 same-command : (c d : Command) → IsSound c → IsSound d → wording_of c ≡ wording_of d → c ≡ d
-same-command (command.Row c) (command.Row d) x y e = let rows : row_of c ≡ row_of d = cc in ap command.Row (one_row c d x y rows)
+same-command (command.Row c) (command.Row d) x y e = let rows : row_of c ≡ row_of d = cc in
+    ap command.Row (one_row c d x y rows)
 same-command (command.Row c) (command.Entries t q) x y e = absurd cc
 same-command (command.Entries s r) (command.Row d) x y e = absurd cc
 same-command (command.Entries s r) (command.Entries t q) x y e =
@@ -230,4 +277,5 @@ same-command (command.Entries s r) (command.Entries t q) x y e =
     ap (λ (n : ℕ). command.Entries n r) source ∙ ap (command.Entries t) (one_batch r q x.1 y.1 rows)
 
 pub one_command : (c d : Command) → IsSound c → IsSound d → bytes_of c ≡ bytes_of d → c ≡ d
-one_command c d x y e = same-command c d x y (one_wording (wording_of c) (wording_of d) (sound-wording c x) (sound-wording d y) e)
+one_command c d x y e = same-command c d x y
+    (one_wording (wording_of c) (wording_of d) (sound-wording c x) (sound-wording d y) e)

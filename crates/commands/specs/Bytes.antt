@@ -62,8 +62,8 @@ row_of (row_command.Undo slip) = verb_word verb.Undo ∷ decimal slip ∷ []
 row_of (row_command.Remove number) = verb_word verb.Remove ∷ decimal number ∷ []
 
 -- ---- bytes
--- what the bytes of a command are written from: the fields of one row; the source of a batch of entries and the fields of
--- each of its rows; or the canonical text of the forest of an import
+-- what the bytes of a command are written from: the fields of one row; the source of a batch of entries and the fields
+-- of each of its rows; or the canonical text of the forest of an import
 pub data Wording : Type 0 where
   Row : List (List ℕ) → Wording
   Batch : ℕ → List (List (List ℕ)) → Wording

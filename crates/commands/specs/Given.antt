@@ -23,4 +23,5 @@ pub record IsGiven (spelling : List ℕ) (date : Option Date) : Type 0 where
 abbrev pub Gives : List ℕ → Option GivenDate → Type 0
 Gives words None = words ≡ []
 Gives words (Some given) =
-    (words ≢ []) × IsGiven given.spelling given.date × ((form : Form) → Says words form → given.spelling ≡ spelling form)
+    (words ≢ []) × IsGiven given.spelling given.date
+    × ((form : Form) → Says words form → given.spelling ≡ spelling form)

@@ -1,5 +1,25 @@
 -- How a row of a request is read as a command: its verb and its fields, without the token. A rule of our own.
-use Rattle.std.specs.Prelude.{◌≡◌, ℕ, List, [], ◌∷◌, length, Bool, true, false, ◌&&◌, nat_le, Option, Some, None, option_map, Result, Ok, Err, if◌then◌else◌}
+use Rattle.std.specs.Prelude.{
+  ◌≡◌,
+  ℕ,
+  List,
+  [],
+  ◌∷◌,
+  length,
+  Bool,
+  true,
+  false,
+  ◌&&◌,
+  nat_le,
+  Option,
+  Some,
+  None,
+  option_map,
+  Result,
+  Ok,
+  Err,
+  if◌then◌else◌,
+}
 use Rattle.std.specs.Char.{is_ascii_digit}
 use Rattle.std.specs.List.{list_all}
 use Rattle.std.specs.Str.Parse.{digits_value}
@@ -99,9 +119,11 @@ read_fields given verb.Family (husband ∷ wife ∷ []) =
 read_fields given verb.Child (family ∷ person ∷ []) =
     and_then (number_in family) (λ f. and_then (number_in person) (λ p. Ok (row_command.Child f p)))
 read_fields given verb.Event (owner ∷ tag ∷ value ∷ date ∷ place ∷ []) =
-    and_then (number_in owner) (λ o. and_then (or_none number_in place) (λ p. Ok (row_command.Event o tag value (given date) p)))
+    and_then (number_in owner)
+    (λ o. and_then (or_none number_in place) (λ p. Ok (row_command.Event o tag value (given date) p)))
 read_fields given verb.Amend (event ∷ value ∷ date ∷ place ∷ []) =
-    and_then (number_in event) (λ e. and_then (or_none number_in place) (λ p. Ok (row_command.Amend e value (given date) p)))
+    and_then (number_in event)
+    (λ e. and_then (or_none number_in place) (λ p. Ok (row_command.Amend e value (given date) p)))
 read_fields given verb.Participant (event ∷ person ∷ role ∷ []) =
     and_then (number_in event) (λ e. and_then (number_in person) (λ p. Ok (row_command.Participant e p role)))
 read_fields given verb.Place (name ∷ parent ∷ []) =
@@ -133,12 +155,14 @@ read_row given (word ∷ fields) = and_then (ok_or UnknownVerb (verb_of word)) (
 -- the row is read as this command, or refused so, where each date is what its words give
 abbrev pub Reads : List (List ℕ) → Result RowCommand RefusalKind → Type 0
 Reads row outcome =
-    (given : List ℕ → Option GivenDate) × ((words : List ℕ) → Gives words (given words)) × (outcome ≡ read_row given row)
+    (given : List ℕ → Option GivenDate) × ((words : List ℕ) → Gives words (given words))
+    × (outcome ≡ read_row given row)
 
 -- the same of a row of a batch, which is a register entry without its source
 abbrev pub ReadsEntry : List (List ℕ) → Result EntryRow RefusalKind → Type 0
 ReadsEntry row outcome =
-    (given : List ℕ → Option GivenDate) × ((words : List ℕ) → Gives words (given words)) × (outcome ≡ read_entry given row)
+    (given : List ℕ → Option GivenDate) × ((words : List ℕ) → Gives words (given words))
+    × (outcome ≡ read_entry given row)
 
 -- ---- want of memory
 abbrev pub is_want : RefusalKind → Bool

@@ -36,8 +36,10 @@ IsSoundRow (row_command.Name person name) = IsNumber person
 IsSoundRow (row_command.Sex person sex) = IsNumber person
 IsSoundRow (row_command.Family husband wife) = WhereSome IsNumber husband × WhereSome IsNumber wife
 IsSoundRow (row_command.Child family person) = IsNumber family × IsNumber person
-IsSoundRow (row_command.Event owner tag value date place) = IsNumber owner × WhereSome IsDate date × WhereSome IsNumber place
-IsSoundRow (row_command.Amend event value date place) = IsNumber event × WhereSome IsDate date × WhereSome IsNumber place
+IsSoundRow (row_command.Event owner tag value date place) = IsNumber owner × WhereSome IsDate date
+    × WhereSome IsNumber place
+IsSoundRow (row_command.Amend event value date place) = IsNumber event × WhereSome IsDate date
+    × WhereSome IsNumber place
 IsSoundRow (row_command.Participant event person role) = IsNumber event × IsNumber person
 IsSoundRow (row_command.Place name parent) = WhereSome IsNumber parent
 IsSoundRow (row_command.Repo name) = Unit {0}
@@ -65,8 +67,8 @@ abbrev pub HaveFields : List (List (List ℕ)) → Type 0
 HaveFields [] = Unit {0}
 HaveFields (row ∷ rows) = (row ≢ []) × HaveFields rows
 
--- a row begins with the word of a verb; the source of a batch is a number of 32 bits, and its rows have fields; the text of
--- an import is any
+-- a row begins with the word of a verb; the source of a batch is a number of 32 bits, and its rows have fields; the
+-- text of an import is any
 abbrev pub IsSoundWording : Wording → Type 0
 IsSoundWording (Row fields) = BeginsWithVerb fields
 IsSoundWording (Batch source rows) = (source ≤ 4294967295) × HaveFields rows

@@ -141,7 +141,8 @@ fn event_bytes<'a>(
     date: &'a Option<GivenDate>,
     place: Option<u32>,
 ) -> Result<Vec<u8>, AllocError>
-    ensures { IfOk result (λ bytes. bytes.items ≡ bytes_of (command.Row (row_command.Event owner tag.now value.now date.now place))) }
+    ensures { IfOk result
+        (λ bytes. bytes.items ≡ bytes_of (command.Row (row_command.Event owner tag.now value.now date.now place))) }
 {
     let owner = owner.to_string(alloc)?;
     let place = number_or_empty(alloc, place)?;
@@ -162,7 +163,8 @@ fn amend_bytes(
     date: &Option<GivenDate>,
     place: Option<u32>,
 ) -> Result<Vec<u8>, AllocError>
-    ensures { IfOk result (λ bytes. bytes.items ≡ bytes_of (command.Row (row_command.Amend event value.now date.now place))) }
+    ensures { IfOk result
+        (λ bytes. bytes.items ≡ bytes_of (command.Row (row_command.Amend event value.now date.now place))) }
 {
     let event = event.to_string(alloc)?;
     let place = number_or_empty(alloc, place)?;
@@ -181,7 +183,8 @@ fn participant_bytes(
     person: u32,
     role: &Field,
 ) -> Result<Vec<u8>, AllocError>
-    ensures { IfOk result (λ bytes. bytes.items ≡ bytes_of (command.Row (row_command.Participant event person role.now))) }
+    ensures { IfOk result
+        (λ bytes. bytes.items ≡ bytes_of (command.Row (row_command.Participant event person role.now))) }
 {
     let event = event.to_string(alloc)?;
     let person = person.to_string(alloc)?;
@@ -231,7 +234,8 @@ fn citation_bytes(
     page: &Field,
     quality: Option<Quality>,
 ) -> Result<Vec<u8>, AllocError>
-    ensures { IfOk result (λ bytes. bytes.items ≡ bytes_of (command.Row (row_command.Citation owner source page.now quality))) }
+    ensures { IfOk result
+        (λ bytes. bytes.items ≡ bytes_of (command.Row (row_command.Citation owner source page.now quality))) }
 {
     let owner = owner.to_string(alloc)?;
     let source = source.to_string(alloc)?;
@@ -251,7 +255,8 @@ fn link_bytes(
     person: u32,
     reason: &Field,
 ) -> Result<Vec<u8>, AllocError>
-    ensures { IfOk result (λ bytes. bytes.items ≡ bytes_of (command.Row (row_command.Link entry mention person reason.now))) }
+    ensures { IfOk result
+        (λ bytes. bytes.items ≡ bytes_of (command.Row (row_command.Link entry mention person reason.now))) }
 {
     let entry = entry.to_string(alloc)?;
     let mention = mention.to_string(alloc)?;

@@ -66,7 +66,8 @@ fn with_entry<'a>(
     place: &'a [u8],
 ) -> Result<Vec<&'a [u8]>, AllocError>
     ensures { IfOk result (λ all. map (λ w. w.now) all.items ≡ map (λ w. w.now) words.entry.items
-        ++ (entry_kind_word entry.now.kind ∷ entry.now.page ∷ item.now ∷ or_empty spelt entry.now.date ∷ place.now ∷ entry.now.text
+        ++ (entry_kind_word entry.now.kind ∷ entry.now.page ∷ item.now ∷ or_empty spelt entry.now.date ∷ place.now
+        ∷ entry.now.text
         ∷ mention_fields entry.now.mentions)) }
 {
     let kind: &'a [u8] = entry.kind.as_str().as_bytes();
@@ -82,7 +83,8 @@ fn with_mentions<'a>(
     mut words: Vec<&'a [u8]>,
     mentions: &'a [GivenMention],
 ) -> Result<Vec<&'a [u8]>, AllocError>
-    ensures { IfOk result (λ all. map (λ w. w.now) all.items ≡ map (λ w. w.now) words.entry.items ++ mention_fields mentions.now) }
+    ensures { IfOk result (λ all. map (λ w. w.now) all.items ≡ map (λ w. w.now) words.entry.items
+        ++ mention_fields mentions.now) }
 {
     for mention in mentions {
         words.push(mention.role.as_str().as_bytes())?;

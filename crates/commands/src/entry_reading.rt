@@ -4,7 +4,18 @@ ghost use Rattle.std.specs.Prelude.{◌≡◌, ◌++◌, ◌∷◌, [], IfOk, ma
 ghost use Rattle.record_text.specs.declared.refusal.RefusalKind.TheVariants.{BadRow, FieldCount};
 ghost use Rattle.commands.specs.Dated.{given_of};
 ghost use Rattle.commands.specs.Items.{item_at};
-ghost use Rattle.commands.specs.Rows.{Decided, ReadsEntry, and_then, counted, item_in, kind_in, mentions_in, ok_or, pairs, read_entry};
+ghost use Rattle.commands.specs.Rows.{
+  Decided,
+  ReadsEntry,
+  and_then,
+  counted,
+  item_in,
+  kind_in,
+  mentions_in,
+  ok_or,
+  pairs,
+  read_entry,
+};
 
 use crate::entry_row::{EntryRow, GivenMention, GivenMentions};
 use crate::reading::{date_or_none, number_in, number_or_none, words_in};
@@ -16,9 +27,9 @@ use std::alloc::{AllocError, Global};
 const MOST_FIELDS: usize = 200;
 
 impl EntryRow {
-    /// The register entry of a row of a batch, which has no source. Refused are first too few or too many fields, and a role
-    /// without a name (`FieldCount`), and then a field that is not of its type (`BadRow`). `OutOfMemory` may come in place of
-    /// any answer.
+    /// The register entry of a row of a batch, which has no source. Refused are first too few or too many fields, and a
+    /// role without a name (`FieldCount`), and then a field that is not of its type (`BadRow`). `OutOfMemory` may come
+    /// in place of any answer.
     pub fn of_row(alloc: Global, fields: &[&str]) -> Result<EntryRow, RefusalKind>
         ensures { Decided result (ReadsEntry (map (λ f. f.now) fields.now)) }
     {
@@ -27,7 +38,8 @@ impl EntryRow {
 }
 
 /// The register entry of the fields behind its source. Refused are first too few or too many fields, and a role without
-/// a name (`FieldCount`), and then a field that is not of its type (`BadRow`). `OutOfMemory` may come in place of any answer.
+/// a name (`FieldCount`), and then a field that is not of its type (`BadRow`). `OutOfMemory` may come in place of any
+/// answer.
 pub(crate) fn entry_of_fields(alloc: Global, fields: &[&str]) -> Result<EntryRow, RefusalKind>
     ensures { Decided result (λ r. r ≡ read_entry given_of (map (λ f. f.now) fields.now)) }
 {
@@ -148,7 +160,8 @@ fn push_mention(
     role: &str,
     name: &str,
 ) -> Result<(), AllocError>
-    ensures { IfOk result (λ _. mentions.new.items ≡ mentions.old.items ++ (record { role = role.now; name = name.now } ∷ [])) }
+    ensures { IfOk result
+        (λ _. mentions.new.items ≡ mentions.old.items ++ (record { role = role.now; name = name.now } ∷ [])) }
 {
     let role = words_in(alloc, role)?;
     let name = words_in(alloc, name)?;

@@ -25,7 +25,8 @@ pub fn what_a_row_is_read_as_is_sound()
     ensures { (row : List (List ℕ)) (command : RowCommand) → Reads row (Ok command) → IsSoundRow command }
 {}
 
-/// The row of a command of one row is read as that command, where its numbers are in range and its dates are as given ones are.
+/// The row of a command of one row is read as that command, where its numbers are in range and its dates are as given
+/// ones are.
 pub fn a_row_of_a_command_is_read_as_it()
     ensures { (command : RowCommand) → IsSoundRow command → Reads (row_of command) (Ok command) }
 {}
@@ -42,8 +43,8 @@ pub fn what_a_row_of_a_batch_is_read_as_is_sound()
     ensures { (row : List (List ℕ)) (entry : EntryRow) → ReadsEntry row (Ok entry) → IsSoundEntry entry }
 {}
 
-/// The fields of a register entry are read as that entry, where its numbers are in range, its dates are as given ones are, and
-/// its mentions are 1 to 100.
+/// The fields of a register entry are read as that entry, where its numbers are in range, its dates are as given ones
+/// are, and its mentions are 1 to 100.
 pub fn the_fields_of_an_entry_are_read_as_it()
     ensures { (entry : EntryRow) → IsSoundEntry entry → ReadsEntry (entry_fields entry) (Ok entry) }
 {}
@@ -58,10 +59,12 @@ pub fn the_bytes_of_a_command_are_its_row()
 /// Rows, batches of entries and imports that are not the same have other bytes, where a row begins with the word of a
 /// verb, the source of a batch is a number of 32 bits, and each row of a batch has a field.
 pub fn two_wordings_have_other_bytes()
-    ensures { (first second : Wording) → IsSoundWording first → IsSoundWording second → written first ≡ written second → first ≡ second }
+    ensures { (first second : Wording) → IsSoundWording first → IsSoundWording second → written first ≡ written second
+        → first ≡ second }
 {}
 
 /// No two commands have the same bytes, where their numbers are in range and their dates are as given ones are.
 pub fn two_commands_have_other_bytes()
-    ensures { (first second : Command) → IsSound first → IsSound second → bytes_of first ≡ bytes_of second → first ≡ second }
+    ensures { (first second : Command) → IsSound first → IsSound second → bytes_of first ≡ bytes_of second
+        → first ≡ second }
 {}

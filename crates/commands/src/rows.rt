@@ -24,7 +24,8 @@ pub(crate) fn row_bytes(alloc: Global, fields: &[&[u8]]) -> Result<Vec<u8>, Allo
 
 /// The bytes of a row of a verb and its fields.
 pub(crate) fn verb_row(alloc: Global, verb: Verb, fields: &[&str]) -> Result<Vec<u8>, AllocError>
-    ensures { IfOk result (λ bytes. bytes.items ≡ row_text default_writer (verb_word verb ∷ map (λ f. f.now) fields.now)) }
+    ensures { IfOk result
+        (λ bytes. bytes.items ≡ row_text default_writer (verb_word verb ∷ map (λ f. f.now) fields.now)) }
 {
     let mut words: Vec<&[u8]> = Vec::new(alloc);
     words.push(verb.as_str().as_bytes())?;

@@ -1,5 +1,27 @@
 -- Two entries have one key text where they have one kind, page and item.
-use Rattle.std.proofs.Common.{◌≡◌, ℕ, List, [], ◌∷◌, ◌++◌, Bool, true, false, not, ◌&&◌, ◌||◌, ◌==◌, refl, sym, ap, ◌∙◌, eqb-true, eq-eqb, cond, append_assoc}
+use Rattle.std.proofs.Common.{
+  ◌≡◌,
+  ℕ,
+  List,
+  [],
+  ◌∷◌,
+  ◌++◌,
+  Bool,
+  true,
+  false,
+  not,
+  ◌&&◌,
+  ◌||◌,
+  ◌==◌,
+  refl,
+  sym,
+  ap,
+  ◌∙◌,
+  eqb-true,
+  eq-eqb,
+  cond,
+  append_assoc,
+}
 use Rattle.std.specs.Prelude.{Ok, Err, Some, decimal, bytes_eq}
 use Rattle.std.specs.BTreeSet.{BTreeSet, contains_text}
 use Rattle.std.specs.List.{list_any}
@@ -38,12 +60,16 @@ second_no false b e = e
 no_zero : (x : ℕ) → (x == 0) ≡ false → x ≡ 0 → ⊥
 no_zero x e same = let both : true ≡ false = sym (eq-eqb x 0 same) ∙ e in absurd cc
 
-parted : (a b p q : List ℕ) → list_any (λ x. x == 0) a ≡ false → list_any (λ x. x == 0) b ≡ false → a ++ 0 ∷ p ≡ b ++ 0 ∷ q → (a ≡ b) × (p ≡ q)
+parted : (a b p q : List ℕ) → list_any (λ x. x == 0) a ≡ false → list_any (λ x. x == 0) b ≡ false
+    → a ++ 0 ∷ p ≡ b ++ 0 ∷ q → (a ≡ b) × (p ≡ q)
 parted [] [] p q ha hb e = (refl, tail_same 0 0 p q e)
-parted [] (y ∷ b) p q ha hb e = absurd (no_zero y (first_no (y == 0) (list_any (λ x. x == 0) b) hb) (sym (head_same 0 y p (b ++ 0 ∷ q) e)))
-parted (x ∷ a) [] p q ha hb e = absurd (no_zero x (first_no (x == 0) (list_any (λ z. z == 0) a) ha) (head_same x 0 (a ++ 0 ∷ p) q e))
+parted [] (y ∷ b) p q ha hb e =
+    absurd (no_zero y (first_no (y == 0) (list_any (λ x. x == 0) b) hb) (sym (head_same 0 y p (b ++ 0 ∷ q) e)))
+parted (x ∷ a) [] p q ha hb e =
+    absurd (no_zero x (first_no (x == 0) (list_any (λ z. z == 0) a) ha) (head_same x 0 (a ++ 0 ∷ p) q e))
 parted (x ∷ a) (y ∷ b) p q ha hb e =
-    let more = parted a b p q (second_no (x == 0) (list_any (λ z. z == 0) a) ha) (second_no (y == 0) (list_any (λ z. z == 0) b) hb) (tail_same x y (a ++ 0 ∷ p) (b ++ 0 ∷ q) e) in
+    let more = parted a b p q (second_no (x == 0) (list_any (λ z. z == 0) a) ha)
+    (second_no (y == 0) (list_any (λ z. z == 0) b) hb) (tail_same x y (a ++ 0 ∷ p) (b ++ 0 ∷ q) e) in
     let first : x ≡ y = head_same x y (a ++ 0 ∷ p) (b ++ 0 ∷ q) e in
     (ap (λ z. z ∷ a) first ∙ ap (λ l. y ∷ l) more.0, more.1)
 
@@ -80,27 +106,38 @@ one_test false false f g = refl
 
 like_words : (e f : model.Entry) → bytes_eq (key_words e) (key_words f) ≡ true → is_like_row e (kind.Entry f) ≡ true
 like_words e f h =
-    let words : entry_kind_word e.kind ++ (0 ∷ (decimal e.item.number ++ (0 ∷ e.page))) ≡ entry_kind_word f.kind ++ (0 ∷ (decimal f.item.number ++ (0 ∷ f.page))) = bytes_are (key_words e) (key_words f) h in
-    let k = parted (entry_kind_word e.kind) (entry_kind_word f.kind) (decimal e.item.number ++ 0 ∷ e.page) (decimal f.item.number ++ 0 ∷ f.page) (kind_plain e.kind) (kind_plain f.kind) words in
-    let i = parted (decimal e.item.number) (decimal f.item.number) e.page f.page (item_plain e.item) (item_plain f.item) k.1 in
-    both_yes (bytes_eq (entry_kind_word f.kind) (entry_kind_word e.kind)) (bytes_eq f.page e.page && f.item.number == e.item.number)
+    let words : entry_kind_word e.kind ++ (0 ∷ (decimal e.item.number ++ (0 ∷ e.page))) ≡ entry_kind_word f.kind
+    ++ (0 ∷ (decimal f.item.number ++ (0 ∷ f.page))) = bytes_are (key_words e) (key_words f) h in
+    let k = parted (entry_kind_word e.kind) (entry_kind_word f.kind) (decimal e.item.number ++ 0 ∷ e.page)
+    (decimal f.item.number ++ 0 ∷ f.page) (kind_plain e.kind) (kind_plain f.kind) words in
+    let i = parted (decimal e.item.number) (decimal f.item.number) e.page f.page (item_plain e.item)
+    (item_plain f.item) k.1 in
+    both_yes (bytes_eq (entry_kind_word f.kind) (entry_kind_word e.kind))
+    (bytes_eq f.page e.page && f.item.number == e.item.number)
     (bytes_same (entry_kind_word f.kind) (entry_kind_word e.kind) (sym k.0))
-    (both_yes (bytes_eq f.page e.page) (f.item.number == e.item.number) (bytes_same f.page e.page (sym i.1)) (eq-eqb f.item.number e.item.number (sym (same_number e.item f.item i.0))))
+    (both_yes (bytes_eq f.page e.page) (f.item.number == e.item.number) (bytes_same f.page e.page (sym i.1))
+    (eq-eqb f.item.number e.item.number (sym (same_number e.item f.item i.0))))
 
 words_like : (e f : model.Entry) → is_like_row e (kind.Entry f) ≡ true → bytes_eq (key_words e) (key_words f) ≡ true
 words_like e f h =
-    let k = bytes_are (entry_kind_word f.kind) (entry_kind_word e.kind) (first_yes (bytes_eq (entry_kind_word f.kind) (entry_kind_word e.kind)) (bytes_eq f.page e.page && f.item.number == e.item.number) h) in
-    let rest = second_yes (bytes_eq (entry_kind_word f.kind) (entry_kind_word e.kind)) (bytes_eq f.page e.page && f.item.number == e.item.number) h in
+    let k = bytes_are (entry_kind_word f.kind) (entry_kind_word e.kind)
+    (first_yes (bytes_eq (entry_kind_word f.kind) (entry_kind_word e.kind))
+    (bytes_eq f.page e.page && f.item.number == e.item.number) h) in
+    let rest = second_yes (bytes_eq (entry_kind_word f.kind) (entry_kind_word e.kind))
+    (bytes_eq f.page e.page && f.item.number == e.item.number) h in
     let p = bytes_are f.page e.page (first_yes (bytes_eq f.page e.page) (f.item.number == e.item.number) rest) in
-    let n : f.item.number ≡ e.item.number = eqb-true f.item.number e.item.number (second_yes (bytes_eq f.page e.page) (f.item.number == e.item.number) rest) in
-    let words : entry_kind_word e.kind ++ (0 ∷ (decimal e.item.number ++ (0 ∷ e.page))) ≡ entry_kind_word f.kind ++ (0 ∷ (decimal f.item.number ++ (0 ∷ f.page))) =
+    let n : f.item.number ≡ e.item.number = eqb-true f.item.number e.item.number
+    (second_yes (bytes_eq f.page e.page) (f.item.number == e.item.number) rest) in
+    let words : entry_kind_word e.kind ++ (0 ∷ (decimal e.item.number ++ (0 ∷ e.page))) ≡ entry_kind_word f.kind
+    ++ (0 ∷ (decimal f.item.number ++ (0 ∷ f.page))) =
     ap (λ (w : List ℕ). w ++ (0 ∷ (decimal e.item.number ++ (0 ∷ e.page)))) (sym k)
     ∙ ap (λ (m : ℕ). entry_kind_word f.kind ++ (0 ∷ (decimal m ++ (0 ∷ e.page)))) (sym n)
     ∙ ap (λ (w : List ℕ). entry_kind_word f.kind ++ (0 ∷ (decimal f.item.number ++ (0 ∷ w)))) (sym p) in
     bytes_same (key_words e) (key_words f) words
 
 one_words : (e : model.Entry) (r : Record) → has_words (key_words e) r ≡ is_like_row e r
-one_words e (kind.Entry f) = one_test (bytes_eq (key_words e) (key_words f)) (is_like_row e (kind.Entry f)) (like_words e f) (words_like e f)
+one_words e (kind.Entry f) = one_test (bytes_eq (key_words e) (key_words f)) (is_like_row e (kind.Entry f))
+    (like_words e f) (words_like e f)
 one_words e (kind.Place p) = refl
 one_words e (kind.Repo p) = refl
 one_words e (kind.Source p) = refl
@@ -110,14 +147,17 @@ one_words e (kind.Citation p) = refl
 one_words e (kind.Event p) = refl
 one_words e (kind.Other p) = refl
 
-pub all_words : (e : model.Entry) (made : List Numbered) → list_any (λ (p : Numbered). has_words (key_words e) p.«record») made ≡ list_any (λ (p : Numbered). is_like_row e p.«record») made
+pub all_words : (e : model.Entry) (made : List Numbered)
+    → list_any (λ (p : Numbered). has_words (key_words e) p.«record») made ≡ list_any
+    (λ (p : Numbered). is_like_row e p.«record») made
 all_words e [] = refl
 all_words e (p ∷ made) =
     ap (λ b. b || list_any (λ (q : Numbered). has_words (key_words e) q.«record») made) (one_words e p.«record»)
     ∙ ap (λ b. is_like_row e p.«record» || b) (all_words e made)
 
 -- ---- one more key
-pub any_behind : (f : Numbered → Bool) (made : List Numbered) (p : Numbered) → list_any f (made ++ (p ∷ [])) ≡ (list_any f made || f p)
+pub any_behind : (f : Numbered → Bool) (made : List Numbered) (p : Numbered) → list_any f (made ++ (p ∷ []))
+    ≡ (list_any f made || f p)
 any_behind f [] p = sym (none_more (f p))
   where
     none_more : (b : Bool) → b ≡ (b || false)
@@ -131,7 +171,9 @@ any_behind f (q ∷ made) p = ap (λ b. f q || b) (any_behind f made p) ∙ or_a
 
 -- a key is added: put so as a set tells it, and as a list does
 pub added : (x w : List ℕ) (new old : Bool) → new ≡ cond (bytes_eq w x) true old → new ≡ (old || bytes_eq x w)
-added x w new old e = e ∙ by (bytes_eq w x) (bytes_eq x w) old (one_test (bytes_eq w x) (bytes_eq x w) (λ h. bytes_same x w (sym (bytes_are w x h))) (λ h. bytes_same w x (sym (bytes_are x w h))))
+added x w new old e = e ∙ by (bytes_eq w x) (bytes_eq x w) old
+    (one_test (bytes_eq w x) (bytes_eq x w) (λ h. bytes_same x w (sym (bytes_are w x h)))
+    (λ h. bytes_same w x (sym (bytes_are x w h))))
   where
     by : (a b o : Bool) → a ≡ b → cond a true o ≡ (o || b)
     by true true true e = refl
@@ -142,21 +184,31 @@ added x w new old e = e ∙ by (bytes_eq w x) (bytes_eq x w) old (one_test (byte
     by false true o e = absurd cc
 
 -- ---- what a look for the key of an entry has found
-pub is_taken : (e : model.Entry) (made : List Numbered) (words : List ℕ) (b : Bool) → words ≡ key_words e → b ≡ list_any (λ (p : Numbered). has_words words p.«record») made → b ≡ true → key_is_new made e ≡ Err DuplicateEntry
+pub is_taken : (e : model.Entry) (made : List Numbered) (words : List ℕ) (b : Bool) → words ≡ key_words e
+    → b ≡ list_any (λ (p : Numbered). has_words words p.«record») made → b ≡ true
+    → key_is_new made e ≡ Err DuplicateEntry
 is_taken e made words b same is h =
-    ap (λ x. need (not x) DuplicateEntry) (sym (is ∙ ap (λ w. list_any (λ (p : Numbered). has_words w p.«record») made) same ∙ all_words e made) ∙ h)
+    ap (λ x. need (not x) DuplicateEntry)
+    (sym (is ∙ ap (λ w. list_any (λ (p : Numbered). has_words w p.«record») made) same ∙ all_words e made) ∙ h)
 
-pub is_free : (e : model.Entry) (made : List Numbered) (words : List ℕ) (b : Bool) → words ≡ key_words e → b ≡ list_any (λ (p : Numbered). has_words words p.«record») made → b ≡ false → key_is_new made e ≡ Ok tt
+pub is_free : (e : model.Entry) (made : List Numbered) (words : List ℕ) (b : Bool) → words ≡ key_words e
+    → b ≡ list_any (λ (p : Numbered). has_words words p.«record») made → b ≡ false → key_is_new made e ≡ Ok tt
 is_free e made words b same is h =
-    ap (λ x. need (not x) DuplicateEntry) (sym (is ∙ ap (λ w. list_any (λ (p : Numbered). has_words w p.«record») made) same ∙ all_words e made) ∙ h)
+    ap (λ x. need (not x) DuplicateEntry)
+    (sym (is ∙ ap (λ w. list_any (λ (p : Numbered). has_words w p.«record») made) same ∙ all_words e made) ∙ h)
 
 -- ---- the keys with that of one entry more
-pub keyed_more : {Y : Type 0} (old new : BTreeSet (String Y)) (made : List Numbered) (e : model.Entry) (n : ℕ) → IsKeyed old made
-    → ((x : List ℕ) → contains_text new x ≡ (contains_text old x || bytes_eq x (key_words e))) → IsKeyed new (made ++ (record { number = n; «record» = kind.Entry e } ∷ []))
+pub keyed_more : {Y : Type 0} (old new : BTreeSet (String Y)) (made : List Numbered) (e : model.Entry) (n : ℕ)
+    → IsKeyed old made
+    → ((x : List ℕ) → contains_text new x ≡ (contains_text old x || bytes_eq x (key_words e)))
+    → IsKeyed new (made ++ (record { number = n; «record» = kind.Entry e } ∷ []))
 keyed_more old new made e n keyed adds = λ x.
-    adds x ∙ ap (λ b. b || bytes_eq x (key_words e)) (keyed x) ∙ sym (any_behind (λ (p : Numbered). has_words x p.«record») made (record { number = n; «record» = kind.Entry e }))
+    adds x ∙ ap (λ b. b || bytes_eq x (key_words e)) (keyed x)
+    ∙ sym (any_behind (λ (p : Numbered). has_words x p.«record») made
+    (record { number = n; «record» = kind.Entry e }))
 
 -- the parts of a key, put together one after the other
 pub joined : (k i p : List ℕ) → (((k ++ (0 ∷ [])) ++ i) ++ (0 ∷ [])) ++ p ≡ k ++ (0 ∷ (i ++ (0 ∷ p)))
 joined k i p =
-    append_assoc ((k ++ (0 ∷ [])) ++ i) (0 ∷ []) p ∙ append_assoc (k ++ (0 ∷ [])) i (0 ∷ p) ∙ append_assoc k (0 ∷ []) (i ++ (0 ∷ p))
+    append_assoc ((k ++ (0 ∷ [])) ++ i) (0 ∷ []) p ∙ append_assoc (k ++ (0 ∷ [])) i (0 ∷ p)
+    ∙ append_assoc k (0 ∷ []) (i ++ (0 ∷ p))

@@ -9,4 +9,5 @@ use Rattle.entry_batches.specs.Placed.{Step}
 
 -- what it leaves is right, or it is a stop; and no receipt is kept yet
 abbrev pub PlansAt : Content → Result Changes Refusal → Step → Type 0
-PlansAt c result right = Agrees (λ (e : Refusal). is_stop e.kind) (leaves c result) right × IfOk result (λ changes. changes.kept ≡ None)
+PlansAt c result right = Agrees (λ (e : Refusal). is_stop e.kind) (leaves c result) right
+    × IfOk result (λ changes. changes.kept ≡ None)

@@ -1,6 +1,29 @@
--- What a batch of register entries of one source makes of an archive, or its refusal with the place of the row: the source
--- is looked at first, then each row as the command of one entry would be behind the rows before it. Rules of our own.
-use Rattle.std.specs.Prelude.{ℕ, ◌+◌, List, [], ◌∷◌, ◌++◌, length, Bool, false, not, ◌&&◌, ◌==◌, bytes_eq, nat_le, nat_lt, Some, None, Result, Ok, Err, if◌then◌else◌}
+-- What a batch of register entries of one source makes of an archive, or its refusal with the place of the row: the
+-- source is looked at first, then each row as the command of one entry would be behind the rows before it. Rules of our
+-- own.
+use Rattle.std.specs.Prelude.{
+  ℕ,
+  ◌+◌,
+  List,
+  [],
+  ◌∷◌,
+  ◌++◌,
+  length,
+  Bool,
+  false,
+  not,
+  ◌&&◌,
+  ◌==◌,
+  bytes_eq,
+  nat_le,
+  nat_lt,
+  Some,
+  None,
+  Result,
+  Ok,
+  Err,
+  if◌then◌else◌,
+}
 use Rattle.std.specs.List.{list_any}
 use Rattle.record_text.specs.declared.refusal.Refusal.{Refusal}
 use Rattle.record_text.specs.declared.refusal.RefusalKind.{RefusalKind}
@@ -32,15 +55,16 @@ place_behind c count n = if is_drawn c.next count n then Err WrongKind else said
 -- an entry of the same kind, page and item; all that a batch makes are of one source
 abbrev pub is_like_row : model.Entry → Record → Bool
 is_like_row e (kind.Entry f) =
-    bytes_eq (entry_kind_word f.kind) (entry_kind_word e.kind) && (bytes_eq f.page e.page && f.item.number == e.item.number)
+    bytes_eq (entry_kind_word f.kind) (entry_kind_word e.kind) &&
+    (bytes_eq f.page e.page && f.item.number == e.item.number)
 is_like_row e _ = false
 
 -- none of the rows before has made one
 abbrev pub key_is_new : List Numbered → model.Entry → Result (Unit {0}) RefusalKind
 key_is_new made e = need (not (list_any (λ (p : Numbered). is_like_row e p.«record») made)) DuplicateEntry
 
--- behind so many rows a number is left. The second half says nothing of a sound archive, where the next number is above that
--- of a source, and so 2 at least
+-- behind so many rows a number is left. The second half says nothing of a sound archive, where the next number is above
+-- that of a source, and so 2 at least
 abbrev pub is_left : ℕ → ℕ → Bool
 is_left next count = nat_le (next + count) 4_294_967_295 && nat_le count 4_294_967_293
 
@@ -60,11 +84,13 @@ row_entry c source made row =
 -- ---- all rows
 -- what was made with one entry more, at the number behind
 abbrev pub with_entry : ℕ → List Numbered → model.Entry → Result (List Numbered) RefusalKind
-with_entry next made e = and_then (number_behind next (length made)) (λ n. Ok (made ++ (record { number = n; «record» = kind.Entry e } ∷ [])))
+with_entry next made e = and_then (number_behind next (length made))
+    (λ n. Ok (made ++ (record { number = n; «record» = kind.Entry e } ∷ [])))
 
 -- the same of a row, or its refusal: the first row has place 1
 abbrev pub with_row : Content → ℕ → List Numbered → EntryRow → Result (List Numbered) Refusal
-with_row c source made row = placed (Some (length made + 1)) (and_then (row_entry c source made row) (with_entry c.next made))
+with_row c source made row = placed (Some (length made + 1))
+    (and_then (row_entry c source made row) (with_entry c.next made))
 
 -- one row after the other
 abbrev pub with_rows : Content → ℕ → List Numbered → List EntryRow → Result (List Numbered) Refusal

@@ -1,5 +1,5 @@
--- The keys of the entries that a batch has made, as they are looked for: a text for each. No clause that callers see names
--- these definitions.
+-- The keys of the entries that a batch has made, as they are looked for: a text for each. No clause that callers see
+-- names these definitions.
 use Rattle.std.specs.Prelude.{ℕ, ◌≡◌, ◌≤◌, List, ◌∷◌, ◌++◌, length, Bool, false, bytes_eq, decimal}
 use Rattle.std.specs.BTreeSet.{BTreeSet, contains_text}
 use Rattle.std.specs.List.{list_any}
@@ -21,7 +21,8 @@ has_words words _ = false
 
 -- the set has the keys of what was made, and no other
 abbrev pub IsKeyed : {Y : Type 0} → BTreeSet (String Y) → List Numbered → Type 0
-IsKeyed keys made = (words : List ℕ) → contains_text keys words ≡ list_any (λ (p : Numbered). has_words words p.«record») made
+IsKeyed keys made = (words : List ℕ) → contains_text keys words ≡ list_any
+    (λ (p : Numbered). has_words words p.«record») made
 
 -- the number of the next row is one of 32 bits
 abbrev pub IsCounted : List Numbered → Type 0

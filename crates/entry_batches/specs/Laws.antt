@@ -14,7 +14,8 @@ use Rattle.entry_batches.specs.Placed.{Step, onward, placed}
 abbrev pub one_by_one : ℕ → ℕ → Content → List EntryRow → Result Content Refusal
 one_by_one source place c [] = Ok c
 one_by_one source place c (row ∷ rows) =
-    onward (placed (Some place) (new_entry c source row)) (λ (done : Content × Answer). one_by_one source (place + 1) done.0 rows)
+    onward (placed (Some place) (new_entry c source row))
+    (λ (done : Content × Answer). one_by_one source (place + 1) done.0 rows)
 
 -- the same behind a look at the source, with the answer of a batch
 abbrev pub all_commands : Content → ℕ → List EntryRow → Step

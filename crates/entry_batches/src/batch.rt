@@ -19,12 +19,13 @@ use commands::EntryRow;
 use records::{Refusal, RefusalKind};
 use std::alloc::Global;
 
-/// What a batch of new register entries of a source changes. The source is looked at first (`NoSuch`, `WrongKind`), and its
-/// refusal has no place. Then each row is looked at as a command of one entry would be behind the rows before it: its words
-/// (`BadText`), its place (`NoSuch`, `WrongKind`, `BadText`), its roles (`NotOfKind`), its key in the archive and among the rows
-/// before (`DuplicateEntry`), and whether a number is left (`Full`). The first refusal counts, with the place of its row from 1, and then nothing
-/// is made. A batch without rows is refused where there is no next number (`Full`, without a place). The stops
-/// may come in place of any answer: `OutOfMemory`, `BadStored` and `Storage`, without a place.
+/// What a batch of new register entries of a source changes. The source is looked at first (`NoSuch`, `WrongKind`), and
+/// its refusal has no place. Then each row is looked at as a command of one entry would be behind the rows before it:
+/// its words (`BadText`), its place (`NoSuch`, `WrongKind`, `BadText`), its roles (`NotOfKind`), its key in the archive
+/// and among the rows before (`DuplicateEntry`), and whether a number is left (`Full`). The first refusal counts, with
+/// the place of its row from 1, and then nothing is made. A batch without rows is refused where there is no next number
+/// (`Full`, without a place). The stops may come in place of any answer: `OutOfMemory`, `BadStored` and `Storage`,
+/// without a place.
 pub fn decide_entries<V: View>(
     alloc: Global,
     view: &mut V,
@@ -61,7 +62,8 @@ fn with_rows<V: View>(
     rows: &[EntryRow],
 ) -> Result<Made, Refusal>
     ensures decides { OnView V.is_honest V.shows V.content view.old view.new
-        (λ c. c.next ≡ next → Agrees (λ (e : Refusal). is_stop e.kind) result (batches.with_rows c source [] rows.now)) }
+        (λ c. c.next ≡ next → Agrees (λ (e : Refusal). is_stop e.kind) result
+        (batches.with_rows c source [] rows.now)) }
     ensures counts { CountsStops (V.failed view.old) (V.failed view.new) result }
 {
     let mut made = Made::new(alloc);

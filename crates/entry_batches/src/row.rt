@@ -29,7 +29,8 @@ pub(crate) fn with_row<V: View>(
     row: &EntryRow,
 ) -> Result<Made, Refusal>
     ensures decides { OnView V.is_honest V.shows V.content view.old view.new
-        (λ c. c.next ≡ next → Agrees (λ (e : Refusal). is_stop e.kind) result (batches.with_row c source made row.now)) }
+        (λ c. c.next ≡ next → Agrees (λ (e : Refusal). is_stop e.kind) result
+        (batches.with_row c source made row.now)) }
     ensures counts { CountsStops (V.failed view.old) (V.failed view.new) result }
 {
     let place = made.count() + 1;
@@ -81,7 +82,8 @@ fn refused_at(place: u32, kind: RefusalKind) -> Refusal
 }
 
 /// The entry of a row, behind what the rows before have made. First its words are looked at (`BadText`), then its place
-/// (`NoSuch`, `WrongKind`, `BadText`), its roles (`NotOfKind`), and its key in the archive and among the rows before (`DuplicateEntry`).
+/// (`NoSuch`, `WrongKind`, `BadText`), its roles (`NotOfKind`), and its key in the archive and among the rows before
+/// (`DuplicateEntry`).
 fn row_entry<V: View>(
     alloc: Global,
     view: &mut V,

@@ -11,7 +11,8 @@ use std::alloc::{AllocError, Global};
 /// A connection over files in memory, each with a fuse.
 pub type Opened = Connection<FileStore<Fuse<Memory>>>;
 
-/// How many calls of each file go well before all fail, and whether the files are closed at the end or the power goes off.
+/// How many calls of each file go well before all fail, and whether the files are closed at the end or the power goes
+/// off.
 #[derive(Clone, Copy)]
 pub struct Fuses {
     log: u64,
@@ -29,8 +30,8 @@ impl Fuses {
         }
     }
 
-    /// A fuse of so many calls in the file `log` or `db`; with ` off` behind it the power goes off at the end. `None`: there
-    /// is no such file, or that is no number.
+    /// A fuse of so many calls in the file `log` or `db`; with ` off` behind it the power goes off at the end. `None`:
+    /// there is no such file, or that is no number.
     pub fn of(file: &str, calls: &str) -> Option<Fuses> {
         let calls = calls.parse::<u64>().ok()?;
         let none = Fuses::none();

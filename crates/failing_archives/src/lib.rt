@@ -1,5 +1,5 @@
-//! Archives that fail, for the tests: a view whose looks fail, and an archive in two files in memory of which each may fail from some
-//! call on. No part of the product.
+//! Archives that fail, for the tests: a view whose looks fail, and an archive in two files in memory of which each may
+//! fail from some call on. No part of the product.
 #![tactic(auto)]
 
 mod calls;

@@ -34,7 +34,8 @@ impl Words {
         }
     }
 
-    /// Says what became of a visit: of one that was told of, each outcome, and whether the state and the society were read.
+    /// Says what became of a visit: of one that was told of, each outcome, and whether the state and the society were
+    /// read.
     pub fn say_reply(&mut self, alloc: Global, reply: &Reply) -> Result<(), AllocError> {
         match reply {
             Reply::Unopened => self.say("unopened"),

@@ -24,13 +24,15 @@ unfolding words
 words_cut xs ys none = ap filled (slice_split_at is_space xs 32 ys (passes_none xs none) refl)
 
 -- an empty part before a space
-pub cut_empty : (rest word after : List ℕ) → rest ≡ word ++ 32 ∷ after → Without 32 word → length word ≡ 0 → words rest ≡ words after
+pub cut_empty : (rest word after : List ℕ) → rest ≡ word ++ 32 ∷ after → Without 32 word → length word ≡ 0
+    → words rest ≡ words after
 unfolding words
 cut_empty rest [] after e none len = rw e refl
 cut_empty rest (b ∷ bs) after e none len = absurd (omega arith)
 
 -- a word before a space
-pub cut_word : (rest word after : List ℕ) → rest ≡ word ++ 32 ∷ after → Without 32 word → 0 < length word → words rest ≡ word ∷ words after
+pub cut_word : (rest word after : List ℕ) → rest ≡ word ++ 32 ∷ after → Without 32 word → 0 < length word
+    → words rest ≡ word ∷ words after
 unfolding words
 cut_word rest [] after e none len = absurd (omega arith)
 cut_word rest (b ∷ bs) after e none len = ap words e ∙ words_cut (b ∷ bs) after none

@@ -1,5 +1,35 @@
 -- Each text has a value: whether it fits a form is decided.
-use Rattle.std.proofs.Common.{◌≡◌, ◌⊎◌, inl, inr, ℕ, zero, suc, ◌<◌, ◌≤◌, true, List, [], ◌∷◌, ◌++◌, length, slice_index, append_assoc, Option, Some, None, refl, ap, sym, subst, ◌∙◌, arith, ℤ, ◌<ℤ◌, ◌≤ℤ◌}
+use Rattle.std.proofs.Common.{
+  ◌≡◌,
+  ◌⊎◌,
+  inl,
+  inr,
+  ℕ,
+  zero,
+  suc,
+  ◌<◌,
+  ◌≤◌,
+  true,
+  List,
+  [],
+  ◌∷◌,
+  ◌++◌,
+  length,
+  slice_index,
+  append_assoc,
+  Option,
+  Some,
+  None,
+  refl,
+  ap,
+  sym,
+  subst,
+  ◌∙◌,
+  arith,
+  ℤ,
+  ◌<ℤ◌,
+  ◌≤ℤ◌,
+}
 use Rattle.std.specs.Int.{IsInRange}
 use Rattle.std.specs.List.{list_all}
 use Rattle.jiff_core.proofs.SignedLemmas.{signed_arith}
@@ -7,7 +37,20 @@ use Rattle.calendar_days.specs.Calendars.{HasDay, IsCounted, IsExtent, counted, 
 use Rattle.gedcom_date.specs.Words.{words, is_space, Without}
 use Rattle.calendar_days.specs.Told.{Told, Exists}
 use Rattle.gedcom_date.specs.Order.{IsOrdered}
-use Rattle.gedcom_date.specs.Form.{Form, OnDate, NearDate, BeforeDate, AfterDate, BetweenDates, SinceDate, UntilDate, FromToDates, InterpretedDate, PhraseAlone, VerbatimText}
+use Rattle.gedcom_date.specs.Form.{
+  Form,
+  OnDate,
+  NearDate,
+  BeforeDate,
+  AfterDate,
+  BetweenDates,
+  SinceDate,
+  UntilDate,
+  FromToDates,
+  InterpretedDate,
+  PhraseAlone,
+  VerbatimText,
+}
 use Rattle.gedcom_date.specs.Spelling.{spelling}
 use Rattle.gedcom_date.specs.Grammar.{IsPhrased, IsOfForm, IsShort, IsGood, Says}
 use Rattle.gedcom_date.specs.Reading.{word_form, phrase_form}
@@ -44,8 +87,11 @@ year_decided (Double n) = in_range 1 9998 n
 extent_decided : (c : Calendar) (e : Extent) → Decided (IsExtent c e)
 extent_decided c (BeforeChrist n) = in_range 1 9999 n
 extent_decided c (Whole y) = year_decided y
-extent_decided c (Month m y) = both (IsCounted y) (IsInRange 1 (last_month c) m) (year_decided y) (in_range 1 (last_month c) m)
-extent_decided c (Day d m y) = both (IsCounted y) (HasDay c (counted y) m d) (year_decided y) (both (IsInRange 1 (last_month c) m) (IsInRange 1 (month_days c (counted y) m) d) (in_range 1 (last_month c) m) (in_range 1 (month_days c (counted y) m) d))
+extent_decided c (Month m y) = both (IsCounted y) (IsInRange 1 (last_month c) m) (year_decided y)
+    (in_range 1 (last_month c) m)
+extent_decided c (Day d m y) = both (IsCounted y) (HasDay c (counted y) m d) (year_decided y)
+    (both (IsInRange 1 (last_month c) m) (IsInRange 1 (month_days c (counted y) m) d) (in_range 1 (last_month c) m)
+    (in_range 1 (month_days c (counted y) m) d))
 
 exists_decided : (d : Told) → Decided (Exists d)
 exists_decided d = extent_decided d.calendar d.extent
@@ -86,7 +132,8 @@ good_decided (BetweenDates d e) = period_decided d e (exists_decided d) (exists_
 good_decided (SinceDate d) = exists_decided d
 good_decided (UntilDate d) = exists_decided d
 good_decided (FromToDates d e) = period_decided d e (exists_decided d) (exists_decided e)
-good_decided (InterpretedDate d phrase) = both (Exists d) (IsShort (InterpretedDate d phrase)) (exists_decided d) (short_decided (InterpretedDate d phrase))
+good_decided (InterpretedDate d phrase) = both (Exists d) (IsShort (InterpretedDate d phrase)) (exists_decided d)
+    (short_decided (InterpretedDate d phrase))
 good_decided (PhraseAlone phrase) = short_decided (PhraseAlone phrase)
 good_decided (VerbatimText t) = inl tt
 
@@ -115,10 +162,29 @@ one_ended b [] lacks e = lacks cc
 one_ended b (f ∷ []) lacks e = absurd cc
 one_ended b (f ∷ g ∷ gs) lacks e = absurd cc
 
-trim_by : (b : ℕ) (bs trim after : List ℕ) → bs ≡ trim ++ after → list_all is_space after ≡ true → NotEnded trim → Decided (b ≡ 32) → Trimmed (b ∷ bs)
-trim_by b bs [] after parts spaces ends (inl e) = record { trim = []; after = b ∷ after; parts = ap (λ (l : List ℕ). b ∷ l) parts; spaces = rw e spaces; ends = none_ended }
-trim_by b bs [] after parts spaces ends (inr lacks) = record { trim = b ∷ []; after = after; parts = ap (λ (l : List ℕ). b ∷ l) parts; spaces = spaces; ends = λ front e. one_ended b front lacks e }
-trim_by b bs (x ∷ xs) after parts spaces ends d = record { trim = b ∷ (x ∷ xs); after = after; parts = ap (λ (l : List ℕ). b ∷ l) parts; spaces = spaces; ends = λ front e. more_ended b x xs front ends e }
+trim_by : (b : ℕ) (bs trim after : List ℕ) → bs ≡ trim ++ after → list_all is_space after ≡ true → NotEnded trim
+    → Decided (b ≡ 32) → Trimmed (b ∷ bs)
+trim_by b bs [] after parts spaces ends (inl e) = record {
+  trim = [];
+  after = b ∷ after;
+  parts = ap (λ (l : List ℕ). b ∷ l) parts;
+  spaces = rw e spaces;
+  ends = none_ended;
+}
+trim_by b bs [] after parts spaces ends (inr lacks) = record {
+  trim = b ∷ [];
+  after = after;
+  parts = ap (λ (l : List ℕ). b ∷ l) parts;
+  spaces = spaces;
+  ends = λ front e. one_ended b front lacks e;
+}
+trim_by b bs (x ∷ xs) after parts spaces ends d = record {
+  trim = b ∷ (x ∷ xs);
+  after = after;
+  parts = ap (λ (l : List ℕ). b ∷ l) parts;
+  spaces = spaces;
+  ends = λ front e. more_ended b x xs front ends e;
+}
 
 trim_cons : (b : ℕ) (bs : List ℕ) → Trimmed bs → Trimmed (b ∷ bs)
 trim_cons b bs t = trim_by b bs t.trim t.after t.parts t.spaces t.ends (first_space b)
@@ -137,16 +203,25 @@ record FirstAt (c : ℕ) (text : List ℕ) : Type 0 where
 same : (a b : ℕ) → Decided (a ≡ b)
 same a b = grind arith
 
-cons_at : (c b : ℕ) (bs : List ℕ) → (b ≡ c → ⊥) → Without c bs → (i : ℕ) → i < length (b ∷ bs) → slice_index (b ∷ bs) i ≡ c → ⊥
+cons_at : (c b : ℕ) (bs : List ℕ) → (b ≡ c → ⊥) → Without c bs → (i : ℕ) → i < length (b ∷ bs)
+    → slice_index (b ∷ bs) i ≡ c → ⊥
 cons_at c b bs h none zero k e = h e
 cons_at c b bs h none (suc i) k e = none i (omega arith) e
 
 without_cons : (c b : ℕ) (bs : List ℕ) → (b ≡ c → ⊥) → Without c bs → Without c (b ∷ bs)
 without_cons c b bs h none = λ i k e. cons_at c b bs h none i k e
 
-first_cons : (c b : ℕ) (bs : List ℕ) → Decided (b ≡ c) → FirstAt c bs ⊎ Without c bs → FirstAt c (b ∷ bs) ⊎ Without c (b ∷ bs)
-first_cons c b bs (inl e) h = inl (record { front = []; rest = bs; parts = ap (λ (x : ℕ). x ∷ bs) e; first = λ i k l. omega arith })
-first_cons c b bs (inr lacks) (inl at) = inl (record { front = b ∷ at.front; rest = at.rest; parts = ap (λ (l : List ℕ). b ∷ l) at.parts; first = without_cons c b at.front lacks at.first })
+first_cons : (c b : ℕ) (bs : List ℕ) → Decided (b ≡ c) → FirstAt c bs ⊎ Without c bs → FirstAt c (b ∷ bs)
+    ⊎ Without c (b ∷ bs)
+first_cons c b bs (inl e) h =
+    inl (record { front = []; rest = bs; parts = ap (λ (x : ℕ). x ∷ bs) e; first = λ i k l. omega arith })
+first_cons c b bs (inr lacks) (inl at) =
+    inl (record {
+      front = b ∷ at.front;
+      rest = at.rest;
+      parts = ap (λ (l : List ℕ). b ∷ l) at.parts;
+      first = without_cons c b at.front lacks at.first;
+    })
 first_cons c b bs (inr lacks) (inr none) = inr (without_cons c b bs lacks none)
 
 first_at : (c : ℕ) (text : List ℕ) → FirstAt c text ⊎ Without c text
@@ -167,7 +242,8 @@ more_bracketed : (b x : ℕ) (xs front : List ℕ) → NotBracketed (x ∷ xs) �
 more_bracketed b x xs [] none e = absurd cc
 more_bracketed b x xs (f ∷ fs) none e = none fs (let h : x ∷ xs ≡ fs ++ 41 ∷ [] = cc in h)
 
-bracket_cons : (b : ℕ) (bs : List ℕ) → Decided (b ≡ 41) → ((front : List ℕ) × (bs ≡ front ++ 41 ∷ [])) ⊎ NotBracketed bs → ((front : List ℕ) × (b ∷ bs ≡ front ++ 41 ∷ [])) ⊎ NotBracketed (b ∷ bs)
+bracket_cons : (b : ℕ) (bs : List ℕ) → Decided (b ≡ 41) → ((front : List ℕ) × (bs ≡ front ++ 41 ∷ [])) ⊎ NotBracketed bs
+    → ((front : List ℕ) × (b ∷ bs ≡ front ++ 41 ∷ [])) ⊎ NotBracketed (b ∷ bs)
 bracket_cons b bs d (inl end) = inl (b ∷ end.0, ap (λ (l : List ℕ). b ∷ l) end.1)
 bracket_cons b [] (inl e) (inr lacks) = inl ([], ap (λ (x : ℕ). x ∷ []) e)
 bracket_cons b [] (inr not) (inr lacks) = inr (λ front e. one_bracketed b front not e)
@@ -181,9 +257,11 @@ bracket_end (b ∷ bs) = bracket_cons b bs (same b 41) (bracket_end bs)
 abbrev HasPhrase : List ℕ → Type 0
 HasPhrase text = (front : List ℕ) × (phrase : List ℕ) × IsPhrased text front phrase
 
-made_parts : (text trim after front rest phrase : List ℕ) → text ≡ trim ++ after → trim ≡ front ++ 40 ∷ rest → rest ≡ phrase ++ 41 ∷ [] → text ≡ front ++ 40 ∷ phrase ++ 41 ∷ after
+made_parts : (text trim after front rest phrase : List ℕ) → text ≡ trim ++ after → trim ≡ front ++ 40 ∷ rest
+    → rest ≡ phrase ++ 41 ∷ [] → text ≡ front ++ 40 ∷ phrase ++ 41 ∷ after
 made_parts text trim after front rest phrase e f g =
-    let cut : trim ≡ (front ++ 40 ∷ phrase) ++ 41 ∷ [] = f ∙ ap (λ (l : List ℕ). front ++ 40 ∷ l) g ∙ sym (append_assoc front (40 ∷ phrase) (41 ∷ [])) in
+    let cut : trim ≡ (front ++ 40 ∷ phrase) ++ 41 ∷ [] = f ∙ ap (λ (l : List ℕ). front ++ 40 ∷ l) g
+    ∙ sym (append_assoc front (40 ∷ phrase) (41 ∷ [])) in
     e ∙ ap (λ (l : List ℕ). l ++ after) cut ∙ append_assoc (front ++ 40 ∷ phrase) (41 ∷ []) after
 
 phrase_decided : (text : List ℕ) → Decided (HasPhrase text)
@@ -192,32 +270,49 @@ phrase_decided text =
     elim (first_at 40 t.trim) [
       | inr none ↦ inr (λ h. no_phrase text t.trim t.after h.0 h.1 t.parts t.spaces none h.2)
       | inl at ↦ elim (bracket_end at.rest) [
-        | inr lacks ↦ inr (λ h. no_end text t.trim t.after at.front at.rest h.0 h.1 t.parts t.spaces t.ends at.parts at.first lacks h.2)
-        | inl end ↦ inl (at.front, end.0, record { after = t.after; parts = made_parts text t.trim t.after at.front at.rest end.0 t.parts at.parts end.1; first = at.first; spaces = t.spaces })
+        | inr lacks ↦ inr (λ h. no_end text t.trim t.after at.front at.rest h.0 h.1 t.parts t.spaces t.ends at.parts
+            at.first lacks h.2)
+        | inl end ↦ inl (
+          at.front,
+          end.0,
+          record {
+            after = t.after;
+            parts = made_parts text t.trim t.after at.front at.rest end.0 t.parts at.parts
+                end.1;
+            first = at.first;
+            spaces = t.spaces;
+          },
+        )
       ]
     ]
 
 -- what is said of a text that has a form
-said : (text : List ℕ) (f : Form) → IsOfForm text f → ((g : Form) → IsOfForm text g → f ≡ g) → Decided (IsGood f) → (f : Form) × Says text f
+said : (text : List ℕ) (f : Form) → IsOfForm text f → ((g : Form) → IsOfForm text g → f ≡ g) → Decided (IsGood f)
+    → (f : Form) × Says text f
 said text f is one (inl good) = (f, inl (is, good))
-said text f is one (inr lacks) = (VerbatimText text, inr (refl, λ g fits. lacks (subst IsGood (sym (one g fits.0)) fits.1)))
+said text f is one (inr lacks) =
+    (VerbatimText text, inr (refl, λ g fits. lacks (subst IsGood (sym (one g fits.0)) fits.1)))
 
 unsaid : (text : List ℕ) → ((g : Form) → IsOfForm text g → ⊥) → (f : Form) × Says text f
 unsaid text lacks = (VerbatimText text, inr (refl, λ g fits. lacks g fits.0))
 
-by_words : (text : List ℕ) (o : Option Form) → word_form (words text) ≡ o → ¬ (HasPhrase text) → (f : Form) × Says text f
+by_words : (text : List ℕ) (o : Option Form) → word_form (words text) ≡ o → ¬ (HasPhrase text)
+    → (f : Form) × Says text f
 by_words text None e lacks = unsaid text (λ g is. elim (either text g is) [
   | inl worded ↦ absurd (let h = word_only (words text) g worded in cc)
   | inr h ↦ lacks (h.0, h.1, h.2)
 ])
-by_words text (Some f) e lacks = said text f (of_words text f (word_is (words text) f e)) (λ g is. one_form text f g (of_words text f (word_is (words text) f e)) is) (good_decided f)
+by_words text (Some f) e lacks = said text f (of_words text f (word_is (words text) f e))
+    (λ g is. one_form text f g (of_words text f (word_is (words text) f e)) is) (good_decided f)
 
-by_phrase : (text front phrase : List ℕ) (o : Option Form) → IsPhrased text front phrase → phrase_form (words front) phrase ≡ o → (f : Form) × Says text f
+by_phrase : (text front phrase : List ℕ) (o : Option Form) → IsPhrased text front phrase
+    → phrase_form (words front) phrase ≡ o → (f : Form) × Says text f
 by_phrase text front phrase None is e = unsaid text (λ g of. elim (either text g of) [
   | inl worded ↦ apart text front phrase g worded is
   | inr h ↦ absurd (let k = same_phrasal text front phrase g is h in cc)
 ])
-by_phrase text front phrase (Some f) is e = said text f (of_phrase text front phrase f is e) (λ g of. one_form text f g (of_phrase text front phrase f is e) of) (good_decided f)
+by_phrase text front phrase (Some f) is e = said text f (of_phrase text front phrase f is e)
+    (λ g of. one_form text f g (of_phrase text front phrase f is e) of) (good_decided f)
 
 by_cases : (text : List ℕ) → Decided (HasPhrase text) → (f : Form) × Says text f
 by_cases text (inl h) = by_phrase text h.0 h.1 (phrase_form (words h.0) h.1) h.2 refl

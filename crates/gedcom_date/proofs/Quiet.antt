@@ -1,5 +1,36 @@
 -- The words of a date are no keywords, and hold no bracket.
-use Rattle.std.proofs.Common.{◌≡◌, ◌⊎◌, inl, inr, ℕ, suc, zero, ◌-◌, ◌≤◌, Bool, true, false, ◌||◌, ◌==◌, nat_lt, nat_eq, List, [], ◌∷◌, ◌++◌, map, codes, Some, None, refl, ap, sym, subst, ◌∙◌, arith}
+use Rattle.std.proofs.Common.{
+  ◌≡◌,
+  ◌⊎◌,
+  inl,
+  inr,
+  ℕ,
+  suc,
+  zero,
+  ◌-◌,
+  ◌≤◌,
+  Bool,
+  true,
+  false,
+  ◌||◌,
+  ◌==◌,
+  nat_lt,
+  nat_eq,
+  List,
+  [],
+  ◌∷◌,
+  ◌++◌,
+  map,
+  codes,
+  Some,
+  None,
+  refl,
+  ap,
+  sym,
+  subst,
+  ◌∙◌,
+  arith,
+}
 use Rattle.std.specs.Char.{is_ascii_digit, to_ascii_lowercase}
 use Rattle.std.specs.List.{list_all, list_any, slice_get}
 use Rattle.std.proofs.lemmas.Bool.Decides.{nat_tests}
@@ -69,17 +100,30 @@ silent_as w name h q = record {
 }
 
 -- a word that begins with a digit
-digit_apart : (d k : ℕ) → is_ascii_digit d ≡ true → nat_lt 57 (to_ascii_lowercase k) ≡ true → nat_eq (to_ascii_lowercase d) (to_ascii_lowercase k) ≡ false
+digit_apart : (d k : ℕ) → is_ascii_digit d ≡ true → nat_lt 57 (to_ascii_lowercase k) ≡ true
+    → nat_eq (to_ascii_lowercase d) (to_ascii_lowercase k) ≡ false
 digit_apart d k h j = grind (arith, nat_tests)
 
-pub digit_reads : (d : ℕ) (ds : List ℕ) (k : ℕ) (ks : List ℕ) → is_ascii_digit d ≡ true → nat_lt 57 (to_ascii_lowercase k) ≡ true → reads (d ∷ ds) (k ∷ ks) ≡ false
+pub digit_reads : (d : ℕ) (ds : List ℕ) (k : ℕ) (ks : List ℕ) → is_ascii_digit d ≡ true
+    → nat_lt 57 (to_ascii_lowercase k) ≡ true → reads (d ∷ ds) (k ∷ ks) ≡ false
 digit_reads d ds k ks h j = rw (digit_apart d k h j) refl
 
 digit_key : (d : ℕ) (ds : List ℕ) → is_ascii_digit d ≡ true → keyword_of (d ∷ ds) ≡ None
 unfolding keyword_of
 digit_key d ds h =
     let no = λ (k : ℕ) (ks : List ℕ) (j : nat_lt 57 (to_ascii_lowercase k) ≡ true). digit_reads d ds k ks h j in
-    rw (no 65 (codes "BT") refl, no 67 (codes "AL") refl, no 69 (codes "ST") refl, no 66 (codes "EF") refl, no 65 (codes "FT") refl, no 66 (codes "ET") refl, no 65 (codes "ND") refl, no 70 (codes "ROM") refl, no 84 (codes "O") refl, no 73 (codes "NT") refl) refl
+    rw (
+      no 65 (codes "BT") refl,
+      no 67 (codes "AL") refl,
+      no 69 (codes "ST") refl,
+      no 66 (codes "EF") refl,
+      no 65 (codes "FT") refl,
+      no 66 (codes "ET") refl,
+      no 65 (codes "ND") refl,
+      no 70 (codes "ROM") refl,
+      no 84 (codes "O") refl,
+      no 73 (codes "NT") refl,
+    ) refl
 
 digit_quiet : (d : ℕ) (ds : List ℕ) → is_ascii_digit d ≡ true → list_any is_bracket (d ∷ ds) ≡ false → Quiet (d ∷ ds)
 digit_quiet d ds h bare = record {
@@ -97,32 +141,43 @@ digit_bracket d h = grind (arith, nat_tests)
 
 digits_bare : (ds : List ℕ) → list_all is_ascii_digit ds ≡ true → list_any is_bracket ds ≡ false
 digits_bare [] h = refl
-digits_bare (d ∷ ds) h = rw (digit_bracket d (and_left (is_ascii_digit d) (list_all is_ascii_digit ds) h), digits_bare ds (and_right (is_ascii_digit d) (list_all is_ascii_digit ds) h)) refl
+digits_bare (d ∷ ds) h = rw (
+  digit_bracket d (and_left (is_ascii_digit d) (list_all is_ascii_digit ds) h),
+  digits_bare ds (and_right (is_ascii_digit d) (list_all is_ascii_digit ds) h),
+) refl
 
-any_cons : (p : ℕ → Bool) (x : ℕ) (xs ys : List ℕ) (b : Bool) → (b || list_any p xs) ≡ false → (list_any p xs ≡ false → list_any p (xs ++ ys) ≡ false) → (b || list_any p (xs ++ ys)) ≡ false
+any_cons : (p : ℕ → Bool) (x : ℕ) (xs ys : List ℕ) (b : Bool) → (b || list_any p xs) ≡ false
+    → (list_any p xs ≡ false → list_any p (xs ++ ys) ≡ false) → (b || list_any p (xs ++ ys)) ≡ false
 any_cons p x xs ys true h more = absurd cc
 any_cons p x xs ys false h more = more h
 
-pub any_append : (p : ℕ → Bool) (xs ys : List ℕ) → list_any p xs ≡ false → list_any p ys ≡ false → list_any p (xs ++ ys) ≡ false
+pub any_append : (p : ℕ → Bool) (xs ys : List ℕ) → list_any p xs ≡ false → list_any p ys ≡ false
+    → list_any p (xs ++ ys) ≡ false
 any_append p [] ys h k = k
 any_append p (x ∷ xs) ys h k = any_cons p x xs ys (p x) h (λ e. any_append p xs ys e k)
 
 number_quiet : (most : ℕ) (ds : List ℕ) (n : ℕ) → IsNumber most ds n → Quiet ds
 number_quiet most [] n h = absurd (omega (arith, h.1.0))
-number_quiet most (d ∷ ds) n h = digit_quiet d ds (and_left (is_ascii_digit d) (list_all is_ascii_digit ds) h.0) (digits_bare (d ∷ ds) h.0)
+number_quiet most (d ∷ ds) n h = digit_quiet d ds (and_left (is_ascii_digit d) (list_all is_ascii_digit ds) h.0)
+    (digits_bare (d ∷ ds) h.0)
 
 -- a number and more
-behind_quiet : (most : ℕ) (ds rest : List ℕ) (n : ℕ) → IsNumber most ds n → list_any is_bracket rest ≡ false → Quiet (ds ++ rest)
+behind_quiet : (most : ℕ) (ds rest : List ℕ) (n : ℕ) → IsNumber most ds n → list_any is_bracket rest ≡ false
+    → Quiet (ds ++ rest)
 behind_quiet most [] rest n h bare = absurd (omega (arith, h.1.0))
-behind_quiet most (d ∷ ds) rest n h bare = digit_quiet d (ds ++ rest) (and_left (is_ascii_digit d) (list_all is_ascii_digit ds) h.0) (any_append is_bracket (d ∷ ds) rest (digits_bare (d ∷ ds) h.0) bare)
+behind_quiet most (d ∷ ds) rest n h bare = digit_quiet d (ds ++ rest)
+    (and_left (is_ascii_digit d) (list_all is_ascii_digit ds) h.0)
+    (any_append is_bracket (d ∷ ds) rest (digits_bare (d ∷ ds) h.0) bare)
 
 pub year_quiet : (w : List ℕ) (y : Year) → IsYearWord w y → Quiet w
 year_quiet w (Single n) h = number_quiet 4 w n h
-year_quiet w (Double n) h = subst Quiet (sym h.3) (behind_quiet 4 h.0 (47 ∷ h.1 ∷ h.2 ∷ []) n h.4 (digits_bare (h.1 ∷ h.2 ∷ []) h.6))
+year_quiet w (Double n) h = subst Quiet (sym h.3)
+    (behind_quiet 4 h.0 (47 ∷ h.1 ∷ h.2 ∷ []) n h.4 (digits_bare (h.1 ∷ h.2 ∷ []) h.6))
 
 pub mark_quiet : (w : List ℕ) → Reads w (codes "B.C.") → Quiet w
 unfolding keyword_of
-mark_quiet w h = quiet_as w (codes "B.C.") h (record { key = refl; gregorian = refl; julian = refl; joining = refl; closing = refl; bare = refl })
+mark_quiet w h = quiet_as w (codes "B.C.") h
+    (record { key = refl; gregorian = refl; julian = refl; joining = refl; closing = refl; bare = refl })
 
 named_quiet : (w name k : List ℕ) → Some k ≡ Some name → Quiet k → Reads w name → Quiet w
 named_quiet w name k e q h = let n : k ≡ name = cc in quiet_as w name h (subst Quiet n q)
@@ -133,19 +188,35 @@ Named w m = (name : List ℕ) × (1 ≤ m) × (slice_get month_names (m - 1) ≡
 roman_quiet : (w : List ℕ) (m : ℕ) → Named w m → Quiet w
 unfolding keyword_of
 roman_quiet w zero h = absurd (omega (arith, h.1))
-roman_quiet w (suc zero) h = named_quiet w h.0 (codes "JAN") h.2 (record { key = refl; gregorian = refl; julian = refl; joining = refl; closing = refl; bare = refl }) h.3
-roman_quiet w (suc (suc zero)) h = named_quiet w h.0 (codes "FEB") h.2 (record { key = refl; gregorian = refl; julian = refl; joining = refl; closing = refl; bare = refl }) h.3
-roman_quiet w (suc (suc (suc zero))) h = named_quiet w h.0 (codes "MAR") h.2 (record { key = refl; gregorian = refl; julian = refl; joining = refl; closing = refl; bare = refl }) h.3
-roman_quiet w (suc (suc (suc (suc zero)))) h = named_quiet w h.0 (codes "APR") h.2 (record { key = refl; gregorian = refl; julian = refl; joining = refl; closing = refl; bare = refl }) h.3
-roman_quiet w (suc (suc (suc (suc (suc zero))))) h = named_quiet w h.0 (codes "MAY") h.2 (record { key = refl; gregorian = refl; julian = refl; joining = refl; closing = refl; bare = refl }) h.3
-roman_quiet w (suc (suc (suc (suc (suc (suc zero)))))) h = named_quiet w h.0 (codes "JUN") h.2 (record { key = refl; gregorian = refl; julian = refl; joining = refl; closing = refl; bare = refl }) h.3
-roman_quiet w (suc (suc (suc (suc (suc (suc (suc zero))))))) h = named_quiet w h.0 (codes "JUL") h.2 (record { key = refl; gregorian = refl; julian = refl; joining = refl; closing = refl; bare = refl }) h.3
-roman_quiet w (suc (suc (suc (suc (suc (suc (suc (suc zero)))))))) h = named_quiet w h.0 (codes "AUG") h.2 (record { key = refl; gregorian = refl; julian = refl; joining = refl; closing = refl; bare = refl }) h.3
-roman_quiet w (suc (suc (suc (suc (suc (suc (suc (suc (suc zero))))))))) h = named_quiet w h.0 (codes "SEP") h.2 (record { key = refl; gregorian = refl; julian = refl; joining = refl; closing = refl; bare = refl }) h.3
-roman_quiet w (suc (suc (suc (suc (suc (suc (suc (suc (suc (suc zero)))))))))) h = named_quiet w h.0 (codes "OCT") h.2 (record { key = refl; gregorian = refl; julian = refl; joining = refl; closing = refl; bare = refl }) h.3
-roman_quiet w (suc (suc (suc (suc (suc (suc (suc (suc (suc (suc (suc zero))))))))))) h = named_quiet w h.0 (codes "NOV") h.2 (record { key = refl; gregorian = refl; julian = refl; joining = refl; closing = refl; bare = refl }) h.3
-roman_quiet w (suc (suc (suc (suc (suc (suc (suc (suc (suc (suc (suc (suc zero)))))))))))) h = named_quiet w h.0 (codes "DEC") h.2 (record { key = refl; gregorian = refl; julian = refl; joining = refl; closing = refl; bare = refl }) h.3
-roman_quiet w (suc (suc (suc (suc (suc (suc (suc (suc (suc (suc (suc (suc (suc n))))))))))))) h = absurd (let e : None ≡ Some h.0 = sym (beyond n) ∙ h.2 in cc)
+roman_quiet w (suc zero) h = named_quiet w h.0 (codes "JAN") h.2
+    (record { key = refl; gregorian = refl; julian = refl; joining = refl; closing = refl; bare = refl }) h.3
+roman_quiet w (suc (suc zero)) h = named_quiet w h.0 (codes "FEB") h.2
+    (record { key = refl; gregorian = refl; julian = refl; joining = refl; closing = refl; bare = refl }) h.3
+roman_quiet w (suc (suc (suc zero))) h = named_quiet w h.0 (codes "MAR") h.2
+    (record { key = refl; gregorian = refl; julian = refl; joining = refl; closing = refl; bare = refl }) h.3
+roman_quiet w (suc (suc (suc (suc zero)))) h = named_quiet w h.0 (codes "APR") h.2
+    (record { key = refl; gregorian = refl; julian = refl; joining = refl; closing = refl; bare = refl }) h.3
+roman_quiet w (suc (suc (suc (suc (suc zero))))) h = named_quiet w h.0 (codes "MAY") h.2
+    (record { key = refl; gregorian = refl; julian = refl; joining = refl; closing = refl; bare = refl }) h.3
+roman_quiet w (suc (suc (suc (suc (suc (suc zero)))))) h = named_quiet w h.0 (codes "JUN") h.2
+    (record { key = refl; gregorian = refl; julian = refl; joining = refl; closing = refl; bare = refl }) h.3
+roman_quiet w (suc (suc (suc (suc (suc (suc (suc zero))))))) h = named_quiet w h.0 (codes "JUL") h.2
+    (record { key = refl; gregorian = refl; julian = refl; joining = refl; closing = refl; bare = refl }) h.3
+roman_quiet w (suc (suc (suc (suc (suc (suc (suc (suc zero)))))))) h = named_quiet w h.0 (codes "AUG") h.2
+    (record { key = refl; gregorian = refl; julian = refl; joining = refl; closing = refl; bare = refl }) h.3
+roman_quiet w (suc (suc (suc (suc (suc (suc (suc (suc (suc zero))))))))) h = named_quiet w h.0 (codes "SEP") h.2
+    (record { key = refl; gregorian = refl; julian = refl; joining = refl; closing = refl; bare = refl }) h.3
+roman_quiet w (suc (suc (suc (suc (suc (suc (suc (suc (suc (suc zero)))))))))) h =
+    named_quiet w h.0 (codes "OCT") h.2
+    (record { key = refl; gregorian = refl; julian = refl; joining = refl; closing = refl; bare = refl }) h.3
+roman_quiet w (suc (suc (suc (suc (suc (suc (suc (suc (suc (suc (suc zero))))))))))) h =
+    named_quiet w h.0 (codes "NOV") h.2
+    (record { key = refl; gregorian = refl; julian = refl; joining = refl; closing = refl; bare = refl }) h.3
+roman_quiet w (suc (suc (suc (suc (suc (suc (suc (suc (suc (suc (suc (suc zero)))))))))))) h =
+    named_quiet w h.0 (codes "DEC") h.2
+    (record { key = refl; gregorian = refl; julian = refl; joining = refl; closing = refl; bare = refl }) h.3
+roman_quiet w (suc (suc (suc (suc (suc (suc (suc (suc (suc (suc (suc (suc (suc n))))))))))))) h =
+    absurd (let e : None ≡ Some h.0 = sym (beyond n) ∙ h.2 in cc)
 
 pub month_quiet : (c : Calendar) (w : List ℕ) (m : ℕ) → IsMonthWord c w m → Quiet w
 month_quiet Gregorian w m h = roman_quiet w m h
@@ -164,21 +235,31 @@ all_silent : (ws : List (List ℕ)) → AllQuiet ws → AllSilent ws
 all_silent [] q = tt
 all_silent (w ∷ ws) q = (silent w q.0, all_silent ws q.1)
 
-before_quiet : (ws : List (List ℕ)) (year mark : List ℕ) (n : ℕ) → (ws ≡ year ∷ mark ∷ []) ⊎ (ws ≡ (year ++ mark) ∷ []) → IsNumber 4 year n → Reads mark (codes "B.C.") → AllQuiet ws
-before_quiet ws year mark n (inl e) number reads = subst AllQuiet (sym e) (number_quiet 4 year n number, (mark_quiet mark reads, tt))
-before_quiet ws year mark n (inr e) number reads = subst AllQuiet (sym e) (behind_quiet 4 year mark n number (mark_quiet mark reads).bare, tt)
+before_quiet : (ws : List (List ℕ)) (year mark : List ℕ) (n : ℕ) → (ws ≡ year ∷ mark ∷ []) ⊎ (ws ≡ (year ++ mark) ∷ [])
+    → IsNumber 4 year n → Reads mark (codes "B.C.") → AllQuiet ws
+before_quiet ws year mark n (inl e) number reads = subst AllQuiet (sym e) (
+  number_quiet 4 year n number,
+  (mark_quiet mark reads, tt),
+)
+before_quiet ws year mark n (inr e) number reads = subst AllQuiet (sym e)
+    (behind_quiet 4 year mark n number (mark_quiet mark reads).bare, tt)
 
 pub extent_quiet : (c : Calendar) (ws : List (List ℕ)) (e : Extent) → IsExtentOf c ws e → AllQuiet ws
 extent_quiet c ws (BeforeChrist n) h = before_quiet ws h.0 h.1 n h.2 h.3 h.4
 extent_quiet c ws (Whole y) h = subst AllQuiet (sym h.1) (year_quiet h.0 y h.2, tt)
 extent_quiet c ws (Month m y) h = subst AllQuiet (sym h.2) (month_quiet c h.0 m h.3, (year_quiet h.1 y h.4, tt))
-extent_quiet c ws (Day d m y) h = subst AllQuiet (sym h.3) (number_quiet 2 h.0 d h.4, (month_quiet c h.1 m h.5, (year_quiet h.2 y h.6, tt)))
+extent_quiet c ws (Day d m y) h = subst AllQuiet (sym h.3) (
+  number_quiet 2 h.0 d h.4,
+  (month_quiet c h.1 m h.5, (year_quiet h.2 y h.6, tt)),
+)
 
 escape_silent : (c : Calendar) (ws rest : List (List ℕ)) → IsEscape c ws rest → AllSilent rest → AllSilent ws
 unfolding keyword_of
 escape_silent Gregorian ws rest (inl e) q = subst AllSilent (sym e) q
-escape_silent Gregorian ws rest (inr h) q = subst AllSilent (sym h.1) (silent_as h.0 (codes "@#DGREGORIAN@") h.2 (record { key = refl; joining = refl; closing = refl; bare = refl }), q)
-escape_silent Julian ws rest h q = subst AllSilent (sym h.1) (silent_as h.0 (codes "@#DJULIAN@") h.2 (record { key = refl; joining = refl; closing = refl; bare = refl }), q)
+escape_silent Gregorian ws rest (inr h) q = subst AllSilent (sym h.1)
+    (silent_as h.0 (codes "@#DGREGORIAN@") h.2 (record { key = refl; joining = refl; closing = refl; bare = refl }), q)
+escape_silent Julian ws rest h q = subst AllSilent (sym h.1)
+    (silent_as h.0 (codes "@#DJULIAN@") h.2 (record { key = refl; joining = refl; closing = refl; bare = refl }), q)
 
 pub date_silent : (ws : List (List ℕ)) (d : Told) → IsDateOf ws d → AllSilent ws
 date_silent ws d h = escape_silent d.calendar ws h.0 h.1 (all_silent h.0 (extent_quiet d.calendar h.0 d.extent h.2))

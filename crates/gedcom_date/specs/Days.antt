@@ -2,7 +2,20 @@
 use Rattle.std.specs.Prelude.{ℤ, ◌<ℤ◌, ◌≤ℤ◌}
 use Rattle.calendar_days.specs.Told.{Told}
 use Rattle.calendar_days.specs.Within.{IsIn}
-use Rattle.gedcom_date.specs.Form.{Form, OnDate, NearDate, BeforeDate, AfterDate, BetweenDates, SinceDate, UntilDate, FromToDates, InterpretedDate, PhraseAlone, VerbatimText}
+use Rattle.gedcom_date.specs.Form.{
+  Form,
+  OnDate,
+  NearDate,
+  BeforeDate,
+  AfterDate,
+  BetweenDates,
+  SinceDate,
+  UntilDate,
+  FromToDates,
+  InterpretedDate,
+  PhraseAlone,
+  VerbatimText,
+}
 
 -- the day lies between some day of the first date and some day of the last
 abbrev pub Lies : Told → Told → ℤ → Type 0

@@ -1,12 +1,43 @@
 -- What a text says of a time: GEDCOM 5.5.1, chapter 2, DATE_VALUE.
-use Rattle.std.specs.Prelude.{◌≡◌, ◌⊎◌, ℕ, ◌+◌, ◌-◌, ◌*◌, ◌%◌, ◌≤◌, true, List, [], ◌∷◌, ◌++◌, length, slice_get, Some, codes}
+use Rattle.std.specs.Prelude.{
+  ◌≡◌,
+  ◌⊎◌,
+  ℕ,
+  ◌+◌,
+  ◌-◌,
+  ◌*◌,
+  ◌%◌,
+  ◌≤◌,
+  true,
+  List,
+  [],
+  ◌∷◌,
+  ◌++◌,
+  length,
+  slice_get,
+  Some,
+  codes,
+}
 use Rattle.std.specs.Int.{IsInRange}
 use Rattle.std.specs.Char.{is_ascii_digit}
 use Rattle.std.specs.List.{list_all}
 use Rattle.gedcom_date.specs.Words.{words, Without, Reads, is_space}
 use Rattle.calendar_days.specs.Told.{Told, Exists}
 use Rattle.gedcom_date.specs.Order.{IsOrdered}
-use Rattle.gedcom_date.specs.Form.{Form, OnDate, NearDate, BeforeDate, AfterDate, BetweenDates, SinceDate, UntilDate, FromToDates, InterpretedDate, PhraseAlone, VerbatimText}
+use Rattle.gedcom_date.specs.Form.{
+  Form,
+  OnDate,
+  NearDate,
+  BeforeDate,
+  AfterDate,
+  BetweenDates,
+  SinceDate,
+  UntilDate,
+  FromToDates,
+  InterpretedDate,
+  PhraseAlone,
+  VerbatimText,
+}
 use Rattle.gedcom_date.specs.Spelling.{spelling, approximation_text}
 use Rattle.calendar_days.specs.declared.calendar.Calendar.{Calendar}
 use Rattle.calendar_days.specs.declared.calendar.Calendar.TheVariants.{Gregorian, Julian}
@@ -22,13 +53,15 @@ value_from so_far (d ∷ ds) = value_from (10 * so_far + (d - 48)) ds
 
 -- one to most digits spell the number, which is not 0
 abbrev pub IsNumber : ℕ → List ℕ → ℕ → Type 0
-IsNumber most ds n = (list_all is_ascii_digit ds ≡ true) × IsInRange 1 most (length ds) × (n ≡ value_from 0 ds) × (1 ≤ n)
+IsNumber most ds n = (list_all is_ascii_digit ds ≡ true) × IsInRange 1 most (length ds)
+    × (n ≡ value_from 0 ds) × (1 ≤ n)
 
 -- 1731, or 1731/32: a year, a stroke, and the last two digits of the next year, which is at most 9999
 abbrev pub IsYearWord : List ℕ → Year → Type 0
 IsYearWord word (Single n) = IsNumber 4 word n
 IsYearWord word (Double n) =
-    (front : List ℕ) × (tens : ℕ) × (ones : ℕ) × (word ≡ front ++ 47 ∷ tens ∷ ones ∷ []) × IsNumber 4 front n × (n ≤ 9998)
+    (front : List ℕ) × (tens : ℕ) × (ones : ℕ) × (word ≡ front ++ 47 ∷ tens ∷ ones ∷ [])
+    × IsNumber 4 front n × (n ≤ 9998)
     × (list_all is_ascii_digit (tens ∷ ones ∷ []) ≡ true) × (value_from 0 (tens ∷ ones ∷ []) ≡ (n + 1) % 100)
 
 -- the names of the months of our calendars
@@ -49,12 +82,14 @@ IsMonthWord c word m = (name : List ℕ) × (1 ≤ m) × (slice_get (months c) (
 -- a year, a month and a year, or a day, a month and a year; behind a year alone B.C., with a space or without
 abbrev pub IsExtentOf : Calendar → List (List ℕ) → Extent → Type 0
 IsExtentOf c ws (BeforeChrist n) =
-    (year : List ℕ) × (mark : List ℕ) × ((ws ≡ year ∷ mark ∷ []) ⊎ (ws ≡ (year ++ mark) ∷ [])) × IsNumber 4 year n × Reads mark (codes "B.C.")
+    (year : List ℕ) × (mark : List ℕ) × ((ws ≡ year ∷ mark ∷ []) ⊎ (ws ≡ (year ++ mark) ∷ [])) × IsNumber 4 year n
+    × Reads mark (codes "B.C.")
 IsExtentOf c ws (Whole year) = (word : List ℕ) × (ws ≡ word ∷ []) × IsYearWord word year
 IsExtentOf c ws (Month m year) =
     (month : List ℕ) × (word : List ℕ) × (ws ≡ month ∷ word ∷ []) × IsMonthWord c month m × IsYearWord word year
 IsExtentOf c ws (Day d m year) =
-    (day : List ℕ) × (month : List ℕ) × (word : List ℕ) × (ws ≡ day ∷ month ∷ word ∷ []) × IsNumber 2 day d × IsMonthWord c month m × IsYearWord word year
+    (day : List ℕ) × (month : List ℕ) × (word : List ℕ) × (ws ≡ day ∷ month ∷ word ∷ []) × IsNumber 2 day d
+    × IsMonthWord c month m × IsYearWord word year
 
 -- the words begin with the escape of the calendar, and rest follows; the Gregorian one may be left out
 abbrev pub IsEscape : Calendar → List (List ℕ) → List (List ℕ) → Type 0
@@ -67,12 +102,14 @@ IsDateOf ws date = (rest : List (List ℕ)) × IsEscape date.calendar ws rest ×
 
 -- the words are a keyword and a date
 abbrev pub IsAfterWord : List ℕ → List (List ℕ) → Told → Type 0
-IsAfterWord keyword ws date = (word : List ℕ) × (rest : List (List ℕ)) × (ws ≡ word ∷ rest) × Reads word keyword × IsDateOf rest date
+IsAfterWord keyword ws date = (word : List ℕ) × (rest : List (List ℕ)) × (ws ≡ word ∷ rest) × Reads word keyword
+    × IsDateOf rest date
 
 -- the words are a keyword, a date, a second keyword and a date
 abbrev pub IsAfterWords : List ℕ → List ℕ → List (List ℕ) → Told → Told → Type 0
 IsAfterWords opening joining ws first last =
-    (word : List ℕ) × (front : List (List ℕ)) × (mark : List ℕ) × (back : List (List ℕ)) × (ws ≡ word ∷ (front ++ mark ∷ back))
+    (word : List ℕ) × (front : List (List ℕ)) × (mark : List ℕ) × (back : List (List ℕ))
+    × (ws ≡ word ∷ (front ++ mark ∷ back))
     × Reads word opening × IsDateOf front first × Reads mark joining × IsDateOf back last
 
 -- the text is front, and from its first ( to a ) that ends it, spaces apart, a phrase in these brackets
@@ -92,7 +129,8 @@ IsOfForm text (BetweenDates d e) = IsAfterWords (codes "BET") (codes "AND") (wor
 IsOfForm text (SinceDate d) = IsAfterWord (codes "FROM") (words text) d
 IsOfForm text (UntilDate d) = IsAfterWord (codes "TO") (words text) d
 IsOfForm text (FromToDates d e) = IsAfterWords (codes "FROM") (codes "TO") (words text) d e
-IsOfForm text (InterpretedDate d phrase) = (front : List ℕ) × IsPhrased text front phrase × IsAfterWord (codes "INT") (words front) d
+IsOfForm text (InterpretedDate d phrase) = (front : List ℕ) × IsPhrased text front phrase
+    × IsAfterWord (codes "INT") (words front) d
 IsOfForm text (PhraseAlone phrase) = (front : List ℕ) × IsPhrased text front phrase × (words front ≡ [])
 IsOfForm text (VerbatimText t) = ⊥
 

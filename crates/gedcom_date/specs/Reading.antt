@@ -1,5 +1,30 @@
 -- How the parts of a date are read.
-use Rattle.std.specs.Prelude.{◌%◌, nat_le, nat_lt, take, drop, codes, length, option_map, map, ℕ, ◌+◌, ◌-◌, ◌*◌, Bool, ◌&&◌, ◌==◌, not, List, [], ◌∷◌, Option, Some, None, if◌then◌else◌}
+use Rattle.std.specs.Prelude.{
+  ◌%◌,
+  nat_le,
+  nat_lt,
+  take,
+  drop,
+  codes,
+  length,
+  option_map,
+  map,
+  ℕ,
+  ◌+◌,
+  ◌-◌,
+  ◌*◌,
+  Bool,
+  ◌&&◌,
+  ◌==◌,
+  not,
+  List,
+  [],
+  ◌∷◌,
+  Option,
+  Some,
+  None,
+  if◌then◌else◌,
+}
 use Rattle.std.specs.Char.{is_ascii_digit, to_ascii_lowercase}
 use Rattle.std.specs.Option.{option_map_or}
 use Rattle.std.specs.Str.{bytes_eq}
@@ -11,16 +36,38 @@ use Rattle.calendar_days.specs.declared.calendar.Year.TheVariants.{Single, Doubl
 use Rattle.calendar_days.specs.declared.calendar.Extent.{Extent}
 use Rattle.calendar_days.specs.declared.calendar.Extent.TheVariants.{BeforeChrist, Whole, Month, Day}
 use Rattle.calendar_days.specs.Told.{Told}
-use Rattle.gedcom_date.specs.Form.{Form, OnDate, NearDate, BeforeDate, AfterDate, BetweenDates, SinceDate, UntilDate, FromToDates, InterpretedDate, PhraseAlone}
+use Rattle.gedcom_date.specs.Form.{
+  Form,
+  OnDate,
+  NearDate,
+  BeforeDate,
+  AfterDate,
+  BetweenDates,
+  SinceDate,
+  UntilDate,
+  FromToDates,
+  InterpretedDate,
+  PhraseAlone,
+}
 use Rattle.gedcom_date.specs.declared.approximation.Approximation.TheVariants.{About, Calculated, Estimated}
 use Rattle.gedcom_date.specs.declared.keyword.Keyword.{Keyword}
-use Rattle.gedcom_date.specs.declared.keyword.Keyword.TheVariants.{Near, Before, After, Between, And, From, To, Interpreted}
+use Rattle.gedcom_date.specs.declared.keyword.Keyword.TheVariants.{
+  Near,
+  Before,
+  After,
+  Between,
+  And,
+  From,
+  To,
+  Interpreted,
+}
 
 -- the number of four digits, if it is not 0
 abbrev pub four : ℕ → ℕ → ℕ → ℕ → Option ℕ
 four a b c d =
     let n = 1000 * (a - 48) + 100 * (b - 48) + 10 * (c - 48) + (d - 48) in
-    if is_ascii_digit a && is_ascii_digit b && is_ascii_digit c && is_ascii_digit d && not (n == 0) then Some n else None
+    if is_ascii_digit a && is_ascii_digit b && is_ascii_digit c && is_ascii_digit d && not
+    (n == 0) then Some n else None
 
 -- the number of one to four digits
 abbrev pub number_of : List ℕ → Option ℕ
@@ -38,7 +85,8 @@ reads word keyword = bytes_eq (map to_ascii_lowercase word) (map to_ascii_lowerc
 -- a double year, of its first year and what stands behind the stroke
 abbrev pub double_of : Option ℕ → List ℕ → Option Year
 double_of (Some n) (a ∷ b ∷ []) =
-    if is_ascii_digit a && is_ascii_digit b && nat_le n 9998 && (10 * (a - 48) + (b - 48) == (n + 1) % 100) then Some (Double n) else None
+    if is_ascii_digit a && is_ascii_digit b && nat_le n 9998 && (10 * (a - 48) + (b - 48) == (n + 1) % 100) then Some
+    (Double n) else None
 double_of (Some n) [] = None
 double_of (Some n) (a ∷ []) = None
 double_of (Some n) (a ∷ b ∷ c ∷ more) = None
@@ -97,7 +145,8 @@ day_month_year c d m y = day_of d >>= λ j. month_of c m >>= λ k. year_of y >>=
 -- the year n of n B.C. in one word: what stands before the mark, which ends the word
 unfoldable pub joined_before_christ : List ℕ → Option ℕ
 joined_before_christ w =
-    if nat_lt 4 (length w) && reads (drop (length w - 4) w) (codes "B.C.") then number_of (take (length w - 4) w) else None
+    if nat_lt 4 (length w) && reads (drop (length w - 4) w) (codes "B.C.") then number_of
+    (take (length w - 4) w) else None
 
 -- what one word tells: a year, or a year and B.C.
 abbrev pub whole_of : List ℕ → Option Extent
@@ -121,7 +170,8 @@ escape_of (w ∷ ws) =
 
 -- the date that the words tell
 unfoldable pub told_of : List (List ℕ) → Option Told
-told_of ws = option_map (λ e. record { calendar = (escape_of ws).0; extent = e }) (extent_of (escape_of ws).0 (escape_of ws).1)
+told_of ws = option_map (λ e. record { calendar = (escape_of ws).0; extent = e })
+    (extent_of (escape_of ws).0 (escape_of ws).1)
 
 -- the keyword that a word is, in either case of its letters
 unfoldable pub keyword_of : List ℕ → Option Keyword
@@ -188,4 +238,5 @@ word_form (w ∷ ws) = option_map_or (λ k. keyword_form k ws) (keyword_of w) (o
 -- the form of a phrase and the words before it: none, or INT and a date
 unfoldable pub phrase_form : List (List ℕ) → List ℕ → Option Form
 phrase_form [] phrase = Some (PhraseAlone phrase)
-phrase_form (w ∷ ws) phrase = if reads w (codes "INT") then option_map (λ d. InterpretedDate d phrase) (told_of ws) else None
+phrase_form (w ∷ ws) phrase = if reads w (codes "INT") then option_map (λ d. InterpretedDate d phrase)
+    (told_of ws) else None

@@ -2,7 +2,20 @@
 -- for the Gregorian calendar.
 use Rattle.std.specs.Prelude.{◌≡◌, ℕ, ◌+◌, ◌/◌, ◌%◌, ◌==◌, if◌then◌else◌, List, [], ◌∷◌, ◌++◌, codes, decimal}
 use Rattle.calendar_days.specs.Told.{Told}
-use Rattle.gedcom_date.specs.Form.{Form, OnDate, NearDate, BeforeDate, AfterDate, BetweenDates, SinceDate, UntilDate, FromToDates, InterpretedDate, PhraseAlone, VerbatimText}
+use Rattle.gedcom_date.specs.Form.{
+  Form,
+  OnDate,
+  NearDate,
+  BeforeDate,
+  AfterDate,
+  BetweenDates,
+  SinceDate,
+  UntilDate,
+  FromToDates,
+  InterpretedDate,
+  PhraseAlone,
+  VerbatimText,
+}
 use Rattle.calendar_days.specs.declared.calendar.Calendar.{Calendar}
 use Rattle.calendar_days.specs.declared.calendar.Calendar.TheVariants.{Gregorian, Julian}
 use Rattle.calendar_days.specs.declared.calendar.Year.{Year}

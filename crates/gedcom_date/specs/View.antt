@@ -1,9 +1,34 @@
 -- What each value of the program says.
 use Rattle.std.specs.Prelude.{string_bytes}
 use Rattle.calendar_days.specs.Told.{told}
-use Rattle.gedcom_date.specs.Form.{Form, OnDate, NearDate, BeforeDate, AfterDate, BetweenDates, SinceDate, UntilDate, FromToDates, InterpretedDate, PhraseAlone, VerbatimText}
+use Rattle.gedcom_date.specs.Form.{
+  Form,
+  OnDate,
+  NearDate,
+  BeforeDate,
+  AfterDate,
+  BetweenDates,
+  SinceDate,
+  UntilDate,
+  FromToDates,
+  InterpretedDate,
+  PhraseAlone,
+  VerbatimText,
+}
 use Rattle.gedcom_date.specs.declared.value.DateValue.{DateValue}
-use Rattle.gedcom_date.specs.declared.value.DateValue.TheVariants.{On, Near, Before, After, Between, From, To, FromTo, Interpreted, Phrase, Verbatim}
+use Rattle.gedcom_date.specs.declared.value.DateValue.TheVariants.{
+  On,
+  Near,
+  Before,
+  After,
+  Between,
+  From,
+  To,
+  FromTo,
+  Interpreted,
+  Phrase,
+  Verbatim,
+}
 
 -- the form of a value
 abbrev pub view : DateValue → Form

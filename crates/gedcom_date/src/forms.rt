@@ -7,7 +7,18 @@ ghost use Rattle.calendar_days.specs.Told.{Told, told, Exists};
 ghost use Rattle.gedcom_date.specs.Order.{IsOrdered};
 ghost use Rattle.gedcom_date.specs.View.{view};
 ghost use Rattle.gedcom_date.specs.Form.{Form, BetweenDates, InterpretedDate, PhraseAlone};
-ghost use Rattle.gedcom_date.specs.Reading.{reads, is_and, is_to, two_dates, told_of, parted, from_form, keyword_form, word_form, phrase_form};
+ghost use Rattle.gedcom_date.specs.Reading.{
+  reads,
+  is_and,
+  is_to,
+  two_dates,
+  told_of,
+  parted,
+  from_form,
+  keyword_form,
+  word_form,
+  phrase_form,
+};
 ghost use Rattle.gedcom_date.specs.Found.{Holds, FindsEach};
 ghost use Rattle.gedcom_date.specs.Grammar.{Says, Fits, IsGood, IsShort};
 

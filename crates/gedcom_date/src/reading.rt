@@ -1,7 +1,23 @@
 //! The parts of a date.
 
 ghost use Rattle.std.specs.Prelude.{◌≡◌, length, ◌≤◌, IfSome, IsSome, Some};
-ghost use Rattle.gedcom_date.specs.Reading.{double_of, year_of, early_month, late_month, month_of, day_of, month_year, day_month_year, extent_of, escape_of, told_of, whole_of, joined_before_christ, number_of, four};
+ghost use Rattle.gedcom_date.specs.Reading.{
+  double_of,
+  year_of,
+  early_month,
+  late_month,
+  month_of,
+  day_of,
+  month_year,
+  day_month_year,
+  extent_of,
+  escape_of,
+  told_of,
+  whole_of,
+  joined_before_christ,
+  number_of,
+  four,
+};
 ghost use Rattle.calendar_days.specs.Told.{Told, told, Exists};
 ghost use Rattle.gedcom_date.specs.Words.{views};
 

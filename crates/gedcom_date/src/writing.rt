@@ -5,7 +5,18 @@ ghost use Rattle.calendar_days.specs.Calendars.{IsCounted, IsExtent};
 ghost use Rattle.calendar_days.specs.Told.{told};
 ghost use Rattle.gedcom_date.specs.View.{view};
 ghost use Rattle.gedcom_date.specs.Grammar.{Says};
-ghost use Rattle.gedcom_date.specs.Spelling.{month_name, year_text, extent_text, told_text, after_text, two_text, approximation_text, phrase_text, spelling, Appends};
+ghost use Rattle.gedcom_date.specs.Spelling.{
+  month_name,
+  year_text,
+  extent_text,
+  told_text,
+  after_text,
+  two_text,
+  approximation_text,
+  phrase_text,
+  spelling,
+  Appends,
+};
 
 use crate::approximation::Approximation;
 use crate::fault::{DateFault, DateKind};

@@ -1,5 +1,33 @@
 -- A line that is written is read as that line.
-use Rattle.std.proofs.Common.{◌≡◌, ℕ, ◌+◌, ◌*◌, ◌/◌, ◌%◌, ◌<◌, ◌≤◌, Bool, true, false, eqb, List, [], ◌∷◌, ◌++◌, length, get_or, refl, ◌∙◌, inl, inr, arith, append_assoc, Option, Some, None}
+use Rattle.std.proofs.Common.{
+  ◌≡◌,
+  ℕ,
+  ◌+◌,
+  ◌*◌,
+  ◌/◌,
+  ◌%◌,
+  ◌<◌,
+  ◌≤◌,
+  Bool,
+  true,
+  false,
+  eqb,
+  List,
+  [],
+  ◌∷◌,
+  ◌++◌,
+  length,
+  get_or,
+  refl,
+  ◌∙◌,
+  inl,
+  inr,
+  arith,
+  append_assoc,
+  Option,
+  Some,
+  None,
+}
 use Rattle.std.specs.List.{list_all, list_any, All}
 use Rattle.std.specs.Fmt.{decimal}
 use Rattle.std.proofs.lemmas.Bool.{cases_lt}
@@ -45,7 +73,8 @@ all-append p (x ∷ xs) b h k =
 pub inner-append : (a b : List ℕ) → IsInner a → IsInner b → IsInner (a ++ b)
 inner-append a b h k = record { utf8 = IsUtf8-append a b h.utf8 k.utf8; each = all-append is_inner a b h.each k.each }
 
-all_map : (p q : ℕ → Bool) (t : List ℕ) → ((b : ℕ) → p b ≡ true → q b ≡ true) → list_all p t ≡ true → list_all q t ≡ true
+all_map : (p q : ℕ → Bool) (t : List ℕ) → ((b : ℕ) → p b ≡ true → q b ≡ true) → list_all p t ≡ true
+    → list_all q t ≡ true
 all_map p q [] f h = refl
 all_map p q (x ∷ xs) f h =
     let r = both (p x) (list_all p xs) h in
@@ -58,10 +87,14 @@ ascii_inner : (t : List ℕ) → All (λ b. b < 128) t → list_all is_inner t �
 ascii_inner t a h = record { utf8 = IsUtf8-from_ascii t (IsAscii-from_all t a); each = h }
 
 words_inner : (t : List ℕ) → list_all is_word t ≡ true → IsInner t
-words_inner t h = ascii_inner t (λ i d lt. in_class_ascii Word (get_or t i d) (AllPass-from_list_all is_word t h i d lt)) (all_map is_word is_inner t word_inner h)
+words_inner t h = ascii_inner t
+    (λ i d lt. in_class_ascii Word (get_or t i d) (AllPass-from_list_all is_word t h i d lt))
+    (all_map is_word is_inner t word_inner h)
 
 digits_inner : (t : List ℕ) → list_all is_digit t ≡ true → IsInner t
-digits_inner t h = ascii_inner t (λ i d lt. in_class_ascii Digit (get_or t i d) (AllPass-from_list_all is_digit t h i d lt)) (all_map is_digit is_inner t digit_inner h)
+digits_inner t h = ascii_inner t
+    (λ i d lt. in_class_ascii Digit (get_or t i d) (AllPass-from_list_all is_digit t h i d lt))
+    (all_map is_digit is_inner t digit_inner h)
 
 space_inner : IsInner (32 ∷ [])
 space_inner = record { utf8 = IsUtf8-from_ascii (32 ∷ []) (IsAscii-cons 32 [] (omega arith) IsAscii-nil); each = refl }
@@ -98,43 +131,81 @@ level_of_digit : (n : ℕ) → n < 10 → Level n ((48 + n) ∷ [])
 level_of_digit n h =
     let d : is_digit (48 + n) ≡ true = is_digit_of n h in
     let w : is_white (48 + n) ≡ false = digit_not_white (48 + n) d in
-    record { passes = rw d refl; number = omega arith; starts = λ rest. w; blank = λ rest e. let r = both (is_white (48 + n)) (list_all is_white rest) e in absurd cc }
+    record {
+      passes = rw d refl;
+      number = omega arith;
+      starts = λ rest. w;
+      blank = λ rest e.
+          let r = both (is_white (48 + n)) (list_all is_white rest) e in absurd cc;
+    }
 
 level_of_two : (n a b : ℕ) → a < 10 → b < 10 → n ≡ 10 * a + b → Level n ((48 + a) ∷ (48 + b) ∷ [])
 level_of_two n a b ha hb e =
     let d : is_digit (48 + a) ≡ true = is_digit_of a ha in
     let f : is_digit (48 + b) ≡ true = is_digit_of b hb in
     let w : is_white (48 + a) ≡ false = digit_not_white (48 + a) d in
-    record { passes = rw (d, f) refl; number = omega arith; starts = λ rest. w; blank = λ rest h. let r = both (is_white (48 + a)) (list_all is_white ((48 + b) ∷ rest)) h in absurd cc }
+    record {
+      passes = rw (d, f) refl;
+      number = omega arith;
+      starts = λ rest. w;
+      blank = λ rest h.
+          let r = both (is_white (48 + a)) (list_all is_white ((48 + b) ∷ rest)) h in absurd cc;
+    }
 
 level_is : (n : ℕ) → n ≤ 99 → Level n (decimal n)
 level_is n h = elim (cases_lt n 10) [
   | inl lt ↦ rw (decimal_digit n lt) (level_of_digit n lt)
   | inr ge ↦
       let q : n / 10 < 10 = omega arith in
-      let two : decimal n ≡ (48 + n / 10) ∷ (48 + n % 10) ∷ [] = decimal_step n ge (omega arith) ∙ rw (decimal_digit (n / 10) q) refl in
+      let two : decimal n ≡ (48 + n / 10) ∷ (48 + n % 10) ∷ [] = decimal_step n ge (omega arith)
+      ∙ rw (decimal_digit (n / 10) q) refl in
       rw two (level_of_two n (n / 10) (n % 10) q (omega arith) (omega arith))
 ]
 
 -- the parts
-tag_starts : (tag rest : List ℕ) → list_all is_word tag ≡ true → 0 < length tag → Stops is_space (tag ++ rest) × Stops is_at (tag ++ rest)
+tag_starts : (tag rest : List ℕ) → list_all is_word tag ≡ true → 0 < length tag → Stops is_space (tag ++ rest)
+    × Stops is_at (tag ++ rest)
 tag_starts [] rest h s = absurd (omega arith)
 tag_starts (c ∷ cs) rest h s =
     let r = both (is_word c) (list_all is_word cs) h in
     (word_not_space c r.0, word_not_at c r.0)
 
-has_tag : (tag raw : List ℕ) → list_all is_word tag ≡ true → 0 < length tag → length tag ≤ 31 → HasTag (tag ++ raw_text raw) tag raw
-has_tag tag [] h s m = record { after = []; spelled = record { parts = refl; passes = h; stops = tt }; some = s; short = m; value = inl (refl, refl) }
-has_tag tag (b ∷ bs) h s m = record { after = 32 ∷ b ∷ bs; spelled = record { parts = refl; passes = h; stops = refl }; some = s; short = m; value = inr refl }
+has_tag : (tag raw : List ℕ) → list_all is_word tag ≡ true → 0 < length tag → length tag ≤ 31
+    → HasTag (tag ++ raw_text raw) tag raw
+has_tag tag [] h s m = record {
+  after = [];
+  spelled = record { parts = refl; passes = h; stops = tt };
+  some = s;
+  short = m;
+  value = inl (refl, refl);
+}
+has_tag tag (b ∷ bs) h s m = record {
+  after = 32 ∷ b ∷ bs;
+  spelled = record { parts = refl; passes = h; stops = refl };
+  some = s;
+  short = m;
+  value = inr refl;
+}
 
 ref_parts : (name x last : List ℕ) → x ≡ 64 ∷ name ++ 64 ∷ [] → (x ++ 32 ∷ []) ++ last ≡ 64 ∷ name ++ 64 ∷ 32 ∷ last
 ref_parts name x last e = rw e (simp append_assoc)
 
-has_xref : (x : Option (List ℕ)) (last : List ℕ) → IsXref x → Stops is_space last → Stops is_at last → HasXref (xref_text x ++ last) x last
+has_xref : (x : Option (List ℕ)) (last : List ℕ) → IsXref x → Stops is_space last → Stops is_at last
+    → HasXref (xref_text x ++ last) x last
 has_xref None last h s a = (a, refl)
-has_xref (Some x) last h s a = record { name = h.0; after = 32 ∷ last; gap = 32 ∷ []; named = h.1.0; marked = h.1.1.1; parts = ref_parts h.0 x last h.1.1.1; spaced = record { parts = refl; passes = refl; stops = s }; some = omega arith }
+has_xref (Some x) last h s a = record {
+  name = h.0;
+  after = 32 ∷ last;
+  gap = 32 ∷ [];
+  named = h.1.0;
+  marked = h.1.1.1;
+  parts = ref_parts h.0 x last h.1.1.1;
+  spaced = record { parts = refl; passes = refl; stops = s };
+  some = omega arith;
+}
 
-xref_stops : (x : Option (List ℕ)) (last : List ℕ) → IsXref x → Stops is_space last → Stops is_space (xref_text x ++ last)
+xref_stops : (x : Option (List ℕ)) (last : List ℕ) → IsXref x → Stops is_space last
+    → Stops is_space (xref_text x ++ last)
 xref_stops None last h s = s
 xref_stops (Some x) last h s = rw h.1.1.1 refl
 
@@ -150,9 +221,11 @@ raw_inner (b ∷ bs) h = inner-append (32 ∷ []) (b ∷ bs) space_inner h
 pub spelling_inner : (l : Parts) → IsLine l → IsInner (spelling l)
 unfolding spelling
 spelling_inner l h =
-    inner-append (decimal l.level) (32 ∷ (xref_text l.xref ++ (l.tag ++ raw_text l.raw))) (digits_inner (decimal l.level) (level_is l.level h.level).passes)
+    inner-append (decimal l.level) (32 ∷ (xref_text l.xref ++ (l.tag ++ raw_text l.raw)))
+    (digits_inner (decimal l.level) (level_is l.level h.level).passes)
     (inner-append (32 ∷ []) (xref_text l.xref ++ (l.tag ++ raw_text l.raw)) space_inner
-    (inner-append (xref_text l.xref) (l.tag ++ raw_text l.raw) (xref_inner l.xref h.xref) (inner-append l.tag (raw_text l.raw) (words_inner l.tag h.tag) (raw_inner l.raw h.raw))))
+    (inner-append (xref_text l.xref) (l.tag ++ raw_text l.raw) (xref_inner l.xref h.xref)
+    (inner-append l.tag (raw_text l.raw) (words_inner l.tag h.tag) (raw_inner l.raw h.raw))))
 
 spelled_line : (l : Parts) → IsLine l → IsText (spelling l) → Line (spelling l) l
 unfolding spelling
@@ -188,7 +261,11 @@ spelled_line l h t =
 pub line_again : (l : Parts) → IsLine l → Line (spelling l) l
 line_again l h =
     let i = spelling_inner l h in
-    spelled_line l h (record { utf8 = i.utf8; no_nul = no_nul (spelling l) i.each; piece = inner_piece (spelling l) i.each })
+    spelled_line l h (record {
+      utf8 = i.utf8;
+      no_nul = no_nul (spelling l) i.each;
+      piece = inner_piece (spelling l) i.each;
+    })
 
 -- a level has two digits at most
 number_short : (ds : List ℕ) (n : ℕ) → IsNumber ds n → length ds ≤ 2

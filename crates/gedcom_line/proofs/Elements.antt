@@ -1,5 +1,37 @@
 -- What a text is made of: each text has one list of elements, and one written form, which is the computed one.
-use Rattle.std.proofs.Common.{◌≡◌, ℕ, zero, suc, ◌<◌, ◌≤◌, true, false, cond, eqb, ltb, ◌&&◌, not, List, [], ◌∷◌, ◌++◌, length, get_or, refl, sym, ap, ◌∙◌, subst, inl, inr, arith, append_assoc, length-append, Some, None}
+use Rattle.std.proofs.Common.{
+  ◌≡◌,
+  ℕ,
+  zero,
+  suc,
+  ◌<◌,
+  ◌≤◌,
+  true,
+  false,
+  cond,
+  eqb,
+  ltb,
+  ◌&&◌,
+  not,
+  List,
+  [],
+  ◌∷◌,
+  ◌++◌,
+  length,
+  get_or,
+  refl,
+  sym,
+  ap,
+  ◌∙◌,
+  subst,
+  inl,
+  inr,
+  arith,
+  append_assoc,
+  length-append,
+  Some,
+  None,
+}
 use Rattle.std.specs.Prelude.{is_some}
 use Rattle.std.specs.List.{position_or_len, before_first, after_first, list_all, flat_map}
 use Rattle.std.specs.Option.{option_map_or}
@@ -8,9 +40,30 @@ use Rattle.std.proofs.lemmas.List.{length-take-le}
 use Rattle.std.proofs.lemmas.List.Sums.{AllPass-from_list_all}
 use Rattle.gedcom_line.specs.Words.{is_at}
 use Rattle.gedcom_line.specs.Past.{past_char}
-use Rattle.gedcom_line.specs.Escape.{NoAt, HasEscape, Element, Escape, Byte, Elements, element_text, IsEscaped, ends_escape, begins_escape, escaped_from, escaped}
+use Rattle.gedcom_line.specs.Escape.{
+  NoAt,
+  HasEscape,
+  Element,
+  Escape,
+  Byte,
+  Elements,
+  element_text,
+  IsEscaped,
+  ends_escape,
+  begins_escape,
+  escaped_from,
+  escaped,
+}
 use Rattle.gedcom_line.proofs.Steps.{both, eqb_no, at_parts, all_front, before_len}
-use Rattle.gedcom_line.proofs.Doubled.{cases_bool, space_after, head_no_at, tail_no_at, escaped_skip, marks_begin, marks_pair}
+use Rattle.gedcom_line.proofs.Doubled.{
+  cases_bool,
+  space_after,
+  head_no_at,
+  tail_no_at,
+  escaped_skip,
+  marks_begin,
+  marks_pair,
+}
 use Rattle.gedcom_line.proofs.Fronts.{ends_spelled}
 use Rattle.gedcom_line.proofs.Segments.{front_one}
 
@@ -30,20 +83,25 @@ begins_is cs body rest h =
 
 hash_after : (cs : List ℕ) → begins_escape cs ≡ true → (es : List ℕ) × ((cs ≡ 35 ∷ es) × (ends_escape es ≡ true))
 hash_after [] e = absurd cc
-hash_after (c ∷ cs) e = elim (eqb c 35) as (λ v. eqb c 35 ≡ v → option_map_or ends_escape (cond v (Some cs) None) false ≡ true → (es : List ℕ) × ((c ∷ cs ≡ 35 ∷ es) × (ends_escape es ≡ true))) [
-  | true ↦ λ k f. (cs, (ap (λ (x : ℕ). x ∷ cs) (eqb-true c 35 k), f))
-  | false ↦ λ k f. absurd cc
-] refl e
+hash_after (c ∷ cs) e = elim (eqb c 35) as (λ v. eqb c 35 ≡ v → option_map_or ends_escape (cond v (Some cs) None) false
+    ≡ true → (es : List ℕ) × ((c ∷ cs ≡ 35 ∷ es) × (ends_escape es ≡ true))) [
+      | true ↦ λ k f. (cs, (ap (λ (x : ℕ). x ∷ cs) (eqb-true c 35 k), f))
+      | false ↦ λ k f. absurd cc
+    ] refl e
 
-begins_has : (cs : List ℕ) → begins_escape cs ≡ true → (body : List ℕ) × ((rest : List ℕ) × HasEscape (64 ∷ cs) body rest)
+begins_has : (cs : List ℕ) → begins_escape cs ≡ true → (body : List ℕ)
+    × ((rest : List ℕ) × HasEscape (64 ∷ cs) body rest)
 begins_has cs e =
     let k = hash_after cs e in
     let es : List ℕ = k.0 in
-    let a = both (ltb 0 (position_or_len is_at es) && ltb (position_or_len is_at es) (length es)) (is_some (past_char 32 (after_first is_at es))) k.1.1 in
+    let a = both (ltb 0 (position_or_len is_at es) && ltb (position_or_len is_at es) (length es))
+    (is_some (past_char 32 (after_first is_at es))) k.1.1 in
     let b = both (ltb 0 (position_or_len is_at es)) (ltb (position_or_len is_at es) (length es)) a.0 in
     let s = space_after (after_first is_at es) a.1 in
-    let size : length (before_first is_at es) ≡ position_or_len is_at es = length-take-le (position_or_len is_at es) es (omega (arith, ltb-true _ _ b.1)) in
-    let whole : es ≡ before_first is_at es ++ 64 ∷ 32 ∷ s.0 = at_parts es (ltb-true _ _ b.1) ∙ ap (λ (x : List ℕ). before_first is_at es ++ 64 ∷ x) s.1 in (
+    let size : length (before_first is_at es) ≡ position_or_len is_at es = length-take-le (position_or_len is_at es) es
+    (omega (arith, ltb-true _ _ b.1)) in
+    let whole : es ≡ before_first is_at es ++ 64 ∷ 32 ∷ s.0 = at_parts es (ltb-true _ _ b.1)
+    ∙ ap (λ (x : List ℕ). before_first is_at es ++ 64 ∷ x) s.1 in (
       before_first is_at es,
       (
         s.0,
@@ -69,12 +127,15 @@ none_begins cs k body rest h =
     absurd cc
 
 -- an escape is written as it stands
-escape_whole : (cs body rest : List ℕ) → HasEscape (64 ∷ cs) body rest → escaped (64 ∷ cs) ≡ (64 ∷ 35 ∷ body ++ 64 ∷ 32 ∷ []) ++ escaped rest
+escape_whole : (cs body rest : List ℕ) → HasEscape (64 ∷ cs) body rest → escaped (64 ∷ cs)
+    ≡ (64 ∷ 35 ∷ body ++ 64 ∷ 32 ∷ []) ++ escaped rest
 escape_whole cs body rest h =
     let s : 64 ∷ cs ≡ 64 ∷ 35 ∷ body ++ 64 ∷ 32 ∷ rest = h.spelled in
     let e : cs ≡ 35 ∷ body ++ 64 ∷ 32 ∷ rest = cc in
-    let inner : escaped_from true (body ++ 64 ∷ 32 ∷ rest) ≡ body ++ 64 ∷ 32 ∷ escaped rest = escaped_skip true body (64 ∷ 32 ∷ rest) h.plain in
-    marks_begin false cs refl (begins_is cs body rest h) ∙ ap (λ (x : List ℕ). 64 ∷ escaped_from true x) e ∙ ap (λ (x : List ℕ). 64 ∷ 35 ∷ x) inner
+    let inner : escaped_from true (body ++ 64 ∷ 32 ∷ rest) ≡ body ++ 64 ∷ 32 ∷ escaped rest = escaped_skip true body
+    (64 ∷ 32 ∷ rest) h.plain in
+    marks_begin false cs refl (begins_is cs body rest h) ∙ ap (λ (x : List ℕ). 64 ∷ escaped_from true x) e
+    ∙ ap (λ (x : List ℕ). 64 ∷ 35 ∷ x) inner
     ∙ sym (append_assoc (64 ∷ 35 ∷ body) (64 ∷ 32 ∷ []) (escaped rest))
 
 escape_shorter : (cs body rest : List ℕ) → HasEscape (64 ∷ cs) body rest → length rest < length cs
@@ -90,14 +151,16 @@ char_made c cs k r = record {
   each = rw k (ap (λ (x : List ℕ). c ∷ x) r.each);
 }
 
-pair_made : (cs : List ℕ) → begins_escape cs ≡ false → IsEscaped cs (escaped cs) → IsEscaped (64 ∷ cs) (escaped (64 ∷ cs))
+pair_made : (cs : List ℕ) → begins_escape cs ≡ false → IsEscaped cs (escaped cs)
+    → IsEscaped (64 ∷ cs) (escaped (64 ∷ cs))
 pair_made cs k r = record {
   elements = Byte 64 ∷ r.elements;
   cut = (none_begins cs k, (cs, (refl, r.cut)));
   each = marks_pair false cs refl k ∙ ap (λ (x : List ℕ). 64 ∷ 64 ∷ x) r.each;
 }
 
-escape_made : (cs body rest : List ℕ) → HasEscape (64 ∷ cs) body rest → IsEscaped rest (escaped rest) → IsEscaped (64 ∷ cs) (escaped (64 ∷ cs))
+escape_made : (cs body rest : List ℕ) → HasEscape (64 ∷ cs) body rest → IsEscaped rest (escaped rest)
+    → IsEscaped (64 ∷ cs) (escaped (64 ∷ cs))
 escape_made cs body rest h r = record {
   elements = Escape body ∷ r.elements;
   cut = (rest, (h, r.cut));
@@ -110,9 +173,11 @@ escaped_by zero (c ∷ cs) le = absurd (omega arith)
 escaped_by (suc n) (c ∷ cs) le = elim (cases_bool (eqb c 64)) [
   | inr k ↦ char_made c cs k (escaped_by n cs (omega arith))
   | inl k ↦
-      subst (λ (x : ℕ). IsEscaped (x ∷ cs) (escaped (x ∷ cs))) (sym (eqb-true c 64 k)) (elim (cases_bool (begins_escape cs)) [
+      subst (λ (x : ℕ). IsEscaped (x ∷ cs) (escaped (x ∷ cs))) (sym (eqb-true c 64 k))
+      (elim (cases_bool (begins_escape cs)) [
         | inr b ↦ pair_made cs b (escaped_by n cs (omega arith))
-        | inl b ↦ let h = begins_has cs b in escape_made cs h.0 h.1.0 h.1.1 (escaped_by n h.1.0 (omega (arith, escape_shorter cs h.0 h.1.0 h.1.1)))
+        | inl b ↦ let h = begins_has cs b in
+            escape_made cs h.0 h.1.0 h.1.1 (escaped_by n h.1.0 (omega (arith, escape_shorter cs h.0 h.1.0 h.1.1)))
       ])
 ]
 
@@ -124,7 +189,8 @@ escape_one : (t a b r s : List ℕ) → HasEscape t a r → HasEscape t b s → 
 escape_one t a b r s h k =
     let u : 64 ∷ 35 ∷ a ++ 64 ∷ 32 ∷ r ≡ 64 ∷ 35 ∷ b ++ 64 ∷ 32 ∷ s = sym h.spelled ∙ k.spelled in
     let e : a ++ 64 ∷ 32 ∷ r ≡ b ++ 64 ∷ 32 ∷ s = cc in
-    let n : length a ≡ length b = sym (before_len a (32 ∷ r) (no_at_all a h.plain)) ∙ ap (position_or_len is_at) e ∙ before_len b (32 ∷ s) (no_at_all b k.plain) in
+    let n : length a ≡ length b = sym (before_len a (32 ∷ r) (no_at_all a h.plain)) ∙ ap (position_or_len is_at) e
+    ∙ before_len b (32 ∷ s) (no_at_all b k.plain) in
     let f = front_one (a ++ 64 ∷ 32 ∷ r) a b (64 ∷ 32 ∷ r) (64 ∷ 32 ∷ s) refl e n in
     let g : 64 ∷ 32 ∷ r ≡ 64 ∷ 32 ∷ s = f.1 in
     let rest : r ≡ s = cc in
@@ -154,4 +220,5 @@ elements_one t (Byte c ∷ es) (Byte d ∷ fs) h k =
 
 -- and one written form
 pub written_one : (t v w : List ℕ) → IsEscaped t v → IsEscaped t w → v ≡ w
-written_one t v w a b = a.each ∙ ap (flat_map element_text) (elements_one t a.elements b.elements a.cut b.cut) ∙ sym b.each
+written_one t v w a b = a.each ∙ ap (flat_map element_text) (elements_one t a.elements b.elements a.cut b.cut)
+    ∙ sym b.each

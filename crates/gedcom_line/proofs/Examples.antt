@@ -1,5 +1,5 @@
--- Worked examples of escapes. The elements are found by hand from the definition; the written forms are what the standard's rule and
--- docs/FORMATS.md give.
+-- Worked examples of escapes. The elements are found by hand from the definition; the written forms are what the
+-- standard's rule and docs/FORMATS.md give.
 use Rattle.std.proofs.Common.{◌≡◌, [], ◌∷◌, refl, arith}
 use Rattle.std.specs.Prelude.{codes}
 use Rattle.gedcom_line.specs.Escape.{Escape, Byte, Elements, escaped}
@@ -7,7 +7,13 @@ use Rattle.gedcom_line.proofs.Elements.{no_at_of, none_but_at, none_begins}
 
 -- the characters @#A@ @#B@ and a space are two escapes
 two_escapes : Elements (codes "@#A@ @#B@ ") (Escape (codes "A") ∷ Escape (codes "B") ∷ [])
-two_escapes = (codes "@#B@ ", (record { spelled = refl; some = omega arith; plain = no_at_of (codes "A") refl }, ([], (record { spelled = refl; some = omega arith; plain = no_at_of (codes "B") refl }, refl))))
+two_escapes = (
+  codes "@#B@ ",
+  (
+    record { spelled = refl; some = omega arith; plain = no_at_of (codes "A") refl },
+    ([], (record { spelled = refl; some = omega arith; plain = no_at_of (codes "B") refl }, refl)),
+  ),
+)
 
 -- the @ that might end an escape begins one, since no space stands behind it
 one_escape : Elements (codes "@#A@#B@ ") (Byte 64 ∷ Byte 35 ∷ Byte 65 ∷ Escape (codes "B") ∷ [])
@@ -25,7 +31,13 @@ one_escape = (
             refl,
             (
               none_but_at 65 (codes "@#B@ ") refl,
-              (codes "@#B@ ", (refl, ([], (record { spelled = refl; some = omega arith; plain = no_at_of (codes "B") refl }, refl)))),
+              (
+                codes "@#B@ ",
+                (
+                  refl,
+                  ([], (record { spelled = refl; some = omega arith; plain = no_at_of (codes "B") refl }, refl)),
+                ),
+              ),
             ),
           ),
         ),

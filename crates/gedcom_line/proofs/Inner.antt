@@ -1,5 +1,34 @@
 -- The parts of a text, as they are written, hold no U+0000, LF or CR, and are UTF-8.
-use Rattle.std.proofs.Common.{◌≡◌, ℕ, zero, suc, ◌+◌, ◌<◌, ◌≤◌, Bool, true, false, not, List, [], ◌∷◌, ◌++◌, length, get_or, take, drop, refl, sym, ap, ◌∙◌, subst, inl, inr, arith, length-drop}
+use Rattle.std.proofs.Common.{
+  ◌≡◌,
+  ℕ,
+  zero,
+  suc,
+  ◌+◌,
+  ◌<◌,
+  ◌≤◌,
+  Bool,
+  true,
+  false,
+  not,
+  List,
+  [],
+  ◌∷◌,
+  ◌++◌,
+  length,
+  get_or,
+  take,
+  drop,
+  refl,
+  sym,
+  ap,
+  ◌∙◌,
+  subst,
+  inl,
+  inr,
+  arith,
+  length-drop,
+}
 use Rattle.std.specs.Char.{encode_utf8, IsScalar}
 use lib.Utf8.{scalar}
 use Rattle.std.specs.List.{list_all, position_or_len}
@@ -8,10 +37,32 @@ use Rattle.std.proofs.lemmas.Bool.{eqb-true, cases_eq, cases_lt, not-true, not-f
 use Rattle.std.proofs.lemmas.Bool.Decides.{nat_tests}
 use Rattle.std.proofs.lemmas.List.{append-nil, take_all}
 use Rattle.std.proofs.lemmas.List.Sums.{split_at_first, prefix_len_stops, AllPass-from_list_all}
-use Rattle.std.proofs.lemmas.Str.{IsUtf8-append, IsUtf8-nil, IsUtf8-encode, IsUtf8-take, IsUtf8-drop, inside_one, encode_ascii, IsCharBoundary-before_ascii, IsCharBoundary-after_ascii, IsUtf8-from_ascii}
+use Rattle.std.proofs.lemmas.Str.{
+  IsUtf8-append,
+  IsUtf8-nil,
+  IsUtf8-encode,
+  IsUtf8-take,
+  IsUtf8-drop,
+  inside_one,
+  encode_ascii,
+  IsCharBoundary-before_ascii,
+  IsCharBoundary-after_ascii,
+  IsUtf8-from_ascii,
+}
 use Rattle.std.proofs.lemmas.Str.Ascii.{IsAscii-cons, IsAscii-nil}
 use Rattle.gedcom_line.specs.Escape.{NoAt, escaped_from, escaped}
-use Rattle.gedcom_line.specs.Split.{EachPart, is_short, cut_len, parts_by, segment_parts, Part, marked, canonical, is_lf, NoLf}
+use Rattle.gedcom_line.specs.Split.{
+  EachPart,
+  is_short,
+  cut_len,
+  parts_by,
+  segment_parts,
+  Part,
+  marked,
+  canonical,
+  is_lf,
+  NoLf,
+}
 use Rattle.gedcom_line.specs.Spelling.{is_inner, is_textual, IsInner}
 use Rattle.gedcom_line.specs.declared.splitting.Mark.{Mark}
 use Rattle.gedcom_line.specs.declared.splitting.Mark.TheVariants.{Conc, Cont}
@@ -32,7 +83,8 @@ step_utf8 i cs h = elim (escaped_step i 64 cs) [
 ]
 
 char_no_at : (c : ℕ) → (c ≡ 64 → ⊥) → NoAt (encode_utf8 c)
-char_no_at c h = λ i lt e. h (inside_one c [] (encode_utf8 c) i (sym (append-nil (encode_utf8 c))) lt (omega (arith, e)) ∙ e)
+char_no_at c h = λ i lt e. h (inside_one c [] (encode_utf8 c) i (sym (append-nil (encode_utf8 c))) lt
+    (omega (arith, e)) ∙ e)
 
 chars_utf8 : (cs : List ℕ) (i : Bool) → all_scalars cs ≡ true → IsUtf8 (escaped_from i (encode_utf8_all cs))
 chars_utf8 [] i h = IsUtf8-nil
@@ -41,9 +93,11 @@ chars_utf8 (c ∷ cs) i h =
     let r : IsScalar c × (all_scalars cs ≡ true) = both (scalar c) (all_scalars cs) h in
     elim (cases_eq c 64) [
       | inl e ↦
-          let one : encode_utf8 c ++ rest ≡ 64 ∷ rest = ap (λ (x : ℕ). encode_utf8 x ++ rest) e ∙ rw (encode_ascii 64 (omega arith)) refl in
+          let one : encode_utf8 c ++ rest ≡ 64 ∷ rest = ap (λ (x : ℕ). encode_utf8 x ++ rest) e
+          ∙ rw (encode_ascii 64 (omega arith)) refl in
           rw one (step_utf8 i rest (λ j. chars_utf8 cs j r.1))
-      | inr n ↦ rw (escaped_skip i (encode_utf8 c) rest (char_no_at c n)) (IsUtf8-append (encode_utf8 c) (escaped_from i rest) (IsUtf8-encode c r.0) (chars_utf8 cs i r.1))
+      | inr n ↦ rw (escaped_skip i (encode_utf8 c) rest (char_no_at c n))
+          (IsUtf8-append (encode_utf8 c) (escaped_from i rest) (IsUtf8-encode c r.0) (chars_utf8 cs i r.1))
     ]
 
 escaped_each : (p : ℕ → Bool) (i : Bool) (t : List ℕ) → list_all p t ≡ true → list_all p (escaped_from i t) ≡ true
@@ -56,7 +110,11 @@ escaped_each p i (c ∷ cs) h =
     ]
 
 pub escaped_inner : (t : List ℕ) → IsInner t → IsInner (escaped t)
-escaped_inner t h = record { utf8 = subst (λ (x : List ℕ). IsUtf8 (escaped x)) h.utf8.1.1 (chars_utf8 h.utf8.0 false h.utf8.1.0); each = escaped_each is_inner false t h.each }
+escaped_inner t h = record {
+  utf8 = subst (λ (x : List ℕ). IsUtf8 (escaped x)) h.utf8.1.1
+      (chars_utf8 h.utf8.0 false h.utf8.1.0);
+  each = escaped_each is_inner false t h.each;
+}
 
 -- fronts and rests
 all-take : (p : ℕ → Bool) (n : ℕ) (t : List ℕ) → list_all p t ≡ true → list_all p (take n t) ≡ true
@@ -93,8 +151,14 @@ parts_inner (suc n) s h = elim (cases_bool (is_short s)) [
   | inl e ↦ rw e (h, tt)
   | inr e ↦
       let m = (cut_may_be s h.utf8 e).whole in
-      let front : IsInner (take (cut_len s) s) = record { utf8 = IsUtf8-take s (cut_len s) h.utf8 m; each = all-take is_inner (cut_len s) s h.each } in
-      let rest : IsInner (drop (cut_len s) s) = record { utf8 = IsUtf8-drop s (cut_len s) h.utf8 m; each = all-drop is_inner (cut_len s) s h.each } in
+      let front : IsInner (take (cut_len s) s) = record {
+        utf8 = IsUtf8-take s (cut_len s) h.utf8 m;
+        each = all-take is_inner (cut_len s) s h.each;
+      } in
+      let rest : IsInner (drop (cut_len s) s) = record {
+        utf8 = IsUtf8-drop s (cut_len s) h.utf8 m;
+        each = all-drop is_inner (cut_len s) s h.each;
+      } in
       rw e (front, parts_inner n (drop (cut_len s) s) rest)
 ]
 
@@ -105,7 +169,8 @@ segment_inner s h = each_marked IsInner Cont (parts_by (length s) s) (parts_inne
 inner_char : (b : ℕ) → is_textual b ≡ true → is_lf b ≡ false → is_inner b ≡ true
 inner_char b h k = grind (arith, nat_tests)
 
-inner_all : (t : List ℕ) → list_all is_textual t ≡ true → list_all (λ b. not (is_lf b)) t ≡ true → list_all is_inner t ≡ true
+inner_all : (t : List ℕ) → list_all is_textual t ≡ true → list_all (λ b. not (is_lf b)) t ≡ true
+    → list_all is_inner t ≡ true
 inner_all [] h k = refl
 inner_all (x ∷ xs) h k =
     let r = both (is_textual x) (list_all is_textual xs) h in
@@ -117,7 +182,8 @@ no_lf_of t h = λ i lt e. eqb_no (get_or t i 0) 10 (not-true _ (AllPass-from_lis
 
 -- a text without LF
 pub last_none : (t : List ℕ) → length t ≤ position_or_len is_lf t → list_all (λ b. not (is_lf b)) t ≡ true
-last_none t ge = subst (λ (x : List ℕ). list_all (λ b. not (is_lf b)) x ≡ true) (take_all (position_or_len is_lf t) t ge) (all_front (λ b. not (is_lf b)) t)
+last_none t ge = subst (λ (x : List ℕ). list_all (λ b. not (is_lf b)) x ≡ true)
+    (take_all (position_or_len is_lf t) t ge) (all_front (λ b. not (is_lf b)) t)
 
 -- what stands at the first LF and round it
 pub record LfCut (t : List ℕ) : Type 0 where
@@ -132,7 +198,8 @@ pub record LfCut (t : List ℕ) : Type 0 where
 pub lf_cut : (t : List ℕ) → IsUtf8 t → position_or_len is_lf t < length t → LfCut t
 lf_cut t u lt =
     let n : ℕ = position_or_len is_lf t in
-    let lf : get_or t n 0 ≡ 10 = eqb-true (get_or t n 0) 10 (not-false _ (prefix_len_stops (λ x. not (is_lf x)) t 0 lt)) in
+    let lf : get_or t n 0 ≡ 10 = eqb-true (get_or t n 0) 10
+    (not-false _ (prefix_len_stops (λ x. not (is_lf x)) t 0 lt)) in
     record {
       front = take n t;
       rest = drop (n + 1) t;
@@ -143,12 +210,14 @@ lf_cut t u lt =
       shorter = omega (arith, length-drop (n + 1) t);
     }
 
-last_inner : (t : List ℕ) → IsUtf8 t → list_all is_textual t ≡ true → length t ≤ position_or_len is_lf t → EachPart IsInner (canonical t)
+last_inner : (t : List ℕ) → IsUtf8 t → list_all is_textual t ≡ true → length t ≤ position_or_len is_lf t
+    → EachPart IsInner (canonical t)
 last_inner t u h ge =
     let none : list_all (λ b. not (is_lf b)) t ≡ true = last_none t ge in
     rw (canonical_last t (no_lf_of t none)) (segment_inner t (record { utf8 = u; each = inner_all t h none }))
 
-pub canonical_inner : (n : ℕ) (t : List ℕ) → IsUtf8 t → list_all is_textual t ≡ true → length t ≤ n → EachPart IsInner (canonical t)
+pub canonical_inner : (n : ℕ) (t : List ℕ) → IsUtf8 t → list_all is_textual t ≡ true → length t ≤ n
+    → EachPart IsInner (canonical t)
 canonical_inner zero t u h le = elim (cases_lt (position_or_len is_lf t) (length t)) [
   | inr ge ↦ last_inner t u h ge
   | inl lt ↦ absurd (omega arith)
@@ -158,6 +227,12 @@ canonical_inner (suc n) t u h le = elim (cases_lt (position_or_len is_lf t) (len
   | inl lt ↦
       let c = lf_cut t u lt in
       let parts : list_all is_textual (c.front ++ 10 ∷ c.rest) ≡ true = ap (list_all is_textual) (sym c.parts) ∙ h in
-      let front : IsInner c.front = record { utf8 = c.front_utf8; each = inner_all c.front (in_front is_textual c.front (10 ∷ c.rest) parts) c.none } in
-      rw (canonical_step t c.front c.rest c.parts (no_lf_of c.front c.none)) (each-append IsInner (marked Cont (segment_parts c.front)) (canonical c.rest) (segment_inner c.front front) (canonical_inner n c.rest c.rest_utf8 (in_back is_textual c.front (10 ∷ c.rest) parts) (omega (arith, c.shorter))))
+      let front : IsInner c.front = record {
+        utf8 = c.front_utf8;
+        each = inner_all c.front (in_front is_textual c.front (10 ∷ c.rest) parts) c.none;
+      } in
+      rw (canonical_step t c.front c.rest c.parts (no_lf_of c.front c.none))
+      (each-append IsInner (marked Cont (segment_parts c.front)) (canonical c.rest) (segment_inner c.front front)
+      (canonical_inner n c.rest c.rest_utf8 (in_back is_textual c.front (10 ∷ c.rest) parts)
+      (omega (arith, c.shorter))))
 ]

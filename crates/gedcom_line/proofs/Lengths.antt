@@ -1,5 +1,32 @@
 -- How many characters a line, a cross reference and the parts of a text have as they are written.
-use Rattle.std.proofs.Common.{◌≡◌, ℕ, zero, suc, ◌+◌, ◌-◌, ◌<◌, ◌≤◌, false, List, [], ◌∷◌, ◌++◌, length, take, drop, refl, inl, inr, arith, Option, Some, None, length-append, length-drop, length-take}
+use Rattle.std.proofs.Common.{
+  ◌≡◌,
+  ℕ,
+  zero,
+  suc,
+  ◌+◌,
+  ◌-◌,
+  ◌<◌,
+  ◌≤◌,
+  false,
+  List,
+  [],
+  ◌∷◌,
+  ◌++◌,
+  length,
+  take,
+  drop,
+  refl,
+  inl,
+  inr,
+  arith,
+  Option,
+  Some,
+  None,
+  length-append,
+  length-drop,
+  length-take,
+}
 use Rattle.std.specs.Prelude.{unwrap_or}
 use Rattle.std.specs.Fmt.{decimal}
 use Rattle.std.specs.List.{flat_map, slice_split}
@@ -9,7 +36,21 @@ use Rattle.gedcom_line.specs.Reading.{Parts}
 use Rattle.gedcom_line.specs.Line.{IsName}
 use Rattle.gedcom_line.specs.Spelling.{xref_text, raw_text, spelling, IsXref, IsLine}
 use Rattle.gedcom_line.specs.Value.{IsPointer}
-use Rattle.gedcom_line.specs.Split.{char_count, IsShort, EachPart, is_short, may_cut, is_good_cut, greatest, cut_len, parts_by, segment_parts, marked, canonical, is_lf}
+use Rattle.gedcom_line.specs.Split.{
+  char_count,
+  IsShort,
+  EachPart,
+  is_short,
+  may_cut,
+  is_good_cut,
+  greatest,
+  cut_len,
+  parts_by,
+  segment_parts,
+  marked,
+  canonical,
+  is_lf,
+}
 use Rattle.gedcom_line.specs.declared.splitting.Mark.TheVariants.{Cont}
 use Rattle.gedcom_line.proofs.Doubled.{cases_bool}
 use Rattle.gedcom_line.proofs.Counts.{char_count-append, char_count-le-length, escaped_le_double, short_nil}
@@ -34,7 +75,12 @@ pointer_chars raw name h = rw h.marked (name_chars h.inner h.named)
 -- the parts of a line as they are written
 xref_text_chars : (x : Option (List ℕ)) → IsXref x → char_count (xref_text x) ≤ 65
 xref_text_chars None h = omega (arith, char_count-le-length [])
-xref_text_chars (Some x) h = omega (arith, xref_chars x h, char_count-append x (32 ∷ []), char_count-le-length (32 ∷ []))
+xref_text_chars (Some x) h = omega (
+  arith,
+  xref_chars x h,
+  char_count-append x (32 ∷ []),
+  char_count-le-length (32 ∷ []),
+)
 
 raw_text_chars : (raw : List ℕ) → char_count (raw_text raw) ≤ 1 + char_count raw
 raw_text_chars [] = omega arith
@@ -64,15 +110,24 @@ spelling_chars l h k =
 
 -- the same with its line end
 pub line_chars : (l : Parts) → IsLine l → char_count l.raw ≤ 200 → char_count (spelling l ++ 10 ∷ []) ≤ 301
-line_chars l h k = omega (arith, spelling_chars l h k, char_count-append (spelling l) (10 ∷ []), char_count-le-length (10 ∷ []))
+line_chars l h k = omega (
+  arith,
+  spelling_chars l h k,
+  char_count-append (spelling l) (10 ∷ []),
+  char_count-le-length (10 ∷ []),
+)
 
 -- what stands before a cut is short and not empty
 few_short : (t : List ℕ) → length t ≤ 100 → IsShort t
 few_short t le = omega (arith, char_count-le-length (escaped t), escaped_le_double false t)
 
-chosen_short : (s : List ℕ) (g m : Option ℕ) → greatest (is_good_cut s) (length s - 1) ≡ g → greatest (may_cut s) (length s - 1) ≡ m → (0 < unwrap_or g (unwrap_or m 1)) × IsShort (take (unwrap_or g (unwrap_or m 1)) s)
-chosen_short s (Some k) m e f = let r = greatest_gives (is_good_cut s) (length s - 1) k e in (r.0, (good_true s k r.0 (omega (arith, r.0, r.1)) r.2).may.short)
-chosen_short s None (Some k) e f = let r = greatest_gives (may_cut s) (length s - 1) k f in (r.0, (may_true s k r.0 (omega (arith, r.0, r.1)) r.2).short)
+chosen_short : (s : List ℕ) (g m : Option ℕ) → greatest (is_good_cut s) (length s - 1) ≡ g
+    → greatest (may_cut s) (length s - 1) ≡ m → (0 < unwrap_or g (unwrap_or m 1))
+    × IsShort (take (unwrap_or g (unwrap_or m 1)) s)
+chosen_short s (Some k) m e f = let r = greatest_gives (is_good_cut s) (length s - 1) k e in
+    (r.0, (good_true s k r.0 (omega (arith, r.0, r.1)) r.2).may.short)
+chosen_short s None (Some k) e f = let r = greatest_gives (may_cut s) (length s - 1) k f in
+    (r.0, (may_true s k r.0 (omega (arith, r.0, r.1)) r.2).short)
 chosen_short s None None e f = (omega arith, few_short (take 1 s) (omega (arith, length-take 1 s)))
 
 cut_short : (s : List ℕ) → (0 < cut_len s) × IsShort (take (cut_len s) s)
@@ -85,7 +140,11 @@ unfolding parts_by
 parts_by_short zero s le = (few_short s (omega arith), tt)
 parts_by_short (suc n) s le = elim (cases_bool (is_short s)) [
   | inl e ↦ rw e (leb-true (char_count (escaped s)) 200 e, tt)
-  | inr e ↦ rw e ((cut_short s).1, parts_by_short n (drop (cut_len s) s) (omega (arith, length-drop (cut_len s) s, (cut_short s).0, short_nil s e)))
+  | inr e ↦ rw e (
+    (cut_short s).1,
+    parts_by_short n (drop (cut_len s) s)
+        (omega (arith, length-drop (cut_len s) s, (cut_short s).0, short_nil s e)),
+  )
 ]
 
 segment_short_parts : (s : List ℕ) → EachPart IsShort (marked Cont (segment_parts s))
@@ -94,7 +153,8 @@ segment_short_parts s = each_marked IsShort Cont (parts_by (length s) s) (parts_
 
 segments_short : (ss : List (List ℕ)) → EachPart IsShort (flat_map (λ s. marked Cont (segment_parts s)) ss)
 segments_short [] = tt
-segments_short (s ∷ ss) = each-append IsShort (marked Cont (segment_parts s)) (flat_map (λ x. marked Cont (segment_parts x)) ss) (segment_short_parts s) (segments_short ss)
+segments_short (s ∷ ss) = each-append IsShort (marked Cont (segment_parts s))
+    (flat_map (λ x. marked Cont (segment_parts x)) ss) (segment_short_parts s) (segments_short ss)
 
 -- each part of a text, as it is written, has at most 200 characters
 pub canonical_short : (t : List ℕ) → EachPart IsShort (canonical t)

@@ -1,12 +1,48 @@
 -- The segments of a text and their parts: a text has one split, and it is the computed one.
-use Rattle.std.proofs.Common.{◌≡◌, ℕ, zero, suc, ◌<◌, ◌≤◌, List, [], ◌∷◌, ◌++◌, length, take, drop, refl, sym, ap, ◌∙◌, subst, inl, inr, arith}
+use Rattle.std.proofs.Common.{
+  ◌≡◌,
+  ℕ,
+  zero,
+  suc,
+  ◌<◌,
+  ◌≤◌,
+  List,
+  [],
+  ◌∷◌,
+  ◌++◌,
+  length,
+  take,
+  drop,
+  refl,
+  sym,
+  ap,
+  ◌∙◌,
+  subst,
+  inl,
+  inr,
+  arith,
+}
 use Rattle.std.specs.List.{AllByRecursion, join_with_byte, position_or_len, slice_split}
 use Rattle.std.specs.Str.{IsUtf8}
 use Rattle.std.proofs.lemmas.Bool.{cases_lt}
 use Rattle.std.proofs.lemmas.List.{append-nil}
 use Rattle.std.proofs.lemmas.List.Splits.{slice_split_at, slice_split_none}
 use Rattle.std.proofs.Math.Seq.{take-append_seam, drop-append_seam}
-use Rattle.gedcom_line.specs.Split.{MayCut, IsGoodCut, IsGreatest, IsCut, Parts, Part, marked, PartsOf, IsSplit, segment_parts, canonical, is_lf, NoLf}
+use Rattle.gedcom_line.specs.Split.{
+  MayCut,
+  IsGoodCut,
+  IsGreatest,
+  IsCut,
+  Parts,
+  Part,
+  marked,
+  PartsOf,
+  IsSplit,
+  segment_parts,
+  canonical,
+  is_lf,
+  NoLf,
+}
 use Rattle.gedcom_line.specs.declared.splitting.Mark.TheVariants.{Cont}
 use Rattle.gedcom_line.proofs.Cuts.{segment_parts_hold, canonical_step, canonical_last, no_lf_each}
 use Rattle.gedcom_line.proofs.Inner.{no_lf_of, last_none, LfCut, lf_cut}
@@ -23,8 +59,10 @@ cut_one s p q (inr a) (inr b) = greatest_one (MayCut s) p q a.1 b.1
 
 pub front_one : (s p q a b : List ℕ) → s ≡ p ++ a → s ≡ q ++ b → length p ≡ length q → (p ≡ q) × (a ≡ b)
 front_one s p q a b e f n = (
-  sym (take-append_seam p a) ∙ ap (take (length p)) (sym e ∙ f) ∙ ap (λ (x : ℕ). take x (q ++ b)) n ∙ take-append_seam q b,
-  sym (drop-append_seam p a) ∙ ap (drop (length p)) (sym e ∙ f) ∙ ap (λ (x : ℕ). drop x (q ++ b)) n ∙ drop-append_seam q b,
+  sym (take-append_seam p a) ∙ ap (take (length p)) (sym e ∙ f) ∙ ap (λ (x : ℕ). take x (q ++ b)) n
+      ∙ take-append_seam q b,
+  sym (drop-append_seam p a) ∙ ap (drop (length p)) (sym e ∙ f) ∙ ap (λ (x : ℕ). drop x (q ++ b)) n
+      ∙ drop-append_seam q b,
 )
 
 parts_one : (s : List ℕ) (ps qs : List (List ℕ)) → Parts s ps → Parts s qs → ps ≡ qs
@@ -36,7 +74,8 @@ parts_one s (p ∷ r ∷ ps) (q ∷ []) h k = absurd (omega (arith, h.0, k.1))
 parts_one s (p ∷ r ∷ ps) (q ∷ t ∷ qs) h k =
     let n : length p ≡ length q = cut_one s (length p) (length q) h.1.1.1.0 k.1.1.1.0 in
     let f = front_one s p q h.1.0 k.1.0 h.1.1.0 k.1.1.0 n in
-    let rest : r ∷ ps ≡ t ∷ qs = parts_one h.1.0 (r ∷ ps) (t ∷ qs) h.1.1.1.1 (subst (λ (x : List ℕ). Parts x (t ∷ qs)) (sym f.1) k.1.1.1.1) in
+    let rest : r ∷ ps ≡ t ∷ qs = parts_one h.1.0 (r ∷ ps) (t ∷ qs) h.1.1.1.1
+    (subst (λ (x : List ℕ). Parts x (t ∷ qs)) (sym f.1) k.1.1.1.1) in
     ap (λ (x : List ℕ). x ∷ r ∷ ps) f.0 ∙ ap (λ (x : List (List ℕ)). q ∷ x) rest
 
 parts_of_one : (ss : List (List ℕ)) (ps qs : List Part) → PartsOf ss ps → PartsOf ss qs → ps ≡ qs
@@ -44,10 +83,12 @@ parts_of_one [] ps qs h k = h ∙ sym k
 parts_of_one (s ∷ ss) ps qs h k =
     let own : h.0 ≡ k.0 = parts_one s h.0 k.0 h.1.0 k.1.0 in
     let more : h.1.1.0 ≡ k.1.1.0 = parts_of_one ss h.1.1.0 k.1.1.0 h.1.1.1.1 k.1.1.1.1 in
-    h.1.1.1.0 ∙ ap (λ (x : List (List ℕ)). marked Cont x ++ h.1.1.0) own ∙ ap (λ (x : List Part). marked Cont k.0 ++ x) more ∙ sym k.1.1.1.0
+    h.1.1.1.0 ∙ ap (λ (x : List (List ℕ)). marked Cont x ++ h.1.1.0) own ∙ ap (λ (x : List Part). marked Cont k.0 ++ x)
+    more ∙ sym k.1.1.1.0
 
 -- a text has one list of segments
-segments_are : (t : List ℕ) (ss : List (List ℕ)) → 0 < length ss → t ≡ join_with_byte 10 ss → AllByRecursion NoLf ss → slice_split is_lf t ≡ ss
+segments_are : (t : List ℕ) (ss : List (List ℕ)) → 0 < length ss → t ≡ join_with_byte 10 ss → AllByRecursion NoLf ss
+    → slice_split is_lf t ≡ ss
 segments_are t [] some e h = absurd (omega arith)
 segments_are t (s ∷ []) some e h = ap (slice_split is_lf) e ∙ slice_split_none is_lf s (no_lf_each s h.0)
 segments_are t (s ∷ r ∷ ss) some e h =
@@ -56,7 +97,8 @@ segments_are t (s ∷ r ∷ ss) some e h =
 
 pub split_one : (t : List ℕ) (ps qs : List Part) → IsSplit t ps → IsSplit t qs → ps ≡ qs
 split_one t ps qs a b =
-    let e : a.segments ≡ b.segments = sym (segments_are t a.segments a.some a.whole a.plain) ∙ segments_are t b.segments b.some b.whole b.plain in
+    let e : a.segments ≡ b.segments = sym (segments_are t a.segments a.some a.whole a.plain)
+    ∙ segments_are t b.segments b.some b.whole b.plain in
     parts_of_one b.segments ps qs (subst (λ (x : List (List ℕ)). PartsOf x ps) e a.parts) b.parts
 
 -- what was computed is a split
@@ -68,10 +110,17 @@ last_split t u ge =
       some = omega arith;
       whole = refl;
       plain = (none, tt);
-      parts = (segment_parts t, (segment_parts_hold t u, ([], (canonical_last t none ∙ sym (append-nil (marked Cont (segment_parts t))), refl))));
+      parts = (
+        segment_parts t,
+        (
+          segment_parts_hold t u,
+          ([], (canonical_last t none ∙ sym (append-nil (marked Cont (segment_parts t))), refl)),
+        ),
+      );
     }
 
-join_cons : (s : List ℕ) (ss : List (List ℕ)) → 0 < length ss → join_with_byte 10 (s ∷ ss) ≡ s ++ 10 ∷ join_with_byte 10 ss
+join_cons : (s : List ℕ) (ss : List (List ℕ)) → 0 < length ss → join_with_byte 10 (s ∷ ss) ≡ s ++ 10
+    ∷ join_with_byte 10 ss
 join_cons s [] some = absurd (omega arith)
 join_cons s (r ∷ ss) some = refl
 
@@ -83,7 +132,13 @@ more_split t c s =
       some = omega arith;
       whole = c.parts ∙ ap (λ (x : List ℕ). c.front ++ 10 ∷ x) s.whole ∙ sym (join_cons c.front s.segments s.some);
       plain = (none, s.plain);
-      parts = (segment_parts c.front, (segment_parts_hold c.front c.front_utf8, (canonical c.rest, (canonical_step t c.front c.rest c.parts none, s.parts))));
+      parts = (
+        segment_parts c.front,
+        (
+          segment_parts_hold c.front c.front_utf8,
+          (canonical c.rest, (canonical_step t c.front c.rest c.parts none, s.parts)),
+        ),
+      );
     }
 
 split_by : (n : ℕ) (t : List ℕ) → IsUtf8 t → length t ≤ n → IsSplit t (canonical t)

@@ -1,5 +1,31 @@
 -- The longest front of a text whose characters are of one class.
-use Rattle.std.proofs.Common.{◌≡◌, ◌≢◌, ℕ, zero, suc, ◌<◌, true, false, cond, eqb, List, [], ◌∷◌, length, get_or, take, refl, ap, eq-eqb, arith, add-one, Option, Some, None, Bor}
+use Rattle.std.proofs.Common.{
+  ◌≡◌,
+  ◌≢◌,
+  ℕ,
+  zero,
+  suc,
+  ◌<◌,
+  true,
+  false,
+  cond,
+  eqb,
+  List,
+  [],
+  ◌∷◌,
+  length,
+  get_or,
+  take,
+  refl,
+  ap,
+  eq-eqb,
+  arith,
+  add-one,
+  Option,
+  Some,
+  None,
+  Bor,
+}
 use Rattle.std.specs.Option.{option_map, MatchOption}
 use Rattle.std.proofs.lemmas.Bool.{eqb-true}
 use Rattle.gedcom_line.specs.Past.{past_char}
@@ -22,7 +48,8 @@ in_class_ascii Space b h = grind (arith, nat_tests)
 in_class_ascii Word b h = grind (arith, nat_tests)
 
 -- the text may be cut behind the characters of a class
-pub class_boundary : (k : Class) (bs : List ℕ) (n : ℕ) → IsUtf8 bs → n ≡ prefix_len (in_class k) bs → IsCharBoundary bs n
+pub class_boundary : (k : Class) (bs : List ℕ) (n : ℕ) → IsUtf8 bs → n ≡ prefix_len (in_class k) bs
+    → IsCharBoundary bs n
 class_boundary k bs zero u e = IsCharBoundary-start bs u
 class_boundary k bs (suc m) u e =
     let inside : m < length bs = omega (arith, prefix_len-le-length (in_class k) bs) in
@@ -36,7 +63,8 @@ class_each k bs = λ i d h.
     rw (get_or-take (prefix_len (in_class k) bs) bs i d inside) (prefix_len_passes (in_class k) bs i d inside)
 
 -- what `strip_prefix` gives at an ASCII character
-pub past_char_is : (c : ℕ) (bs : List ℕ) (r : Option (Bor (List ℕ))) → MatchOption r ((rest : List ℕ) → bs ≢ c ∷ rest) (λ x. bs ≡ c ∷ x.now) → option_map (λ (s : Bor (List ℕ)). s.now) r ≡ past_char c bs
+pub past_char_is : (c : ℕ) (bs : List ℕ) (r : Option (Bor (List ℕ))) → MatchOption r ((rest : List ℕ) → bs ≢ c ∷ rest)
+    (λ x. bs ≡ c ∷ x.now) → option_map (λ (s : Bor (List ℕ)). s.now) r ≡ past_char c bs
 past_char_is c [] None h = refl
 past_char_is c (b ∷ bs) None h = elim (eqb b c) as (λ v. eqb b c ≡ v → None ≡ cond v (Some bs) None) [
   | true ↦ λ e. absurd (h bs (ap (λ (x : ℕ). x ∷ bs) (eqb-true b c e)))

@@ -7,7 +7,8 @@ use Rattle.gedcom_line.specs.Reading.{text_at}
 use Rattle.gedcom_line.specs.declared.fault.LineKind.TheVariants.{NotUtf8}
 
 pub is_utf8_false : (b : List ℕ) → ¬ (IsUtf8 b) → is_utf8 b ≡ false
-is_utf8_false b h = elim (is_utf8 b) as (λ v. is_utf8 b ≡ v → v ≡ false) [ true ↦ λ e. absurd (h (IsUtf8-from_is_utf8 b e)) | false ↦ λ e. refl ] refl
+is_utf8_false b h = elim (is_utf8 b) as (λ v. is_utf8 b ≡ v → v ≡ false)
+    [ true ↦ λ e. absurd (h (IsUtf8-from_is_utf8 b e)) | false ↦ λ e. refl ] refl
 
 pub text_good : (b s : List ℕ) → list_any (λ x. eqb x 0) b ≡ false → IsUtf8 b → s ≡ b → text_at b ≡ Ok s
 text_good b s h u e = rw (h, is_utf8-from_IsUtf8 b u, e) refl

@@ -1,5 +1,38 @@
 -- The parts of a line that the grammar has can be written.
-use Rattle.std.proofs.Common.{◌≡◌, ℕ, ◌+◌, ◌<◌, ◌≤◌, Bool, true, false, eqb, ◌&&◌, List, [], ◌∷◌, ◌++◌, length, get_or, take, drop, refl, sym, ap, ◌∙◌, subst, inl, inr, ◌⊎◌, arith, append_assoc, length-append, Option, Some, None}
+use Rattle.std.proofs.Common.{
+  ◌≡◌,
+  ℕ,
+  ◌+◌,
+  ◌<◌,
+  ◌≤◌,
+  Bool,
+  true,
+  false,
+  eqb,
+  ◌&&◌,
+  List,
+  [],
+  ◌∷◌,
+  ◌++◌,
+  length,
+  get_or,
+  take,
+  drop,
+  refl,
+  sym,
+  ap,
+  ◌∙◌,
+  subst,
+  inl,
+  inr,
+  ◌⊎◌,
+  arith,
+  append_assoc,
+  length-append,
+  Option,
+  Some,
+  None,
+}
 use Rattle.std.specs.List.{list_all, list_any}
 use Rattle.std.specs.Str.{IsUtf8, IsCharBoundary}
 use Rattle.std.proofs.Math.Seq.{get_or-append_seam, take-append_seam, drop-append_seam}
@@ -52,11 +85,13 @@ inner_behind : (k : Class) (a t : List ℕ) → list_all (in_class k) a ≡ true
 inner_behind k a t h i = record { utf8 = utf8_behind k a t h i.utf8; each = in_back is_inner a t i.each }
 
 -- behind what a class spans
-inner_spanned : (k : Class) (text front rest : List ℕ) → Spans (in_class k) text front rest → IsInner text → IsInner rest
+inner_spanned : (k : Class) (text front rest : List ℕ) → Spans (in_class k) text front rest
+    → IsInner text → IsInner rest
 inner_spanned k text front rest s i = inner_behind k front rest s.passes (subst IsInner s.parts i)
 
 level_inner : (b : List ℕ) (n : ℕ) (rest : List ℕ) → HasLevel b n rest → IsInner b → IsInner rest
-level_inner b n rest h i = inner_spanned Space h.after h.gap rest h.spaced (inner_spanned Digit h.from h.digits h.after h.spelled (inner_spanned White b h.white h.from h.indented i))
+level_inner b n rest h i = inner_spanned Space h.after h.gap rest h.spaced
+    (inner_spanned Digit h.from h.digits h.after h.spelled (inner_spanned White b h.white h.from h.indented i))
 
 number_low : (ds : List ℕ) (n : ℕ) → list_all is_digit ds ≡ true → IsNumber ds n → n ≤ 99
 number_low [] n a e = absurd e
@@ -76,11 +111,14 @@ record Cut (name after : List ℕ) : Type 0 where
 marked_parts : (name after : List ℕ) → 64 ∷ name ++ 64 ∷ after ≡ (64 ∷ name ++ 64 ∷ []) ++ after
 marked_parts name after = sym (append_assoc (64 ∷ name) (64 ∷ []) after)
 
-marked_boundary : (name after : List ℕ) → IsUtf8 (64 ∷ name ++ 64 ∷ after) → IsCharBoundary (64 ∷ name ++ 64 ∷ after) (length (64 ∷ name) + 1)
+marked_boundary : (name after : List ℕ) → IsUtf8 (64 ∷ name ++ 64 ∷ after) → IsCharBoundary (64 ∷ name ++ 64 ∷ after)
+    (length (64 ∷ name) + 1)
 marked_boundary name after u =
     let at : get_or (64 ∷ name ++ 64 ∷ after) (length (64 ∷ name)) 0 ≡ 64 = get_or-append_seam (64 ∷ name) 64 after 0 in
-    let size : length (64 ∷ name ++ 64 ∷ after) ≡ length (64 ∷ name) + length (64 ∷ after) = length-append (64 ∷ name) (64 ∷ after) in
-    IsCharBoundary-after_ascii (64 ∷ name ++ 64 ∷ after) (length (64 ∷ name)) u (omega (arith, size)) (omega (arith, at))
+    let size : length (64 ∷ name ++ 64 ∷ after) ≡ length (64 ∷ name) + length (64 ∷ after) = length-append
+    (64 ∷ name) (64 ∷ after) in
+    IsCharBoundary-after_ascii (64 ∷ name ++ 64 ∷ after) (length (64 ∷ name)) u (omega (arith, size))
+    (omega (arith, at))
 
 marked_length : (name : List ℕ) → length (64 ∷ name) + 1 ≡ length (64 ∷ name ++ 64 ∷ [])
 marked_length name = sym (length-append (64 ∷ name) (64 ∷ []))
@@ -89,21 +127,30 @@ cut_inner : (name after : List ℕ) → IsInner (64 ∷ name ++ 64 ∷ after) �
 cut_inner name after i =
     let t : List ℕ = 64 ∷ name ++ 64 ∷ after in
     let x : List ℕ = 64 ∷ name ++ 64 ∷ [] in
-    let b : IsCharBoundary t (length x) = subst (IsCharBoundary t) (marked_length name) (marked_boundary name after i.utf8) in
+    let b : IsCharBoundary t (length x) = subst (IsCharBoundary t) (marked_length name)
+    (marked_boundary name after i.utf8) in
     let parts : t ≡ x ++ after = marked_parts name after in
     let front : take (length x) t ≡ x = ap (take (length x)) parts ∙ take-append_seam x after in
     let back : drop (length x) t ≡ after = ap (drop (length x)) parts ∙ drop-append_seam x after in
     let each : list_all is_inner (x ++ after) ≡ true = ap (list_all is_inner) (sym parts) ∙ i.each in
     record {
-      front = record { utf8 = subst IsUtf8 front (IsUtf8-take t (length x) i.utf8 b); each = in_front is_inner x after each };
-      back = record { utf8 = subst IsUtf8 back (IsUtf8-drop t (length x) i.utf8 b); each = in_back is_inner x after each };
+      front = record {
+        utf8 = subst IsUtf8 front (IsUtf8-take t (length x) i.utf8 b);
+        each = in_front is_inner x after each;
+      };
+      back = record {
+        utf8 = subst IsUtf8 back (IsUtf8-drop t (length x) i.utf8 b);
+        each = in_back is_inner x after each;
+      };
     }
 
 xref_inner : (t : List ℕ) (x : Option (List ℕ)) (last : List ℕ) → HasXref t x last → IsInner t → IsXref x × IsInner last
 xref_inner t None last h i = (tt, subst IsInner (sym h.1) i)
 xref_inner t (Some x) last h i =
-    let c = cut_inner h.name h.after (subst IsInner h.parts i) in
-    ((h.name, (h.named, (subst IsInner (sym h.marked) c.front, h.marked))), inner_spanned Space h.after h.gap last h.spaced c.back)
+    let c = cut_inner h.name h.after (subst IsInner h.parts i) in (
+      (h.name, (h.named, (subst IsInner (sym h.marked) c.front, h.marked))),
+      inner_spanned Space h.after h.gap last h.spaced c.back,
+    )
 
 value_inner : (after raw : List ℕ) → ((after ≡ []) × (raw ≡ [])) ⊎ (after ≡ 32 ∷ raw) → IsInner after → IsInner raw
 value_inner after raw (inl h) i = subst IsInner (sym h.1) inner_nil

@@ -1,6 +1,26 @@
--- Values on a line: what is written of a text, and what is read of it (The GEDCOM Standard Release 5.5.1, chapter 1: line_item,
--- any_char, escape; that a space has to follow an escape is the project's own, docs/FORMATS.md).
-use Rattle.std.specs.Prelude.{◌≡◌, ◌≢◌, ◌<◌, ℕ, Bool, true, false, ◌&&◌, ◌==◌, nat_lt, if◌then◌else◌, List, [], ◌∷◌, ◌++◌, length, slice_index, is_some, unwrap_or}
+-- Values on a line: what is written of a text, and what is read of it (The GEDCOM Standard Release 5.5.1, chapter 1:
+-- line_item, any_char, escape; that a space has to follow an escape is the project's own, docs/FORMATS.md).
+use Rattle.std.specs.Prelude.{
+  ◌≡◌,
+  ◌≢◌,
+  ◌<◌,
+  ℕ,
+  Bool,
+  true,
+  false,
+  ◌&&◌,
+  ◌==◌,
+  nat_lt,
+  if◌then◌else◌,
+  List,
+  [],
+  ◌∷◌,
+  ◌++◌,
+  length,
+  slice_index,
+  is_some,
+  unwrap_or,
+}
 use Rattle.std.specs.Option.{option_map_or}
 use Rattle.gedcom_line.specs.Past.{past_char}
 use Rattle.std.specs.List.{position_or_len, after_first, flat_map}
@@ -25,7 +45,8 @@ pub data Element : Type 0 where
 abbrev pub Elements : List ℕ → List Element → Type 0
 Elements t [] = t ≡ []
 Elements t (Escape body ∷ es) = (rest : List ℕ) × (HasEscape t body rest × Elements rest es)
-Elements t (Byte c ∷ es) = ((body rest : List ℕ) → ¬ (HasEscape t body rest)) × ((rest : List ℕ) × ((t ≡ c ∷ rest) × Elements rest es))
+Elements t (Byte c ∷ es) = ((body rest : List ℕ) → ¬ (HasEscape t body rest))
+    × ((rest : List ℕ) × ((t ≡ c ∷ rest) × Elements rest es))
 
 -- an escape is written as it stands, an @ that belongs to none as two, and each other byte as itself
 abbrev pub element_text : Element → List ℕ
@@ -48,7 +69,8 @@ unescaped (c ∷ d ∷ cs) = if c == 64 && d == 64 then 64 ∷ unescaped cs else
 
 -- the characters before the next @ are some, and a space stands behind it
 abbrev pub ends_escape : List ℕ → Bool
-ends_escape cs = nat_lt 0 (position_or_len is_at cs) && nat_lt (position_or_len is_at cs) (length cs) && is_some (past_char 32 (after_first is_at cs))
+ends_escape cs = nat_lt 0 (position_or_len is_at cs) && nat_lt (position_or_len is_at cs) (length cs) && is_some
+    (past_char 32 (after_first is_at cs))
 
 -- what follows an @ makes it the start of an escape
 abbrev pub begins_escape : List ℕ → Bool

@@ -1,5 +1,35 @@
 -- How a line is read, from its front to its end: the parts of a line, or the first fault.
-use Rattle.std.specs.Prelude.{◌≡◌, ℕ, ◌+◌, ◌-◌, ◌*◌, Bool, ◌&&◌, ◌||◌, ◌==◌, not, nat_lt, nat_le, if◌then◌else◌, List, [], ◌∷◌, length, take, drop, Option, Some, None, Result, Ok, Err, codes, option_map, slice_index, MatchResult}
+use Rattle.std.specs.Prelude.{
+  ◌≡◌,
+  ℕ,
+  ◌+◌,
+  ◌-◌,
+  ◌*◌,
+  Bool,
+  ◌&&◌,
+  ◌||◌,
+  ◌==◌,
+  not,
+  nat_lt,
+  nat_le,
+  if◌then◌else◌,
+  List,
+  [],
+  ◌∷◌,
+  length,
+  take,
+  drop,
+  Option,
+  Some,
+  None,
+  Result,
+  Ok,
+  Err,
+  codes,
+  option_map,
+  slice_index,
+  MatchResult,
+}
 use Rattle.std.specs.Option.{option_map_or, ok_or}
 use Rattle.gedcom_line.specs.declared.fault.LineFault.{LineFault}
 use Rattle.std.specs.Borrow.{Bor}
@@ -20,7 +50,12 @@ pub record Parts : Type 0 where
 
 -- what a borrowed line says
 abbrev pub parts : LineRef → Parts
-parts l = record { level = l.level; xref = option_map (λ (s : Bor (List ℕ)). s.now) l.xref; tag = l.tag.now; raw = l.raw.now }
+parts l = record {
+  level = l.level;
+  xref = option_map (λ (s : Bor (List ℕ)). s.now) l.xref;
+  tag = l.tag.now;
+  raw = l.raw.now;
+}
 
 -- what follows the characters at the front that pass the test
 abbrev pub skip : (ℕ → Bool) → List ℕ → List ℕ
@@ -57,7 +92,10 @@ is_name name = is_word (slice_index name 0) && nat_le (length name) 62
 abbrev pub named_at : List ℕ → List ℕ → Option (Option (List ℕ) × List ℕ)
 named_at t inner =
     if nat_lt (position_or_len is_at inner) (length inner) && is_name (before_first is_at inner)
-    then (after_gap (after_first is_at inner) >>= λ rest. Some (Some (take (length (before_first is_at inner) + 2) t), rest)) else None
+    then (after_gap (after_first is_at inner) >>= λ rest. Some (
+      Some (take (length (before_first is_at inner) + 2) t),
+      rest,
+    )) else None
 
 -- a cross reference and the spaces behind it, or nothing where the text begins otherwise
 unfoldable pub xref_at : List ℕ → Option (Option (List ℕ) × List ℕ)
@@ -70,7 +108,8 @@ value_after (b ∷ bs) = past_char 32 (b ∷ bs)
 
 -- a tag, and its value
 unfoldable pub tag_at : List ℕ → Option (List ℕ × List ℕ)
-tag_at t = if prefix_len is_word t == 0 || nat_lt 31 (prefix_len is_word t) then None else (value_after (skip is_word t) >>= λ raw. Some (take (prefix_len is_word t) t, raw))
+tag_at t = if prefix_len is_word t == 0 || nat_lt 31 (prefix_len is_word t) then None
+    else (value_after (skip is_word t) >>= λ raw. Some (take (prefix_len is_word t) t, raw))
 
 -- CONC or CONT
 abbrev pub is_continuation : List ℕ → Bool
@@ -83,7 +122,8 @@ abbrev pub ◌>>=r◌ : {A B : Type 0} → Result A LineKind → (A → Result B
 
 -- level 99 is for CONC and CONT alone
 abbrev pub with_tag : ℕ → Option (List ℕ) → List ℕ × List ℕ → Result Parts LineKind
-with_tag n x t = if n == 99 && not (is_continuation t.0) then Err BadLevel else Ok (record { level = n; xref = x; tag = t.0; raw = t.1 })
+with_tag n x t = if n == 99 && not (is_continuation t.0) then Err BadLevel else Ok
+    (record { level = n; xref = x; tag = t.0; raw = t.1 })
 
 -- a line that begins with its level
 unfoldable pub reading_from : List ℕ → Result Parts LineKind

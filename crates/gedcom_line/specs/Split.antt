@@ -1,5 +1,36 @@
 -- A text cut into parts that each stand on one line: at each LF, and where a segment is too long.
-use Rattle.std.specs.Prelude.{◌≡◌, ◌≢◌, ◌⊎◌, ℕ, zero, suc, ◌+◌, ◌-◌, ◌<◌, ◌≤◌, Bool, not, ◌&&◌, ◌||◌, ◌==◌, nat_le, nat_lt, if◌then◌else◌, List, [], ◌∷◌, ◌++◌, length, take, drop, slice_index, Option, Some, None, unwrap_or}
+use Rattle.std.specs.Prelude.{
+  ◌≡◌,
+  ◌≢◌,
+  ◌⊎◌,
+  ℕ,
+  zero,
+  suc,
+  ◌+◌,
+  ◌-◌,
+  ◌<◌,
+  ◌≤◌,
+  Bool,
+  not,
+  ◌&&◌,
+  ◌||◌,
+  ◌==◌,
+  nat_le,
+  nat_lt,
+  if◌then◌else◌,
+  List,
+  [],
+  ◌∷◌,
+  ◌++◌,
+  length,
+  take,
+  drop,
+  slice_index,
+  Option,
+  Some,
+  None,
+  unwrap_or,
+}
 use Rattle.std.specs.List.{AllByRecursion, count_by, flat_map, join_with_byte, slice_split}
 use Rattle.std.specs.Str.{IsCharBoundary}
 use Rattle.gedcom_line.specs.Escape.{escaped}
@@ -51,7 +82,8 @@ IsCut s p = IsGreatest (IsGoodCut s) p ⊎ (((j : ℕ) → ¬ (IsGoodCut s j)) �
 abbrev pub Parts : List ℕ → List (List ℕ) → Type 0
 Parts s [] = ⊥
 Parts s (p ∷ []) = (s ≡ p) × IsShort s
-Parts s (p ∷ q ∷ ps) = (200 < char_count (escaped s)) × ((rest : List ℕ) × ((s ≡ p ++ rest) × (IsCut s (length p) × Parts rest (q ∷ ps))))
+Parts s (p ∷ q ∷ ps) = (200 < char_count (escaped s))
+    × ((rest : List ℕ) × ((s ≡ p ++ rest) × (IsCut s (length p) × Parts rest (q ∷ ps))))
 
 -- a part of a text, with how it is joined to what stands before it
 pub record Part : Type 0 where
@@ -73,10 +105,11 @@ NoLf xs = (i : ℕ) → i < length xs → slice_index xs i ≢ 10
 -- the parts of segments, one segment after another: the first part of each is marked CONT, and the others CONC
 abbrev pub PartsOf : List (List ℕ) → List Part → Type 0
 PartsOf [] ps = ps ≡ []
-PartsOf (s ∷ ss) ps = (own : List (List ℕ)) × (Parts s own × ((more : List Part) × ((ps ≡ marked Cont own ++ more) × PartsOf ss more)))
+PartsOf (s ∷ ss) ps = (own : List (List ℕ))
+    × (Parts s own × ((more : List Part) × ((ps ≡ marked Cont own ++ more) × PartsOf ss more)))
 
--- The parts of a text: it is one segment or more, without LF, joined by LF, and the parts are theirs. The first part stands
--- on the line itself, and its mark is not looked at.
+-- The parts of a text: it is one segment or more, without LF, joined by LF, and the parts are theirs. The first part
+-- stands on the line itself, and its mark is not looked at.
 pub record IsSplit (t : List ℕ) (ps : List Part) : Type 0 where
   pub segments : List (List ℕ)
   pub some : 0 < length segments

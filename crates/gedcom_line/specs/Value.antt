@@ -1,5 +1,22 @@
 -- What the value of a line stands for: a cross reference, spaces at its ends apart, or a text.
-use Rattle.std.specs.Prelude.{◌≡◌, ℕ, ◌+◌, true, ◌&&◌, nat_lt, if◌then◌else◌, List, [], ◌∷◌, ◌++◌, length, take, Option, Some, None}
+use Rattle.std.specs.Prelude.{
+  ◌≡◌,
+  ℕ,
+  ◌+◌,
+  true,
+  ◌&&◌,
+  nat_lt,
+  if◌then◌else◌,
+  List,
+  [],
+  ◌∷◌,
+  ◌++◌,
+  length,
+  take,
+  Option,
+  Some,
+  None,
+}
 use Rattle.std.specs.List.{list_all, position_or_len, before_first, after_first}
 use Rattle.std.specs.Option.{option_map_or}
 use Rattle.gedcom_line.specs.Words.{is_space, is_at}
@@ -28,7 +45,8 @@ pub record IsPointer (raw name : List ℕ) : Type 0 where
 -- t begins with an @, and inner is what follows it
 abbrev pub pointer_at : List ℕ → List ℕ → Option (List ℕ)
 pointer_at t inner =
-    if nat_lt (position_or_len is_at inner) (length inner) && is_name (before_first is_at inner) && list_all is_space (after_first is_at inner)
+    if nat_lt (position_or_len is_at inner) (length inner) && is_name (before_first is_at inner) && list_all is_space
+    (after_first is_at inner)
     then Some (take (length (before_first is_at inner) + 2) t) else None
 
 abbrev pub pointer_from : List ℕ → Option (List ℕ)

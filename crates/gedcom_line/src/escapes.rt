@@ -1,7 +1,32 @@
 //! The doubling of `@` in values.
 
-ghost use Rattle.std.specs.Prelude.{◌≡◌, ◌+◌, ◌==◌, ◌<◌, true, false, List, ℕ, [], ◌∷◌, ◌++◌, IfOk, OnOk, MatchOption, string_bytes};
-ghost use Rattle.gedcom_line.specs.Escape.{begins_escape as escape_test, ends_escape as end_test, NoAt, IsEscaped, escaped_from, escaped, unescaped, past_pair as pair_rest};
+ghost use Rattle.std.specs.Prelude.{
+  ◌≡◌,
+  ◌+◌,
+  ◌==◌,
+  ◌<◌,
+  true,
+  false,
+  List,
+  ℕ,
+  [],
+  ◌∷◌,
+  ◌++◌,
+  IfOk,
+  OnOk,
+  MatchOption,
+  string_bytes,
+};
+ghost use Rattle.gedcom_line.specs.Escape.{
+  begins_escape as escape_test,
+  ends_escape as end_test,
+  NoAt,
+  IsEscaped,
+  escaped_from,
+  escaped,
+  unescaped,
+  past_pair as pair_rest,
+};
 
 use crate::class::past;
 use std::alloc::{AllocError, Global};

@@ -5,7 +5,17 @@ ghost use Rattle.std.specs.List.{list_all};
 ghost use Rattle.std.specs.Str.{IsUtf8};
 ghost use Rattle.gedcom_line.specs.Escape.{Element, Elements, IsEscaped, escaped, unescaped};
 ghost use Rattle.gedcom_line.specs.Reading.{Parts as LineParts};
-ghost use Rattle.gedcom_line.specs.Split.{EachPart, IsShort, IsSplit, Part, Parts, canonical, char_count, joined, segment_parts};
+ghost use Rattle.gedcom_line.specs.Split.{
+  EachPart,
+  IsShort,
+  IsSplit,
+  Part,
+  Parts,
+  canonical,
+  char_count,
+  joined,
+  segment_parts,
+};
 ghost use Rattle.gedcom_line.specs.Value.{Text, Pointer, IsPointer, meaning};
 ghost use Rattle.gedcom_line.specs.Line.{Line};
 ghost use Rattle.gedcom_line.specs.Spelling.{spelling, is_textual, IsInner, IsLine};

@@ -1,10 +1,52 @@
 //! The canonical cut of a text into parts that each stand on one line.
 
-ghost use Rattle.std.specs.Prelude.{◌≡◌, ◌+◌, ◌-◌, ◌<◌, ◌≤◌, Bool, true, false, List, ℕ, [], ◌∷◌, ◌++◌, IfOk, OnOk, MatchOption, unwrap_or, map, length, slice_index, take, drop};
+ghost use Rattle.std.specs.Prelude.{
+  ◌≡◌,
+  ◌+◌,
+  ◌-◌,
+  ◌<◌,
+  ◌≤◌,
+  Bool,
+  true,
+  false,
+  List,
+  ℕ,
+  [],
+  ◌∷◌,
+  ◌++◌,
+  IfOk,
+  OnOk,
+  MatchOption,
+  unwrap_or,
+  map,
+  length,
+  slice_index,
+  take,
+  drop,
+};
 ghost use Rattle.std.specs.List.{AllByRecursion, list_all};
 ghost use Rattle.std.specs.Str.{IsCharBoundary, IsUtf8};
 ghost use Rattle.gedcom_line.specs.Escape.{escaped, unescaped};
-ghost use Rattle.gedcom_line.specs.Split.{begins_char as begins_test, char_count, front_len, is_short as short_test, may_cut as cut_test, is_good_cut as good_test, greatest, cut_len, segment_parts, marked, part, canonical, joined, Parts, Part, is_lf, NoLf, IsSplit};
+ghost use Rattle.gedcom_line.specs.Split.{
+  begins_char as begins_test,
+  char_count,
+  front_len,
+  is_short as short_test,
+  may_cut as cut_test,
+  is_good_cut as good_test,
+  greatest,
+  cut_len,
+  segment_parts,
+  marked,
+  part,
+  canonical,
+  joined,
+  Parts,
+  Part,
+  is_lf,
+  NoLf,
+  IsSplit,
+};
 
 use crate::escapes::{cut, mark_of};
 use std::alloc::{AllocError, Global};
@@ -192,7 +234,8 @@ fn cut_part(segment: &str) -> (&str, &str)
 
 /// Adds the parts of a segment, of which the first is a CONT.
 fn push_parts<'a>(out: &mut Vec<TextPart<'a>>, segment: &'a str) -> Result<(), AllocError>
-    ensures { OnOk result (map part out.new.items ≡ map part out.old.items ++ marked Mark.Cont (segment_parts segment.now)) }
+    ensures { OnOk result (map part out.new.items ≡ map part out.old.items ++ marked Mark.Cont
+        (segment_parts segment.now)) }
 {
     let mut mark = Mark::Cont;
     let mut rest = segment;

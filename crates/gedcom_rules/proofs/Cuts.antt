@@ -1,5 +1,32 @@
 -- A file's first piece, and the rest.
-use Rattle.std.proofs.Common.{◌≡◌, ℕ, suc, ◌+◌, ◌<◌, ◌≤◌, Bool, true, false, not, List, [], ◌∷◌, ◌++◌, length, ◌-◌, take, drop, length-drop, refl, ap, ◌∙◌, arith, inl, inr, ◌⊎◌}
+use Rattle.std.proofs.Common.{
+  ◌≡◌,
+  ℕ,
+  suc,
+  ◌+◌,
+  ◌<◌,
+  ◌≤◌,
+  Bool,
+  true,
+  false,
+  not,
+  List,
+  [],
+  ◌∷◌,
+  ◌++◌,
+  length,
+  ◌-◌,
+  take,
+  drop,
+  length-drop,
+  refl,
+  ap,
+  ◌∙◌,
+  arith,
+  inl,
+  inr,
+  ◌⊎◌,
+}
 use Rattle.std.proofs.lemmas.Bool.{not-true}
 use Rattle.std.specs.List.{prefix_len, list_all}
 use Rattle.std.proofs.Math.Numerals.{one-add}
@@ -14,16 +41,20 @@ cases_bool true = inl refl
 cases_bool false = inr refl
 
 -- no terminator
-pub none_ended : (b : List ℕ) → length b ≤ prefix_len (λ x. not (is_end x)) b → ((pieces b).ended ≡ []) × ((pieces b).open_ ≡ b)
+pub none_ended : (b : List ℕ) → length b ≤ prefix_len (λ x. not (is_end x)) b → ((pieces b).ended ≡ [])
+    × ((pieces b).open_ ≡ b)
 unfolding pieces
 none_ended [] h = (refl, refl)
 none_ended (x ∷ xs) h = elim (cases_bool (is_end x)) [
   | inl e ↦ let bad : suc (length xs) ≤ 0 = rw e at h in absurd (omega arith)
-  | inr e ↦ let g : suc (length xs) ≤ 1 + prefix_len (λ x. not (is_end x)) xs = rw e at h in let k = none_ended xs (omega arith) in rw (e, k.0, k.1) (refl, refl)
+  | inr e ↦ let g : suc (length xs) ≤ 1 + prefix_len (λ x. not (is_end x)) xs = rw e at h in
+      let k = none_ended xs (omega arith) in rw (e, k.0, k.1) (refl, refl)
 ]
 
 -- one, behind its first n bytes
-pub first_ended : (b : List ℕ) (n : ℕ) → n ≡ prefix_len (λ x. not (is_end x)) b → n < length b → ((pieces b).ended ≡ take n b ∷ (pieces (drop (n + 1) b)).ended) × ((pieces b).open_ ≡ (pieces (drop (n + 1) b)).open_)
+pub first_ended : (b : List ℕ) (n : ℕ) → n ≡ prefix_len (λ x. not (is_end x)) b → n < length b
+    → ((pieces b).ended ≡ take n b ∷ (pieces (drop (n + 1) b)).ended)
+    × ((pieces b).open_ ≡ (pieces (drop (n + 1) b)).open_)
 unfolding pieces
 first_ended [] n e h = absurd (omega arith)
 first_ended (x ∷ xs) n e h = elim (cases_bool (is_end x)) [
@@ -37,7 +68,8 @@ first_ended (x ∷ xs) n e h = elim (cases_bool (is_end x)) [
       rw (three, two, f, k.0, k.1) (refl, refl)
 ]
 
-pub cut_parts : (b : List ℕ) (n : ℕ) → n ≡ prefix_len (λ x. not (is_end x)) b → n < length b → IsCut b (take n b) (drop (n + 1) b)
+pub cut_parts : (b : List ℕ) (n : ℕ) → n ≡ prefix_len (λ x. not (is_end x)) b → n < length b
+    → IsCut b (take n b) (drop (n + 1) b)
 cut_parts [] n e h = absurd (omega arith)
 cut_parts (x ∷ xs) n e h = elim (cases_bool (is_end x)) [
   | inl f ↦ let z : n ≡ 0 = rw f at e in rw z (record { end = x; ends = f; parts = refl })
@@ -74,7 +106,8 @@ abbrev pub AllPieces : List (List ℕ) → Type 0
 AllPieces [] = Unit {0}
 AllPieces (p ∷ ps) = IsPiece p × AllPieces ps
 
-onto_whole : (x : ℕ) (ended : List (List ℕ)) (rest : List ℕ) → is_end x ≡ false → AllPieces ended × IsPiece rest → AllPieces (onto_first x ended rest).ended × IsPiece (onto_first x ended rest).open_
+onto_whole : (x : ℕ) (ended : List (List ℕ)) (rest : List ℕ) → is_end x ≡ false → AllPieces ended × IsPiece rest
+    → AllPieces (onto_first x ended rest).ended × IsPiece (onto_first x ended rest).open_
 onto_whole x [] rest e h = (tt, rw e h.1)
 onto_whole x (p ∷ ps) rest e h = ((rw e h.0.0, h.0.1), h.1)
 

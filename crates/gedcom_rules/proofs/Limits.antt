@@ -1,5 +1,30 @@
 -- The front of a file of at most so many bytes, and the byte behind it. Stated for any number of bytes.
-use Rattle.std.proofs.Common.{◌≡◌, ℕ, zero, suc, ◌+◌, ◌-◌, ◌<◌, ◌≤◌, false, List, [], ◌∷◌, ◌++◌, length, get_or, take, refl, sym, ap, ◌∙◌, arith, Option, Some, None}
+use Rattle.std.proofs.Common.{
+  ◌≡◌,
+  ℕ,
+  zero,
+  suc,
+  ◌+◌,
+  ◌-◌,
+  ◌<◌,
+  ◌≤◌,
+  false,
+  List,
+  [],
+  ◌∷◌,
+  ◌++◌,
+  length,
+  get_or,
+  take,
+  refl,
+  sym,
+  ap,
+  ◌∙◌,
+  arith,
+  Option,
+  Some,
+  None,
+}
 use Rattle.std.specs.Prelude.{slice_get, is_some}
 use Rattle.std.proofs.Math.Seq.{take-append-add}
 use Rattle.std.proofs.lemmas.List.{take_all, take-append-le}
@@ -8,7 +33,8 @@ use Rattle.gedcom_rules.specs.Faults.{within, extra, max_file}
 
 get_over : (a c : List ℕ) (n : ℕ) → slice_get (a ++ c) (length a + n) ≡ slice_get c n
 get_over [] c n = let e : 0 + n ≡ n = omega arith in ap (slice_get c) e
-get_over (x ∷ xs) c n = let e : length (x ∷ xs) + n ≡ suc (length xs + n) = omega arith in ap (slice_get (x ∷ (xs ++ c))) e ∙ get_over xs c n
+get_over (x ∷ xs) c n = let e : length (x ∷ xs) + n ≡ suc (length xs + n) = omega arith in
+    ap (slice_get (x ∷ (xs ++ c))) e ∙ get_over xs c n
 
 -- behind bytes that are not too many
 pub within-append : (a c : List ℕ) → length a ≤ max_file → within (a ++ c) ≡ a ++ take (max_file - length a) c

@@ -1,5 +1,29 @@
 -- The pieces of a file that goes on, with a byte order mark that may be cut in two.
-use Rattle.std.proofs.Common.{◌≡◌, ℕ, suc, ◌+◌, ◌≤◌, Bool, true, false, eqb, ◌&&◌, List, [], ◌∷◌, ◌++◌, length, refl, sym, ap, ◌∙◌, arith, inl, inr, eq-eqb}
+use Rattle.std.proofs.Common.{
+  ◌≡◌,
+  ℕ,
+  suc,
+  ◌+◌,
+  ◌≤◌,
+  Bool,
+  true,
+  false,
+  eqb,
+  ◌&&◌,
+  List,
+  [],
+  ◌∷◌,
+  ◌++◌,
+  length,
+  refl,
+  sym,
+  ap,
+  ◌∙◌,
+  arith,
+  inl,
+  inr,
+  eq-eqb,
+}
 use Rattle.std.proofs.Math.Bool.{and-false}
 use Rattle.std.proofs.lemmas.Bool.{cases_eq}
 use Rattle.std.proofs.lemmas.Bool.Decides.{nat_tests}
@@ -12,7 +36,8 @@ use Rattle.gedcom_rules.proofs.Cuts.{cases_bool}
 abbrev pub on : Pieces → List ℕ → Pieces
 on p c = record { ended = p.ended ++ (pieces (p.open_ ++ c)).ended; open_ = (pieces (p.open_ ++ c)).open_ }
 
-onto_on : (x : ℕ) (e : List (List ℕ)) (o c : List ℕ) → is_end x ≡ false → onto_first x (e ++ (pieces (o ++ c)).ended) (pieces (o ++ c)).open_ ≡ on (onto_first x e o) c
+onto_on : (x : ℕ) (e : List (List ℕ)) (o c : List ℕ) → is_end x ≡ false → onto_first x (e ++ (pieces (o ++ c)).ended)
+    (pieces (o ++ c)).open_ ≡ on (onto_first x e o) c
 unfolding pieces
 onto_on x [] o c h = rw h refl
 onto_on x (p ∷ ps) o c h = refl
@@ -41,7 +66,9 @@ open_le (x ∷ xs) = elim (cases_bool (is_end x)) [
 abbrev AllOpen : Pieces → List ℕ → Type 0
 AllOpen p t = (p.ended ≡ []) × (p.open_ ≡ t)
 
-onto_open : (x : ℕ) (xs : List ℕ) (e : List (List ℕ)) (o : List ℕ) → length o ≤ length xs → (length o ≡ length xs → (e ≡ []) × (o ≡ xs)) → length (onto_first x e o).open_ ≡ suc (length xs) → AllOpen (onto_first x e o) (x ∷ xs)
+onto_open : (x : ℕ) (xs : List ℕ) (e : List (List ℕ)) (o : List ℕ) → length o ≤ length xs
+    → (length o ≡ length xs → (e ≡ []) × (o ≡ xs)) → length (onto_first x e o).open_ ≡ suc (length xs)
+    → AllOpen (onto_first x e o) (x ∷ xs)
 onto_open x xs [] o le h k = let s : length o ≡ length xs = omega arith in (refl, ap (λ (t : List ℕ). x ∷ t) (h s).1)
 onto_open x xs (p ∷ ps) o le h k = absurd (omega arith)
 
@@ -152,13 +179,15 @@ resumed total rest c = if_all (eqb total (length rest)) (rest ++ c)
     if_all true t = skip_mark t
     if_all false t = t
 
-pub file_pieces-append : (b c : List ℕ) → let o = resumed (length b) (file_pieces b).open_ c in file_pieces (b ++ c) ≡ record { ended = (file_pieces b).ended ++ (pieces o).ended; open_ = (pieces o).open_ }
+pub file_pieces-append : (b c : List ℕ) → let o = resumed (length b) (file_pieces b).open_ c in
+    file_pieces (b ++ c) ≡ record { ended = (file_pieces b).ended ++ (pieces o).ended; open_ = (pieces o).open_ }
 file_pieces-append b c = elim (cases_eq (length b) (length (file_pieces b).open_)) [
   | inl e ↦
       let all = file_open b (sym e) in
       rw (eq-eqb (length b) (length (file_pieces b).open_) e, all.0, all.1) refl
   | inr n ↦
-      rw (eqb_false (length b) (length (file_pieces b).open_) n) (ap pieces (skip-append b c (λ e. n (sym e))) ∙ pieces-append (skip_mark b) c)
+      rw (eqb_false (length b) (length (file_pieces b).open_) n)
+      (ap pieces (skip-append b c (λ e. n (sym e))) ∙ pieces-append (skip_mark b) c)
 ]
 
 -- an open line of three bytes or more goes on as it is
@@ -171,13 +200,15 @@ kept_mark (x ∷ y ∷ z ∷ bs) c h e = elim (cases_bool (is_mark x y z)) [
   | inr m ↦ rw m refl
 ]
 
-pub long_resumed : (b c : List ℕ) → 3 ≤ length (file_pieces b).open_ → resumed (length b) (file_pieces b).open_ c ≡ (file_pieces b).open_ ++ c
+pub long_resumed : (b c : List ℕ) → 3 ≤ length (file_pieces b).open_ → resumed (length b) (file_pieces b).open_ c
+    ≡ (file_pieces b).open_ ++ c
 long_resumed b c h = elim (cases_eq (length b) (length (file_pieces b).open_)) [
   | inl e ↦
       let all = file_open b (sym e) in
       let le = open_le (skip_mark b) in
       let sk = skip_le b in
-      let same : skip_mark ((file_pieces b).open_ ++ c) ≡ (file_pieces b).open_ ++ c = rw all.1 (kept_mark b c (omega arith) (omega arith)) in
+      let same : skip_mark ((file_pieces b).open_ ++ c) ≡ (file_pieces b).open_ ++ c = rw all.1
+      (kept_mark b c (omega arith) (omega arith)) in
       rw (eq-eqb (length b) (length (file_pieces b).open_) e) same
   | inr n ↦ rw (eqb_false (length b) (length (file_pieces b).open_) n) refl
 ]

@@ -1,5 +1,35 @@
 -- How long the text of a value is: of a pair of @ one counts.
-use Rattle.std.proofs.Common.{◌≡◌, ℕ, suc, ◌+◌, ◌<◌, Bool, true, false, eqb, ◌&&◌, cond, List, [], ◌∷◌, length, map, get_or, take, drop, drop-cons, refl, sym, ap, ◌∙◌, subst, inl, inr, arith, add-one}
+use Rattle.std.proofs.Common.{
+  ◌≡◌,
+  ℕ,
+  suc,
+  ◌+◌,
+  ◌<◌,
+  Bool,
+  true,
+  false,
+  eqb,
+  ◌&&◌,
+  cond,
+  List,
+  [],
+  ◌∷◌,
+  length,
+  map,
+  get_or,
+  take,
+  drop,
+  drop-cons,
+  refl,
+  sym,
+  ap,
+  ◌∙◌,
+  subst,
+  inl,
+  inr,
+  arith,
+  add-one,
+}
 use Rattle.std.specs.List.{count_by, fold, list_any}
 use Rattle.std.specs.Str.{bytes_eq}
 use Rattle.std.specs.Char.{to_ascii_lowercase}
@@ -26,10 +56,12 @@ past_other b bs h = rw h refl
 left_at : (bs : List ℕ) → length (left false (64 ∷ bs)) ≡ 1 + length (left (eqb 64 64) bs)
 left_at bs = ap length (unescaped_at bs) ∙ omega arith
 
-left_one : (second : Bool) (b : ℕ) (bs : List ℕ) → (second && eqb b 64) ≡ false → length (left second (b ∷ bs)) ≡ 1 + length (left (eqb b 64) bs)
+left_one : (second : Bool) (b : ℕ) (bs : List ℕ) → (second && eqb b 64) ≡ false → length (left second (b ∷ bs))
+    ≡ 1 + length (left (eqb b 64) bs)
 left_one true b bs h = rw (past_other b bs h, h, unescaped_cons b bs (eqb_no b 64 h)) (omega arith)
 left_one false b bs h = elim (cases_bool (eqb b 64)) [
-  | inl e ↦ subst (λ (x : ℕ). length (left false (x ∷ bs)) ≡ 1 + length (left (eqb x 64) bs)) (sym (eqb-true b 64 e)) (left_at bs)
+  | inl e ↦ subst (λ (x : ℕ). length (left false (x ∷ bs)) ≡ 1 + length (left (eqb x 64) bs))
+      (sym (eqb-true b 64 e)) (left_at bs)
   | inr e ↦ rw (e, unescaped_cons b bs (eqb_no b 64 e)) (omega arith)
 ]
 
@@ -38,23 +70,36 @@ left_pair true b bs h = rw (eqb-true b 64 h) refl
 left_pair false b bs h = absurd cc
 
 -- one byte more
-pub size_one : (raw : List ℕ) (i len : ℕ) (second : Bool) → i < length raw → len + length (left second (drop i raw)) ≡ length (unescaped raw) → (second && eqb (get_or raw i 0) 64) ≡ false → len + 1 + length (left (eqb (get_or raw i 0) 64) (drop (i + 1) raw)) ≡ length (unescaped raw)
+pub size_one : (raw : List ℕ) (i len : ℕ) (second : Bool) → i < length raw → len + length (left second (drop i raw))
+    ≡ length (unescaped raw) → (second && eqb (get_or raw i 0) 64) ≡ false
+    → len + 1 + length (left (eqb (get_or raw i 0) 64) (drop (i + 1) raw)) ≡ length (unescaped raw)
 size_one raw i len second lt h e =
-    let cut : drop i raw ≡ get_or raw i 0 ∷ drop (i + 1) raw = drop-cons raw i 0 lt ∙ ap (λ (k : ℕ). get_or raw i 0 ∷ drop k raw) (sym (add-one i)) in
-    let one : length (left second (drop i raw)) ≡ 1 + length (left (eqb (get_or raw i 0) 64) (drop (i + 1) raw)) = ap (λ (t : List ℕ). length (left second t)) cut ∙ left_one second (get_or raw i 0) (drop (i + 1) raw) e in
+    let cut : drop i raw ≡ get_or raw i 0 ∷ drop (i + 1) raw = drop-cons raw i 0 lt
+    ∙ ap (λ (k : ℕ). get_or raw i 0 ∷ drop k raw) (sym (add-one i)) in
+    let one : length (left second (drop i raw)) ≡ 1 + length (left (eqb (get_or raw i 0) 64) (drop (i + 1) raw)) = ap
+    (λ (t : List ℕ). length (left second t)) cut ∙ left_one second (get_or raw i 0) (drop (i + 1) raw) e in
     omega (arith, one, h)
 
-pub size_pair : (raw : List ℕ) (i len : ℕ) (second : Bool) → i < length raw → len + length (left second (drop i raw)) ≡ length (unescaped raw) → (second && eqb (get_or raw i 0) 64) ≡ true → len + length (left false (drop (i + 1) raw)) ≡ length (unescaped raw)
+pub size_pair : (raw : List ℕ) (i len : ℕ) (second : Bool) → i < length raw → len + length (left second (drop i raw))
+    ≡ length (unescaped raw) → (second && eqb (get_or raw i 0) 64) ≡ true → len + length (left false (drop (i + 1) raw))
+    ≡ length (unescaped raw)
 size_pair raw i len second lt h e =
-    let cut : drop i raw ≡ get_or raw i 0 ∷ drop (i + 1) raw = drop-cons raw i 0 lt ∙ ap (λ (k : ℕ). get_or raw i 0 ∷ drop k raw) (sym (add-one i)) in
-    sym (ap (λ (t : List ℕ). len + length t) (ap (left second) cut ∙ left_pair second (get_or raw i 0) (drop (i + 1) raw) e)) ∙ h
+    let cut : drop i raw ≡ get_or raw i 0 ∷ drop (i + 1) raw = drop-cons raw i 0 lt
+    ∙ ap (λ (k : ℕ). get_or raw i 0 ∷ drop k raw) (sym (add-one i)) in
+    sym (ap (λ (t : List ℕ). len + length t)
+    (ap (left second) cut ∙ left_pair second (get_or raw i 0) (drop (i + 1) raw) e)) ∙ h
 
 -- characters: each @ of a pair is one
 counted_from : (bs : List ℕ) (n : ℕ) → fold (λ a x. a + cond (begins_char x) 1 0) n bs ≡ n + count_by begins_char bs
 counted_from [] n = omega arith
-counted_from (b ∷ bs) n = omega (arith, counted_from bs (n + cond (begins_char b) 1 0), counted_from bs (0 + cond (begins_char b) 1 0))
+counted_from (b ∷ bs) n = omega (
+  arith,
+  counted_from bs (n + cond (begins_char b) 1 0),
+  counted_from bs (0 + cond (begins_char b) 1 0),
+)
 
-counted_cons : (b : ℕ) (bs : List ℕ) → count_by begins_char (b ∷ bs) ≡ cond (begins_char b) 1 0 + count_by begins_char bs
+counted_cons : (b : ℕ) (bs : List ℕ) → count_by begins_char (b ∷ bs) ≡ cond (begins_char b) 1 0
+    + count_by begins_char bs
 counted_cons b bs = counted_from bs (0 + cond (begins_char b) 1 0) ∙ omega arith
 
 abbrev Even : List ℕ → List ℕ → Type 0
@@ -70,12 +115,17 @@ left_chars : (second : Bool) (bs : List ℕ) → Even bs (left second bs)
 left_chars true [] = refl
 left_chars false [] = refl
 left_chars true (b ∷ bs) = elim (cases_bool (eqb b 64)) [
-  | inl e ↦ subst (λ (x : ℕ). Even (x ∷ bs) (left true (x ∷ bs))) (sym (eqb-true b 64 e)) (chars_pair bs (unescaped bs) (left_chars false bs))
-  | inr e ↦ subst (Even (b ∷ bs)) (sym (ap unescaped (past_other b bs e) ∙ unescaped_cons b bs (eqb_no b 64 e))) (chars_other b bs (unescaped bs) (left_chars false bs))
+  | inl e ↦ subst (λ (x : ℕ). Even (x ∷ bs) (left true (x ∷ bs))) (sym (eqb-true b 64 e))
+      (chars_pair bs (unescaped bs) (left_chars false bs))
+  | inr e ↦ subst (Even (b ∷ bs)) (sym (ap unescaped (past_other b bs e) ∙ unescaped_cons b bs (eqb_no b 64 e)))
+      (chars_other b bs (unescaped bs) (left_chars false bs))
 ]
 left_chars false (b ∷ bs) = elim (cases_bool (eqb b 64)) [
-  | inl e ↦ subst (λ (x : ℕ). Even (x ∷ bs) (left false (x ∷ bs))) (sym (eqb-true b 64 e)) (subst (Even (64 ∷ bs)) (sym (unescaped_at bs)) (chars_other 64 bs (unescaped (past_pair bs)) (left_chars true bs)))
-  | inr e ↦ subst (Even (b ∷ bs)) (sym (unescaped_cons b bs (eqb_no b 64 e))) (chars_other b bs (unescaped bs) (left_chars false bs))
+  | inl e ↦ subst (λ (x : ℕ). Even (x ∷ bs) (left false (x ∷ bs))) (sym (eqb-true b 64 e))
+      (subst (Even (64 ∷ bs)) (sym (unescaped_at bs))
+      (chars_other 64 bs (unescaped (past_pair bs)) (left_chars true bs)))
+  | inr e ↦ subst (Even (b ∷ bs)) (sym (unescaped_cons b bs (eqb_no b 64 e)))
+      (chars_other b bs (unescaped bs) (left_chars false bs))
 ]
 
 pub text_chars_are : (raw : List ℕ) → char_count raw + length (unescaped raw) ≡ char_count (unescaped raw) + length raw
@@ -96,10 +146,15 @@ length-map f [] = refl
 length-map f (x ∷ xs) = ap suc (length-map f xs)
 
 pub set_short : (t name : List ℕ) → length (skip is_space t) < length name → is_set t name ≡ false
-set_short t name h = elim (cases_bool (bytes_eq (map to_ascii_lowercase (take (length name) (skip is_space t))) (map to_ascii_lowercase name))) [
-  | inl e ↦
-      let same = (bytes_eq-Decides (map to_ascii_lowercase (take (length name) (skip is_space t))) (map to_ascii_lowercase name)).0 e in
-      let size : length (take (length name) (skip is_space t)) ≡ length name = sym (length-map to_ascii_lowercase (take (length name) (skip is_space t))) ∙ ap length same ∙ length-map to_ascii_lowercase name in
-      absurd (omega (arith, size, h, length-take (length name) (skip is_space t)))
-  | inr e ↦ rw e refl
-]
+set_short t name h = elim
+    (cases_bool (bytes_eq (map to_ascii_lowercase (take (length name) (skip is_space t)))
+    (map to_ascii_lowercase name))) [
+      | inl e ↦
+          let same = (bytes_eq-Decides (map to_ascii_lowercase (take (length name) (skip is_space t)))
+          (map to_ascii_lowercase name)).0 e in
+          let size : length (take (length name) (skip is_space t)) ≡ length name = sym
+          (length-map to_ascii_lowercase (take (length name) (skip is_space t))) ∙ ap length same
+          ∙ length-map to_ascii_lowercase name in
+          absurd (omega (arith, size, h, length-take (length name) (skip is_space t)))
+      | inr e ↦ rw e refl
+    ]

@@ -1,11 +1,12 @@
--- The lines that continue a line, and what they add to its text (The GEDCOM Standard Release 5.5.1, chapter 1: CONC and CONT).
+-- The lines that continue a line, and what they add to its text (The GEDCOM Standard Release 5.5.1, chapter 1: CONC and
+-- CONT).
 use Rattle.std.specs.Prelude.{ℕ, ◌+◌, ◌&&◌, ◌==◌, nat_lt, if◌then◌else◌, List, [], ◌∷◌, ◌++◌, codes}
 use Rattle.std.specs.Str.{bytes_eq}
 use Rattle.gedcom_line.specs.Reading.{Parts, is_continuation}
 use Rattle.gedcom_line.specs.Escape.{unescaped}
 
--- Among the lines behind a line of the level, those that continue it: CONC and CONT one level below, up to the next line
--- that is not deeper.
+-- Among the lines behind a line of the level, those that continue it: CONC and CONT one level below, up to the next
+-- line that is not deeper.
 abbrev pub belongs : ℕ → List Parts → List Parts
 belongs level [] = []
 belongs level (l ∷ ls) =

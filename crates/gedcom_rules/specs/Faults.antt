@@ -1,5 +1,35 @@
 -- Which fault a file of lines has, and which the bytes so far decide.
-use Rattle.std.specs.Prelude.{◌≡◌, ◌⊎◌, ℕ, ◌+◌, ◌<◌, ◌≤◌, Bool, true, false, not, ◌&&◌, ◌||◌, ◌==◌, nat_lt, if◌then◌else◌, List, [], ◌∷◌, ◌++◌, length, take, Option, Some, None, is_some, slice_get, Result, Ok, Err}
+use Rattle.std.specs.Prelude.{
+  ◌≡◌,
+  ◌⊎◌,
+  ℕ,
+  ◌+◌,
+  ◌<◌,
+  ◌≤◌,
+  Bool,
+  true,
+  false,
+  not,
+  ◌&&◌,
+  ◌||◌,
+  ◌==◌,
+  nat_lt,
+  if◌then◌else◌,
+  List,
+  [],
+  ◌∷◌,
+  ◌++◌,
+  length,
+  take,
+  Option,
+  Some,
+  None,
+  is_some,
+  slice_get,
+  Result,
+  Ok,
+  Err,
+}
 use Rattle.std.specs.List.{list_any}
 use Rattle.gedcom_line.specs.Words.{is_end}
 use Rattle.gedcom_line.specs.Reading.{Parts}
@@ -18,7 +48,8 @@ max_line = 65536
 abbrev pub max_file : ℕ
 max_file = 67108864
 
--- The pieces, behind the lines before them, are blank or spell lines that break no rule; lines are those before and these.
+-- The pieces, behind the lines before them, are blank or spell lines that break no rule; lines are those before and
+-- these.
 abbrev pub Clean : List Parts → List (List ℕ) → List Parts → Type 0
 Clean before [] lines = lines ≡ before
 Clean before (p ∷ ps) lines =
@@ -36,7 +67,8 @@ BreaksFirst before p k = (l : Parts) × (Line p l × (first_broken (progress_of 
 
 -- what is wrong with a piece behind lines
 abbrev pub IsFaulty : List Parts → List ℕ → TreeKind → Type 0
-IsFaulty before p k = ((k ≡ TooLong) × (max_line < length p)) ⊎ ((length p ≤ max_line) × (IsNoLine p k ⊎ BreaksFirst before p k))
+IsFaulty before p k = ((k ≡ TooLong) × (max_line < length p))
+    ⊎ ((length p ≤ max_line) × (IsNoLine p k ⊎ BreaksFirst before p k))
 
 -- What a piece is behind lines: blank, or a line that breaks no rule, or faulty for this reason first.
 abbrev pub Judged : List Parts → List ℕ → Result (Option Parts) TreeKind → Type 0
@@ -87,9 +119,11 @@ pub record OverLimit (b : List ℕ) (f : Fault) : Type 0 where
   pub at : f.at ≡ Some (length lines + 1)
   pub kind :
       ((f.kind ≡ TooLong) × (overflows (file_pieces (within b)).open_ (extra b) ≡ true))
-      ⊎ ((f.kind ≡ FileTooLarge) × ((overflows (file_pieces (within b)).open_ (extra b) ≡ false) × (is_some (extra b) ≡ true)))
+      ⊎ ((f.kind ≡ FileTooLarge) × ((overflows (file_pieces (within b)).open_ (extra b) ≡ false)
+      × (is_some (extra b) ≡ true)))
 
--- The bytes so far decide the fault, however they go on. A piece is judged where it ends, within the most bytes of a file.
+-- The bytes so far decide the fault, however they go on. A piece is judged where it ends, within the most bytes of a
+-- file.
 abbrev pub Decides : List ℕ → Fault → Type 0
 Decides b f = FaultIn [] (file_pieces (within b)).ended f ⊎ OverLimit b f
 
@@ -107,4 +141,5 @@ pub record EndsEarly (b : List ℕ) (f : Fault) : Type 0 where
 
 -- the fault of a whole file
 abbrev pub FaultOf : List ℕ → Fault → Type 0
-FaultOf b f = ((max_file < length b) × Decides b f) ⊎ ((length b ≤ max_file) × (FaultIn [] (all_pieces b) f ⊎ EndsEarly b f))
+FaultOf b f = ((max_file < length b) × Decides b f)
+    ⊎ ((length b ≤ max_file) × (FaultIn [] (all_pieces b) f ⊎ EndsEarly b f))

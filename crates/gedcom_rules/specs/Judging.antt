@@ -1,5 +1,28 @@
 -- How a file is judged, one piece after another: the same as Faults says, by computing.
-use Rattle.std.specs.Prelude.{ℕ, ◌+◌, ◌-◌, false, not, ◌&&◌, ◌||◌, ◌==◌, nat_lt, if◌then◌else◌, List, [], ◌∷◌, length, Option, Some, None, Result, Ok, Err, is_some, option_map}
+use Rattle.std.specs.Prelude.{
+  ℕ,
+  ◌+◌,
+  ◌-◌,
+  false,
+  not,
+  ◌&&◌,
+  ◌||◌,
+  ◌==◌,
+  nat_lt,
+  if◌then◌else◌,
+  List,
+  [],
+  ◌∷◌,
+  length,
+  Option,
+  Some,
+  None,
+  Result,
+  Ok,
+  Err,
+  is_some,
+  option_map,
+}
 use Rattle.gedcom_line.specs.Reading.{Parts, is_continuation, reading}
 use Rattle.gedcom_line.specs.declared.fault.LineKind.{LineKind}
 use Rattle.gedcom_rules.specs.declared.fault.TreeKind.{TreeKind}
@@ -16,11 +39,16 @@ start = record { count = 0; last = 0; done = false; in_head = false; named = λ 
 -- what stands open one level above a continuation gets its text
 abbrev pub continue_at : ℕ → Parts → Standing → Standing
 continue_at n l s =
-    if is_continuation l.tag && l.level == n + 1 then record { role = s.role; text = s.text; room = s.room - length (adds l) } else s
+    if is_continuation l.tag && l.level == n + 1 then record {
+      role = s.role;
+      text = s.text;
+      room = s.room - length (adds l);
+    } else s
 
 -- what stands open at a level behind a line
 abbrev pub above_after : (ℕ → Option Standing) → Parts → ℕ → Option Standing
-above_after above l n = if l.level == n then Some (standing l []) else (if nat_lt l.level n then None else option_map (continue_at n l) (above n))
+above_after above l n = if l.level == n then Some (standing l [])
+    else (if nat_lt l.level n then None else option_map (continue_at n l) (above n))
 
 -- what a line leaves, behind what the lines before it left
 abbrev pub after : Progress → Parts → Progress

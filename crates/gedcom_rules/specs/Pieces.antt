@@ -1,5 +1,5 @@
--- A file cut at each CR and LF (The GEDCOM Standard Release 5.5.1, chapter 1: each of CR, LF, CR LF and LF CR ends a line;
--- a piece of white space alone is no line, so it is enough to cut at each of the two).
+-- A file cut at each CR and LF (The GEDCOM Standard Release 5.5.1, chapter 1: each of CR, LF, CR LF and LF CR ends a
+-- line; a piece of white space alone is no line, so it is enough to cut at each of the two).
 use Rattle.std.specs.Prelude.{◌≡◌, ℕ, Bool, true, false, ◌&&◌, ◌==◌, if◌then◌else◌, List, [], ◌∷◌, ◌++◌}
 use Rattle.gedcom_line.specs.Words.{is_end}
 
@@ -13,8 +13,8 @@ abbrev pub onto_first : ℕ → List (List ℕ) → List ℕ → Pieces
 onto_first b [] rest = record { ended = []; open_ = b ∷ rest }
 onto_first b (p ∷ ps) rest = record { ended = (b ∷ p) ∷ ps; open_ = rest }
 
--- the pieces of bytes, put together from the last byte: a line end stands behind a new first piece, and any other character
--- goes to the front of the first
+-- the pieces of bytes, put together from the last byte: a line end stands behind a new first piece, and any other
+-- character goes to the front of the first
 unfoldable pub pieces : List ℕ → Pieces
 pieces [] = record { ended = []; open_ = [] }
 pieces (b ∷ bs) =

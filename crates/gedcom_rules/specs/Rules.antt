@@ -1,9 +1,38 @@
 -- The rules of a file that a line keeps or breaks behind the lines before it, and which one it breaks first.
 --
--- Level 0 HEAD first and level 0 TRLR last, a level at most one above that of the line before, CONC and CONT below the line
--- that they continue, cross references that name one line: The GEDCOM Standard Release 5.5.1, chapter 1; the character set
--- and the version that the header names: chapter 2. The limits and the order are the project's own (docs/FORMATS.md).
-use Rattle.std.specs.Prelude.{ℕ, ◌+◌, ◌-◌, Bool, true, false, not, ◌&&◌, ◌||◌, ◌==◌, nat_lt, nat_le, if◌then◌else◌, List, [], ◌∷◌, ◌++◌, length, take, drop, map, Option, Some, None, is_some, find, codes}
+-- Level 0 HEAD first and level 0 TRLR last, a level at most one above that of the line before, CONC and CONT below the
+-- line that they continue, cross references that name one line: The GEDCOM Standard Release 5.5.1, chapter 1; the
+-- character set and the version that the header names: chapter 2. The limits and the order are the project's own
+-- (docs/FORMATS.md).
+use Rattle.std.specs.Prelude.{
+  ℕ,
+  ◌+◌,
+  ◌-◌,
+  Bool,
+  true,
+  false,
+  not,
+  ◌&&◌,
+  ◌||◌,
+  ◌==◌,
+  nat_lt,
+  nat_le,
+  if◌then◌else◌,
+  List,
+  [],
+  ◌∷◌,
+  ◌++◌,
+  length,
+  take,
+  drop,
+  map,
+  Option,
+  Some,
+  None,
+  is_some,
+  find,
+  codes,
+}
 use Rattle.std.specs.Option.{option_map_or}
 use Rattle.std.specs.List.{list_all, list_any, flat_map}
 use Rattle.std.specs.Str.{bytes_eq}
@@ -16,7 +45,22 @@ use Rattle.gedcom_line.specs.Reading.{Parts, is_continuation, skip}
 use Rattle.gedcom_line.specs.declared.fault.LineKind.{LineKind}
 use Rattle.gedcom_line.specs.declared.fault.LineKind.TheVariants as line
 use Rattle.gedcom_rules.specs.declared.fault.TreeKind.{TreeKind}
-use Rattle.gedcom_rules.specs.declared.fault.TreeKind.TheVariants.{NotUtf8, BadLevel, BadXref, BadTag, Nul, LevelJump, NoHead, AfterTrailer, BadContinuation, ContinuationHasChildren, DuplicateXref, TextTooLong, Charset, Version}
+use Rattle.gedcom_rules.specs.declared.fault.TreeKind.TheVariants.{
+  NotUtf8,
+  BadLevel,
+  BadXref,
+  BadTag,
+  Nul,
+  LevelJump,
+  NoHead,
+  AfterTrailer,
+  BadContinuation,
+  ContinuationHasChildren,
+  DuplicateXref,
+  TextTooLong,
+  Charset,
+  Version,
+}
 use Rattle.gedcom_rules.specs.declared.standing.Role.{Role}
 use Rattle.gedcom_rules.specs.declared.standing.Role.TheVariants as role
 use Rattle.gedcom_rules.specs.Continuing.{belongs, adds}
@@ -43,8 +87,8 @@ role_of t =
     else (if bytes_eq t (codes "GEDC") then role.Gedcom
     else (if bytes_eq t (codes "VERS") then role.Version else role.Other)))
 
--- a line below which further lines may stand: what its tag is, whether its value is a text, and how many bytes that text may
--- still get
+-- a line below which further lines may stand: what its tag is, whether its value is a text, and how many bytes that
+-- text may still get
 pub record Standing : Type 0 where
   pub role : Role
   pub text : Bool
@@ -54,18 +98,24 @@ abbrev pub is_text : Meaning → Bool
 is_text (Text t) = true
 is_text (Pointer p) = false
 
--- that of a line with those that continue it; no text is longer than it may be, since the line that made it so was refused
+-- that of a line with those that continue it; no text is longer than it may be, since the line that made it so was
+-- refused
 abbrev pub standing : Parts → List Parts → Standing
-standing l more = record { role = role_of l.tag; text = is_text (value_of l); room = max_text - length (unescaped l.raw ++ flat_map adds more) }
+standing l more = record {
+  role = role_of l.tag;
+  text = is_text (value_of l);
+  room = max_text - length (unescaped l.raw ++ flat_map adds more);
+}
 
 -- among lines the one of the level with only deeper lines behind it
 abbrev pub standing_at : ℕ → List Parts → Option Standing
 standing_at n [] = None
-standing_at n (l ∷ ls) = if l.level == n && list_all (λ m. nat_lt n m.level) ls then Some (standing l (belongs n ls)) else standing_at n ls
+standing_at n (l ∷ ls) = if l.level == n && list_all (λ m. nat_lt n m.level) ls then Some
+    (standing l (belongs n ls)) else standing_at n ls
 
--- what lines leave: how many they are, the level of the last one (0 where there is none), whether the trailer is among them,
--- whether the last one belongs to the header, which cross references stand on them, and which lines still stand open, by
--- their levels
+-- what lines leave: how many they are, the level of the last one (0 where there is none), whether the trailer is among
+-- them, whether the last one belongs to the header, which cross references stand on them, and which lines still stand
+-- open, by their levels
 pub record Progress : Type 0 where
   pub count : ℕ
   pub last : ℕ
@@ -124,7 +174,8 @@ names_set p level r = p.in_head && level == 1 && is_charset_tag r
 
 -- a line of the header names the version: HEAD.GEDC.VERS
 abbrev pub names_version : Progress → ℕ → Role → Bool
-names_version p level r = p.in_head && level == 2 && is_version_tag r && option_map_or (λ s. is_gedcom_tag s.role) (p.above 1) false
+names_version p level r = p.in_head && level == 2 && is_version_tag r && option_map_or (λ s. is_gedcom_tag s.role)
+    (p.above 1) false
 
 -- The two texts of the header.
 
@@ -139,7 +190,8 @@ is_set t name =
 
 -- a character set that is read; a text with an @ names none, so this may be asked of a text as it is written
 abbrev pub is_charset : List ℕ → Bool
-is_charset t = nat_le (length t) max_header_text && (is_set t (codes "UTF-8") || is_set t (codes "UTF8") || is_set t (codes "ASCII"))
+is_charset t = nat_le (length t) max_header_text &&
+    (is_set t (codes "UTF-8") || is_set t (codes "UTF8") || is_set t (codes "ASCII"))
 
 abbrev pub begins_with_7 : List ℕ → Bool
 begins_with_7 [] = false
@@ -165,16 +217,19 @@ breaks p l AfterTrailer = p.done
 breaks p l NoHead = p.count == 0 && not (is_head l)
 breaks p l LevelJump = nat_lt (p.last + 1) l.level
 breaks p l ContinuationHasChildren = option_map_or (λ s. is_continued s.role) (parent p l.level) false
-breaks p l BadContinuation = is_continuation l.tag && (is_some l.xref || not (option_map_or (may_go_on p (l.level - 1)) (parent p l.level) false))
+breaks p l BadContinuation = is_continuation l.tag &&
+    (is_some l.xref || not (option_map_or (may_go_on p (l.level - 1)) (parent p l.level) false))
 breaks p l DuplicateXref = option_map_or p.named l.xref false
-breaks p l TextTooLong = is_continuation l.tag && option_map_or (λ s. nat_lt s.room (length (adds l))) (parent p l.level) false
+breaks p l TextTooLong = is_continuation l.tag && option_map_or (λ s. nat_lt s.room (length (adds l)))
+    (parent p l.level) false
 breaks p l Charset = names_set p l.level (role_of l.tag) && not (is_charset l.raw)
 breaks p l Version = names_version p l.level (role_of l.tag) && not (is_version_value (value_of l))
 breaks p l _ = false
 
 -- the order in which the rules are judged
 abbrev pub order : List TreeKind
-order = AfterTrailer ∷ NoHead ∷ LevelJump ∷ ContinuationHasChildren ∷ BadContinuation ∷ DuplicateXref ∷ TextTooLong ∷ Charset ∷ Version ∷ []
+order = AfterTrailer ∷ NoHead ∷ LevelJump ∷ ContinuationHasChildren ∷ BadContinuation ∷ DuplicateXref ∷ TextTooLong
+    ∷ Charset ∷ Version ∷ []
 
 -- the first rule that the line breaks, behind lines that leave p
 abbrev pub first_broken : Progress → Parts → Option TreeKind

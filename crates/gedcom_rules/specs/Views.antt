@@ -1,5 +1,19 @@
 -- What contracts see of the code's values.
-use Rattle.std.specs.Prelude.{◌≡◌, ℕ, List, Option, Some, None, Result, Ok, Err, MatchResult, option_map, slice_get, length}
+use Rattle.std.specs.Prelude.{
+  ◌≡◌,
+  ℕ,
+  List,
+  Option,
+  Some,
+  None,
+  Result,
+  Ok,
+  Err,
+  MatchResult,
+  option_map,
+  slice_get,
+  length,
+}
 use Rattle.std.specs.BTreeSet.{contains_text}
 use Rattle.gedcom_line.specs.declared.line.LineRef.{LineRef}
 use Rattle.gedcom_line.specs.Reading.{Parts, parts}

@@ -1,12 +1,41 @@
 //! Judging the pieces of a file one after another.
 
-ghost use Rattle.std.specs.Prelude.{◌≡◌, ◌⊎◌, ◌+◌, ◌<◌, ◌≤◌, ◌^◌, false, Ok, Err, IfOk, IfErr, IfSome, OnOk, option_map, nat_lt, length};
+ghost use Rattle.std.specs.Prelude.{
+  ◌≡◌,
+  ◌⊎◌,
+  ◌+◌,
+  ◌<◌,
+  ◌≤◌,
+  ◌^◌,
+  false,
+  Ok,
+  Err,
+  IfOk,
+  IfErr,
+  IfSome,
+  OnOk,
+  option_map,
+  nat_lt,
+  length,
+};
 ghost use Rattle.std.specs.Option.{option_map_or};
 ghost use Rattle.gedcom_line.specs.Line.{IsPiece};
 ghost use Rattle.gedcom_line.specs.Value.{value_of};
 ghost use Rattle.gedcom_line.specs.Reading.{parts, is_continuation as continuation_test};
 ghost use Rattle.gedcom_rules.specs.Continuing.{adds};
-ghost use Rattle.gedcom_rules.specs.Rules.{of_line as kind_of_line, is_head as head_test, is_trailer as trailer_test, first_broken as broken_first, parent as parent_of, names_set as set_test, names_version as version_test, may_go_on as goes_on, is_continued, is_version_value, role_of as role_of_tag};
+ghost use Rattle.gedcom_rules.specs.Rules.{
+  of_line as kind_of_line,
+  is_head as head_test,
+  is_trailer as trailer_test,
+  first_broken as broken_first,
+  parent as parent_of,
+  names_set as set_test,
+  names_version as version_test,
+  may_go_on as goes_on,
+  is_continued,
+  is_version_value,
+  role_of as role_of_tag,
+};
 ghost use Rattle.gedcom_rules.specs.Judging.{judge as judged, next as next_of, advance};
 ghost use Rattle.gedcom_rules.specs.Faults.{IsLineless, max_line};
 ghost use Rattle.gedcom_rules.specs.Views.{progress, standing_view, line_of, Gives, IsStacked, fault_view};
@@ -82,7 +111,8 @@ fn first_broken(seen: &Seen, line: &LineRef<'_>) -> Option<TreeKind>
 
 /// Whether the text above gets longer by the line than a text may be.
 fn has_no_room(above: Option<Standing>, line: &LineRef<'_>) -> bool
-    ensures { result ≡ option_map_or (λ s. nat_lt s.room (length (adds (parts line.now)))) (option_map standing_view above) false }
+    ensures { result ≡ option_map_or (λ s. nat_lt s.room (length (adds (parts line.now))))
+        (option_map standing_view above) false }
 {
     match above {
         Some(standing) => standing.room < added_len(line),

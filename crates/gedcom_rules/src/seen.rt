@@ -5,7 +5,13 @@ ghost use Rattle.std.specs.Str.{bytes_eq};
 ghost use Rattle.std.specs.BTreeSet.{contains_text};
 ghost use Rattle.std.specs.Option.{option_map_or};
 ghost use Rattle.gedcom_line.specs.Reading.{parts, is_continuation as continuation_test};
-ghost use Rattle.gedcom_rules.specs.Rules.{is_trailer as trailer_test, parent as parent_of, names_set as set_test, names_version as version_test, may_go_on as goes_on};
+ghost use Rattle.gedcom_rules.specs.Rules.{
+  is_trailer as trailer_test,
+  parent as parent_of,
+  names_set as set_test,
+  names_version as version_test,
+  may_go_on as goes_on,
+};
 ghost use Rattle.gedcom_rules.specs.Judging.{after as after_line, above_after, continue_at, start as no_lines};
 ghost use Rattle.gedcom_rules.specs.Views.{progress, standing_view, standings, IsStacked};
 
@@ -135,7 +141,8 @@ impl Seen {
 
     /// Whether a line of the level may continue what stands above it.
     pub(crate) fn may_go_on(&self, above: Option<Standing>, level: u8) -> bool
-        ensures { result ≡ option_map_or (goes_on (progress self.now) (level - 1)) (option_map standing_view above) false }
+        ensures { result ≡ option_map_or (goes_on (progress self.now) (level - 1))
+            (option_map standing_view above) false }
     {
         match above {
             Some(standing) => {

@@ -5,7 +5,11 @@ ghost use Rattle.gedcom_line.specs.Escape.{unescaped, past_pair};
 ghost use Rattle.gedcom_line.specs.Split.{char_count};
 ghost use Rattle.gedcom_line.specs.Reading.{parts, is_continuation as continuation_test};
 ghost use Rattle.gedcom_rules.specs.Continuing.{adds};
-ghost use Rattle.gedcom_rules.specs.Rules.{role_of as role_of_tag, standing as standing_of, is_continued as continued_test};
+ghost use Rattle.gedcom_rules.specs.Rules.{
+  role_of as role_of_tag,
+  standing as standing_of,
+  is_continued as continued_test,
+};
 ghost use Rattle.gedcom_rules.specs.Judging.{continue_at};
 ghost use Rattle.gedcom_rules.specs.Views.{standing_view};
 

@@ -1,5 +1,28 @@
 -- The comparison by computing says whether two forests are the same but for the numbers of their lines.
-use Rattle.std.proofs.Common.{◌≡◌, ◌↔◌, IsTrue, ℕ, Bool, true, false, ◌&&◌, eqb, eq-eqb, List, [], ◌∷◌, map, refl, sym, ap, ◌∙◌, subst, Option, Some, None}
+use Rattle.std.proofs.Common.{
+  ◌≡◌,
+  ◌↔◌,
+  IsTrue,
+  ℕ,
+  Bool,
+  true,
+  false,
+  ◌&&◌,
+  eqb,
+  eq-eqb,
+  List,
+  [],
+  ◌∷◌,
+  map,
+  refl,
+  sym,
+  ap,
+  ◌∙◌,
+  subst,
+  Option,
+  Some,
+  None,
+}
 use Rattle.std.specs.Option.{option_eq}
 use Rattle.std.specs.Str.{bytes_eq}
 use Rattle.std.proofs.lemmas.Bool.{eqb-true}
@@ -40,7 +63,8 @@ same_value (Pointer p) (Pointer q) h = ap Pointer (equal_names p q h)
 
 same_item : (i j : Item) → is_same_item i j ≡ true → unnumbered i ≡ unnumbered j
 same_item i j h =
-    let a = both (eqb i.level j.level) (option_eq bytes_eq i.xref j.xref && (bytes_eq i.tag j.tag && is_same_value i.value j.value)) h in
+    let a = both (eqb i.level j.level)
+    (option_eq bytes_eq i.xref j.xref && (bytes_eq i.tag j.tag && is_same_value i.value j.value)) h in
     let b = both (option_eq bytes_eq i.xref j.xref) (bytes_eq i.tag j.tag && is_same_value i.value j.value) a.1 in
     let c = both (bytes_eq i.tag j.tag) (is_same_value i.value j.value) b.1 in
     let level = eqb-true i.level j.level a.0 in
@@ -58,7 +82,8 @@ told_same [] (j ∷ js) h = absurd cc
 told_same (i ∷ is) [] h = absurd cc
 told_same (i ∷ is) (j ∷ js) h =
     let r = both (is_same_item i j) (are_same is js) h in
-    ap (λ (x : Item). x ∷ map unnumbered is) (same_item i j r.0) ∙ ap (λ (x : List Item). unnumbered j ∷ x) (told_same is js r.1)
+    ap (λ (x : Item). x ∷ map unnumbered is) (same_item i j r.0) ∙ ap (λ (x : List Item). unnumbered j ∷ x)
+    (told_same is js r.1)
 
 pub same_told : (f g : List Item) → IsSame f g → IsTrue (are_same f g)
 same_told [] [] e = refl

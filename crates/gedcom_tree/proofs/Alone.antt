@@ -1,5 +1,35 @@
 -- The values that name the character set and the version have one line each, and are read again as they are.
-use Rattle.std.proofs.Common.{◌≡◌, ◌≢◌, ℕ, ◌*◌, ◌<◌, ◌≤◌, Bool, true, false, eqb, leb, not, ◌||◌, List, [], ◌∷◌, length, get_or, map, take, drop, refl, sym, ap, ◌∙◌, inl, inr, arith, codes}
+use Rattle.std.proofs.Common.{
+  ◌≡◌,
+  ◌≢◌,
+  ℕ,
+  ◌*◌,
+  ◌<◌,
+  ◌≤◌,
+  Bool,
+  true,
+  false,
+  eqb,
+  leb,
+  not,
+  ◌||◌,
+  List,
+  [],
+  ◌∷◌,
+  length,
+  get_or,
+  map,
+  take,
+  drop,
+  refl,
+  sym,
+  ap,
+  ◌∙◌,
+  inl,
+  inr,
+  arith,
+  codes,
+}
 use Rattle.std.specs.Char.{to_ascii_lowercase}
 use Rattle.std.specs.List.{list_all, list_any, prefix_len}
 use Rattle.std.specs.Str.{bytes_eq}
@@ -29,33 +59,47 @@ use Rattle.gedcom_tree.proofs.Numbered.{marked_pointer}
 each_not : (c : ℕ) (t : List ℕ) → list_all (λ b. not (eqb b c)) t ≡ true → (i : ℕ) → i < length t → get_or t i 0 ≢ c
 each_not c t h i lt e = eqb_no (get_or t i 0) c (not-true _ (AllPass-from_list_all (λ b. not (eqb b c)) t h i 0 lt)) e
 
-one_part : (t : List ℕ) → list_all (λ b. not (eqb b 10)) t ≡ true → IsShort t → canonical t ≡ record { mark = Cont; text = t } ∷ []
-one_part t h s = canonical_last t (each_not 10 t h) ∙ ap (marked Cont) (segment_short t (le-leb (char_count (escaped t)) 200 s))
+one_part : (t : List ℕ) → list_all (λ b. not (eqb b 10)) t ≡ true → IsShort t
+    → canonical t ≡ record { mark = Cont; text = t } ∷ []
+one_part t h s = canonical_last t (each_not 10 t h) ∙ ap (marked Cont)
+    (segment_short t (le-leb (char_count (escaped t)) 200 s))
 
 -- a text that names a character set has no @ and no LF
-lower_all : (p : ℕ → Bool) → ((b : ℕ) → p (to_ascii_lowercase b) ≡ true → p b ≡ true) → (t : List ℕ) → list_all p (map to_ascii_lowercase t) ≡ true → list_all p t ≡ true
+lower_all : (p : ℕ → Bool) → ((b : ℕ) → p (to_ascii_lowercase b) ≡ true → p b ≡ true) → (t : List ℕ)
+    → list_all p (map to_ascii_lowercase t) ≡ true → list_all p t ≡ true
 lower_all p f [] h = refl
 lower_all p f (b ∷ bs) h =
     let r = both (p (to_ascii_lowercase b)) (list_all p (map to_ascii_lowercase bs)) h in
     rw (f b r.0, lower_all p f bs r.1) refl
 
-space_all : (p : ℕ → Bool) → ((b : ℕ) → is_space b ≡ true → p b ≡ true) → (t : List ℕ) → list_all is_space t ≡ true → list_all p t ≡ true
+space_all : (p : ℕ → Bool) → ((b : ℕ) → is_space b ≡ true → p b ≡ true) → (t : List ℕ) → list_all is_space t ≡ true
+    → list_all p t ≡ true
 space_all p f [] h = refl
 space_all p f (b ∷ bs) h =
     let r = both (is_space b) (list_all is_space bs) h in
     rw (f b r.0, space_all p f bs r.1) refl
 
-set_all : (p : ℕ → Bool) → ((b : ℕ) → is_space b ≡ true → p b ≡ true) → ((b : ℕ) → p (to_ascii_lowercase b) ≡ true → p b ≡ true) → (t name : List ℕ) → list_all p (map to_ascii_lowercase name) ≡ true → is_set t name ≡ true → list_all p t ≡ true
+set_all : (p : ℕ → Bool) → ((b : ℕ) → is_space b ≡ true → p b ≡ true)
+    → ((b : ℕ) → p (to_ascii_lowercase b) ≡ true → p b ≡ true) → (t name : List ℕ)
+    → list_all p (map to_ascii_lowercase name) ≡ true → is_set t name ≡ true → list_all p t ≡ true
 set_all p f g t name n h =
     let s : List ℕ = skip is_space t in
     let k : ℕ = length name in
-    let r = both (bytes_eq (map to_ascii_lowercase (take k s)) (map to_ascii_lowercase name)) (list_all is_space (drop k s)) h in
-    let same : map to_ascii_lowercase (take k s) ≡ map to_ascii_lowercase name = (bytes_eq-Decides (map to_ascii_lowercase (take k s)) (map to_ascii_lowercase name)).0 r.0 in
+    let r = both (bytes_eq (map to_ascii_lowercase (take k s)) (map to_ascii_lowercase name))
+    (list_all is_space (drop k s)) h in
+    let same : map to_ascii_lowercase (take k s) ≡ map to_ascii_lowercase
+    name = (bytes_eq-Decides (map to_ascii_lowercase (take k s)) (map to_ascii_lowercase name)).0 r.0 in
     let mid : list_all p (take k s) ≡ true = lower_all p g (take k s) (ap (list_all p) same ∙ n) in
-    let back : list_all p s ≡ true = ap (list_all p) (sym (take-append-drop k s)) ∙ all-append p (take k s) (drop k s) mid (space_all p f (drop k s) r.1) in
-    ap (list_all p) (sym (take-append-drop (prefix_len is_space t) t)) ∙ all-append p (take (prefix_len is_space t) t) s (space_all p f (take (prefix_len is_space t) t) (all_front is_space t)) back
+    let back : list_all p s ≡ true = ap (list_all p) (sym (take-append-drop k s)) ∙ all-append p (take k s)
+    (drop k s) mid (space_all p f (drop k s) r.1) in
+    ap (list_all p) (sym (take-append-drop (prefix_len is_space t) t)) ∙ all-append p (take (prefix_len is_space t) t) s
+    (space_all p f (take (prefix_len is_space t) t) (all_front is_space t)) back
 
-charset_all : (p : ℕ → Bool) → ((b : ℕ) → is_space b ≡ true → p b ≡ true) → ((b : ℕ) → p (to_ascii_lowercase b) ≡ true → p b ≡ true) → list_all p (map to_ascii_lowercase (codes "UTF-8")) ≡ true → list_all p (map to_ascii_lowercase (codes "UTF8")) ≡ true → list_all p (map to_ascii_lowercase (codes "ASCII")) ≡ true → (t : List ℕ) → is_charset t ≡ true → list_all p t ≡ true
+charset_all : (p : ℕ → Bool) → ((b : ℕ) → is_space b ≡ true → p b ≡ true)
+    → ((b : ℕ) → p (to_ascii_lowercase b) ≡ true → p b ≡ true) → list_all p (map to_ascii_lowercase (codes "UTF-8"))
+    ≡ true → list_all p (map to_ascii_lowercase (codes "UTF8")) ≡ true
+    → list_all p (map to_ascii_lowercase (codes "ASCII")) ≡ true → (t : List ℕ) → is_charset t ≡ true
+    → list_all p t ≡ true
 charset_all p f g a b c t h =
     let r = both (leb (length t) max_header_text) _ h in
     elim (either (is_set t (codes "UTF-8") || is_set t (codes "UTF8")) (is_set t (codes "ASCII")) r.1) [
@@ -79,7 +123,8 @@ lower_not_lf : (b : ℕ) → not (eqb (to_ascii_lowercase b) 10) ≡ true → no
 lower_not_lf b h = grind (arith, nat_tests)
 
 charset_plain : (t : List ℕ) → is_charset t ≡ true → escaped t ≡ t
-charset_plain t h = escaped_all false t (each_not 64 t (charset_all (λ b. not (eqb b 64)) space_not_at lower_not_at refl refl refl t h))
+charset_plain t h = escaped_all false t
+    (each_not 64 t (charset_all (λ b. not (eqb b 64)) space_not_at lower_not_at refl refl refl t h))
 
 charset_short : (t : List ℕ) → is_charset t ≡ true → IsShort t
 charset_short t h =
@@ -88,7 +133,8 @@ charset_short t h =
     omega (arith, few, leb-true (length t) max_header_text r.0)
 
 charset_one : (t : List ℕ) → is_charset t ≡ true → canonical t ≡ record { mark = Cont; text = t } ∷ []
-charset_one t h = one_part t (charset_all (λ b. not (eqb b 10)) space_not_lf lower_not_lf refl refl refl t h) (charset_short t h)
+charset_one t h = one_part t (charset_all (λ b. not (eqb b 10)) space_not_lf lower_not_lf refl refl refl t h)
+    (charset_short t h)
 
 -- the value of a node that names the character set
 pub record OneLine (Reads : List ℕ → Type 0) (v : Meaning) : Type 0 where
@@ -96,15 +142,24 @@ pub record OneLine (Reads : List ℕ → Type 0) (v : Meaning) : Type 0 where
   pub alone : more_parts v ≡ []
 
 pub charset_again : (v : Meaning) → is_charset_node v ≡ true → OneLine (λ raw. is_charset raw ≡ true) v
-charset_again (Text t) h = record { reads = rw (charset_one t h, charset_plain t h) h; alone = rw (charset_one t h) refl }
+charset_again (Text t) h = record {
+  reads = rw (charset_one t h, charset_plain t h) h;
+  alone = rw (charset_one t h) refl;
+}
 charset_again (Pointer p) h = absurd cc
 
 -- escaping makes at most two characters of one
 escaped_double : (i : Bool) (t : List ℕ) → char_count (escaped_from i t) ≤ 2 * char_count t
 escaped_double i [] = omega arith
 escaped_double i (c ∷ cs) = elim (escaped_step i c cs) [
-  | inl s ↦ rw (s.1, char_count-cons c cs, char_count-cons c (escaped_from s.0 cs)) (omega (arith, escaped_double s.0 cs))
-  | inr s ↦ rw (s, char_count-cons c cs, char_count-cons c (c ∷ escaped_from false cs), char_count-cons c (escaped_from false cs)) (omega (arith, escaped_double false cs))
+  | inl s ↦ rw (s.1, char_count-cons c cs, char_count-cons c (escaped_from s.0 cs))
+      (omega (arith, escaped_double s.0 cs))
+  | inr s ↦ rw (
+    s,
+    char_count-cons c cs,
+    char_count-cons c (c ∷ escaped_from false cs),
+    char_count-cons c (escaped_from false cs),
+  ) (omega (arith, escaped_double false cs))
 ]
 
 none_all : (t : List ℕ) → list_any (λ b. eqb b 10) t ≡ false → list_all (λ b. not (eqb b 10)) t ≡ true
@@ -113,12 +168,14 @@ none_all (b ∷ bs) h =
     let n = neither (eqb b 10) (list_any (λ x. eqb x 10) bs) h in
     rw (n.0, none_all bs n.1) refl
 
-version_one : (t : List ℕ) → is_version t ≡ true → list_any (λ b. eqb b 10) t ≡ false → canonical t ≡ record { mark = Cont; text = t } ∷ []
+version_one : (t : List ℕ) → is_version t ≡ true → list_any (λ b. eqb b 10) t ≡ false
+    → canonical t ≡ record { mark = Cont; text = t } ∷ []
 version_one t h n =
     let r = both _ (leb (char_count t) max_header_text) h in
     one_part t (none_all t n) (omega (arith, escaped_double false t, leb-true (char_count t) max_header_text r.1))
 
-pub version_again : (v : Meaning) → IsNodeValue v → is_version_node v ≡ true → OneLine (λ raw. is_version_value (meaning raw) ≡ true) v
+pub version_again : (v : Meaning) → IsNodeValue v → is_version_node v ≡ true
+    → OneLine (λ raw. is_version_value (meaning raw) ≡ true) v
 version_again (Text t) w h =
     let r = both (is_version t) (not (list_any (λ b. eqb b 10) t)) h in
     let one : canonical t ≡ record { mark = Cont; text = t } ∷ [] = version_one t r.0 (not-true _ r.1) in

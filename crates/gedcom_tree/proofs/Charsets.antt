@@ -1,5 +1,31 @@
 -- A text that names a character set is written as it is read: it has no @.
-use Rattle.std.proofs.Common.{◌≡◌, ℕ, Bool, true, false, leb, not, ◌||◌, List, [], ◌∷◌, length, get_or, take, drop, map, refl, sym, ap, ◌∙◌, subst, inl, inr, None, codes}
+use Rattle.std.proofs.Common.{
+  ◌≡◌,
+  ℕ,
+  Bool,
+  true,
+  false,
+  leb,
+  not,
+  ◌||◌,
+  List,
+  [],
+  ◌∷◌,
+  length,
+  get_or,
+  take,
+  drop,
+  map,
+  refl,
+  sym,
+  ap,
+  ◌∙◌,
+  subst,
+  inl,
+  inr,
+  None,
+  codes,
+}
 use Rattle.std.specs.Char.{to_ascii_lowercase}
 use Rattle.std.specs.List.{list_all, prefix_len}
 use Rattle.std.specs.Str.{bytes_eq}
@@ -31,7 +57,8 @@ spaces_lack (x ∷ xs) h =
 lower_at : (b : ℕ) → not (is_at (to_ascii_lowercase b)) ≡ true → not (is_at b) ≡ true
 lower_at b h = elim (cases_bool (is_at b)) [
   | inr e ↦ rw e refl
-  | inl e ↦ absurd (let bad : not (is_at (to_ascii_lowercase 64)) ≡ true = subst (λ (x : ℕ). not (is_at (to_ascii_lowercase x)) ≡ true) (eqb-true b 64 e) h in cc)
+  | inl e ↦ absurd (let bad : not (is_at (to_ascii_lowercase 64)) ≡ true = subst
+      (λ (x : ℕ). not (is_at (to_ascii_lowercase x)) ≡ true) (eqb-true b 64 e) h in cc)
 ]
 
 lower_lacks : (t : List ℕ) → lacks_at (map to_ascii_lowercase t) ≡ true → lacks_at t ≡ true
@@ -43,16 +70,24 @@ lower_lacks (x ∷ xs) h =
 set_lacks : (t name : List ℕ) → lacks_at (map to_ascii_lowercase name) ≡ true → is_set t name ≡ true → lacks_at t ≡ true
 set_lacks t name n h =
     let u : List ℕ = skip is_space t in
-    let r = both (bytes_eq (map to_ascii_lowercase (take (length name) u)) (map to_ascii_lowercase name)) (list_all is_space (drop (length name) u)) h in
-    let same : map to_ascii_lowercase (take (length name) u) ≡ map to_ascii_lowercase name = (bytes_eq-Decides (map to_ascii_lowercase (take (length name) u)) (map to_ascii_lowercase name)).0 r.0 in
-    let front : lacks_at (take (length name) u) ≡ true = lower_lacks (take (length name) u) (ap (λ (x : List ℕ). lacks_at x) same ∙ n) in
-    let rest : lacks_at u ≡ true = ap (λ (x : List ℕ). lacks_at x) (sym (take-append-drop (length name) u)) ∙ all-append (λ b. not (is_at b)) (take (length name) u) (drop (length name) u) front (spaces_lack (drop (length name) u) r.1) in
-    let spaces : lacks_at (take (prefix_len is_space t) t) ≡ true = spaces_lack (take (prefix_len is_space t) t) (all_front is_space t) in
-    ap (λ (x : List ℕ). lacks_at x) (spans_made is_space t).parts ∙ all-append (λ b. not (is_at b)) (take (prefix_len is_space t) t) u spaces rest
+    let r = both (bytes_eq (map to_ascii_lowercase (take (length name) u)) (map to_ascii_lowercase name))
+    (list_all is_space (drop (length name) u)) h in
+    let same : map to_ascii_lowercase (take (length name) u) ≡ map to_ascii_lowercase
+    name = (bytes_eq-Decides (map to_ascii_lowercase (take (length name) u)) (map to_ascii_lowercase name)).0 r.0 in
+    let front : lacks_at (take (length name) u) ≡ true = lower_lacks (take (length name) u)
+    (ap (λ (x : List ℕ). lacks_at x) same ∙ n) in
+    let rest : lacks_at u ≡ true = ap (λ (x : List ℕ). lacks_at x) (sym (take-append-drop (length name) u))
+    ∙ all-append (λ b. not (is_at b)) (take (length name) u) (drop (length name) u) front
+    (spaces_lack (drop (length name) u) r.1) in
+    let spaces : lacks_at (take (prefix_len is_space t) t) ≡ true = spaces_lack (take (prefix_len is_space t) t)
+    (all_front is_space t) in
+    ap (λ (x : List ℕ). lacks_at x) (spans_made is_space t).parts ∙ all-append (λ b. not (is_at b))
+    (take (prefix_len is_space t) t) u spaces rest
 
 charset_lacks : (t : List ℕ) → is_charset t ≡ true → lacks_at t ≡ true
 charset_lacks t h =
-    let r = both (leb (length t) max_header_text) (is_set t (codes "UTF-8") || is_set t (codes "UTF8") || is_set t (codes "ASCII")) h in
+    let r = both (leb (length t) max_header_text)
+    (is_set t (codes "UTF-8") || is_set t (codes "UTF8") || is_set t (codes "ASCII")) h in
     elim (either (is_set t (codes "UTF-8") || is_set t (codes "UTF8")) (is_set t (codes "ASCII")) r.1) [
       | inr e ↦ set_lacks t (codes "ASCII") refl e
       | inl e ↦ elim (either (is_set t (codes "UTF-8")) (is_set t (codes "UTF8")) e) [
@@ -75,4 +110,6 @@ no_pointer_from t h = elim (past_at t) [
 
 pub charset_no_pointer : (t : List ℕ) → is_charset t ≡ true → pointer_in t ≡ None
 unfolding pointer_in
-charset_no_pointer t h = no_pointer_from (skip is_space t) ((all_parts (λ b. not (is_at b)) (take (prefix_len is_space t) t) (skip is_space t) (ap (λ (x : List ℕ). lacks_at x) (sym (spans_made is_space t).parts) ∙ charset_lacks t h)).1)
+charset_no_pointer t h = no_pointer_from (skip is_space t)
+    ((all_parts (λ b. not (is_at b)) (take (prefix_len is_space t) t) (skip is_space t)
+    (ap (λ (x : List ℕ). lacks_at x) (sym (spans_made is_space t).parts) ∙ charset_lacks t h)).1)

@@ -1,5 +1,35 @@
 -- What a whole file is: the computed answer is that of the definitions, both ways.
-use Rattle.std.proofs.Common.{◌≡◌, ℕ, ◌<◌, ◌≤◌, Bool, true, false, cond, eqb, List, [], ◌∷◌, ◌++◌, length, refl, sym, ap, ◌∙◌, subst, inl, inr, ◌⊎◌, arith, Option, Some, None, Ok, Err, Result}
+use Rattle.std.proofs.Common.{
+  ◌≡◌,
+  ℕ,
+  ◌<◌,
+  ◌≤◌,
+  Bool,
+  true,
+  false,
+  cond,
+  eqb,
+  List,
+  [],
+  ◌∷◌,
+  ◌++◌,
+  length,
+  refl,
+  sym,
+  ap,
+  ◌∙◌,
+  subst,
+  inl,
+  inr,
+  ◌⊎◌,
+  arith,
+  Option,
+  Some,
+  None,
+  Ok,
+  Err,
+  Result,
+}
 use Rattle.std.specs.Prelude.{find}
 use Rattle.std.specs.List.{list_any}
 use Rattle.std.proofs.lemmas.Bool.{cases_lt}
@@ -11,7 +41,20 @@ use Rattle.gedcom_rules.specs.declared.fault.TreeKind.TheVariants.{TooLong, NoHe
 use Rattle.gedcom_rules.specs.Pieces.{file_pieces, all_pieces, skip_mark}
 use Rattle.gedcom_rules.specs.Rules.{Progress, progress_of, is_trailer, breaks, order, first_broken, of_line}
 use Rattle.gedcom_tree.specs.Forest.{Item, Reads, forest_of}
-use Rattle.gedcom_rules.specs.Faults.{max_line, max_file, IsFaulty, Clean, Fault, FaultIn, overflows, within, OverLimit, Decides, EndsEarly, FaultOf}
+use Rattle.gedcom_rules.specs.Faults.{
+  max_line,
+  max_file,
+  IsFaulty,
+  Clean,
+  Fault,
+  FaultIn,
+  overflows,
+  within,
+  OverLimit,
+  Decides,
+  EndsEarly,
+  FaultOf,
+}
 use Rattle.gedcom_tree.specs.File.{untrailed, ReadsFile}
 use Rattle.gedcom_rules.specs.Judging.{start, judge, advance, then_run, run, fault_behind, open_fault, decided}
 use Rattle.gedcom_tree.specs.Reading.{Nodes, no_nodes, grow, grown, reader_of, ended, finished}
@@ -29,33 +72,44 @@ use Rattle.gedcom_tree.proofs.Gathered.{clean_nodes, grown-append, grown_cons, g
 
 -- a whole file
 whole_pieces : (b : List ℕ) → AllPieces (all_pieces b)
-whole_pieces b = let w = pieces_whole (skip_mark b) in all_pieces-push (file_pieces b).ended (file_pieces b).open_ w.0 w.1
+whole_pieces b = let w = pieces_whole (skip_mark b) in
+    all_pieces-push (file_pieces b).ended (file_pieces b).open_ w.0 w.1
 
 -- what the pieces that have ended leave, as progress
-pub finished_progress : (b : List ℕ) → finished (reader_of b) ≡ ended (grow (grown no_nodes (file_pieces b).ended) (file_pieces b).open_).items (then_run (λ p. advance p (judge p (file_pieces b).open_)) (run start (file_pieces b).ended))
+pub finished_progress : (b : List ℕ) → finished (reader_of b) ≡ ended
+    (grow (grown no_nodes (file_pieces b).ended) (file_pieces b).open_).items
+    (then_run (λ p. advance p (judge p (file_pieces b).open_)) (run start (file_pieces b).ended))
 unfolding finished reader_of
-finished_progress b = ap (λ (r : Result Progress Fault). ended (grow (grown no_nodes (file_pieces b).ended) (file_pieces b).open_).items (then_run (λ p. advance p (judge p (file_pieces b).open_)) r)) (traced_start (file_pieces b).ended)
+finished_progress b =
+    ap (λ (r : Result Progress Fault). ended (grow (grown no_nodes (file_pieces b).ended) (file_pieces b).open_).items
+    (then_run (λ p. advance p (judge p (file_pieces b).open_)) r)) (traced_start (file_pieces b).ended)
 
-pub finished_is : (b : List ℕ) → finished (reader_of b) ≡ ended (grown no_nodes (all_pieces b)).items (run start (all_pieces b))
+pub finished_is : (b : List ℕ) → finished (reader_of b) ≡ ended (grown no_nodes (all_pieces b)).items
+    (run start (all_pieces b))
 finished_is b =
     let ps : List (List ℕ) = (file_pieces b).ended in
     let o : List ℕ = (file_pieces b).open_ in
-    let g : grown no_nodes (ps ++ o ∷ []) ≡ grow (grown no_nodes ps) o = grown-append no_nodes ps (o ∷ []) ∙ grown_cons (grown no_nodes ps) o [] ∙ grown_nil (grow (grown no_nodes ps) o) in
+    let g : grown no_nodes (ps ++ o ∷ []) ≡ grow (grown no_nodes ps) o = grown-append no_nodes ps (o ∷ [])
+    ∙ grown_cons (grown no_nodes ps) o [] ∙ grown_nil (grow (grown no_nodes ps) o) in
     finished_progress b ∙ rw (g, run-push start ps o) refl
 
 -- the nodes of clean pieces
-grown_forest : (ps : List (List ℕ)) (lines : List Parts) → Clean [] ps lines → (grown no_nodes ps).items ≡ forest_of 1 (untrailed lines)
+grown_forest : (ps : List (List ℕ)) (lines : List Parts) → Clean [] ps lines → (grown no_nodes ps).items
+    ≡ forest_of 1 (untrailed lines)
 grown_forest ps lines h = ap (λ (g : Nodes). g.items) (clean_nodes ps lines h)
 
-clean_reads : (ps : List (List ℕ)) (lines : List Parts) → Clean [] ps lines → Reads 1 (untrailed lines) (grown no_nodes ps).items
-clean_reads ps lines h = subst (Reads 1 (untrailed lines)) (sym (grown_forest ps lines h)) (pointed_reads 1 (untrailed lines) (untrailed_pointed lines (clean_pointed [] ps lines tt h)))
+clean_reads : (ps : List (List ℕ)) (lines : List Parts) → Clean [] ps lines → Reads 1 (untrailed lines)
+    (grown no_nodes ps).items
+clean_reads ps lines h = subst (Reads 1 (untrailed lines)) (sym (grown_forest ps lines h))
+    (pointed_reads 1 (untrailed lines) (untrailed_pointed lines (clean_pointed [] ps lines tt h)))
 
 -- what a whole file is
 abbrev pub IsRead : List ℕ → Result (List Item) Fault → Type 0
 IsRead b (Ok f) = ReadsFile b f
 IsRead b (Err f) = FaultOf b f
 
-run_finishes : (b : List ℕ) → length b ≤ max_file → (r : Result Progress Fault) → Ran [] (all_pieces b) r → IsRead b (ended ((grown no_nodes (all_pieces b)).items) r)
+run_finishes : (b : List ℕ) → length b ≤ max_file → (r : Result Progress Fault) → Ran [] (all_pieces b) r
+    → IsRead b (ended ((grown no_nodes (all_pieces b)).items) r)
 run_finishes b s (Err f) h = inr (s, inl h)
 run_finishes b s (Ok q) h = elim (cases_bool (list_any is_trailer h.0)) [
   | inl e ↦
@@ -79,12 +133,16 @@ finishes b s = read_finishes b (finished (reader_of b)) (is_read b s)
 
 pub reads_finished : (b : List ℕ) (f : List Item) → ReadsFile b f → finished (reader_of b) ≡ Ok f
 reads_finished b f h =
-    let items : (grown no_nodes (all_pieces b)).items ≡ f = grown_forest (all_pieces b) h.lines h.clean ∙ reads_computed 1 (untrailed h.lines) f h.forest in
-    finished_is b ∙ ap (ended ((grown no_nodes (all_pieces b)).items)) (clean_run [] (all_pieces b) h.lines h.clean) ∙ rw (h.ended, items) refl
+    let items : (grown no_nodes (all_pieces b)).items ≡ f = grown_forest (all_pieces b) h.lines h.clean
+    ∙ reads_computed 1 (untrailed h.lines) f h.forest in
+    finished_is b ∙ ap (ended ((grown no_nodes (all_pieces b)).items)) (clean_run [] (all_pieces b) h.lines h.clean)
+    ∙ rw (h.ended, items) refl
 
 fault_finished : (b : List ℕ) (e : Fault) → FaultIn [] (all_pieces b) e ⊎ EndsEarly b e → finished (reader_of b) ≡ Err e
-fault_finished b e (inl h) = finished_is b ∙ ap (ended ((grown no_nodes (all_pieces b)).items)) (fault_run [] (all_pieces b) e h)
-fault_finished b e (inr h) = finished_is b ∙ ap (ended ((grown no_nodes (all_pieces b)).items)) (clean_run [] (all_pieces b) h.lines h.clean) ∙ rw (h.unended, ← h.kind, ← h.at) refl
+fault_finished b e (inl h) = finished_is b ∙ ap (ended ((grown no_nodes (all_pieces b)).items))
+    (fault_run [] (all_pieces b) e h)
+fault_finished b e (inr h) = finished_is b ∙ ap (ended ((grown no_nodes (all_pieces b)).items))
+    (clean_run [] (all_pieces b) h.lines h.clean) ∙ rw (h.unended, ← h.kind, ← h.at) refl
 
 -- no file reads as two forests, none reads as one and has a fault, and none has two
 pub file_same : (b : List ℕ) (f g : List Item) → ReadsFile b f → ReadsFile b g → f ≡ g
@@ -114,11 +172,14 @@ seen_err : (b : List ℕ) (f : Fault) → run start (file_pieces b).ended ≡ Er
 unfolding finished reader_of
 seen_err b f e = finished_progress b ∙ rw e refl
 
-seen_long : (b : List ℕ) (q : Progress) → run start (file_pieces b).ended ≡ Ok q → max_line < length (file_pieces b).open_ → finished (reader_of b) ≡ Err (fault_behind q.count TooLong)
+seen_long : (b : List ℕ) (q : Progress) → run start (file_pieces b).ended ≡ Ok q
+    → max_line < length (file_pieces b).open_ → finished (reader_of b) ≡ Err (fault_behind q.count TooLong)
 unfolding finished reader_of
 seen_long b q e l = finished_progress b ∙ rw (e, judge_long q (file_pieces b).open_ l) refl
 
-small_run : (b : List ℕ) (f : Fault) → length b ≤ max_file → (r : Result Progress Fault) → run start (file_pieces b).ended ≡ r → open_fault (file_pieces b).open_ None r ≡ Some f → finished (reader_of b) ≡ Err f
+small_run : (b : List ℕ) (f : Fault) → length b ≤ max_file → (r : Result Progress Fault)
+    → run start (file_pieces b).ended ≡ r → open_fault (file_pieces b).open_ None r ≡ Some f
+    → finished (reader_of b) ≡ Err f
 small_run b f s (Err g) e h = seen_err b g e ∙ ap (λ (x : Fault). Err x) (some_is g f h)
 small_run b f s (Ok q) e h = elim (cases_bool (overflows (file_pieces b).open_ None)) [
   | inl o ↦
@@ -130,7 +191,10 @@ small_run b f s (Ok q) e h = elim (cases_bool (overflows (file_pieces b).open_ N
 small_decided : (b : List ℕ) (f : Fault) → length b ≤ max_file → decided b ≡ Some f → finished (reader_of b) ≡ Err f
 unfolding decided
 small_decided b f s e =
-    small_run b f s (run start (file_pieces b).ended) refl (ap (λ (x : List ℕ). open_fault (file_pieces x).open_ None (run start (file_pieces x).ended)) (sym (within_small b s)) ∙ ap (λ (o : Option ℕ). open_fault (file_pieces (within b)).open_ o (run start (file_pieces (within b)).ended)) (sym (extra_small b s)) ∙ e)
+    small_run b f s (run start (file_pieces b).ended) refl
+    (ap (λ (x : List ℕ). open_fault (file_pieces x).open_ None (run start (file_pieces x).ended))
+    (sym (within_small b s)) ∙ ap (λ (o : Option ℕ). open_fault (file_pieces (within b)).open_ o
+    (run start (file_pieces (within b)).ended)) (sym (extra_small b s)) ∙ e)
 
 pub decides_fault : (b : List ℕ) (f : Fault) → Decides b f → FaultOf b f
 decides_fault b f h = elim (cases_lt max_file (length b)) [
@@ -146,7 +210,8 @@ AllOfFile (k ∷ ks) = IsOfFile k × AllOfFile ks
 kind_is : (x y : TreeKind) → Some x ≡ Some y → x ≡ y
 kind_is x y e = cc
 
-found_in : (test : TreeKind → Bool) (ks : List TreeKind) → AllOfFile ks → (k : TreeKind) → find test ks ≡ Some k → IsOfFile k
+found_in : (test : TreeKind → Bool) (ks : List TreeKind) → AllOfFile ks → (k : TreeKind)
+    → find test ks ≡ Some k → IsOfFile k
 found_in test [] a k h = absurd cc
 found_in test (j ∷ js) a k h = elim (cases_bool (test j)) [
   | inl e ↦ subst IsOfFile (kind_is j k (rw e at h)) a.0
@@ -188,7 +253,8 @@ fault_of_file b f (inr (s, inl h)) = faulty_of_file h.lines h.bad f.kind h.kind
 fault_of_file b f (inr (s, inr h)) = subst IsOfFile (sym h.kind) (early_of_file (eqb (length h.lines) 0))
 
 -- each file reads as a forest or has a fault
-read_either : (b : List ℕ) (r : Result (List Item) Fault) → IsRead b r → ((f : List Item) × ReadsFile b f) ⊎ ((e : Fault) × FaultOf b e)
+read_either : (b : List ℕ) (r : Result (List Item) Fault) → IsRead b r → ((f : List Item) × ReadsFile b f)
+    ⊎ ((e : Fault) × FaultOf b e)
 read_either b (Ok f) h = inl (f, h)
 read_either b (Err e) h = inr (e, h)
 

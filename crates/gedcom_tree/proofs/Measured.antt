@@ -1,5 +1,27 @@
 -- How many bytes a line has that is written.
-use Rattle.std.proofs.Common.{◌≡◌, ℕ, ◌+◌, ◌*◌, ◌<◌, ◌≤◌, true, false, List, [], ◌∷◌, ◌++◌, length, subst, inl, inr, arith, Option, Some, None, length-append}
+use Rattle.std.proofs.Common.{
+  ◌≡◌,
+  ℕ,
+  ◌+◌,
+  ◌*◌,
+  ◌<◌,
+  ◌≤◌,
+  true,
+  false,
+  List,
+  [],
+  ◌∷◌,
+  ◌++◌,
+  length,
+  subst,
+  inl,
+  inr,
+  arith,
+  Option,
+  Some,
+  None,
+  length-append,
+}
 use Rattle.std.specs.Char.{encode_utf8, len_utf8}
 use lib.Utf8.{scalar}
 use Rattle.std.specs.Str.{IsUtf8, encode_utf8_all, all_scalars}
@@ -35,8 +57,10 @@ chars_bytes [] h = omega arith
 chars_bytes (c ∷ cs) h =
     let r = both (scalar c) (all_scalars cs) h in
     let size : length (encode_utf8 c) ≡ len_utf8 c = length-encode c in
-    let one : 1 ≤ char_count (encode_utf8 c) = some_char (encode_utf8 c) (IsUtf8-encode c r.0) (omega (arith, size, (len_utf8_bounds c).0)) in
-    rw (length-append (encode_utf8 c) (encode_utf8_all cs), char_count-append (encode_utf8 c) (encode_utf8_all cs)) (omega (arith, size, one, (len_utf8_bounds c).1, chars_bytes cs r.1))
+    let one : 1 ≤ char_count (encode_utf8 c) = some_char (encode_utf8 c) (IsUtf8-encode c r.0)
+    (omega (arith, size, (len_utf8_bounds c).0)) in
+    rw (length-append (encode_utf8 c) (encode_utf8_all cs), char_count-append (encode_utf8 c) (encode_utf8_all cs))
+    (omega (arith, size, one, (len_utf8_bounds c).1, chars_bytes cs r.1))
 
 pub bytes_per_char : (t : List ℕ) → IsUtf8 t → length t ≤ 4 * char_count t
 bytes_per_char t u = subst (λ (x : List ℕ). length x ≤ 4 * char_count x) u.1.1 (chars_bytes u.0 u.1.0)

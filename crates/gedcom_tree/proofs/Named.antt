@@ -1,5 +1,29 @@
 -- Levels rise by one at most from node to node, and no cross reference stands on two.
-use Rattle.std.proofs.Common.{◌≡◌, ℕ, ◌+◌, ◌≤◌, Bool, true, false, ◌||◌, List, [], ◌∷◌, refl, ap, ◌∙◌, subst, inl, inr, ◌⊎◌, arith, eq-eqb, Option, Some, None}
+use Rattle.std.proofs.Common.{
+  ◌≡◌,
+  ℕ,
+  ◌+◌,
+  ◌≤◌,
+  Bool,
+  true,
+  false,
+  ◌||◌,
+  List,
+  [],
+  ◌∷◌,
+  refl,
+  ap,
+  ◌∙◌,
+  subst,
+  inl,
+  inr,
+  ◌⊎◌,
+  arith,
+  eq-eqb,
+  Option,
+  Some,
+  None,
+}
 use Rattle.std.specs.Option.{option_map_or}
 use Rattle.std.specs.List.{list_any}
 use Rattle.std.specs.Str.{bytes_eq}
@@ -14,9 +38,11 @@ use Rattle.gedcom_rules.proofs.Cuts.{cases_bool}
 use Rattle.gedcom_rules.proofs.Unbroken.{Unbroken}
 use Rattle.gedcom_tree.proofs.Fitting.{Fits, above_own, parent_at}
 
--- behind a node of the level k and its continuations the last line is no deeper than the node, or a continuation below it
+-- behind a node of the level k and its continuations the last line is no deeper than the node, or a continuation below
+-- it
 abbrev pub Behind : Progress → ℕ → Type 0
-Behind q k = (q.last ≤ k) ⊎ ((q.last ≤ k + 1) × (option_map_or (λ s. is_continued s.role) (q.above q.last) false ≡ true))
+Behind q k = (q.last ≤ k)
+    ⊎ ((q.last ≤ k + 1) × (option_map_or (λ s. is_continued s.role) (q.above q.last) false ≡ true))
 
 -- the next line is at most one level deeper than the node
 next_le : (q : Progress) (k : ℕ) (l : Parts) → Unbroken q l → Behind q k → l.level ≤ k + 1
@@ -24,14 +50,17 @@ next_le q k l u (inl h) = omega (arith, h, ltb-false (q.last + 1) l.level u.jump
 next_le q k l u (inr h) = elim (cases_eq l.level (q.last + 1)) [
   | inl e ↦
       let one : parent q l.level ≡ q.above q.last = parent_at q l.level q.last (eq-eqb l.level (q.last + 1) e) in
-      let bad : option_map_or (λ s. is_continued s.role) (q.above q.last) false ≡ false = subst (λ (o : Option Standing). option_map_or (λ s. is_continued s.role) o false ≡ false) one u.above in
+      let bad : option_map_or (λ s. is_continued s.role) (q.above q.last) false ≡ false = subst
+      (λ (o : Option Standing). option_map_or (λ s. is_continued s.role) o false ≡ false) one u.above in
       absurd (let yes : option_map_or (λ s. is_continued s.role) (q.above q.last) false ≡ true = h.1 in cc)
   | inr n ↦ omega (arith, h.0, n, ltb-false (q.last + 1) l.level u.jump)
 ]
 
 -- a continuation stands open as one
-pub continued_open : (q : Progress) (l : Parts) → is_continuation l.tag ≡ true → option_map_or (λ s. is_continued s.role) ((after q l).above l.level) false ≡ true
-continued_open q l c = ap (λ (o : Option Standing). option_map_or (λ s. is_continued s.role) o false) (above_own q l) ∙ rw c refl
+pub continued_open : (q : Progress) (l : Parts) → is_continuation l.tag ≡ true
+    → option_map_or (λ s. is_continued s.role) ((after q l).above l.level) false ≡ true
+continued_open q l c = ap (λ (o : Option Standing). option_map_or (λ s. is_continued s.role) o false)
+    (above_own q l) ∙ rw c refl
 
 pub fits_rises : (n k : ℕ) (q : Progress) (ls : List Parts) → Behind q k → Fits q ls → rises k (forest_of n ls) ≡ true
 unfolding forest_of
@@ -47,7 +76,8 @@ fits_rises n k q (l ∷ ls) b f =
 pub equal_names : (x y : List ℕ) → bytes_eq x y ≡ true → x ≡ y
 equal_names x y e = (bytes_eq-Decides x y).0 e
 
-own_name : (q : Progress) (l : Parts) (x : List ℕ) → (o : Option (List ℕ)) → l.xref ≡ o → option_map_or q.named o false ≡ false → q.named x ≡ true → option_map_or (bytes_eq x) o false ≡ false
+own_name : (q : Progress) (l : Parts) (x : List ℕ) → (o : Option (List ℕ)) → l.xref ≡ o
+    → option_map_or q.named o false ≡ false → q.named x ≡ true → option_map_or (bytes_eq x) o false ≡ false
 own_name q l x None e u h = refl
 own_name q l x (Some y) e u h = elim (cases_bool (bytes_eq x y)) [
   | inr k ↦ k
@@ -61,7 +91,8 @@ or_right : (a b : Bool) → b ≡ true → (a || b) ≡ true
 or_right true b h = refl
 or_right false b h = h
 
-not_again : (n : ℕ) (q : Progress) (ls : List Parts) (x : List ℕ) → q.named x ≡ true → Fits q ls → list_any (is_called x) (forest_of n ls) ≡ false
+not_again : (n : ℕ) (q : Progress) (ls : List Parts) (x : List ℕ) → q.named x ≡ true → Fits q ls
+    → list_any (is_called x) (forest_of n ls) ≡ false
 unfolding forest_of
 not_again n q [] x h f = refl
 not_again n q (l ∷ ls) x h f =
@@ -71,7 +102,8 @@ not_again n q (l ∷ ls) x h f =
       | inr c ↦ rw (c, own_name q l x l.xref refl f.0.rules.name h) k
     ]
 
-apart : (n : ℕ) (q : Progress) (l : Parts) (ls : List Parts) (o : Option (List ℕ)) → l.xref ≡ o → Fits (after q l) ls → option_map_or (λ x. list_any (is_called x) (forest_of n ls)) o false ≡ false
+apart : (n : ℕ) (q : Progress) (l : Parts) (ls : List Parts) (o : Option (List ℕ)) → l.xref ≡ o → Fits (after q l) ls
+    → option_map_or (λ x. list_any (is_called x) (forest_of n ls)) o false ≡ false
 apart n q l ls None e f = refl
 apart n q l ls (Some x) e f =
     let same : bytes_eq x x ≡ true = (bytes_eq-Decides x x).1 refl in

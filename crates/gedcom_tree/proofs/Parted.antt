@@ -30,7 +30,8 @@ rest_each P [] h = tt
 rest_each P (p ∷ ps) h = h.1
 
 own_inner : (v : Meaning) → IsNodeValue v → IsInner (own_raw v)
-own_inner (Text t) h = escaped_inner (first_text (canonical t)) (first_each IsInner (canonical t) inner_nil (canonical_inner (length t) t h.0 h.1.0 (omega arith)))
+own_inner (Text t) h = escaped_inner (first_text (canonical t))
+    (first_each IsInner (canonical t) inner_nil (canonical_inner (length t) t h.0 h.1.0 (omega arith)))
 own_inner (Pointer p) h = h.1.1.0
 
 own_short : (v : Meaning) → IsNodeValue v → char_count (own_raw v) ≤ 200
@@ -43,7 +44,11 @@ pub record PartsFit (ps : List Part) : Type 0 where
   pub short : EachPart IsShort ps
 
 pub more_fit : (v : Meaning) → IsNodeValue v → PartsFit (more_parts v)
-more_fit (Text t) h = record { inner = rest_each IsInner (canonical t) (canonical_inner (length t) t h.0 h.1.0 (omega arith)); short = rest_each IsShort (canonical t) (canonical_short t) }
+more_fit (Text t) h =
+    record {
+      inner = rest_each IsInner (canonical t) (canonical_inner (length t) t h.0 h.1.0 (omega arith));
+      short = rest_each IsShort (canonical t) (canonical_short t);
+    }
 more_fit (Pointer p) h = record { inner = tt; short = tt }
 
 -- a line that can be written, and is not too long
@@ -93,6 +98,14 @@ pub part_written : (level : ℕ) (p : Part) → level ≤ 99 → IsInner p.text 
 part_written level p low i s =
     let t = mark_is_tag p.mark in
     record {
-      line = record { level = low; high = λ e. mark_is p.mark; xref = tt; tag = t.words; some = t.some; short = t.short; raw = escaped_inner p.text i };
+      line = record {
+        level = low;
+        high = λ e. mark_is p.mark;
+        xref = tt;
+        tag = t.words;
+        some = t.some;
+        short = t.short;
+        raw = escaped_inner p.text i;
+      };
       chars = s;
     }

@@ -1,5 +1,26 @@
 -- A text that stands on one line as it is.
-use Rattle.std.proofs.Common.{◌≡◌, ℕ, zero, suc, ◌≤◌, Bool, true, false, eqb, List, [], ◌∷◌, length, refl, sym, ap, ◌∙◌, append-nil, Option, arith}
+use Rattle.std.proofs.Common.{
+  ◌≡◌,
+  ℕ,
+  zero,
+  suc,
+  ◌≤◌,
+  Bool,
+  true,
+  false,
+  eqb,
+  List,
+  [],
+  ◌∷◌,
+  length,
+  refl,
+  sym,
+  ap,
+  ◌∙◌,
+  append-nil,
+  Option,
+  arith,
+}
 use Rattle.std.specs.List.{list_any, slice_split}
 use Rattle.std.proofs.lemmas.Bool.{le-leb}
 use Rattle.gedcom_line.specs.Escape.{escaped_from, escaped, unescaped}
@@ -45,9 +66,14 @@ plain_short t h k =
     let same : char_count (escaped t) ≡ char_count t = ap char_count (escaped_plain false t k) in
     le-leb (char_count (escaped t)) 200 (omega (arith, same, char_count-le-length t, h))
 
-pub canonical_one : (t : List ℕ) → is_short t ≡ true → list_any is_lf t ≡ false → canonical t ≡ record { mark = Cont; text = t } ∷ []
+pub canonical_one : (t : List ℕ) → is_short t ≡ true → list_any is_lf t ≡ false
+    → canonical t ≡ record { mark = Cont; text = t } ∷ []
 unfolding canonical segment_parts
 canonical_one t h k = rw (unsplit t k, one_part (length t) t h) refl
 
-pub text_one : (line level : ℕ) (xref : Option (List ℕ)) (tag t : List ℕ) → canonical t ≡ record { mark = Cont; text = t } ∷ [] → line_text (record { level = level; xref = xref; tag = tag; raw = escaped t }) ≡ node_text (record { line = line; level = level; xref = xref; tag = tag; value = Text t })
-text_one line level xref tag t h = rw h (sym (append-nil (line_text (record { level = level; xref = xref; tag = tag; raw = escaped t }))))
+pub text_one : (line level : ℕ) (xref : Option (List ℕ)) (tag t : List ℕ)
+    → canonical t ≡ record { mark = Cont; text = t } ∷ []
+    → line_text (record { level = level; xref = xref; tag = tag; raw = escaped t }) ≡ node_text
+    (record { line = line; level = level; xref = xref; tag = tag; value = Text t })
+text_one line level xref tag t h =
+    rw h (sym (append-nil (line_text (record { level = level; xref = xref; tag = tag; raw = escaped t }))))

@@ -13,7 +13,8 @@ record Other (t : List ℕ) : Type 0 where
   gedcom : bytes_eq t (codes "GEDC") ≡ false
   version : bytes_eq t (codes "VERS") ≡ false
 
-by_tag : (P : List ℕ → Type 0) (t : List ℕ) → is_continuation t ≡ false → P (codes "CHAR") → P (codes "GEDC") → P (codes "VERS") → (Other t → P t) → P t
+by_tag : (P : List ℕ → Type 0) (t : List ℕ) → is_continuation t ≡ false → P (codes "CHAR") → P (codes "GEDC")
+    → P (codes "VERS") → (Other t → P t) → P t
 by_tag P t own a b c d = elim (cases_bool (bytes_eq t (codes "CHAR"))) [
   | inl e ↦ rw ((bytes_eq-Decides t (codes "CHAR")).0 e) a
   | inr e ↦ elim (cases_bool (bytes_eq t (codes "GEDC"))) [
@@ -26,16 +27,20 @@ by_tag P t own a b c d = elim (cases_bool (bytes_eq t (codes "CHAR"))) [
 ]
 
 pub own_role : (t : List ℕ) → is_continuation t ≡ false → is_continued (role_of t) ≡ false
-own_role t own = by_tag (λ x. is_continued (role_of x) ≡ false) t own refl refl refl (λ o. rw (o.own, o.charset, o.gedcom, o.version) refl)
+own_role t own = by_tag (λ x. is_continued (role_of x) ≡ false) t own refl refl refl
+    (λ o. rw (o.own, o.charset, o.gedcom, o.version) refl)
 
 pub charset_role : (t : List ℕ) → is_continuation t ≡ false → is_charset_tag (role_of t) ≡ bytes_eq t (codes "CHAR")
-charset_role t own = by_tag (λ x. is_charset_tag (role_of x) ≡ bytes_eq x (codes "CHAR")) t own refl refl refl (λ o. rw (o.own, o.charset, o.gedcom, o.version) refl)
+charset_role t own = by_tag (λ x. is_charset_tag (role_of x) ≡ bytes_eq x (codes "CHAR")) t own refl refl refl
+    (λ o. rw (o.own, o.charset, o.gedcom, o.version) refl)
 
 pub gedcom_role : (t : List ℕ) → is_continuation t ≡ false → is_gedcom_tag (role_of t) ≡ bytes_eq t (codes "GEDC")
-gedcom_role t own = by_tag (λ x. is_gedcom_tag (role_of x) ≡ bytes_eq x (codes "GEDC")) t own refl refl refl (λ o. rw (o.own, o.charset, o.gedcom, o.version) refl)
+gedcom_role t own = by_tag (λ x. is_gedcom_tag (role_of x) ≡ bytes_eq x (codes "GEDC")) t own refl refl refl
+    (λ o. rw (o.own, o.charset, o.gedcom, o.version) refl)
 
 pub version_role : (t : List ℕ) → is_continuation t ≡ false → is_version_tag (role_of t) ≡ bytes_eq t (codes "VERS")
-version_role t own = by_tag (λ x. is_version_tag (role_of x) ≡ bytes_eq x (codes "VERS")) t own refl refl refl (λ o. rw (o.own, o.charset, o.gedcom, o.version) refl)
+version_role t own = by_tag (λ x. is_version_tag (role_of x) ≡ bytes_eq x (codes "VERS")) t own refl refl refl
+    (λ o. rw (o.own, o.charset, o.gedcom, o.version) refl)
 
 -- a continuation names nothing
 pub continued_charset : (t : List ℕ) → is_continuation t ≡ true → is_charset_tag (role_of t) ≡ false

@@ -1,5 +1,26 @@
 -- The forest that a file reads as is one: HEAD stands first, levels rise by one at most, and its nodes can be written.
-use Rattle.std.proofs.Common.{◌≡◌, ℕ, ◌+◌, ◌≤◌, true, false, eqb, ltb, leb, List, [], ◌∷◌, length, refl, sym, subst, inl, inr, arith, codes}
+use Rattle.std.proofs.Common.{
+  ◌≡◌,
+  ℕ,
+  ◌+◌,
+  ◌≤◌,
+  true,
+  false,
+  eqb,
+  ltb,
+  leb,
+  List,
+  [],
+  ◌∷◌,
+  length,
+  refl,
+  sym,
+  subst,
+  inl,
+  inr,
+  arith,
+  codes,
+}
 use Rattle.std.specs.List.{list_any}
 use Rattle.std.specs.Str.{bytes_eq}
 use Rattle.std.proofs.lemmas.Bool.{eqb-true, le-leb, lt-ltb, not-false}
@@ -40,8 +61,16 @@ tag_kept l i =
     let short : leb (length l.tag) 31 ≡ true = le-leb (length l.tag) 31 i.short in
     rw (i.tag, some, short) refl
 
-fit_node : (n : ℕ) (q : Progress) (l : Parts) (ls : List Parts) → Fit q l → Fits (after q l) ls → is_continuation l.tag ≡ false → IsNodeOf (node_of n l (belongs l.level ls))
-fit_node n q l ls f g own = record { low = low_level l f.line own; tag = tag_kept l f.line; own = own; other = f.other; xref = f.line.xref; value = fit_value q l ls f g }
+fit_node : (n : ℕ) (q : Progress) (l : Parts) (ls : List Parts) → Fit q l → Fits (after q l) ls
+    → is_continuation l.tag ≡ false → IsNodeOf (node_of n l (belongs l.level ls))
+fit_node n q l ls f g own = record {
+  low = low_level l f.line own;
+  tag = tag_kept l f.line;
+  own = own;
+  other = f.other;
+  xref = f.line.xref;
+  value = fit_value q l ls f g;
+}
 
 fits_nodes : (n : ℕ) (q : Progress) (ls : List Parts) → Fits q ls → EachNode (forest_of n ls)
 unfolding forest_of
@@ -96,14 +125,17 @@ clean_head (p ∷ ps) l ls (s, inr h) =
     let head : is_head h.0 ≡ true = not-false (is_head h.0) (unbroken start h.0 h.1.1.0).head in
     subst (λ (m : Parts). is_head m ≡ true) (sym first) head
 
-lines_shaped : (ps : List (List ℕ)) (ls : List Parts) → Clean [] ps ls → Fits start (untrailed ls) → list_any is_trailer ls ≡ true → IsForest (forest_of 1 (untrailed ls))
+lines_shaped : (ps : List (List ℕ)) (ls : List Parts) → Clean [] ps ls → Fits start (untrailed ls)
+    → list_any is_trailer ls ≡ true → IsForest (forest_of 1 (untrailed ls))
 lines_shaped ps [] c f t = absurd cc
 lines_shaped ps (l ∷ ls) c f t =
     let same : untrailed (l ∷ ls) ≡ l ∷ untrailed ls = untrailed_cons l ls (head_other l (clean_head ps l ls c)) in
-    subst (λ (ms : List Parts). IsForest (forest_of 1 ms)) (sym same) (shaped_lines l (untrailed ls) (subst (Fits start) same f))
+    subst (λ (ms : List Parts). IsForest (forest_of 1 ms)) (sym same)
+    (shaped_lines l (untrailed ls) (subst (Fits start) same f))
 
 pub reads_forest : (b : List ℕ) (f : List Item) → ReadsFile b f → IsForest f
 reads_forest b f h =
     let c = clean_fits [] _ h.lines h.clean in
-    let fits : Fits start (untrailed h.lines) = subst (λ (ls : List Parts). Fits start (untrailed ls)) (sym c.1.0) c.1.1 in
+    let fits : Fits start (untrailed h.lines) = subst (λ (ls : List Parts). Fits start (untrailed ls))
+    (sym c.1.0) c.1.1 in
     subst IsForest (reads_computed 1 (untrailed h.lines) f h.forest) (lines_shaped _ h.lines h.clean fits h.ended)

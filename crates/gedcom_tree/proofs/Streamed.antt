@@ -1,5 +1,36 @@
 -- A reader that is fed a file piece by piece answers what the file is.
-use Rattle.std.proofs.Common.{◌≡◌, ℕ, zero, suc, ◌+◌, ◌<◌, ◌≤◌, List, [], ◌∷◌, ◌++◌, length, length-append, append-nil, take, refl, sym, ap, ◌∙◌, subst, inl, inr, ◌⊎◌, arith, Option, Some, None, Ok, Err, Result}
+use Rattle.std.proofs.Common.{
+  ◌≡◌,
+  ℕ,
+  zero,
+  suc,
+  ◌+◌,
+  ◌<◌,
+  ◌≤◌,
+  List,
+  [],
+  ◌∷◌,
+  ◌++◌,
+  length,
+  length-append,
+  append-nil,
+  take,
+  refl,
+  sym,
+  ap,
+  ◌∙◌,
+  subst,
+  inl,
+  inr,
+  ◌⊎◌,
+  arith,
+  Option,
+  Some,
+  None,
+  Ok,
+  Err,
+  Result,
+}
 use Rattle.std.specs.Prelude.{IfSome, IfOk, IfErr}
 use Rattle.std.specs.Io.KnownBytes.{Consumes}
 use Rattle.std.proofs.KnownBytes.{Consumes-nil, Consumes-trans}
@@ -26,37 +57,49 @@ finishes_read b (Err f) (inl m) = inl m
 finishes_read b (Err f) (inr h) = inr (fault_of_file b f h, h)
 
 -- what `read_forest` owes
-known_forest : (known : Option (List ℕ)) (bytes : List ℕ) (f : List Item) → IfSome known (λ b. bytes ≡ b) → ReadsFile bytes f → IfSome known (λ b. ReadsFile b f)
+known_forest : (known : Option (List ℕ)) (bytes : List ℕ) (f : List Item) → IfSome known (λ b. bytes ≡ b)
+    → ReadsFile bytes f → IfSome known (λ b. ReadsFile b f)
 known_forest None bytes f e h = tt
 known_forest (Some b) bytes f e h = subst (λ (x : List ℕ). ReadsFile x f) e h
 
-known_fault : (known : Option (List ℕ)) (bytes : List ℕ) (f : Fault) → IfSome known (λ b. bytes ≡ b) → FaultOf bytes f → IfSome known (λ b. FaultOf b f)
+known_fault : (known : Option (List ℕ)) (bytes : List ℕ) (f : Fault) → IfSome known (λ b. bytes ≡ b) → FaultOf bytes f
+    → IfSome known (λ b. FaultOf b f)
 known_fault None bytes f e h = tt
 known_fault (Some b) bytes f e h = subst (λ (x : List ℕ). FaultOf x f) e h
 
-known_refused : (known : Option (List ℕ)) (bytes : List ℕ) (Failed : Type 0) (f : Fault) → IfSome known (λ b. bytes ≡ b) → ReadAs bytes (Err f) → NotRead known Failed f
+known_refused : (known : Option (List ℕ)) (bytes : List ℕ) (Failed : Type 0) (f : Fault) → IfSome known (λ b. bytes ≡ b)
+    → ReadAs bytes (Err f) → NotRead known Failed f
 known_refused known bytes Failed f e (inl m) = inl m
 known_refused known bytes Failed f e (inr h) = inr (inr (h.0, known_fault known bytes f e h.1))
 
-pub unread_refused : (known : Option (List ℕ)) (Failed : Type 0) (f : Fault) → IsLineless OutOfMemory f ⊎ (IsLineless ReadFailed f × Failed) → NotRead known Failed f
+pub unread_refused : (known : Option (List ℕ)) (Failed : Type 0) (f : Fault) → IsLineless OutOfMemory f
+    ⊎ (IsLineless ReadFailed f × Failed) → NotRead known Failed f
 unread_refused known Failed f (inl m) = inl m
 unread_refused known Failed f (inr h) = inr (inl h)
 
 -- each file that goes on so has the fault that is decided
-known_decided : (known left : Option (List ℕ)) (bytes : List ℕ) (f : Fault) → Consumes known left bytes → Decides bytes f → IfSome known (λ b. FaultOf b f)
+known_decided : (known left : Option (List ℕ)) (bytes : List ℕ) (f : Fault) → Consumes known left bytes
+    → Decides bytes f → IfSome known (λ b. FaultOf b f)
 known_decided None left bytes f e h = tt
 known_decided (Some b) None bytes f e h = absurd e
 known_decided (Some b) (Some c) bytes f e h = subst (λ (x : List ℕ). FaultOf x f) (sym e) (stays_decided bytes c f h)
 
-decided_refused : (known left : Option (List ℕ)) (bytes : List ℕ) (Failed : Type 0) (f : Fault) → Consumes known left bytes → IsLineless OutOfMemory f ⊎ Decides bytes f → NotRead known Failed f
+decided_refused : (known left : Option (List ℕ)) (bytes : List ℕ) (Failed : Type 0) (f : Fault)
+    → Consumes known left bytes → IsLineless OutOfMemory f ⊎ Decides bytes f → NotRead known Failed f
 decided_refused known left bytes Failed f e (inl m) = inl m
-decided_refused known left bytes Failed f e (inr h) = inr (inr (decides_of_file bytes f h, known_decided known left bytes f e h))
+decided_refused known left bytes Failed f e (inr h) =
+    inr (inr (decides_of_file bytes f h, known_decided known left bytes f e h))
 
-pub fed_refused : (known mid left : Option (List ℕ)) (old new : Reader) (total : ℕ) (piece : List ℕ) (Failed : Type 0) (f : Fault) → Feeds known mid old total → Consumes mid left piece → ((b : List ℕ) → Holds old b → Takes new (b ++ piece) (Some f)) → NotRead known Failed f
-fed_refused known mid left old new total piece Failed f h e t = decided_refused known left (h.bytes ++ piece) Failed f (Consumes-trans known mid left h.bytes piece h.read e) (t h.bytes h.holds).1
+pub fed_refused : (known mid left : Option (List ℕ)) (old new : Reader) (total : ℕ) (piece : List ℕ) (Failed : Type 0)
+    (f : Fault) → Feeds known mid old total → Consumes mid left piece
+    → ((b : List ℕ) → Holds old b → Takes new (b ++ piece) (Some f)) → NotRead known Failed f
+fed_refused known mid left old new total piece Failed f h e t = decided_refused known left (h.bytes ++ piece) Failed f
+    (Consumes-trans known mid left h.bytes piece h.read e) (t h.bytes h.holds).1
 
 -- one piece more
-pub fed_more : (known mid left : Option (List ℕ)) (old new : Reader) (total more : ℕ) (piece : List ℕ) → Feeds known mid old total → Consumes mid left piece → more ≡ length piece → ((b : List ℕ) → Holds old b → Takes new (b ++ piece) None) → Feeds known left new (total + more)
+pub fed_more : (known mid left : Option (List ℕ)) (old new : Reader) (total more : ℕ) (piece : List ℕ)
+    → Feeds known mid old total → Consumes mid left piece → more ≡ length piece
+    → ((b : List ℕ) → Holds old b → Takes new (b ++ piece) None) → Feeds known left new (total + more)
 fed_more known mid left old new total more piece h e n t = record {
   bytes = h.bytes ++ piece;
   holds = (t h.bytes h.holds).0;
@@ -65,8 +108,16 @@ fed_more known mid left old new total more piece h e n t = record {
 }
 
 -- not more than a file may have
-pub fed_small : (known mid left : Option (List ℕ)) (old new : Reader) (total more : ℕ) (piece : List ℕ) → Feeds known mid old total → more ≡ length piece → ((b : List ℕ) → Holds old b → Takes new (b ++ piece) None) → total + more ≤ max_file
-fed_small known mid left old new total more piece h n t = omega (arith, h.count, n, length-append h.bytes piece, decided_small (h.bytes ++ piece) (open_undecided (h.bytes ++ piece) (t h.bytes h.holds).1))
+pub fed_small : (known mid left : Option (List ℕ)) (old new : Reader) (total more : ℕ) (piece : List ℕ)
+    → Feeds known mid old total → more ≡ length piece → ((b : List ℕ) → Holds old b → Takes new (b ++ piece) None)
+    → total + more ≤ max_file
+fed_small known mid left old new total more piece h n t = omega (
+  arith,
+  h.count,
+  n,
+  length-append h.bytes piece,
+  decided_small (h.bytes ++ piece) (open_undecided (h.bytes ++ piece) (t h.bytes h.holds).1),
+)
 
 -- no byte is left
 at_end : (n : ℕ) (left : List ℕ) → 0 < n → [] ≡ take n left → left ≡ []
@@ -74,27 +125,38 @@ at_end n [] h e = refl
 at_end zero (x ∷ xs) h e = absurd (omega (arith, h))
 at_end (suc n) (x ∷ xs) h e = absurd cc
 
-pub fed_all : (known mid : Option (List ℕ)) (r : Reader) (total most : ℕ) (piece : List ℕ) → Feeds known mid r total → 0 < most → piece ≡ [] → IfSome mid (λ b. piece ≡ take most b) → HasFed known r
-fed_all known mid r total most piece h s e k = record { bytes = h.bytes; holds = h.holds; all = whole known mid h.bytes h.read k }
+pub fed_all : (known mid : Option (List ℕ)) (r : Reader) (total most : ℕ) (piece : List ℕ) → Feeds known mid r total
+    → 0 < most → piece ≡ [] → IfSome mid (λ b. piece ≡ take most b) → HasFed known r
+fed_all known mid r total most piece h s e k = record {
+  bytes = h.bytes;
+  holds = h.holds;
+  all = whole known mid h.bytes h.read k;
+}
   where
-    whole : (known mid : Option (List ℕ)) (bytes : List ℕ) → Consumes known mid bytes → IfSome mid (λ b. piece ≡ take most b) → IfSome known (λ b. bytes ≡ b)
+    whole : (known mid : Option (List ℕ)) (bytes : List ℕ) → Consumes known mid bytes
+        → IfSome mid (λ b. piece ≡ take most b) → IfSome known (λ b. bytes ≡ b)
     whole None mid bytes c k = tt
     whole (Some b) None bytes c k = absurd c
-    whole (Some b) (Some l) bytes c k = sym (c ∙ ap (λ (x : List ℕ). bytes ++ x) (at_end most l s (sym e ∙ k)) ∙ append-nil bytes)
+    whole (Some b) (Some l) bytes c k =
+        sym (c ∙ ap (λ (x : List ℕ). bytes ++ x) (at_end most l s (sym e ∙ k)) ∙ append-nil bytes)
 
 pub fed_none : (known : Option (List ℕ)) (r : Reader) → Holds r [] → Feeds known known r 0
 fed_none known r h = record { bytes = []; holds = h; read = Consumes-nil known; count = refl }
 
 -- a reader that was fed all answers what the file is
-pub forest_read : (known : Option (List ℕ)) (bytes : List ℕ) (r : Result (List Item) TreeFault) → IfSome known (λ b. bytes ≡ b) → Finishes bytes (outcome r) → IfOk r (λ f. IfSome known (λ b. ReadsFile b f))
+pub forest_read : (known : Option (List ℕ)) (bytes : List ℕ) (r : Result (List Item) TreeFault)
+    → IfSome known (λ b. bytes ≡ b) → Finishes bytes (outcome r) → IfOk r (λ f. IfSome known (λ b. ReadsFile b f))
 forest_read known bytes (Ok f) e h = known_forest known bytes f e h
 forest_read known bytes (Err f) e h = tt
 
-pub forest_refused : (known : Option (List ℕ)) (Failed : Type 0) (bytes : List ℕ) (r : Result (List Item) TreeFault) → IfSome known (λ b. bytes ≡ b) → Finishes bytes (outcome r) → IfErr r (λ f. NotRead known Failed (fault_view f))
+pub forest_refused : (known : Option (List ℕ)) (Failed : Type 0) (bytes : List ℕ) (r : Result (List Item) TreeFault)
+    → IfSome known (λ b. bytes ≡ b) → Finishes bytes (outcome r) → IfErr r (λ f. NotRead known Failed (fault_view f))
 forest_refused known Failed bytes (Ok f) e h = tt
-forest_refused known Failed bytes (Err f) e h = known_refused known bytes Failed (fault_view f) e (finishes_read bytes (Err (fault_view f)) h)
+forest_refused known Failed bytes (Err f) e h = known_refused known bytes Failed (fault_view f) e
+    (finishes_read bytes (Err (fault_view f)) h)
 
-pub forest_shaped : (bytes : List ℕ) (r : Result (List Item) TreeFault) → Finishes bytes (outcome r) → IfOk r (λ f. IsForest f)
+pub forest_shaped : (bytes : List ℕ) (r : Result (List Item) TreeFault) → Finishes bytes (outcome r)
+    → IfOk r (λ f. IsForest f)
 forest_shaped bytes (Ok f) h = reads_forest bytes f h
 forest_shaped bytes (Err f) h = tt
 

@@ -20,7 +20,8 @@ untrailed_all (l ∷ ls) h =
     let n = neither (is_trailer l) (list_any is_trailer ls) h in
     untrailed_cons l ls n.0 ∙ ap (λ (x : List Parts). l ∷ x) (untrailed_all ls n.1)
 
-pub untrailed-push : (ls : List Parts) (l : Parts) → list_any is_trailer ls ≡ false → untrailed (ls ++ l ∷ []) ≡ ls ++ cond (is_trailer l) [] (l ∷ [])
+pub untrailed-push : (ls : List Parts) (l : Parts) → list_any is_trailer ls ≡ false
+    → untrailed (ls ++ l ∷ []) ≡ ls ++ cond (is_trailer l) [] (l ∷ [])
 untrailed-push [] l h = elim (cases_bool (is_trailer l)) [
   | inl e ↦ untrailed_trailer l [] e ∙ rw e refl
   | inr e ↦ untrailed_cons l [] e ∙ rw e refl

@@ -1,5 +1,38 @@
--- The values of lines are values of nodes: texts of UTF-8 without U+0000 and CR that are not too long, and cross references.
-use Rattle.std.proofs.Common.{◌≡◌, ℕ, ◌+◌, ◌<◌, Bool, true, false, cond, eqb, ltb, ◌&&◌, List, [], ◌∷◌, ◌++◌, length, get_or, take, length-append, append_assoc, refl, sym, ap, ◌∙◌, subst, inl, inr, arith, Some, None, codes}
+-- The values of lines are values of nodes: texts of UTF-8 without U+0000 and CR that are not too long, and cross
+-- references.
+use Rattle.std.proofs.Common.{
+  ◌≡◌,
+  ℕ,
+  ◌+◌,
+  ◌<◌,
+  Bool,
+  true,
+  false,
+  cond,
+  eqb,
+  ltb,
+  ◌&&◌,
+  List,
+  [],
+  ◌∷◌,
+  ◌++◌,
+  length,
+  get_or,
+  take,
+  length-append,
+  append_assoc,
+  refl,
+  sym,
+  ap,
+  ◌∙◌,
+  subst,
+  inl,
+  inr,
+  arith,
+  Some,
+  None,
+  codes,
+}
 use Rattle.std.specs.Char.{encode_utf8, IsScalar}
 use lib.Utf8.{scalar}
 use Rattle.std.specs.Option.{option_map_or}
@@ -9,7 +42,18 @@ use Rattle.std.proofs.lemmas.Bool.{eqb-true, cases_eq}
 use Rattle.std.proofs.lemmas.Bool.Decides.{nat_tests}
 use Rattle.std.proofs.lemmas.List.{append-nil}
 use Rattle.std.proofs.Math.Seq.{get_or-append_seam, take-append_seam, drop-append_seam}
-use Rattle.std.proofs.lemmas.Str.{IsUtf8-append, IsUtf8-nil, IsUtf8-encode, IsUtf8-take, IsUtf8-drop, inside_one, encode_ascii, IsCharBoundary-before_ascii, IsCharBoundary-after_ascii, IsUtf8-from_ascii}
+use Rattle.std.proofs.lemmas.Str.{
+  IsUtf8-append,
+  IsUtf8-nil,
+  IsUtf8-encode,
+  IsUtf8-take,
+  IsUtf8-drop,
+  inside_one,
+  encode_ascii,
+  IsCharBoundary-before_ascii,
+  IsCharBoundary-after_ascii,
+  IsUtf8-from_ascii,
+}
 use Rattle.std.proofs.lemmas.Str.Ascii.{IsAscii-cons, IsAscii-nil}
 use Rattle.gedcom_line.specs.Reading.{Parts, is_continuation}
 use Rattle.gedcom_line.specs.Escape.{NoAt, unescaped, past_pair}
@@ -32,16 +76,19 @@ one_utf8 : (c : ℕ) (t : List ℕ) → c < 128 → IsUtf8 t → IsUtf8 (c ∷ t
 one_utf8 c t h u = IsUtf8-append (c ∷ []) t (IsUtf8-from_ascii (c ∷ []) (IsAscii-cons c [] h IsAscii-nil)) u
 
 char_no_at : (c : ℕ) → (c ≡ 64 → ⊥) → NoAt (encode_utf8 c)
-char_no_at c h = λ i lt e. h (inside_one c [] (encode_utf8 c) i (sym (append-nil (encode_utf8 c))) lt (omega (arith, e)) ∙ e)
+char_no_at c h = λ i lt e. h (inside_one c [] (encode_utf8 c) i (sym (append-nil (encode_utf8 c))) lt
+    (omega (arith, e)) ∙ e)
 
-past_front : (front rest : List ℕ) → NoAt front → IsUtf8 (unescaped (front ++ rest)) → IsUtf8 (unescaped (past_pair rest)) → IsUtf8 (unescaped (past_pair (front ++ rest)))
+past_front : (front rest : List ℕ) → NoAt front → IsUtf8 (unescaped (front ++ rest))
+    → IsUtf8 (unescaped (past_pair rest)) → IsUtf8 (unescaped (past_pair (front ++ rest)))
 past_front [] rest n a b = b
 past_front (x ∷ xs) rest n a b =
     let e : eqb x 64 ≡ false = eqb_false x 64 (n 0 (omega arith)) in
     rw e a
 
 -- both as a value begins, and behind an @
-chars_utf8 : (cs : List ℕ) → all_scalars cs ≡ true → IsUtf8 (unescaped (encode_utf8_all cs)) × IsUtf8 (unescaped (past_pair (encode_utf8_all cs)))
+chars_utf8 : (cs : List ℕ) → all_scalars cs ≡ true → IsUtf8 (unescaped (encode_utf8_all cs))
+    × IsUtf8 (unescaped (past_pair (encode_utf8_all cs)))
 chars_utf8 [] h = (IsUtf8-nil, IsUtf8-nil)
 chars_utf8 (c ∷ cs) h =
     let rest : List ℕ = encode_utf8_all cs in
@@ -49,11 +96,17 @@ chars_utf8 (c ∷ cs) h =
     let k = chars_utf8 cs r.1 in
     elim (cases_eq c 64) [
       | inl e ↦
-          let one : encode_utf8 c ++ rest ≡ 64 ∷ rest = ap (λ (x : ℕ). encode_utf8 x ++ rest) e ∙ rw (encode_ascii 64 (omega arith)) refl in
-          rw one (subst IsUtf8 (sym (unescaped_at rest)) (one_utf8 64 (unescaped (past_pair rest)) (omega arith) k.1), k.0)
+          let one : encode_utf8 c ++ rest ≡ 64 ∷ rest = ap (λ (x : ℕ). encode_utf8 x ++ rest) e
+          ∙ rw (encode_ascii 64 (omega arith)) refl in
+          rw one (
+            subst IsUtf8 (sym (unescaped_at rest)) (one_utf8 64 (unescaped (past_pair rest)) (omega arith) k.1),
+            k.0,
+          )
       | inr n ↦
           let none : NoAt (encode_utf8 c) = char_no_at c n in
-          let all : IsUtf8 (unescaped (encode_utf8 c ++ rest)) = subst IsUtf8 (sym (unescaped_skip (encode_utf8 c) rest none)) (IsUtf8-append (encode_utf8 c) (unescaped rest) (IsUtf8-encode c r.0) k.0) in
+          let all : IsUtf8 (unescaped (encode_utf8 c ++ rest)) = subst IsUtf8
+          (sym (unescaped_skip (encode_utf8 c) rest none))
+          (IsUtf8-append (encode_utf8 c) (unescaped rest) (IsUtf8-encode c r.0) k.0) in
           (all, past_front (encode_utf8 c) rest none all k.1)
     ]
 
@@ -86,7 +139,8 @@ all-append p (x ∷ xs) b h k =
     let r = both (p x) (list_all p xs) h in
     rw (r.0, all-append p xs b r.1 k) refl
 
-pub all_parts : (p : ℕ → Bool) (a b : List ℕ) → list_all p (a ++ b) ≡ true → (list_all p a ≡ true) × (list_all p b ≡ true)
+pub all_parts : (p : ℕ → Bool) (a b : List ℕ) → list_all p (a ++ b) ≡ true → (list_all p a ≡ true)
+    × (list_all p b ≡ true)
 all_parts p [] b h = (refl, h)
 all_parts p (x ∷ xs) b h =
     let r = both (p x) (list_all p (xs ++ b)) h in
@@ -94,7 +148,10 @@ all_parts p (x ∷ xs) b h =
     (rw (r.0, k.0) refl, k.1)
 
 textual-append : (a b : List ℕ) → IsTextual a → IsTextual b → IsTextual (a ++ b)
-textual-append a b h k = record { utf8 = IsUtf8-append a b h.utf8 k.utf8; each = all-append is_textual a b h.each k.each }
+textual-append a b h k = record {
+  utf8 = IsUtf8-append a b h.utf8 k.utf8;
+  each = all-append is_textual a b h.each k.each;
+}
 
 inner_textual : (b : ℕ) → is_inner b ≡ true → is_textual b ≡ true
 inner_textual b h = grind (arith, nat_tests)
@@ -106,14 +163,18 @@ inner_each (x ∷ xs) h =
     rw (inner_textual x r.0, inner_each xs r.1) refl
 
 unescaped_textual : (raw : List ℕ) → IsInner raw → IsTextual (unescaped raw)
-unescaped_textual raw i = record { utf8 = unescaped_utf8 raw i.utf8; each = unescaped_each is_textual raw (inner_each raw i.each) }
+unescaped_textual raw i = record {
+  utf8 = unescaped_utf8 raw i.utf8;
+  each = unescaped_each is_textual raw (inner_each raw i.each);
+}
 
 break_textual : (b : Bool) → IsTextual (cond b (10 ∷ []) [])
 break_textual true = record { utf8 = one_utf8 10 [] (omega arith) IsUtf8-nil; each = refl }
 break_textual false = textual_nil
 
 adds_textual : (l : Parts) → IsInner l.raw → IsTextual (adds l)
-adds_textual l i = textual-append (cond (bytes_eq l.tag (codes "CONT")) (10 ∷ []) []) (unescaped l.raw) (break_textual (bytes_eq l.tag (codes "CONT"))) (unescaped_textual l.raw i)
+adds_textual l i = textual-append (cond (bytes_eq l.tag (codes "CONT")) (10 ∷ []) []) (unescaped l.raw)
+    (break_textual (bytes_eq l.tag (codes "CONT"))) (unescaped_textual l.raw i)
 
 more_textual : (n : ℕ) (q : Progress) (ls : List Parts) → Fits q ls → IsTextual (flat_map adds (belongs n ls))
 more_textual n q [] f = textual_nil
@@ -133,7 +194,8 @@ behind_inner front t i =
     let whole : List ℕ = front ++ 64 ∷ t in
     let at : get_or whole (length front) 0 ≡ 64 = get_or-append_seam front 64 t 0 in
     let size : length whole ≡ length front + length (64 ∷ t) = length-append front (64 ∷ t) in
-    let cut : IsCharBoundary whole (length front) = IsCharBoundary-before_ascii whole (length front) (omega (arith, size)) (omega (arith, at)) in
+    let cut : IsCharBoundary whole (length front) = IsCharBoundary-before_ascii whole (length front)
+    (omega (arith, size)) (omega (arith, at)) in
     record {
       utf8 = subst IsUtf8 (drop-append_seam front (64 ∷ t)) (IsUtf8-drop whole (length front) i.utf8 cut);
       each = (all_parts is_inner front (64 ∷ t) i.each).1;
@@ -147,7 +209,8 @@ up_to_inner name back i =
     let at : get_or t (length (64 ∷ name)) 0 ≡ 64 = get_or-append_seam (64 ∷ name) 64 back 0 in
     let size : length t ≡ length (64 ∷ name) + length (64 ∷ back) = length-append (64 ∷ name) (64 ∷ back) in
     let own : length (64 ∷ name) + 1 ≡ length x = sym (length-append (64 ∷ name) (64 ∷ [])) in
-    let cut : IsCharBoundary t (length x) = subst (IsCharBoundary t) own (IsCharBoundary-after_ascii t (length (64 ∷ name)) i.utf8 (omega (arith, size)) (omega (arith, at))) in
+    let cut : IsCharBoundary t (length x) = subst (IsCharBoundary t) own
+    (IsCharBoundary-after_ascii t (length (64 ∷ name)) i.utf8 (omega (arith, size)) (omega (arith, at))) in
     let parts : t ≡ x ++ back = sym (append_assoc (64 ∷ name) (64 ∷ []) back) in
     let front : take (length x) t ≡ x = ap (take (length x)) parts ∙ take-append_seam x back in
     record {
@@ -157,14 +220,19 @@ up_to_inner name back i =
 
 pub pointer_xref : (raw name : List ℕ) → IsPointer raw name → IsInner raw → IsXref (Some name)
 pointer_xref raw name p i =
-    let from : IsInner (64 ∷ p.inner ++ 64 ∷ p.back) = behind_inner p.front (p.inner ++ 64 ∷ p.back) (subst IsInner p.parts i) in
+    let from : IsInner (64 ∷ p.inner ++ 64 ∷ p.back) = behind_inner p.front (p.inner ++ 64 ∷ p.back)
+    (subst IsInner p.parts i) in
     (p.inner, (p.named, (subst IsInner (sym p.marked) (up_to_inner p.inner p.back from), p.marked)))
 
 -- what a line and those that continue it have as their value
-pub fit_value : (q : Progress) (l : Parts) (ls : List Parts) → Fit q l → Fits (after q l) ls → IsNodeValue (continued (meaning l.raw) (belongs l.level ls))
-fit_value q l ls f g = elim (pointer_in l.raw) as (λ o. pointer_in l.raw ≡ o → IsNodeValue (continued (option_map_or Pointer o (Text l.raw)) (belongs l.level ls))) [
-  | None ↦ λ e.
-      let t = textual-append (unescaped l.raw) (flat_map adds (belongs l.level ls)) (unescaped_textual l.raw f.line.raw) (more_textual l.level (after q l) ls g) in
-      (t.utf8, (t.each, text_le q l ls f g))
-  | Some name ↦ λ e. pointer_xref l.raw name (is_pointer l.raw name e) f.line.raw
-] refl
+pub fit_value : (q : Progress) (l : Parts) (ls : List Parts) → Fit q l → Fits (after q l) ls
+    → IsNodeValue (continued (meaning l.raw) (belongs l.level ls))
+fit_value q l ls f g = elim (pointer_in l.raw) as (λ o. pointer_in l.raw ≡ o
+    → IsNodeValue (continued (option_map_or Pointer o (Text l.raw)) (belongs l.level ls))) [
+      | None ↦ λ e.
+          let t = textual-append (unescaped l.raw) (flat_map adds (belongs l.level ls))
+          (unescaped_textual l.raw f.line.raw)
+          (more_textual l.level (after q l) ls g) in
+          (t.utf8, (t.each, text_le q l ls f g))
+      | Some name ↦ λ e. pointer_xref l.raw name (is_pointer l.raw name e) f.line.raw
+    ] refl

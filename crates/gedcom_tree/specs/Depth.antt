@@ -5,7 +5,8 @@ use Rattle.gedcom_rules.specs.Rules.{Progress, is_continued}
 
 -- so many nodes: a continuation is none
 abbrev pub node_depth : Progress → ℕ
-node_depth p = if p.count == 0 then 0 else (if option_map_or (λ s. is_continued s.role) (p.above p.last) false then p.last else p.last + 1)
+node_depth p = if p.count == 0 then 0 else (if option_map_or (λ s. is_continued s.role)
+    (p.above p.last) false then p.last else p.last + 1)
 
 -- so many are, until the trailer stands
 abbrev pub IsDeep : Progress → ℕ → Type 0

@@ -20,7 +20,13 @@ all_at level (f ∷ fs) = f level ++ all_at level fs
 
 -- one node, with what each child gives at a level in its place
 abbrev pub flat_step : Node-F (ℕ → List Item) → ℕ → List Item
-flat_step n level = record { line = n.line; level = level; xref = option_map string_bytes n.xref; tag = n.tag; value = value_said n.value } ∷ all_at (level + 1) n.children.items
+flat_step n level = record {
+  line = n.line;
+  level = level;
+  xref = option_map string_bytes n.xref;
+  tag = n.tag;
+  value = value_said n.value;
+} ∷ all_at (level + 1) n.children.items
 
 -- the node and all below it, in order
 abbrev pub flat : Node → ℕ → List Item
@@ -32,7 +38,13 @@ flats level ns = all_at level (map flat ns)
 
 -- a node alone
 abbrev pub said : ℕ → Node → Item
-said level n = record { line = (out-Node n).line; level = level; xref = option_map string_bytes (out-Node n).xref; tag = (out-Node n).tag; value = value_said (out-Node n).value }
+said level n = record {
+  line = (out-Node n).line;
+  level = level;
+  xref = option_map string_bytes (out-Node n).xref;
+  tag = (out-Node n).tag;
+  value = value_said (out-Node n).value;
+}
 
 -- The same while a forest is put together.
 

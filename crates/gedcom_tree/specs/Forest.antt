@@ -1,6 +1,25 @@
--- The forest that the lines of a file are, and the lines of a forest (The GEDCOM Standard Release 5.5.1, chapter 1: levels,
--- CONC and CONT).
-use Rattle.std.specs.Prelude.{◌≡◌, ◌⊎◌, ℕ, ◌+◌, true, false, ◌&&◌, ◌==◌, nat_lt, if◌then◌else◌, List, [], ◌∷◌, ◌++◌, map, Option, None, codes}
+-- The forest that the lines of a file are, and the lines of a forest (The GEDCOM Standard Release 5.5.1, chapter 1:
+-- levels, CONC and CONT).
+use Rattle.std.specs.Prelude.{
+  ◌≡◌,
+  ◌⊎◌,
+  ℕ,
+  ◌+◌,
+  true,
+  false,
+  ◌&&◌,
+  ◌==◌,
+  nat_lt,
+  if◌then◌else◌,
+  List,
+  [],
+  ◌∷◌,
+  ◌++◌,
+  map,
+  Option,
+  None,
+  codes,
+}
 use Rattle.std.specs.List.{flat_map, list_all}
 use Rattle.gedcom_line.specs.Reading.{Parts, is_continuation}
 use Rattle.gedcom_line.specs.Escape.{escaped, unescaped}
@@ -36,7 +55,9 @@ abbrev pub Reads : ℕ → List Parts → List Item → Type 0
 Reads n [] f = f ≡ []
 Reads n (l ∷ ls) f =
     ((is_continuation l.tag ≡ true) × Reads (n + 1) ls f)
-    ⊎ ((is_continuation l.tag ≡ false) × ((i : Item) × ((rest : List Item) × ((f ≡ i ∷ rest) × (IsNode n l (belongs l.level ls) i × Reads (n + 1) ls rest)))))
+    ⊎ ((is_continuation l.tag ≡ false)
+    × ((i : Item) × ((rest : List Item)
+    × ((f ≡ i ∷ rest) × (IsNode n l (belongs l.level ls) i × Reads (n + 1) ls rest)))))
 
 -- The same by computing.
 
@@ -45,11 +66,18 @@ continued (Text raw) more = Text (unescaped raw ++ flat_map adds more)
 continued (Pointer p) more = Pointer p
 
 abbrev pub node_of : ℕ → Parts → List Parts → Item
-node_of n l more = record { line = n; level = l.level; xref = l.xref; tag = l.tag; value = continued (meaning l.raw) more }
+node_of n l more = record {
+  line = n;
+  level = l.level;
+  xref = l.xref;
+  tag = l.tag;
+  value = continued (meaning l.raw) more;
+}
 
 unfoldable pub forest_of : ℕ → List Parts → List Item
 forest_of n [] = []
-forest_of n (l ∷ ls) = if is_continuation l.tag then forest_of (n + 1) ls else node_of n l (belongs l.level ls) ∷ forest_of (n + 1) ls
+forest_of n (l ∷ ls) = if is_continuation l.tag then forest_of (n + 1) ls else node_of n l (belongs l.level ls)
+    ∷ forest_of (n + 1) ls
 
 -- One line more.
 
@@ -65,7 +93,8 @@ longer_node t i = record { line = i.line; level = i.level; xref = i.xref; tag = 
 -- the text of the last node of the level gets longer, where only deeper ones stand behind it
 abbrev pub extended : ℕ → List ℕ → List Item → List Item
 extended n t [] = []
-extended n t (i ∷ is) = (if i.level == n && list_all (λ j. nat_lt n j.level) is then longer_node t i else i) ∷ extended n t is
+extended n t (i ∷ is) = (if i.level == n && list_all (λ j. nat_lt n j.level) is then longer_node t i else i)
+    ∷ extended n t is
 
 -- The lines of a forest.
 

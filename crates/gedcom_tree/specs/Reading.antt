@@ -1,5 +1,29 @@
 -- How a file is judged and read, one piece after another: the same as File says, by computing.
-use Rattle.std.specs.Prelude.{ℕ, zero, suc, ◌+◌, Bool, false, not, ◌&&◌, ◌||◌, ◌==◌, if◌then◌else◌, List, [], ◌∷◌, ◌++◌, length, Option, Some, None, Result, Ok, Err, ◌-◌}
+use Rattle.std.specs.Prelude.{
+  ℕ,
+  zero,
+  suc,
+  ◌+◌,
+  Bool,
+  false,
+  not,
+  ◌&&◌,
+  ◌||◌,
+  ◌==◌,
+  if◌then◌else◌,
+  List,
+  [],
+  ◌∷◌,
+  ◌++◌,
+  length,
+  Option,
+  Some,
+  None,
+  Result,
+  Ok,
+  Err,
+  ◌-◌,
+}
 use Rattle.std.specs.List.{list_any}
 use Rattle.std.specs.Str.{bytes_eq}
 use Rattle.gedcom_line.specs.Reading.{Parts, is_continuation, reading}
@@ -108,8 +132,8 @@ abbrev pub traced : Result Trace Fault → Result Progress Fault
 traced (Ok t) = Ok (progress_from t)
 traced (Err f) = Err f
 
--- What bytes leave: what the lines that have ended leave, or their first fault; their nodes; the line that has not ended;
--- how many bytes there were; and the fault that the reader answers from then on.
+-- What bytes leave: what the lines that have ended leave, or their first fault; their nodes; the line that has not
+-- ended; how many bytes there were; and the fault that the reader answers from then on.
 pub record Reader : Type 0 where
   pub seen : Result Trace Fault
   pub nodes : Nodes

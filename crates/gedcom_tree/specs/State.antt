@@ -16,7 +16,8 @@ abbrev pub Takes : Reader → List ℕ → Option Fault → Type 0
 Takes new b None = Holds new b × IsOpen b
 Takes new b (Some f) = (new.answer ≡ Some f) × (IsLineless OutOfMemory f ⊎ Decides b f)
 
--- What `finish` answers where these were the bytes fed: the forest that they read as, or their fault. Memory may be wanting.
+-- What `finish` answers where these were the bytes fed: the forest that they read as, or their fault. Memory may be
+-- wanting.
 abbrev pub Finishes : List ℕ → Result (List Item) Fault → Type 0
 Finishes b (Ok f) = ReadsFile b f
 Finishes b (Err f) = IsLineless OutOfMemory f ⊎ FaultOf b f

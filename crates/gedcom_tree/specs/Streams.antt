@@ -31,7 +31,8 @@ IsOfFile _ = Unit {0}
 -- why no forest was read: memory, or the reader, which has failed in this call, or the fault of the bytes
 abbrev pub NotRead : Option (List ℕ) → Type 0 → Fault → Type 0
 NotRead known Failed f =
-    IsLineless OutOfMemory f ⊎ ((IsLineless ReadFailed f × Failed) ⊎ (IsOfFile f.kind × IfSome known (λ b. FaultOf b f)))
+    IsLineless OutOfMemory f
+    ⊎ ((IsLineless ReadFailed f × Failed) ⊎ (IsOfFile f.kind × IfSome known (λ b. FaultOf b f)))
 
 -- a reader of a file has been fed all that there was, and has answered no fault
 pub record HasFed (known : Option (List ℕ)) (r : Reader) : Type 0 where

@@ -1,5 +1,28 @@
 -- What a forest is, and its one text.
-use Rattle.std.specs.Prelude.{◌≡◌, ℕ, ◌+◌, ◌≤◌, Bool, true, false, not, ◌&&◌, ◌==◌, nat_lt, nat_le, if◌then◌else◌, List, [], ◌∷◌, ◌++◌, length, map, codes, Some, None}
+use Rattle.std.specs.Prelude.{
+  ◌≡◌,
+  ℕ,
+  ◌+◌,
+  ◌≤◌,
+  Bool,
+  true,
+  false,
+  not,
+  ◌&&◌,
+  ◌==◌,
+  nat_lt,
+  nat_le,
+  if◌then◌else◌,
+  List,
+  [],
+  ◌∷◌,
+  ◌++◌,
+  length,
+  map,
+  codes,
+  Some,
+  None,
+}
 use Rattle.std.specs.Option.{option_map_or}
 use Rattle.std.specs.List.{flat_map, list_all, list_any, count_by}
 use Rattle.std.specs.Str.{bytes_eq, IsUtf8}
@@ -68,14 +91,15 @@ abbrev pub is_version_node : Meaning → Bool
 is_version_node (Text t) = is_version t && not (list_any (λ b. b == 10) t)
 is_version_node (Pointer p) = true
 
--- Nodes of the header, up to the next level 0, name a character set and a version that are read: CHAR at level 1, and VERS
--- at level 2 below GEDC; under_gedc says that the last node of level 1 is GEDC.
+-- Nodes of the header, up to the next level 0, name a character set and a version that are read: CHAR at level 1, and
+-- VERS at level 2 below GEDC; under_gedc says that the last node of level 1 is GEDC.
 abbrev pub keeps_header : Bool → Bool → List Item → Bool
 keeps_header in_head under_gedc [] = true
 keeps_header in_head under_gedc (i ∷ is) =
     not (in_head && i.level == 1 && bytes_eq i.tag (codes "CHAR") && not (is_charset_node i.value))
     && not (in_head && i.level == 2 && bytes_eq i.tag (codes "VERS") && under_gedc && not (is_version_node i.value))
-    && keeps_header (in_head && not (i.level == 0)) (if i.level == 1 then bytes_eq i.tag (codes "GEDC") else under_gedc) is
+    && keeps_header (in_head && not (i.level == 0))
+    (if i.level == 1 then bytes_eq i.tag (codes "GEDC") else under_gedc) is
 
 -- the node has the cross reference
 abbrev pub is_called : List ℕ → Item → Bool

@@ -1,6 +1,29 @@
 //! The lines of a file that have ended, one after another.
 
-ghost use Rattle.std.specs.Prelude.{◌≡◌, ◌⊎◌, ℕ, ◌+◌, ◌<◌, ◌≤◌, ◌^◌, ◌∷◌, [], true, false, None, Ok, Err, MatchResult, IfOk, IfErr, OnOk, option_map, length, string_bytes, if◌then◌else◌};
+ghost use Rattle.std.specs.Prelude.{
+  ◌≡◌,
+  ◌⊎◌,
+  ℕ,
+  ◌+◌,
+  ◌<◌,
+  ◌≤◌,
+  ◌^◌,
+  ◌∷◌,
+  [],
+  true,
+  false,
+  None,
+  Ok,
+  Err,
+  MatchResult,
+  IfOk,
+  IfErr,
+  OnOk,
+  option_map,
+  length,
+  string_bytes,
+  if◌then◌else◌,
+};
 ghost use Rattle.gedcom_line.specs.Line.{IsPiece};
 ghost use Rattle.gedcom_line.specs.Reading.{is_continuation, parts};
 ghost use Rattle.gedcom_rules.specs.Pieces.{pieces};
@@ -45,7 +68,8 @@ fn add_line(
     ensures added { OnOk result (built growing.new.roots.items growing.new.path.items
         ≡ grow_line number (built growing.old.roots.items growing.old.path.items) (parts line.now)) }
     ensures depth { OnOk result (trailer_test (parts line.now) ≡ false
-        → length growing.new.path.items ≡ (if is_continuation line.now.tag.now then line.now.level else line.now.level + 1)) }
+        → length growing.new.path.items
+        ≡ (if is_continuation line.now.tag.now then line.now.level else line.now.level + 1)) }
     ensures trailer { OnOk result (option_map string_bytes trailer.new
         ≡ (if trailer_test (parts line.now) then (parts line.now).xref else option_map string_bytes trailer.old)) }
 {

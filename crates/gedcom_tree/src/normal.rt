@@ -55,7 +55,8 @@ fn feed_all<R: Read + Device>(
 ) -> Result<(), TreeFault>
     requires { Holds lines.old [] }
     ensures fed { OnOk result (HasFed (R.remaining reader.old) lines.new) }
-    ensures fault { IfErr result (λ f. NotRead (R.remaining reader.old) (Rose before (R.failed reader.new)) (fault_view f)) }
+    ensures fault { IfErr result (λ f. NotRead (R.remaining reader.old) (Rose before (R.failed reader.new))
+        (fault_view f)) }
 {
     let mut total = 0usize;
     'pieces: loop {

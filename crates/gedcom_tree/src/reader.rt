@@ -1,6 +1,34 @@
 //! The reader of a file in pieces.
 
-ghost use Rattle.std.specs.Prelude.{◌≡◌, ◌⊎◌, ◌+◌, ◌-◌, ◌<◌, ◌≤◌, ◌^◌, ◌++◌, ◌∷◌, ℕ, List, [], Option, None, Some, Ok, Err, true, ◌==◌, MatchOption, IfOk, IfErr, OnOk, length, take, slice_get, option_map};
+ghost use Rattle.std.specs.Prelude.{
+  ◌≡◌,
+  ◌⊎◌,
+  ◌+◌,
+  ◌-◌,
+  ◌<◌,
+  ◌≤◌,
+  ◌^◌,
+  ◌++◌,
+  ◌∷◌,
+  ℕ,
+  List,
+  [],
+  Option,
+  None,
+  Some,
+  Ok,
+  Err,
+  true,
+  ◌==◌,
+  MatchOption,
+  IfOk,
+  IfErr,
+  OnOk,
+  length,
+  take,
+  slice_get,
+  option_map,
+};
 ghost use Rattle.gedcom_line.specs.Line.{IsPiece};
 ghost use Rattle.gedcom_rules.specs.Pieces.{pieces, skip_mark as unmarked, from_start};
 ghost use Rattle.gedcom_rules.specs.Faults.{IsLineless, max_line};
@@ -188,7 +216,8 @@ impl Model for TreeReader {
 
     ghost view = { λ r. reader_view r.lines r.rest.items r.total (option_map fault_view r.fault) };
 
-    ghost invariant = { λ r. (length r.rest.items ≤ 65_536) × (r.fault ≡ None → IsReading r.lines r.rest.items r.total) };
+    ghost invariant = { λ r. (length r.rest.items ≤ 65_536)
+        × (r.fault ≡ None → IsReading r.lines r.rest.items r.total) };
 }
 
 impl TreeReader {

@@ -6,7 +6,8 @@ use arrayvec::ArrayString;
 use std::alloc::{AllocError, Global};
 use std::marker::Model;
 
-/// The most bytes of a tag that lie in the node itself. Usual tags have 3 or 4, and those of other programs mostly no more than 8.
+/// The most bytes of a tag that lie in the node itself. Usual tags have 3 or 4, and those of other programs mostly no
+/// more than 8.
 const SHORT: usize = 8;
 
 /// Where the bytes of a tag lie.

@@ -1,6 +1,23 @@
 //! The text of a forest.
 
-ghost use Rattle.std.specs.Prelude.{◌≡◌, ◌⊎◌, ◌++◌, ◌+◌, ◌<◌, ◌≤◌, ◌∷◌, [], true, OnOk, OnErr, IfErr, string_bytes, option_map, map, length};
+ghost use Rattle.std.specs.Prelude.{
+  ◌≡◌,
+  ◌⊎◌,
+  ◌++◌,
+  ◌+◌,
+  ◌<◌,
+  ◌≤◌,
+  ◌∷◌,
+  [],
+  true,
+  OnOk,
+  OnErr,
+  IfErr,
+  string_bytes,
+  option_map,
+  map,
+  length,
+};
 ghost use Rattle.std.specs.List.{flat_map, list_all};
 ghost use Rattle.std.specs.Io.KnownBytes.{Appends};
 ghost use Rattle.gedcom_line.specs.Escape.{escaped};

@@ -21,14 +21,16 @@ keeps (Some bytes) = refl
 abbrev wanting : Fault
 wanting = record { kind = OutOfMemory; at = None }
 
-pub norm_wanting : (status : ℕ) (known old : Option (List ℕ)) (ReaderFailed WriterFailed : Type 0) → status ≡ 1 → NormEnds status known old old ReaderFailed WriterFailed
+pub norm_wanting : (status : ℕ) (known old : Option (List ℕ)) (ReaderFailed WriterFailed : Type 0) → status ≡ 1
+    → NormEnds status known old old ReaderFailed WriterFailed
 norm_wanting status known old ReaderFailed WriterFailed e = record {
   bound = omega arith;
   done = λ none. absurd (omega arith);
   refused = λ _. (wanting, inl (inl (refl, refl), keeps old));
 }
 
-pub check_wanting : (status : ℕ) (known old : Option (List ℕ)) (ReaderFailed WriterFailed : Type 0) → status ≡ 1 → CheckEnds status known old old ReaderFailed WriterFailed
+pub check_wanting : (status : ℕ) (known old : Option (List ℕ)) (ReaderFailed WriterFailed : Type 0) → status ≡ 1
+    → CheckEnds status known old old ReaderFailed WriterFailed
 check_wanting status known old ReaderFailed WriterFailed e = record {
   bound = omega arith;
   done = λ none. absurd (omega arith);
@@ -51,8 +53,10 @@ module _ {D : Type 0} {g : disk.Ghosts D} (image : Image) where
     refused = λ _. (refusal.OutOfMemory, inl (refl, refl, keeps old));
   }
 
-  init_by : {A : Type 0} (r : Result A RefusalKind) (society : List ℕ) (status : ℕ) (left : Option (Held (FileStore D g))) → status ≡ (if is_ok r then 0 else 1)
-      → OnOk r (IsMadeIn society left) → IfErr r (λ kind. Unmade image society kind left) → InitEnds image society status left
+  init_by : {A : Type 0} (r : Result A RefusalKind) (society : List ℕ) (status : ℕ)
+      (left : Option (Held (FileStore D g))) → status ≡ (if is_ok r then 0 else 1)
+      → OnOk r (IsMadeIn society left) → IfErr r (λ kind. Unmade image society kind left)
+      → InitEnds image society status left
   init_by (Ok a) society status left e made unmade = record {
     bound = omega (arith, e);
     done = λ zero. made;
@@ -64,8 +68,10 @@ module _ {D : Type 0} {g : disk.Ghosts D} (image : Image) where
     refused = λ one. (kind, unmade);
   }
 
-  apply_by : {A : Type 0} (r : Result A RefusalKind) (status : ℕ) (input old new : Option (List ℕ)) (ReaderFailed WriterFailed : Type 0) (left : Option (Held (FileStore D g)))
-      → status ≡ (if is_ok r then 0 else 1) → OnOk r (Answered image input old new left) → IfErr r (λ kind. Unanswered image kind input old new ReaderFailed WriterFailed left)
+  apply_by : {A : Type 0} (r : Result A RefusalKind) (status : ℕ) (input old new : Option (List ℕ))
+      (ReaderFailed WriterFailed : Type 0) (left : Option (Held (FileStore D g)))
+      → status ≡ (if is_ok r then 0 else 1) → OnOk r (Answered image input old new left)
+      → IfErr r (λ kind. Unanswered image kind input old new ReaderFailed WriterFailed left)
       → ApplyEnds image status input old new ReaderFailed WriterFailed left
   apply_by (Ok a) status input old new ReaderFailed WriterFailed left e all part = record {
     bound = omega (arith, e);
@@ -79,15 +85,20 @@ module _ {D : Type 0} {g : disk.Ghosts D} (image : Image) where
   }
 
   -- the same of the society that the words name, and of the connection as it is handed on
-  pub init_ends : {A : Type 0} (r : Result A RefusalKind) (given named : List ℕ) (status : ℕ) (left back : Option (Held (FileStore D g))) → given ≡ named → back ≡ left
-      → status ≡ (if is_ok r then 0 else 1) → OnOk r (IsMadeIn given left) → IfErr r (λ kind. Unmade image given kind left) → InitEnds image named status back
+  pub init_ends : {A : Type 0} (r : Result A RefusalKind) (given named : List ℕ) (status : ℕ)
+      (left back : Option (Held (FileStore D g))) → given ≡ named → back ≡ left
+      → status ≡ (if is_ok r then 0 else 1) → OnOk r (IsMadeIn given left)
+      → IfErr r (λ kind. Unmade image given kind left) → InitEnds image named status back
   init_ends r given named status left back is same e made unmade =
       subst (λ (x : Option (Held (FileStore D g))). InitEnds image named status x) (sym same)
       (subst (λ (x : List ℕ). InitEnds image x status left) is (init_by r given status left e made unmade))
 
-  pub apply_ends : {A : Type 0} (r : Result A RefusalKind) (status : ℕ) (input old new : Option (List ℕ)) (ReaderFailed WriterFailed : Type 0) (left back : Option (Held (FileStore D g)))
+  pub apply_ends : {A : Type 0} (r : Result A RefusalKind) (status : ℕ) (input old new : Option (List ℕ))
+      (ReaderFailed WriterFailed : Type 0) (left back : Option (Held (FileStore D g)))
       → back ≡ left → status ≡ (if is_ok r then 0 else 1) → OnOk r (Answered image input old new left)
-      → IfErr r (λ kind. Unanswered image kind input old new ReaderFailed WriterFailed left) → ApplyEnds image status input old new ReaderFailed WriterFailed back
+      → IfErr r (λ kind. Unanswered image kind input old new ReaderFailed WriterFailed left)
+      → ApplyEnds image status input old new ReaderFailed WriterFailed back
   apply_ends r status input old new ReaderFailed WriterFailed left back same e all part =
-      subst (λ (x : Option (Held (FileStore D g))). ApplyEnds image status input old new ReaderFailed WriterFailed x) (sym same)
+      subst (λ (x : Option (Held (FileStore D g))). ApplyEnds image status input old new ReaderFailed WriterFailed x)
+      (sym same)
       (apply_by r status input old new ReaderFailed WriterFailed left e all part)

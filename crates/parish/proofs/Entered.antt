@@ -14,11 +14,13 @@ use Rattle.parish.specs.Ends.{EntriesEnds, IsToldBatch, IsUntoldBatch}
 use Rattle.parish.proofs.Ending.{keeps}
 
 -- ---- the status, by what was told
-pub told_at : {A E P : Type 0} (r : Result A E) (status : ℕ) → status ≡ (if is_ok r then 0 else 1) → OnOk r P → status ≡ 0 → P
+pub told_at : {A E P : Type 0} (r : Result A E) (status : ℕ) → status ≡ (if is_ok r then 0 else 1) → OnOk r P
+    → status ≡ 0 → P
 told_at (Ok a) status e h zero = h
 told_at (Err x) status e h zero = absurd (omega (arith, e, zero))
 
-pub untold_at : {A E : Type 0} {P : E → Type 0} (r : Result A E) (status : ℕ) → status ≡ (if is_ok r then 0 else 1) → IfErr r P → status ≡ 1 → (e : E) × P e
+pub untold_at : {A E : Type 0} {P : E → Type 0} (r : Result A E) (status : ℕ) → status ≡ (if is_ok r then 0 else 1)
+    → IfErr r P → status ≡ 1 → (e : E) × P e
 untold_at (Ok a) status e h one = absurd (omega (arith, e, one))
 untold_at (Err x) status e h one = (x, h)
 
@@ -34,7 +36,8 @@ if_err_of : {A E : Type 0} (P : E → Type 0) (r : Result A E) (e : E) → r ≡
 if_err_of P r e is h = subst (λ x. IfErr x P) is h
 
 module _ {D : Type 0} {g : disk.Ghosts D} (image : Image) where
-  pub entries_wanting : (token : List ℕ) (source status : ℕ) (input old : Option (List ℕ)) (ReaderFailed WriterFailed : Type 0) → status ≡ 1
+  pub entries_wanting : (token : List ℕ) (source status : ℕ) (input old : Option (List ℕ))
+      (ReaderFailed WriterFailed : Type 0) → status ≡ 1
       → EntriesEnds {D = D} {g = g} image token source status input old old ReaderFailed WriterFailed None
   entries_wanting token source status input old ReaderFailed WriterFailed e = record {
     bound = omega (arith, e);
@@ -42,8 +45,10 @@ module _ {D : Type 0} {g : disk.Ghosts D} (image : Image) where
     refused = λ _. (placeless OutOfMemory, inl (inl (refl, inl refl), keeps old));
   }
 
-  entries_by : (o : Outcome) (token : List ℕ) (source status : ℕ) (input old new : Option (List ℕ)) (ReaderFailed WriterFailed : Type 0) (left : Option (Held (FileStore D g)))
-      → status ≤ 1 → IfOk o (λ a. Entered image token source input (Ok a) left) → IfErr o (λ e. Unentered image token source input e ReaderFailed left)
+  entries_by : (o : Outcome) (token : List ℕ) (source status : ℕ) (input old new : Option (List ℕ))
+      (ReaderFailed WriterFailed : Type 0) (left : Option (Held (FileStore D g)))
+      → status ≤ 1 → IfOk o (λ a. Entered image token source input (Ok a) left)
+      → IfErr o (λ e. Unentered image token source input e ReaderFailed left)
       → (status ≡ 0 → IsToldBatch o old new) → (status ≡ 1 → (e : Refusal) × IsUntoldBatch o e old new WriterFailed)
       → EntriesEnds image token source status input old new ReaderFailed WriterFailed left
   entries_by o token source status input old new ReaderFailed WriterFailed left bound made unmade told untold = record {
@@ -60,13 +65,17 @@ module _ {D : Type 0} {g : disk.Ghosts D} (image : Image) where
   }
 
   -- the same of the token and the source that the words name, and of the connection as it is handed on
-  pub entries_ends : (o : Outcome) (token named : List ℕ) (source numbered status : ℕ) (input old new : Option (List ℕ)) (ReaderFailed WriterFailed : Type 0) (left back : Option (Held (FileStore D g)))
+  pub entries_ends : (o : Outcome) (token named : List ℕ) (source numbered status : ℕ) (input old new : Option (List ℕ))
+      (ReaderFailed WriterFailed : Type 0) (left back : Option (Held (FileStore D g)))
       → token ≡ named → source ≡ numbered → back ≡ left → status ≤ 1
-      → IfOk o (λ a. Entered image token source input (Ok a) left) → IfErr o (λ e. Unentered image token source input e ReaderFailed left)
+      → IfOk o (λ a. Entered image token source input (Ok a) left)
+      → IfErr o (λ e. Unentered image token source input e ReaderFailed left)
       → (status ≡ 0 → IsToldBatch o old new) → (status ≡ 1 → (e : Refusal) × IsUntoldBatch o e old new WriterFailed)
       → EntriesEnds image named numbered status input old new ReaderFailed WriterFailed back
-  entries_ends o token named source numbered status input old new ReaderFailed WriterFailed left back is number same bound made unmade told untold =
-      subst (λ (x : Option (Held (FileStore D g))). EntriesEnds image named numbered status input old new ReaderFailed WriterFailed x) (sym same)
+  entries_ends o token named source numbered status input old new ReaderFailed WriterFailed left back is number same
+      bound made unmade told untold =
+      subst (λ (x : Option (Held (FileStore D g))). EntriesEnds image named numbered status input old new ReaderFailed
+      WriterFailed x) (sym same)
       (subst (λ (n : ℕ). EntriesEnds image named n status input old new ReaderFailed WriterFailed left) number
       (subst (λ (t : List ℕ). EntriesEnds image t source status input old new ReaderFailed WriterFailed left) is
       (entries_by o token source status input old new ReaderFailed WriterFailed left bound made unmade told untold)))

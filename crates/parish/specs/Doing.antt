@@ -1,4 +1,5 @@
--- How the commands end on their streams: by the bytes of the reader and of the writer before and after, and by their counts of failures.
+-- How the commands end on their streams: by the bytes of the reader and of the writer before and after, and by their
+-- counts of failures.
 use Rattle.std.specs.Prelude.{ℕ, List, Option}
 use Rattle.std.specs.declared.io.Read as read
 use Rattle.std.specs.declared.io.Write as write
@@ -11,7 +12,8 @@ use Rattle.devices.specs.declared.device.Device as device
 use Rattle.batch_reading.specs.Input.{row_bytes}
 use Rattle.parish.specs.Ends.{ApplyEnds, CheckEnds, EntriesEnds, NormEnds}
 
-module _ {R W : Type 0} (reader : read.Ghosts R) (reads : device.Ghosts R) (writer : write.Ghosts W) (writes : device.Ghosts W) where
+module _ {R W : Type 0} (reader : read.Ghosts R) (reads : device.Ghosts R) (writer : write.Ghosts W)
+    (writes : device.Ghosts W) where
   -- the reader failed between the two, by its count; the writer did
   abbrev pub HasReadFailed : R → R → Type 0
   HasReadFailed input rest = Rose (reads.failed input) (reads.failed rest)
@@ -21,17 +23,23 @@ module _ {R W : Type 0} (reader : read.Ghosts R) (reads : device.Ghosts R) (writ
 
   abbrev pub Normalises : ℕ → R → R → W → W → Type 0
   Normalises status input rest output written =
-      NormEnds status (reader.remaining input) (writer.contents output) (writer.contents written) (HasReadFailed input rest) (HasWriteFailed output written)
+      NormEnds status (reader.remaining input) (writer.contents output) (writer.contents written)
+      (HasReadFailed input rest) (HasWriteFailed output written)
 
   abbrev pub Checks : ℕ → R → R → W → W → Type 0
   Checks status input rest output written =
-      CheckEnds status (reader.remaining input) (writer.contents output) (writer.contents written) (HasReadFailed input rest) (HasWriteFailed output written)
+      CheckEnds status (reader.remaining input) (writer.contents output) (writer.contents written)
+      (HasReadFailed input rest) (HasWriteFailed output written)
 
-  abbrev pub Applies : {D : Type 0} {g : disk.Ghosts D} → Image → ℕ → R → R → W → W → Option (Held (FileStore D g)) → Type 0
+  abbrev pub Applies : {D : Type 0} {g : disk.Ghosts D} → Image → ℕ → R → R → W → W
+      → Option (Held (FileStore D g)) → Type 0
   Applies image status input rest output written left =
-      ApplyEnds image status (row_bytes (reader.remaining input)) (writer.contents output) (writer.contents written) (HasReadFailed input rest) (HasWriteFailed output written) left
+      ApplyEnds image status (row_bytes (reader.remaining input)) (writer.contents output) (writer.contents written)
+      (HasReadFailed input rest) (HasWriteFailed output written) left
 
   -- a batch under this token, of this source
-  abbrev pub EntersBatch : {D : Type 0} {g : disk.Ghosts D} → Image → List ℕ → ℕ → ℕ → R → R → W → W → Option (Held (FileStore D g)) → Type 0
-  EntersBatch image token source status input rest output written left = EntriesEnds image token source status (row_bytes (reader.remaining input))
+  abbrev pub EntersBatch : {D : Type 0} {g : disk.Ghosts D} → Image → List ℕ → ℕ → ℕ → R → R → W → W
+      → Option (Held (FileStore D g)) → Type 0
+  EntersBatch image token source status input rest output written left = EntriesEnds image token source status
+      (row_bytes (reader.remaining input))
       (writer.contents output) (writer.contents written) (HasReadFailed input rest) (HasWriteFailed output written) left

@@ -40,8 +40,8 @@ abbrev pub source_in : List (List ℕ) → ℕ
 source_in words = number_of (word_in (subcommand_of program words) (codes "source"))
 
 -- ---- norm
--- why it was not done: no forest was read, and nothing is written; or a beginning of its text is. The first type says that
--- the reader failed in this call, the second that the writer did
+-- why it was not done: no forest was read, and nothing is written; or a beginning of its text is. The first type says
+-- that the reader failed in this call, the second that the writer did
 abbrev pub Unfinished : Option (List ℕ) → Option (List ℕ) → Option (List ℕ) → Type 0 → Type 0 → Fault → Type 0
 Unfinished known old new ReaderFailed WriterFailed f =
     (NotRead known ReaderFailed f × Keeps old new) ⊎ Begun known old new WriterFailed f
@@ -83,7 +83,8 @@ pub record CheckEnds (status : ℕ) (known old new : Option (List ℕ)) (ReaderF
 
 -- ---- what is told of a batch
 abbrev pub made_text : Answer → List ℕ
-made_text answer = codes "made " ++ (decimal answer.count ++ (codes " entries, first " ++ (decimal answer.first ++ 10 ∷ [])))
+made_text answer = codes "made "
+    ++ (decimal answer.count ++ (codes " entries, first " ++ (decimal answer.first ++ 10 ∷ [])))
 
 -- no memory was found to form its line, or the writer failed
 abbrev pub IsUnwritten : Type 0 → Refusal → Type 0
@@ -97,7 +98,8 @@ pub record TellsPart (answer : Answer) (e : Refusal) (old new : Option (List ℕ
 -- why the line of a batch was not told: the batch was refused so, and nothing is written; or a beginning of it is
 abbrev pub IsUntoldBatch : Outcome → Refusal → Option (List ℕ) → Option (List ℕ) → Type 0 → Type 0
 IsUntoldBatch outcome e old new WriterFailed =
-    ((outcome ≡ Err e) × Keeps old new) ⊎ ((answer : Answer) × (outcome ≡ Ok answer) × TellsPart answer e old new WriterFailed)
+    ((outcome ≡ Err e) × Keeps old new)
+    ⊎ ((answer : Answer) × (outcome ≡ Ok answer) × TellsPart answer e old new WriterFailed)
 
 -- the batch was entered, and its line was told
 abbrev pub IsToldBatch : Outcome → Option (List ℕ) → Option (List ℕ) → Type 0
@@ -106,7 +108,8 @@ IsToldBatch outcome old new = (answer : Answer) × (outcome ≡ Ok answer) × Ap
 module _ {D : Type 0} {g : disk.Ghosts D} where
   -- ---- init
   -- 0 where the file that was opened has the new archive of this society, 1 where there is a reason why none was made
-  pub record InitEnds (image : Image) (society : List ℕ) (status : ℕ) (left : Option (Held (FileStore D g))) : Type 0 where
+  pub record InitEnds (image : Image) (society : List ℕ) (status : ℕ)
+      (left : Option (Held (FileStore D g))) : Type 0 where
     pub bound : status ≤ 1
     pub done : status ≡ 0 → IsMadeIn society left
     pub refused : status ≡ 1 → (kind : RefusalKind) × Unmade image society kind left
@@ -116,19 +119,24 @@ module _ {D : Type 0} {g : disk.Ghosts D} where
   abbrev pub IsWanting : RefusalKind → Option (List ℕ) → Option (List ℕ) → Option (Held (FileStore D g)) → Type 0
   IsWanting kind old new left = (kind ≡ OutOfMemory) × (left ≡ None) × Keeps old new
 
-  -- 0 where all rows of the input were served on the archive that the file held, and answered. 1 where no archive was taken up, and
-  -- nothing is written, or where there is a reason why not all rows were served
-  pub record ApplyEnds (image : Image) (status : ℕ) (input old new : Option (List ℕ)) (ReaderFailed WriterFailed : Type 0) (left : Option (Held (FileStore D g))) : Type 0 where
+  -- 0 where all rows of the input were served on the archive that the file held, and answered. 1 where no archive was
+  -- taken up, and nothing is written, or where there is a reason why not all rows were served
+  pub record ApplyEnds (image : Image) (status : ℕ) (input old new : Option (List ℕ))
+      (ReaderFailed WriterFailed : Type 0) (left : Option (Held (FileStore D g))) : Type 0 where
     pub bound : status ≤ 1
     pub done : status ≡ 0 → Answered image input old new left
-    pub refused : status ≡ 1 → (kind : RefusalKind) × (IsWanting kind old new left ⊎ Unanswered image kind input old new ReaderFailed WriterFailed left)
+    pub refused : status ≡ 1 → (kind : RefusalKind)
+        × (IsWanting kind old new left ⊎ Unanswered image kind input old new ReaderFailed WriterFailed left)
 
   -- ---- entries
-  -- 0 where the batch of the input's rows was entered on the archive that the file held, and its line was told. 1 where it was not
-  -- entered, and nothing is written; or where it was, and of its line a beginning was written
-  pub record EntriesEnds (image : Image) (token : List ℕ) (source : ℕ) (status : ℕ) (input old new : Option (List ℕ)) (ReaderFailed WriterFailed : Type 0)
+  -- 0 where the batch of the input's rows was entered on the archive that the file held, and its line was told. 1 where
+  -- it was not entered, and nothing is written; or where it was, and of its line a beginning was written
+  pub record EntriesEnds (image : Image) (token : List ℕ) (source : ℕ) (status : ℕ) (input old new : Option (List ℕ))
+      (ReaderFailed WriterFailed : Type 0)
       (left : Option (Held (FileStore D g))) : Type 0 where
     pub bound : status ≤ 1
-    pub done : status ≡ 0 → (answer : Answer) × Entered image token source input (Ok answer) left × Appends old new (made_text answer)
+    pub done : status ≡ 0 → (answer : Answer) × Entered image token source input (Ok answer) left
+        × Appends old new (made_text answer)
     pub refused : status ≡ 1 → (e : Refusal) × ((Unentered image token source input e ReaderFailed left × Keeps old new)
-        ⊎ ((answer : Answer) × Entered image token source input (Ok answer) left × TellsPart answer e old new WriterFailed))
+        ⊎ ((answer : Answer) × Entered image token source input (Ok answer) left
+        × TellsPart answer e old new WriterFailed))

@@ -15,8 +15,8 @@ use sqlite::Start;
 use std::alloc::{AllocError, Global};
 use std::io::Write;
 
-/// The status of a batch that was entered on an archive in a file, after its line on the output, or of one that was not, after the
-/// line of its refusal, with the row that is to blame. The connection is handed on.
+/// The status of a batch that was entered on an archive in a file, after its line on the output, or of one that was
+/// not, after the line of its refusal, with the row that is to blame. The connection is handed on.
 pub(crate) fn entered<S: Start, W: Write + Device, F: Write + Device>(
     alloc: Global,
     done: (Result<Answer, Refusal>, Option<OpenFile<S>>),
@@ -25,7 +25,8 @@ pub(crate) fn entered<S: Start, W: Write + Device, F: Write + Device>(
 ) -> (u8, Option<OpenFile<S>>)
     ensures status { result.0 ≤ 1 }
     ensures told { result.0 ≡ 0 → IsToldBatch done.0 (W.contents output.old) (W.contents output.new) }
-    ensures untold { result.0 ≡ 1 → (e : Refusal) × IsUntoldBatch done.0 e (W.contents output.old) (W.contents output.new)
+    ensures untold { result.0 ≡ 1 → (e : Refusal) × IsUntoldBatch done.0 e (W.contents output.old)
+        (W.contents output.new)
         (Rose (W.failed output.old) (W.failed output.new)) }
     ensures done { result.0 ≡ 0 → faults.new ≡ faults.old }
     ensures left { result.1 ≡ done.1 }

@@ -1,6 +1,20 @@
 //! What a command line does, over any streams, and its exit status.
 
-ghost use Rattle.std.specs.Prelude.{◌≡◌, ◌≢◌, ◌≤◌, codes, if◌then◌else◌, is_ok, map, string_bytes, IfErr, None, OnOk, OnErr, Some};
+ghost use Rattle.std.specs.Prelude.{
+  ◌≡◌,
+  ◌≢◌,
+  ◌≤◌,
+  codes,
+  if◌then◌else◌,
+  is_ok,
+  map,
+  string_bytes,
+  IfErr,
+  None,
+  OnOk,
+  OnErr,
+  Some,
+};
 ghost use Rattle.std.specs.Io.KnownBytes.{Appends};
 ghost use Rattle.std.specs.IoError.{error_kind};
 ghost use Rattle.sqlite_wal.specs.Files.{image_at};
@@ -35,8 +49,8 @@ const WRITE_FAILED: TreeFault = TreeFault {
     at: None,
 };
 
-/// Does what the words ask for, the program's name first, and gives the exit status, with the connection over the archive's file
-/// where one was opened. Who calls closes it.
+/// Does what the words ask for, the program's name first, and gives the exit status, with the connection over the
+/// archive's file where one was opened. Who calls closes it.
 ///
 /// Results go to `output`, a refusal goes to `faults` as one line. Where `faults` fails too, the
 /// status tells alone. Where the words are refused nothing is read, and nothing written elsewhere.
@@ -57,11 +71,14 @@ pub fn command<S: Start, R: Read + Device, W: Write + Device, F: Write + Device>
     ensures check { AreOf (map string_bytes words.now) (codes "check")
         → Checks R.Read R.Device W.Write W.Device result.0 input.old input.new output.old output.new }
     ensures init { AreOf (map string_bytes words.now) (codes "init")
-        → InitEnds (image_at S.Start) (society_in (map string_bytes words.now)) result.0 result.1 × (input.new ≡ input.old) × (output.new ≡ output.old) }
+        → InitEnds (image_at S.Start) (society_in (map string_bytes words.now)) result.0 result.1
+        × (input.new ≡ input.old) × (output.new ≡ output.old) }
     ensures apply { AreOf (map string_bytes words.now) (codes "apply")
-        → Applies R.Read R.Device W.Write W.Device (image_at S.Start) result.0 input.old input.new output.old output.new result.1 }
+        → Applies R.Read R.Device W.Write W.Device (image_at S.Start) result.0 input.old input.new output.old
+        output.new result.1 }
     ensures entries { AreOf (map string_bytes words.now) (codes "entries")
-        → EntersBatch R.Read R.Device W.Write W.Device (image_at S.Start) (token_in (map string_bytes words.now)) (source_in (map string_bytes words.now))
+        → EntersBatch R.Read R.Device W.Write W.Device (image_at S.Start) (token_in (map string_bytes words.now))
+        (source_in (map string_bytes words.now))
         result.0 input.old input.new output.old output.new result.1 }
     ensures others { ¬ (IsTaken (map string_bytes words.now)) → input.new ≡ input.old }
 {
@@ -72,7 +89,8 @@ pub fn command<S: Start, R: Read + Device, W: Write + Device, F: Write + Device>
     }
 }
 
-/// Does what was asked for, and gives the exit status, with the connection over the archive's file where one was opened.
+/// Does what was asked for, and gives the exit status, with the connection over the archive's file where one was
+/// opened.
 fn work<S: Start, R: Read + Device, W: Write + Device, F: Write + Device>(
     rt: &HostRuntime,
     asked: Asked<'_>,
@@ -88,11 +106,14 @@ fn work<S: Start, R: Read + Device, W: Write + Device, F: Write + Device>(
     ensures check { name_of asked.entry ≡ Some (codes "check")
         → Checks R.Read R.Device W.Write W.Device result.0 input.old input.new output.old output.new }
     ensures init { (found : _) → HasWords found asked.entry → name_of asked.entry ≡ Some (codes "init")
-        → InitEnds (image_at S.Start) (word_in found (codes "society")) result.0 result.1 × (input.new ≡ input.old) × (output.new ≡ output.old) }
+        → InitEnds (image_at S.Start) (word_in found (codes "society")) result.0 result.1 × (input.new ≡ input.old)
+        × (output.new ≡ output.old) }
     ensures apply { name_of asked.entry ≡ Some (codes "apply")
-        → Applies R.Read R.Device W.Write W.Device (image_at S.Start) result.0 input.old input.new output.old output.new result.1 }
+        → Applies R.Read R.Device W.Write W.Device (image_at S.Start) result.0 input.old input.new output.old
+        output.new result.1 }
     ensures entries { (found : _) → HasWords found asked.entry → name_of asked.entry ≡ Some (codes "entries")
-        → EntersBatch R.Read R.Device W.Write W.Device (image_at S.Start) (word_in found (codes "token")) (number_of (word_in found (codes "source")))
+        → EntersBatch R.Read R.Device W.Write W.Device (image_at S.Start) (word_in found (codes "token"))
+        (number_of (word_in found (codes "source")))
         result.0 input.old input.new output.old output.new result.1 }
     ensures text { name_of asked.entry ≡ None → input.new ≡ input.old }
 {
@@ -165,7 +186,8 @@ fn count_records<R: Read + Device, W: Write + Device>(
         (W.contents output.old) (W.contents output.new)) }
     ensures err { IfErr result (λ f. Untold (R.remaining input.old)
         (W.contents output.old) (W.contents output.new)
-        (Rose (R.failed input.old) (R.failed input.new)) (Rose (W.failed output.old) (W.failed output.new)) (fault_view f)) }
+        (Rose (R.failed input.old) (R.failed input.new)) (Rose (W.failed output.old) (W.failed output.new))
+        (fault_view f)) }
 {
     let forest = match read_forest(alloc, input) {
         Ok(forest) => forest,

@@ -1,7 +1,7 @@
 //! The program `parish`: the words of its command line, on the standard streams.
 //!
-//! It uses `command_line`, `gedcom_tree` and `archive_commands`. What it does is in `command`, over any streams and whatever the file of
-//! an archive holds.
+//! It uses `command_line`, `gedcom_tree` and `archive_commands`. What it does is in `command`, over any streams and
+//! whatever the file of an archive holds.
 #![tactic(auto)]
 
 mod batches;

@@ -1,5 +1,32 @@
 -- A text is normal part by part: each is without spaces at its ends, and one space is behind each comma.
-use Rattle.std.proofs.Common.{◌≡◌, ◌≢◌, ℕ, zero, suc, ◌+◌, ◌≤◌, ◌<◌, List, [], ◌∷◌, ◌++◌, length, map, true, false, ◌==◌, cond, refl, sym, ap, ◌∙◌, ◌↔◌, inl, inr, arith}
+use Rattle.std.proofs.Common.{
+  ◌≡◌,
+  ◌≢◌,
+  ℕ,
+  zero,
+  suc,
+  ◌+◌,
+  ◌≤◌,
+  ◌<◌,
+  List,
+  [],
+  ◌∷◌,
+  ◌++◌,
+  length,
+  map,
+  true,
+  false,
+  ◌==◌,
+  cond,
+  refl,
+  sym,
+  ap,
+  ◌∙◌,
+  ◌↔◌,
+  inl,
+  inr,
+  arith,
+}
 use Rattle.std.specs.Prelude.{codes, IsTrue}
 use Rattle.std.specs.List.{onto_first, count_by}
 use Rattle.std.proofs.lemmas.List.{append_cancel_left, length-append}
@@ -25,20 +52,24 @@ first_is_none b bs h = not_it b 44 (h 0 (omega arith))
 parts_cut : (part after : List ℕ) → Without 44 part → parts (part ++ (44 ∷ after)) ≡ part ∷ parts after
 parts_cut [] after h = refl
 parts_cut (b ∷ bs) after h =
-    slice_split-cons_no (λ c. c == 44) b (bs ++ (44 ∷ after)) (first_is_none b bs h) ∙ ap (onto_first b) (parts_cut bs after (behind_first b bs h))
+    slice_split-cons_no (λ c. c == 44) b (bs ++ (44 ∷ after)) (first_is_none b bs h) ∙ ap (onto_first b)
+    (parts_cut bs after (behind_first b bs h))
 
 pub parts_alone : (t : List ℕ) → Without 44 t → parts t ≡ t ∷ []
 parts_alone [] h = refl
-parts_alone (b ∷ bs) h = slice_split-cons_no (λ c. c == 44) b bs (first_is_none b bs h) ∙ ap (onto_first b) (parts_alone bs (behind_first b bs h))
+parts_alone (b ∷ bs) h = slice_split-cons_no (λ c. c == 44) b bs (first_is_none b bs h)
+    ∙ ap (onto_first b) (parts_alone bs (behind_first b bs h))
 
 pub parts_some : (xs : List ℕ) → (y : List ℕ) × (ys : List (List ℕ)) × (parts xs ≡ y ∷ ys)
 parts_some [] = ([], [], refl)
-parts_some (x ∷ xs) = elim (x == 44) as (λ b. (y : List ℕ) × (ys : List (List ℕ)) × (cond b ([] ∷ parts xs) (onto_first x (parts xs)) ≡ y ∷ ys)) [
-  | true ↦ ([], parts xs, refl)
-  | false ↦ let s = parts_some xs in (x ∷ s.0, s.1, ap (onto_first x) s.2)
-]
+parts_some (x ∷ xs) = elim (x == 44) as (λ b. (y : List ℕ) × (ys : List (List ℕ))
+    × (cond b ([] ∷ parts xs) (onto_first x (parts xs)) ≡ y ∷ ys)) [
+      | true ↦ ([], parts xs, refl)
+      | false ↦ let s = parts_some xs in (x ∷ s.0, s.1, ap (onto_first x) s.2)
+    ]
 
-onto_both : (x : ℕ) (xs ys : List (List ℕ)) (y : List ℕ) (more : List (List ℕ)) → xs ≡ y ∷ more → onto_first x (xs ++ ys) ≡ onto_first x xs ++ ys
+onto_both : (x : ℕ) (xs ys : List (List ℕ)) (y : List ℕ) (more : List (List ℕ)) → xs ≡ y ∷ more
+    → onto_first x (xs ++ ys) ≡ onto_first x xs ++ ys
 onto_both x xs ys y more e = ap (λ l. onto_first x (l ++ ys)) e ∙ sym (ap (λ l. onto_first x l ++ ys) e)
 
 parts_both : (xs ys : List ℕ) → parts (xs ++ (44 ∷ ys)) ≡ parts xs ++ parts ys
@@ -46,25 +77,30 @@ parts_both [] ys = refl
 parts_both (x ∷ xs) ys =
     let s = parts_some xs in
     ap (λ l. cond (x == 44) ([] ∷ l) (onto_first x l)) (parts_both xs ys)
-    ∙ elim (x == 44) as (λ b. cond b ([] ∷ (parts xs ++ parts ys)) (onto_first x (parts xs ++ parts ys)) ≡ cond b ([] ∷ parts xs) (onto_first x (parts xs)) ++ parts ys) [
+    ∙ elim (x == 44) as (λ b. cond b ([] ∷ (parts xs ++ parts ys)) (onto_first x (parts xs ++ parts ys))
+    ≡ cond b ([] ∷ parts xs) (onto_first x (parts xs)) ++ parts ys) [
       | true ↦ refl
       | false ↦ onto_both x (parts xs) (parts ys) s.0 s.1 s.2
     ]
 
-onto_length : (x : ℕ) (ys : List (List ℕ)) (y : List ℕ) (more : List (List ℕ)) → ys ≡ y ∷ more → length (onto_first x ys) ≡ length ys
+onto_length : (x : ℕ) (ys : List (List ℕ)) (y : List ℕ) (more : List (List ℕ)) → ys ≡ y ∷ more
+    → length (onto_first x ys) ≡ length ys
 onto_length x ys y more e = ap (λ l. length (onto_first x l)) e ∙ sym (ap length e)
 
 -- a path below another has the parts of both
-pub parts_below : (name above : List ℕ) → length (parts (path_below name above)) ≡ length (parts name) + length (parts above)
+pub parts_below : (name above : List ℕ) → length (parts (path_below name above)) ≡ length (parts name)
+    + length (parts above)
 parts_below name above =
     let s = parts_some above in
-    ap length (parts_both name (32 ∷ above)) ∙ length-append (parts name) (parts (32 ∷ above)) ∙ ap (λ k. length (parts name) + k) (onto_length 32 (parts above) s.0 s.1 s.2)
+    ap length (parts_both name (32 ∷ above)) ∙ length-append (parts name) (parts (32 ∷ above))
+    ∙ ap (λ k. length (parts name) + k) (onto_length 32 (parts above) s.0 s.1 s.2)
 
 pub count_is : (t : List ℕ) → length (parts t) ≡ count_by (λ b. b == 44) t + 1
 count_is t = length-slice_split (λ b. b == 44) t
 
 -- ---- normal texts
-spaced : (ys : List (List ℕ)) (y : List ℕ) (more : List (List ℕ)) → ys ≡ y ∷ more → map trimmed (onto_first 32 ys) ≡ map trimmed ys
+spaced : (ys : List (List ℕ)) (y : List ℕ) (more : List (List ℕ)) → ys ≡ y ∷ more
+    → map trimmed (onto_first 32 ys) ≡ map trimmed ys
 spaced ys y more e = ap (λ l. map trimmed (onto_first 32 l)) e ∙ sym (ap (map trimmed) e)
 
 -- a space in front is none of the text made normal
@@ -72,13 +108,17 @@ behind_space : (t : List ℕ) → normal (32 ∷ t) ≡ normal t
 unfolding normal
 behind_space t = let s = parts_some t in ap joined (spaced (parts t) s.0 s.1 s.2)
 
-joined_two : (x : List ℕ) (ys : List (List ℕ)) (y : List ℕ) (more : List (List ℕ)) → ys ≡ y ∷ more → joined (trimmed x ∷ map trimmed ys) ≡ trimmed x ++ (codes ", " ++ joined (map trimmed ys))
-joined_two x ys y more e = ap (λ l. joined (trimmed x ∷ map trimmed l)) e ∙ sym (ap (λ l. trimmed x ++ (codes ", " ++ joined (map trimmed l))) e)
+joined_two : (x : List ℕ) (ys : List (List ℕ)) (y : List ℕ) (more : List (List ℕ)) → ys ≡ y ∷ more
+    → joined (trimmed x ∷ map trimmed ys) ≡ trimmed x ++ (codes ", " ++ joined (map trimmed ys))
+joined_two x ys y more e = ap (λ l. joined (trimmed x ∷ map trimmed l)) e
+    ∙ sym (ap (λ l. trimmed x ++ (codes ", " ++ joined (map trimmed l))) e)
 
-normal_cut : (part after : List ℕ) → Without 44 part → normal (part ++ (44 ∷ after)) ≡ trimmed part ++ (44 ∷ (32 ∷ normal after))
+normal_cut : (part after : List ℕ) → Without 44 part → normal (part ++ (44 ∷ after)) ≡ trimmed part
+    ++ (44 ∷ (32 ∷ normal after))
 unfolding normal
 normal_cut part after h =
-    let s = parts_some after in ap (λ l. joined (map trimmed l)) (parts_cut part after h) ∙ joined_two part (parts after) s.0 s.1 s.2
+    let s = parts_some after in ap (λ l. joined (map trimmed l)) (parts_cut part after h)
+    ∙ joined_two part (parts after) s.0 s.1 s.2
 
 -- a text without comma
 pub normal_alone : (t : List ℕ) → Without 44 t → normal t ≡ trimmed t
@@ -92,38 +132,47 @@ tail_of a b xs ys e = cc
 head_of : (a b : ℕ) (xs ys : List ℕ) → a ∷ xs ≡ b ∷ ys → a ≡ b
 head_of a b xs ys e = cc
 
-pub goes_on : (t part after next : List ℕ) → t ≡ part ++ (44 ∷ after) → Without 44 part → trimmed part ≡ part → after ≡ 32 ∷ next → IsNormal t ↔ IsNormal next
+pub goes_on : (t part after next : List ℕ) → t ≡ part ++ (44 ∷ after) → Without 44 part → trimmed part ≡ part
+    → after ≡ 32 ∷ next → IsNormal t ↔ IsNormal next
 goes_on t part after next is h same e =
     let made : normal t ≡ part ++ (44 ∷ (32 ∷ normal next)) =
     ap normal (is ∙ ap (λ x. part ++ (44 ∷ x)) e) ∙ normal_cut part (32 ∷ next) h
     ∙ ap (λ x. x ++ (44 ∷ (32 ∷ normal (32 ∷ next)))) same ∙ ap (λ x. part ++ (44 ∷ (32 ∷ x))) (behind_space next) in
     let whole : t ≡ part ++ (44 ∷ (32 ∷ next)) = is ∙ ap (λ x. part ++ (44 ∷ x)) e in (
       λ n.
-          let rest : 44 ∷ (32 ∷ normal next) ≡ 44 ∷ (32 ∷ next) = append_cancel_left part (44 ∷ (32 ∷ normal next)) (44 ∷ (32 ∷ next)) (sym made ∙ n ∙ whole) in
+          let rest : 44 ∷ (32 ∷ normal next) ≡ 44 ∷ (32 ∷ next) = append_cancel_left part (44 ∷ (32 ∷ normal next))
+          (44 ∷ (32 ∷ next)) (sym made ∙ n ∙ whole) in
           tail_of 32 32 (normal next) next (tail_of 44 44 (32 ∷ normal next) (32 ∷ next) rest),
       λ n. made ∙ ap (λ x. part ++ (44 ∷ (32 ∷ x))) n ∙ sym whole,
     )
 
 -- a shorter text before a comma is not the other
-apart : (xs part front after : List ℕ) → length xs < length part → Without 44 part → xs ++ (44 ∷ front) ≡ part ++ (44 ∷ after) → ⊥
+apart : (xs part front after : List ℕ) → length xs < length part → Without 44 part
+    → xs ++ (44 ∷ front) ≡ part ++ (44 ∷ after) → ⊥
 apart xs [] front after less h e = absurd (omega arith)
 apart [] (b ∷ bs) front after less h e = h 0 (omega arith) (sym (head_of 44 b front (bs ++ (44 ∷ after)) e))
 apart (x ∷ xs) (b ∷ bs) front after less h e =
-    apart xs bs front after (omega arith) (behind_first b bs h) (tail_of x b (xs ++ (44 ∷ front)) (bs ++ (44 ∷ after)) e)
+    apart xs bs front after (omega arith) (behind_first b bs h)
+    (tail_of x b (xs ++ (44 ∷ front)) (bs ++ (44 ∷ after)) e)
 
-pub spaces_at_ends : (t part after : List ℕ) → t ≡ part ++ (44 ∷ after) → Without 44 part → (trimmed part ≡ part → ⊥) → IsNormal t → ⊥
+pub spaces_at_ends : (t part after : List ℕ) → t ≡ part ++ (44 ∷ after) → Without 44 part → (trimmed part ≡ part → ⊥)
+    → IsNormal t → ⊥
 spaces_at_ends t part after is h other n =
-    let made : trimmed part ++ (44 ∷ (32 ∷ normal after)) ≡ part ++ (44 ∷ after) = sym (normal_cut part after h) ∙ ap normal (sym is) ∙ n ∙ is in
+    let made : trimmed part ++ (44 ∷ (32 ∷ normal after)) ≡ part ++ (44 ∷ after) = sym (normal_cut part after h)
+    ∙ ap normal (sym is) ∙ n ∙ is in
     elim (trimmed_cases part) as (λ _. ⊥) [
       | inl same ↦ other same
       | inr less ↦ apart (trimmed part) part (32 ∷ normal after) after less h made
     ]
 
-pub no_space_behind : (t part after : List ℕ) → t ≡ part ++ (44 ∷ after) → Without 44 part → trimmed part ≡ part → ((rest : List ℕ) → after ≢ 32 ∷ rest) → IsNormal t → ⊥
+pub no_space_behind : (t part after : List ℕ) → t ≡ part ++ (44 ∷ after) → Without 44 part → trimmed part ≡ part
+    → ((rest : List ℕ) → after ≢ 32 ∷ rest) → IsNormal t → ⊥
 no_space_behind t part after is h same none n =
     let made : part ++ (44 ∷ (32 ∷ normal after)) ≡ part ++ (44 ∷ after) =
-    ap (λ x. x ++ (44 ∷ (32 ∷ normal after))) (sym same) ∙ sym (normal_cut part after h) ∙ ap normal (sym is) ∙ n ∙ is in
-    let rest : 44 ∷ (32 ∷ normal after) ≡ 44 ∷ after = append_cancel_left part (44 ∷ (32 ∷ normal after)) (44 ∷ after) made in
+    ap (λ x. x ++ (44 ∷ (32 ∷ normal after))) (sym same) ∙ sym (normal_cut part after h)
+    ∙ ap normal (sym is) ∙ n ∙ is in
+    let rest : 44 ∷ (32 ∷ normal after) ≡ 44 ∷ after = append_cancel_left part (44 ∷ (32 ∷ normal after))
+    (44 ∷ after) made in
     none (normal after) (sym (tail_of 44 44 (32 ∷ normal after) after rest))
 
 pub last_part : (t : List ℕ) → Without 44 t → IsNormal t ↔ (trimmed t ≡ t)

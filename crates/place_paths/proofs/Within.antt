@@ -1,5 +1,27 @@
 -- What the limits leave for the places above a place, and what its path measures.
-use Rattle.std.proofs.Common.{◌≡◌, ℕ, zero, suc, ◌+◌, ◌-◌, ◌≤◌, ◌<◌, List, [], ◌++◌, length, true, false, nat_le, nat_lt, refl, sym, ap, ◌∙◌, arith}
+use Rattle.std.proofs.Common.{
+  ◌≡◌,
+  ℕ,
+  zero,
+  suc,
+  ◌+◌,
+  ◌-◌,
+  ◌≤◌,
+  ◌<◌,
+  List,
+  [],
+  ◌++◌,
+  length,
+  true,
+  false,
+  nat_le,
+  nat_lt,
+  refl,
+  sym,
+  ap,
+  ◌∙◌,
+  arith,
+}
 use Rattle.std.specs.Prelude.{Option, Some, None, option_map, codes, if◌then◌else◌, ◌&&◌}
 use Rattle.std.proofs.lemmas.Bool.Decides.{nat_tests}
 use Rattle.std.proofs.lemmas.List.{length-append}
@@ -17,9 +39,11 @@ use Rattle.place_paths.specs.declared.paths.Measure.{Measure}
 
 -- ---- a path below another
 bytes_below : (name above : List ℕ) → length (path_below name above) ≡ length name + (2 + length above)
-bytes_below name above = length-append name (codes ", " ++ above) ∙ ap (λ k. length name + k) (length-append (codes ", ") above)
+bytes_below name above = length-append name (codes ", " ++ above) ∙ ap (λ k. length name + k)
+    (length-append (codes ", ") above)
 
-left_for : (p q n m k b : ℕ) → p ≤ k → n + 2 ≤ b → (nat_le (p + q) k && nat_le (n + (2 + m)) b) ≡ (nat_le q (k - p) && nat_le m (b - n - 2))
+left_for : (p q n m k b : ℕ) → p ≤ k → n + 2 ≤ b → (nat_le (p + q) k && nat_le (n + (2 + m)) b)
+    ≡ (nat_le q (k - p) && nat_le m (b - n - 2))
 left_for p q n m k b h i = grind (arith, nat_tests)
 
 over_one : (p q n m k b : ℕ) → k < p → (nat_le (p + q) k && nat_le (n + (2 + m)) b) ≡ false
@@ -36,15 +60,20 @@ pub below_within : (k b : ℕ) (name : List ℕ) (o : Option (List ℕ)) → len
     → is_within k b (option_map (path_below name) o) ≡ is_within (k - length (parts name)) (b - length name - 2) o
 below_within k b name None h i = refl
 below_within k b name (Some above) h i =
-    within_measure k b name above ∙ left_for (length (parts name)) (length (parts above)) (length name) (length above) k b h i
+    within_measure k b name above ∙ left_for (length (parts name)) (length (parts above)) (length name)
+    (length above) k b h i
 
-pub too_many : (k b : ℕ) (name : List ℕ) (o : Option (List ℕ)) → k < length (parts name) → is_within k b (option_map (path_below name) o) ≡ false
+pub too_many : (k b : ℕ) (name : List ℕ) (o : Option (List ℕ)) → k < length (parts name)
+    → is_within k b (option_map (path_below name) o) ≡ false
 too_many k b name None h = refl
-too_many k b name (Some above) h = within_measure k b name above ∙ over_one (length (parts name)) (length (parts above)) (length name) (length above) k b h
+too_many k b name (Some above) h = within_measure k b name above ∙ over_one (length (parts name)) (length (parts above))
+    (length name) (length above) k b h
 
-pub too_long : (k b : ℕ) (name : List ℕ) (o : Option (List ℕ)) → b < length name + 2 → is_within k b (option_map (path_below name) o) ≡ false
+pub too_long : (k b : ℕ) (name : List ℕ) (o : Option (List ℕ)) → b < length name + 2
+    → is_within k b (option_map (path_below name) o) ≡ false
 too_long k b name None h = refl
-too_long k b name (Some above) h = within_measure k b name above ∙ over_two (length (parts name)) (length (parts above)) (length name) (length above) k b h
+too_long k b name (Some above) h = within_measure k b name above ∙ over_two (length (parts name)) (length (parts above))
+    (length name) (length above) k b h
 
 -- ---- the path of a place
 is_less : (a b : ℕ) → a < b → nat_lt a b ≡ true
@@ -57,15 +86,18 @@ less_is : (a b : ℕ) → nat_lt a b ≡ true → a < b
 less_is a b h = grind (arith, nat_tests)
 
 -- as many steps as the number says are enough
-under_alike : (n : ℕ) (f g : ℕ → Option (List ℕ)) (name : List ℕ) (parent : Option ℕ) → ((q : ℕ) → q < n → f q ≡ g q) → path_under n f name parent ≡ path_under n g name parent
+under_alike : (n : ℕ) (f g : ℕ → Option (List ℕ)) (name : List ℕ) (parent : Option ℕ) → ((q : ℕ) → q < n → f q ≡ g q)
+    → path_under n f name parent ≡ path_under n g name parent
 under_alike n f g name None h = refl
 under_alike n f g name (Some q) h =
-    elim (nat_lt q n) as (λ b. nat_lt q n ≡ b → (if b then option_map (path_below name) (f q) else None) ≡ (if b then option_map (path_below name) (g q) else None)) [
+    elim (nat_lt q n) as (λ b. nat_lt q n ≡ b → (if b then option_map (path_below name) (f q) else None)
+    ≡ (if b then option_map (path_below name) (g q) else None)) [
       | true ↦ λ e. ap (option_map (path_below name)) (h q (less_is q n e))
       | false ↦ λ e. refl
     ] refl
 
-with_alike : (n : ℕ) (f g : ℕ → Option (List ℕ)) (o : Option Record) → ((q : ℕ) → q < n → f q ≡ g q) → path_with n f o ≡ path_with n g o
+with_alike : (n : ℕ) (f g : ℕ → Option (List ℕ)) (o : Option Record) → ((q : ℕ) → q < n → f q ≡ g q)
+    → path_with n f o ≡ path_with n g o
 with_alike n f g None h = refl
 with_alike n f g (Some (kind.Place p)) h = under_alike n f g p.name p.parent h
 with_alike n f g (Some (kind.Repo p)) h = refl
@@ -80,18 +112,21 @@ with_alike n f g (Some (kind.Other p)) h = refl
 enough : (k j : ℕ) (m : Records) (n : ℕ) → n < k → n < j → path_by k m n ≡ path_by j m n
 enough zero j m n h i = absurd (omega arith)
 enough (suc k) zero m n h i = absurd (omega arith)
-enough (suc k) (suc j) m n h i = with_alike n (path_by k m) (path_by j m) (get m n) (λ q less. enough k j m q (omega arith) (omega arith))
+enough (suc k) (suc j) m n h i = with_alike n (path_by k m) (path_by j m) (get m n)
+    (λ q less. enough k j m q (omega arith) (omega arith))
 
 one_more : (n : ℕ) → n + 1 ≡ suc n
 one_more n = omega arith
 
 pub path_there : (m : Records) (n : ℕ) → path_of m n ≡ path_with n (path_of m) (get m n)
 unfolding path_of
-path_there m n = ap (λ s. path_by s m n) (one_more n) ∙ with_alike n (path_by n m) (λ q. path_by (q + 1) m q) (get m n) (λ q less. enough n (q + 1) m q less (omega arith))
+path_there m n = ap (λ s. path_by s m n) (one_more n) ∙ with_alike n (path_by n m) (λ q. path_by (q + 1) m q) (get m n)
+    (λ q less. enough n (q + 1) m q less (omega arith))
 
 -- ---- what is measured
 found_place : (o : Option Record) (me : Measure) → measured o ≡ Some me
-    → (p : model.Place) × (o ≡ Some (kind.Place p)) × (me ≡ record { parts = length (parts p.name); bytes = length p.name; parent = p.parent })
+    → (p : model.Place) × (o ≡ Some (kind.Place p))
+    × (me ≡ record { parts = length (parts p.name); bytes = length p.name; parent = p.parent })
 found_place None me e = absurd cc
 found_place (Some (kind.Place p)) me e = (p, refl, cc)
 found_place (Some (kind.Repo p)) me e = absurd cc
@@ -117,14 +152,16 @@ no_path n above (Some (kind.Other p)) e = refl
 
 -- the name of a place that measures so, and its path
 path_of_measured : (m : Records) (n : ℕ) (me : Measure) → measured (get m n) ≡ Some me
-    → (name : List ℕ) × (length (parts name) ≡ me.parts) × (length name ≡ me.bytes) × (path_of m n ≡ path_under n (path_of m) name me.parent)
+    → (name : List ℕ) × (length (parts name) ≡ me.parts) × (length name ≡ me.bytes)
+    × (path_of m n ≡ path_under n (path_of m) name me.parent)
 path_of_measured m n me e =
     let f = found_place (get m n) me e in
     let p : model.Place = f.0 in (
       p.name,
       sym (ap (λ (x : Measure). x.parts) f.2),
       sym (ap (λ (x : Measure). x.bytes) f.2),
-      path_there m n ∙ ap (path_with n (path_of m)) f.1 ∙ ap (path_under n (path_of m) p.name) (sym (ap (λ (x : Measure). x.parent) f.2)),
+      path_there m n ∙ ap (path_with n (path_of m)) f.1 ∙ ap (path_under n (path_of m) p.name)
+          (sym (ap (λ (x : Measure). x.parent) f.2)),
     )
 
 -- ---- case by case
@@ -140,55 +177,70 @@ other_over p n k b h = grind (arith, nat_tests)
 both_within : (p n k b : ℕ) → p ≤ k → n ≤ b → (nat_le p k && nat_le n b) ≡ true
 both_within p n k b h i = grind (arith, nat_tests)
 
-below_false : (k b n : ℕ) (above : ℕ → Option (List ℕ)) (name : List ℕ) (q : ℕ) → ((o : Option (List ℕ)) → is_within k b (option_map (path_below name) o) ≡ false) → is_within k b (path_under n above name (Some q)) ≡ false
-below_false k b n above name q h = elim (nat_lt q n) as (λ x. is_within k b (if x then option_map (path_below name) (above q) else None) ≡ false) [
-  | true ↦ h (above q)
-  | false ↦ refl
-]
+below_false : (k b n : ℕ) (above : ℕ → Option (List ℕ)) (name : List ℕ) (q : ℕ)
+    → ((o : Option (List ℕ)) → is_within k b (option_map (path_below name) o) ≡ false)
+    → is_within k b (path_under n above name (Some q)) ≡ false
+below_false k b n above name q h =
+    elim (nat_lt q n) as (λ x. is_within k b (if x then option_map (path_below name) (above q) else None) ≡ false) [
+      | true ↦ h (above q)
+      | false ↦ refl
+    ]
 
-many : (k b n : ℕ) (above : ℕ → Option (List ℕ)) (name : List ℕ) (parent : Option ℕ) → k < length (parts name) → is_within k b (path_under n above name parent) ≡ false
+many : (k b n : ℕ) (above : ℕ → Option (List ℕ)) (name : List ℕ) (parent : Option ℕ) → k < length (parts name)
+    → is_within k b (path_under n above name parent) ≡ false
 many k b n above name None h = one_over (length (parts name)) (length name) k b h
 many k b n above name (Some q) h = below_false k b n above name q (λ o. too_many k b name o h)
 
-long : (k b n : ℕ) (above : ℕ → Option (List ℕ)) (name : List ℕ) (parent : Option ℕ) → b < length name → is_within k b (path_under n above name parent) ≡ false
+long : (k b n : ℕ) (above : ℕ → Option (List ℕ)) (name : List ℕ) (parent : Option ℕ) → b < length name
+    → is_within k b (path_under n above name parent) ≡ false
 long k b n above name None h = other_over (length (parts name)) (length name) k b h
 long k b n above name (Some q) h = below_false k b n above name q (λ o. too_long k b name o (omega arith))
 
-pub within_many : (k b : ℕ) (m : Records) (n : ℕ) (me : Measure) → measured (get m n) ≡ Some me → k < me.parts → is_within k b (path_of m n) ≡ false
+pub within_many : (k b : ℕ) (m : Records) (n : ℕ) (me : Measure) → measured (get m n) ≡ Some me → k < me.parts
+    → is_within k b (path_of m n) ≡ false
 within_many k b m n me e h =
     let f = path_of_measured m n me e in
     let own : length (parts f.0) ≡ me.parts = f.1 in
     ap (is_within k b) f.3 ∙ many k b n (path_of m) f.0 me.parent (omega arith)
 
-pub within_long : (k b : ℕ) (m : Records) (n : ℕ) (me : Measure) → measured (get m n) ≡ Some me → b < me.bytes → is_within k b (path_of m n) ≡ false
+pub within_long : (k b : ℕ) (m : Records) (n : ℕ) (me : Measure) → measured (get m n) ≡ Some me → b < me.bytes
+    → is_within k b (path_of m n) ≡ false
 within_long k b m n me e h =
     let f = path_of_measured m n me e in
     let own : length f.0 ≡ me.bytes = f.2 in
     ap (is_within k b) f.3 ∙ long k b n (path_of m) f.0 me.parent (omega arith)
 
-pub within_alone : (k b : ℕ) (m : Records) (n : ℕ) (me : Measure) → measured (get m n) ≡ Some me → me.parts ≤ k → me.bytes ≤ b → me.parent ≡ None → is_within k b (path_of m n) ≡ true
+pub within_alone : (k b : ℕ) (m : Records) (n : ℕ) (me : Measure) → measured (get m n) ≡ Some me → me.parts ≤ k
+    → me.bytes ≤ b → me.parent ≡ None → is_within k b (path_of m n) ≡ true
 within_alone k b m n me e h i none =
     let f = path_of_measured m n me e in
     let own : length (parts f.0) ≡ me.parts = f.1 in
     let bytes : length f.0 ≡ me.bytes = f.2 in
-    ap (is_within k b) (f.3 ∙ ap (path_under n (path_of m) f.0) none) ∙ both_within (length (parts f.0)) (length f.0) k b (omega arith) (omega arith)
+    ap (is_within k b) (f.3 ∙ ap (path_under n (path_of m) f.0) none) ∙ both_within (length (parts f.0))
+    (length f.0) k b (omega arith) (omega arith)
 
-pub within_not_below : (k b : ℕ) (m : Records) (n q : ℕ) (me : Measure) → measured (get m n) ≡ Some me → me.parent ≡ Some q → n ≤ q → is_within k b (path_of m n) ≡ false
+pub within_not_below : (k b : ℕ) (m : Records) (n q : ℕ) (me : Measure) → measured (get m n) ≡ Some me
+    → me.parent ≡ Some q → n ≤ q → is_within k b (path_of m n) ≡ false
 within_not_below k b m n q me e is h =
     let f = path_of_measured m n me e in
-    ap (is_within k b) (f.3 ∙ ap (path_under n (path_of m) f.0) is ∙ ap (λ x. if x then option_map (path_below f.0) (path_of m q) else None) (is_not_less q n h))
+    ap (is_within k b) (f.3 ∙ ap (path_under n (path_of m) f.0) is
+    ∙ ap (λ x. if x then option_map (path_below f.0) (path_of m q) else None) (is_not_less q n h))
 
 -- the path below another is as long as the two
-under_less : (m : Records) (n q : ℕ) (name : List ℕ) → q < n → path_under n (path_of m) name (Some q) ≡ option_map (path_below name) (path_of m q)
+under_less : (m : Records) (n q : ℕ) (name : List ℕ) → q < n → path_under n (path_of m) name (Some q)
+    ≡ option_map (path_below name) (path_of m q)
 under_less m n q name h = ap (λ x. if x then option_map (path_below name) (path_of m q) else None) (is_less q n h)
 
-pub within_no_room : (k b : ℕ) (m : Records) (n q : ℕ) (me : Measure) → measured (get m n) ≡ Some me → me.parent ≡ Some q → q < n → b < me.bytes + 2 → is_within k b (path_of m n) ≡ false
+pub within_no_room : (k b : ℕ) (m : Records) (n q : ℕ) (me : Measure) → measured (get m n) ≡ Some me
+    → me.parent ≡ Some q → q < n → b < me.bytes + 2 → is_within k b (path_of m n) ≡ false
 within_no_room k b m n q me e is less h =
     let f = path_of_measured m n me e in
     let bytes : length f.0 ≡ me.bytes = f.2 in
-    ap (is_within k b) (f.3 ∙ ap (path_under n (path_of m) f.0) is ∙ under_less m n q f.0 less) ∙ too_long k b f.0 (path_of m q) (omega arith)
+    ap (is_within k b) (f.3 ∙ ap (path_under n (path_of m) f.0) is ∙ under_less m n q f.0 less)
+    ∙ too_long k b f.0 (path_of m q) (omega arith)
 
-pub within_above : (k b : ℕ) (m : Records) (n q : ℕ) (me : Measure) → measured (get m n) ≡ Some me → me.parent ≡ Some q → q < n → me.parts ≤ k → me.bytes + 2 ≤ b
+pub within_above : (k b : ℕ) (m : Records) (n q : ℕ) (me : Measure) → measured (get m n) ≡ Some me → me.parent ≡ Some q
+    → q < n → me.parts ≤ k → me.bytes + 2 ≤ b
     → is_within k b (path_of m n) ≡ is_within (k - me.parts) (b - me.bytes - 2) (path_of m q)
 within_above k b m n q me e is less h i =
     let f = path_of_measured m n me e in
@@ -204,20 +256,28 @@ unfolding is_within_limits
 fit_is None = refl
 fit_is (Some path) = refl
 
-pub fit_many : (m : Records) (name : List ℕ) (parent : Option ℕ) → 32 < length (parts name) → is_fit (new_path m name parent) ≡ false
+pub fit_many : (m : Records) (name : List ℕ) (parent : Option ℕ) → 32 < length (parts name)
+    → is_fit (new_path m name parent) ≡ false
 fit_many m name None h = fit_is (Some name) ∙ one_over (length (parts name)) (length name) 32 4096 h
 fit_many m name (Some q) h = fit_is (new_path m name (Some q)) ∙ too_many 32 4096 name (path_of m q) h
 
-pub fit_long : (m : Records) (name : List ℕ) (parent : Option ℕ) → 4096 < length name → is_fit (new_path m name parent) ≡ false
+pub fit_long : (m : Records) (name : List ℕ) (parent : Option ℕ) → 4096 < length name
+    → is_fit (new_path m name parent) ≡ false
 fit_long m name None h = fit_is (Some name) ∙ other_over (length (parts name)) (length name) 32 4096 h
 fit_long m name (Some q) h = fit_is (new_path m name (Some q)) ∙ too_long 32 4096 name (path_of m q) (omega arith)
 
-pub fit_alone : (m : Records) (name : List ℕ) (parent : Option ℕ) → length (parts name) ≤ 32 → length name ≤ 4096 → parent ≡ None → is_fit (new_path m name parent) ≡ true
-fit_alone m name parent h i none = ap (λ p. is_fit (new_path m name p)) none ∙ fit_is (Some name) ∙ both_within (length (parts name)) (length name) 32 4096 h i
+pub fit_alone : (m : Records) (name : List ℕ) (parent : Option ℕ) → length (parts name) ≤ 32 → length name ≤ 4096
+    → parent ≡ None → is_fit (new_path m name parent) ≡ true
+fit_alone m name parent h i none = ap (λ p. is_fit (new_path m name p)) none ∙ fit_is (Some name)
+    ∙ both_within (length (parts name)) (length name) 32 4096 h i
 
-pub fit_no_room : (m : Records) (name : List ℕ) (parent : Option ℕ) (q : ℕ) → parent ≡ Some q → 4096 < length name + 2 → is_fit (new_path m name parent) ≡ false
-fit_no_room m name parent q is h = ap (λ p. is_fit (new_path m name p)) is ∙ fit_is (new_path m name (Some q)) ∙ too_long 32 4096 name (path_of m q) h
+pub fit_no_room : (m : Records) (name : List ℕ) (parent : Option ℕ) (q : ℕ) → parent ≡ Some q → 4096 < length name + 2
+    → is_fit (new_path m name parent) ≡ false
+fit_no_room m name parent q is h = ap (λ p. is_fit (new_path m name p)) is ∙ fit_is (new_path m name (Some q))
+    ∙ too_long 32 4096 name (path_of m q) h
 
-pub fit_above : (m : Records) (name : List ℕ) (parent : Option ℕ) (q : ℕ) → parent ≡ Some q → length (parts name) ≤ 32 → length name + 2 ≤ 4096
+pub fit_above : (m : Records) (name : List ℕ) (parent : Option ℕ) (q : ℕ) → parent ≡ Some q → length (parts name) ≤ 32
+    → length name + 2 ≤ 4096
     → is_fit (new_path m name parent) ≡ is_within (32 - length (parts name)) (4096 - length name - 2) (path_of m q)
-fit_above m name parent q is h i = ap (λ p. is_fit (new_path m name p)) is ∙ fit_is (new_path m name (Some q)) ∙ below_within 32 4096 name (path_of m q) h i
+fit_above m name parent q is h i = ap (λ p. is_fit (new_path m name p)) is ∙ fit_is (new_path m name (Some q))
+    ∙ below_within 32 4096 name (path_of m q) h i

@@ -1,4 +1,5 @@
-//! Whether a text is normal: its parts between commas, freed of spaces at their ends and joined by comma and space, give it.
+//! Whether a text is normal: its parts between commas, freed of spaces at their ends and joined by comma and space,
+//! give it.
 
 ghost use Rattle.std.specs.Prelude.{◌≡◌, ◌≢◌, ◌↔◌, ◌∷◌, [], ◌++◌, ℕ, List, IsTrue, MatchOption};
 ghost use Rattle.record_shapes.specs.Paths.{IsNormal, trimmed};
@@ -38,7 +39,8 @@ fn behind_space(text: &str) -> Option<&str>
 
 /// What is before one space that ends the text.
 fn before_space(text: &str) -> Option<&str>
-    ensures { MatchOption result ((front : List ℕ) → text.now ≢ front ++ 32 ∷ []) (λ front. text.now ≡ front.now ++ 32 ∷ []) }
+    ensures { MatchOption result ((front : List ℕ) → text.now ≢ front ++ 32 ∷ [])
+        (λ front. text.now ≡ front.now ++ 32 ∷ []) }
 {
     text.strip_suffix(' ')
 }

@@ -27,8 +27,8 @@ struct Measure {
     parent: Option<u32>,
 }
 
-/// Whether a new place of that name, within another one where one is given, has a path of at most 32 parts and 4,096 bytes.
-/// It has none where what is given is no place with a path.
+/// Whether a new place of that name, within another one where one is given, has a path of at most 32 parts and 4,096
+/// bytes. It has none where what is given is no place with a path.
 #[tactic(auto, using(crate::proofs::Within::fit_many, crate::proofs::Within::fit_long, crate::proofs::Within::fit_alone, crate::proofs::Within::fit_no_room, crate::proofs::Within::fit_above))]
 pub fn is_path_fit<V: View>(
     alloc: Global,

@@ -1,5 +1,31 @@
 -- Items are read from their decimals again.
-use Rattle.std.specs.Prelude.{◌≡◌, ◌≢◌, ◌≤◌, ◌<◌, ◌^◌, ℕ, ◌&&◌, ◌==◌, nat_le, List, [], ◌∷◌, Bool, true, false, Option, Some, None, Result, Ok, bytes_eq, refl, decimal, length, MatchOption}
+use Rattle.std.specs.Prelude.{
+  ◌≡◌,
+  ◌≢◌,
+  ◌≤◌,
+  ◌<◌,
+  ◌^◌,
+  ℕ,
+  ◌&&◌,
+  ◌==◌,
+  nat_le,
+  List,
+  [],
+  ◌∷◌,
+  Bool,
+  true,
+  false,
+  Option,
+  Some,
+  None,
+  Result,
+  Ok,
+  bytes_eq,
+  refl,
+  decimal,
+  length,
+  MatchOption,
+}
 use Rattle.std.specs.List.{list_any}
 use Rattle.std.specs.Char.{digit_value}
 use Rattle.std.specs.Str.Parse.{digits_value, AllDigits, ParsesUnsigned}
@@ -19,7 +45,8 @@ range-prop n = hlevel props
 pub same_item : (a b : Item) → a.number ≡ b.number → a ≡ b
 same_item a b e =
     let item : (n : ℕ) → (1 ≤ n) × (n ≤ 999999) → Item = λ n h. record { number = n; in_range = h } in
-    subst (λ (n : ℕ). (h : (1 ≤ n) × (n ≤ 999999)) → a ≡ item n h) e (λ h. ap (item a.number) (range-prop a.number a.in_range h)) b.in_range
+    subst (λ (n : ℕ). (h : (1 ≤ n) × (n ≤ 999999)) → a ≡ item n h) e
+    (λ h. ap (item a.number) (range-prop a.number a.in_range h)) b.in_range
 
 small : (n : ℕ) → n ≤ 999999 → n < 2 ^ 64
 small n h = omega arith
@@ -37,17 +64,23 @@ last-true : (n : ℕ) (b : Bool) → (nat_le 1 n && (nat_le n 999999 && b)) ≡ 
 last-true n b e = grind (arith, nat_tests)
 
 is-item : (i : Item) → is_item i.number (decimal i.number) ≡ true
-is-item i = in-range i.number (bytes_eq (decimal i.number) (decimal i.number)) i.in_range.0 i.in_range.1 (bytes_same (decimal i.number) (decimal i.number) refl)
+is-item i = in-range i.number (bytes_eq (decimal i.number) (decimal i.number)) i.in_range.0 i.in_range.1
+    (bytes_same (decimal i.number) (decimal i.number) refl)
 
-item-if : (i : Item) (n : ℕ) (b : Bool) (e : is_item n (decimal i.number) ≡ b) → n ≡ i.number → item_if n (decimal i.number) b e ≡ Some i
-item-if i n true e h = ap Some (same_item (record { number = n; in_range = item_range n (bytes_eq (decimal n) (decimal i.number)) e }) i h)
-item-if i n false e h = let good : is_item n (decimal i.number) ≡ true = subst (λ (m : ℕ). is_item m (decimal i.number) ≡ true) (sym h) (is-item i) in absurd cc
+item-if : (i : Item) (n : ℕ) (b : Bool) (e : is_item n (decimal i.number) ≡ b) → n ≡ i.number
+    → item_if n (decimal i.number) b e ≡ Some i
+item-if i n true e h =
+    ap Some (same_item (record { number = n; in_range = item_range n (bytes_eq (decimal n) (decimal i.number)) e }) i h)
+item-if i n false e h = let good : is_item n (decimal i.number) ≡ true = subst
+    (λ (m : ℕ). is_item m (decimal i.number) ≡ true) (sym h) (is-item i) in absurd cc
 
 item-again : (i : Item) → item_of (decimal i.number) ≡ Some i
 unfolding item_of
-item-again i = item-if i (digits_value 10 (decimal i.number)) (is_item (digits_value 10 (decimal i.number)) (decimal i.number)) refl (value i)
+item-again i = item-if i (digits_value 10 (decimal i.number))
+    (is_item (digits_value 10 (decimal i.number)) (decimal i.number)) refl (value i)
 
-item-spelt : (n : ℕ) (text : List ℕ) (b : Bool) (e : is_item n text ≡ b) (i : Item) → item_if n text b e ≡ Some i → text ≡ decimal i.number
+item-spelt : (n : ℕ) (text : List ℕ) (b : Bool) (e : is_item n text ≡ b) (i : Item) → item_if n text b e ≡ Some i
+    → text ≡ decimal i.number
 item-spelt n text true e i h =
     let spelt : text ≡ decimal n = sym (bytes_are (decimal n) text (last-true n (bytes_eq (decimal n) text) e)) in
     let same : record { number = n; in_range = item_range n (bytes_eq (decimal n) text) e } ≡ i = cc in
@@ -58,7 +91,8 @@ item-is : (text : List ℕ) (i : Item) → item_of text ≡ Some i → text ≡ 
 unfolding item_of
 item-is text i h = item-spelt (digits_value 10 text) text (is_item (digits_value 10 text) text) refl i h
 
-pub item_read : (text : List ℕ) (r : Option Item) → MatchOption r ((i : Item) → text ≢ decimal i.number) (λ i. text ≡ decimal i.number) → r ≡ item_of text
+pub item_read : (text : List ℕ) (r : Option Item) → MatchOption r ((i : Item) → text ≢ decimal i.number)
+    (λ i. text ≡ decimal i.number) → r ≡ item_of text
 item_read text (Some i) is = sym (item-again i) ∙ ap item_of (sym is)
 item_read text None lacks = none (item_of text) refl
   where
@@ -70,8 +104,10 @@ pub item_back : (i : Item) → item_of (decimal i.number) ≡ Some i
 item_back i = item-again i
 
 -- what a text parses as, where it is the decimal of an item
-pub parsed : {E : Type 0} (text : List ℕ) (r : Result ℕ E) → ParsesUnsigned 32 10 text r → (i : Item) → text ≡ decimal i.number → r ≡ Ok i.number
-parsed text r h i e = parse-decimal 32 i.number text r (small-word i.number i.in_range.1) (small i.number i.in_range.1) e h
+pub parsed : {E : Type 0} (text : List ℕ) (r : Result ℕ E) → ParsesUnsigned 32 10 text r → (i : Item)
+    → text ≡ decimal i.number → r ≡ Ok i.number
+parsed text r h i e = parse-decimal 32 i.number text r (small-word i.number i.in_range.1)
+    (small i.number i.in_range.1) e h
 
 -- a byte that is no digit is none of digits
 none-of : (x : ℕ) → ¬ (digit_value x < 10) → (ds : List ℕ) → AllDigits 10 ds → list_any (λ b. b == x) ds ≡ false
@@ -87,10 +123,15 @@ plain : (n : ℕ) → n ≤ 999999 → IsPlain (decimal n)
 plain n h =
     let digits = (decimal_is_IsNumeral n (small n h)).0.1 in
     let short : length (decimal n) ≤ 6 = length-decimal-le 6 n (omega arith) (omega arith) (small n h) in
-    record { no_nul = none-of 0 (λ l. omega arith) (decimal n) digits; no_cr = none-of 13 (λ l. omega arith) (decimal n) digits; short = omega arith }
+    record {
+      no_nul = none-of 0 (λ l. omega arith) (decimal n) digits;
+      no_cr = none-of 13 (λ l. omega arith) (decimal n) digits;
+      short = omega arith;
+    }
 
 pub decimal_is_plain : (n : ℕ) (text : List ℕ) → text ≡ decimal n → (1 ≤ n) × (n ≤ 999999) → IsPlain text
 decimal_is_plain n text e h = subst IsPlain (sym e) (plain n h.1)
 
-pub parsed_number : {E : Type 0} (text : List ℕ) (r : Result ℕ E) → ParsesUnsigned 32 10 text r → (n : ℕ) → r ≡ Ok n → (i : Item) → text ≡ decimal i.number → n ≡ i.number
+pub parsed_number : {E : Type 0} (text : List ℕ) (r : Result ℕ E) → ParsesUnsigned 32 10 text r → (n : ℕ) → r ≡ Ok n
+    → (i : Item) → text ≡ decimal i.number → n ≡ i.number
 parsed_number text r h n is i e = let both : r ≡ Ok i.number = parsed text r h i e in cc

@@ -9,7 +9,11 @@ use Rattle.record_fields.specs.declared.date.Date.{Date}
 pub same_date : (a b : Date) → a.text ≡ b.text → a ≡ b
 same_date a b e =
     let date : (text : List ℕ) → IsWritten text → Date = λ text written. record { text = text; written = written } in
-    subst (λ (t : List ℕ). (w : IsWritten t) → a ≡ date t w) e (λ w. ap (date a.text) (IsWritten-prop a.text a.written w)) b.written
+    subst (λ (t : List ℕ). (w : IsWritten t) → a ≡ date t w) e
+    (λ w. ap (date a.text) (IsWritten-prop a.text a.written w)) b.written
 
 abbrev pub date_code : Coded Date
-date_code = record { code = λ d. (coded_list coded_ℕ).code d.text; inj = λ a b e. same_date a b ((coded_list coded_ℕ).inj a.text b.text e) }
+date_code = record {
+  code = λ d. (coded_list coded_ℕ).code d.text;
+  inj = λ a b e. same_date a b ((coded_list coded_ℕ).inj a.text b.text e);
+}

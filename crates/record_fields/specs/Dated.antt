@@ -11,7 +11,8 @@ use Rattle.record_fields.specs.Dates.{IsWritten}
 use Rattle.record_fields.specs.declared.date.Date.{Date}
 
 -- a text says one thing
-one : (text : List ℕ) (f g : Form) → Fits text f ⊎ ((f ≡ VerbatimText text) × FitsNone text) → Fits text g ⊎ ((g ≡ VerbatimText text) × FitsNone text) → f ≡ g
+one : (text : List ℕ) (f g : Form) → Fits text f ⊎ ((f ≡ VerbatimText text) × FitsNone text)
+    → Fits text g ⊎ ((g ≡ VerbatimText text) × FitsNone text) → f ≡ g
 one text f g (inl h) (inl k) = one_form text f g h.0 k.0
 one text f g (inl h) (inr k) = absurd (k.1 f h)
 one text f g (inr h) (inl k) = absurd (h.1 g k)
@@ -24,7 +25,8 @@ one_said text f g h k = one text f g h k
 pub written_by : (text : List ℕ) (f : Form) → Says text f → text ≡ spelling f → IsWritten text
 written_by text f h e = λ g k. e ∙ ap spelling (one_said text f g h k)
 
-pub spelt_is : (text : List ℕ) (said : (f : Form) × Says text f) → bytes_eq (spelling said.0) text ≡ true → IsWritten text
+pub spelt_is : (text : List ℕ) (said : (f : Form) × Says text f) → bytes_eq (spelling said.0) text ≡ true
+    → IsWritten text
 spelt_is text said e = written_by text said.0 said.1 (sym (bytes_are (spelling said.0) text e))
 
 -- the canonical spelling of what a text says

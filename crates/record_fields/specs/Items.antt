@@ -1,5 +1,21 @@
 -- The item of a text in decimal, by the number that its digits write. No clause that callers see names it.
-use Rattle.std.specs.Prelude.{◌≡◌, ◌≤◌, ℕ, ◌&&◌, nat_le, List, Bool, true, false, Option, Some, None, bytes_eq, refl, decimal}
+use Rattle.std.specs.Prelude.{
+  ◌≡◌,
+  ◌≤◌,
+  ℕ,
+  ◌&&◌,
+  nat_le,
+  List,
+  Bool,
+  true,
+  false,
+  Option,
+  Some,
+  None,
+  bytes_eq,
+  refl,
+  decimal,
+}
 use Rattle.std.specs.Str.Parse.{digits_value}
 use Rattle.std.proofs.Common.{arith}
 use Rattle.std.proofs.Math.Dec.{lit≤}

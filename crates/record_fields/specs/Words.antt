@@ -50,7 +50,8 @@ found word [] text = None
 found word (a ∷ more) text = if bytes_eq text (word a) then Some a else found word more text
 
 abbrev pub quality_of : List ℕ → Option Quality
-quality_of text = found quality_word (quality.Unreliable ∷ quality.Questionable ∷ quality.Secondary ∷ quality.Primary ∷ []) text
+quality_of text = found quality_word (quality.Unreliable ∷ quality.Questionable ∷ quality.Secondary
+    ∷ quality.Primary ∷ []) text
 
 abbrev pub sex_of : List ℕ → Option Sex
 sex_of text = found sex_word (sex.Male ∷ sex.Female ∷ sex.Unknown ∷ []) text
@@ -62,4 +63,5 @@ abbrev pub entry_kind_of : List ℕ → Option EntryKind
 entry_kind_of text = found entry_kind_word (entry_kind.Baptism ∷ entry_kind.Marriage ∷ entry_kind.Burial ∷ []) text
 
 abbrev pub role_of : List ℕ → Option Role
-role_of text = found role_word (role.Child ∷ role.Father ∷ role.Mother ∷ role.Godparent ∷ role.Groom ∷ role.Bride ∷ role.FatherOfGroom ∷ role.FatherOfBride ∷ role.Witness ∷ role.Buried ∷ role.Spouse ∷ []) text
+role_of text = found role_word (role.Child ∷ role.Father ∷ role.Mother ∷ role.Godparent ∷ role.Groom ∷ role.Bride
+    ∷ role.FatherOfGroom ∷ role.FatherOfBride ∷ role.Witness ∷ role.Buried ∷ role.Spouse ∷ []) text

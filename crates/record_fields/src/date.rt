@@ -35,7 +35,8 @@ impl Date {
     /// A value as a date. `None`: its spelling is no text.
     pub fn of_value(alloc: Global, value: &DateValue) -> Result<Option<Date>, AllocError>
         ensures { IfOk result (λ found.
-            MatchOption found (¬ (IsText (spelling (view value.now)))) (λ date. date.text ≡ spelling (view value.now))) }
+            MatchOption found (¬ (IsText (spelling (view value.now))))
+            (λ date. date.text ≡ spelling (view value.now))) }
     {
         let words = match write_date(alloc, value) {
             Ok(words) => words,

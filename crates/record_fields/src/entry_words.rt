@@ -28,7 +28,8 @@ impl EntryKind {
     /// The kind whose word it is. `None`: it is the word of none.
     #[tactic(auto, using(crate::proofs::Worded::entry_kind_exact))]
     pub fn from_word(word: &str) -> Option<EntryKind>
-        ensures { MatchOption result ((k : EntryKind) → word.now ≢ entry_kind_word k) (λ k. word.now ≡ entry_kind_word k) }
+        ensures { MatchOption result ((k : EntryKind) → word.now ≢ entry_kind_word k)
+            (λ k. word.now ≡ entry_kind_word k) }
     {
         EntryKind::of_word(word)
     }

@@ -1,7 +1,14 @@
 //! Fields that have one of a few values, and the word of each.
 
 ghost use Rattle.std.specs.Prelude.{◌≡◌, ◌≢◌, MatchOption};
-ghost use Rattle.record_fields.specs.Words.{quality_word, sex_word, partnership_word, quality_of, sex_of, partnership_of};
+ghost use Rattle.record_fields.specs.Words.{
+  quality_word,
+  sex_word,
+  partnership_word,
+  quality_of,
+  sex_of,
+  partnership_of,
+};
 ghost use Rattle.record_fields.specs.declared.words.Quality.{Quality};
 ghost use Rattle.record_fields.specs.declared.words.Sex.{Sex};
 ghost use Rattle.record_fields.specs.declared.words.Partnership.{Partnership};
@@ -115,7 +122,8 @@ impl Partnership {
     /// The partnership of a word. `None`: it is the word of none.
     #[tactic(auto, using(crate::proofs::Worded::partnership_exact))]
     pub fn from_word(word: &str) -> Option<Partnership>
-        ensures { MatchOption result ((p : Partnership) → word.now ≢ partnership_word p) (λ p. word.now ≡ partnership_word p) }
+        ensures { MatchOption result ((p : Partnership) → word.now ≢ partnership_word p)
+            (λ p. word.now ≡ partnership_word p) }
     {
         Partnership::of_word(word)
     }

@@ -12,7 +12,8 @@ or_assoc false b c = refl
 
 pub among_both : (n : ℕ) (ls ms : List Link) → is_among n (ls ++ ms) ≡ (is_among n ls || is_among n ms)
 among_both n [] ms = refl
-among_both n (l ∷ ls) ms = ap (λ b. (l.0 == n) || b) (among_both n ls ms) ∙ or_assoc (l.0 == n) (is_among n ls) (is_among n ms)
+among_both n (l ∷ ls) ms = ap (λ b. (l.0 == n) || b) (among_both n ls ms) ∙ or_assoc (l.0 == n)
+    (is_among n ls) (is_among n ms)
 
 -- the links of trees side by side
 pub forest_flat : (ts : List (Tree Line)) → forest_links (forest_of ts) ≡ flat_map line_links ts

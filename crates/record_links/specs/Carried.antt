@@ -16,7 +16,8 @@ place_line_carried None = []
 place_line_carried (Some p) = p.carried
 
 abbrev pub event_carried : model.Event → Lines
-event_carried e = place_line_carried e.place ++ (flat_map (λ (p : model.Participant). p.carried) e.participants ++ e.carried)
+event_carried e = place_line_carried e.place
+    ++ (flat_map (λ (p : model.Participant). p.carried) e.participants ++ e.carried)
 
 abbrev pub carried : Record → Lines
 carried (kind.Place p) = p.carried

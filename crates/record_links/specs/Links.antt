@@ -100,7 +100,8 @@ participant_links p = (p.person, a_person) ∷ carried_links p.carried
 
 abbrev pub event_links : model.Event → List Link
 event_links e =
-    (e.owner, a_holder) ∷ (place_line_links e.place ++ (flat_map participant_links e.participants ++ carried_links e.carried))
+    (e.owner, a_holder) ∷ (place_line_links e.place
+    ++ (flat_map participant_links e.participants ++ carried_links e.carried))
 
 -- who a mention is of
 abbrev pub mention_links : model.Mention → List Link

@@ -1,5 +1,22 @@
 -- What is read from the lines of a register entry is that entry.
-use Rattle.std.specs.Prelude.{ℕ, ◌≡◌, List, [], ◌∷◌, ◌++◌, map, true, Option, Some, None, option_map, codes, refl, ◌&&◌, decimal}
+use Rattle.std.specs.Prelude.{
+  ℕ,
+  ◌≡◌,
+  List,
+  [],
+  ◌∷◌,
+  ◌++◌,
+  map,
+  true,
+  Option,
+  Some,
+  None,
+  option_map,
+  codes,
+  refl,
+  ◌&&◌,
+  decimal,
+}
 use Rattle.std.specs.List.{filter}
 use Rattle.std.specs.Option.{unwrap_or}
 use Rattle.std.proofs.Common.{ap, ◌∙◌, arith}
@@ -21,8 +38,31 @@ use Rattle.record_fields.specs.declared.entry_words.Role.TheVariants as role
 use Rattle.record_fields.specs.declared.entry_words.EntryKind.TheVariants as entry_kind
 use Rattle.record_shapes.specs.Forms.{Known, is_some, number_of, tagged, text_of}
 use Rattle.record_shapes.specs.Picking.{first}
-use Rattle.record_shapes.specs.Shapes.{Around, entry_lines, entry_place_lines, line, loc_line, mention_line, pointer_line, text_line, text_lines}
-use Rattle.record_shapes.specs.Entries.{around, below_on, entry_if, entry_of, entry_on, has_its_lines, is_entry, line_at, mention_on, same_forest, same_tree, same_value}
+use Rattle.record_shapes.specs.Shapes.{
+  Around,
+  entry_lines,
+  entry_place_lines,
+  line,
+  loc_line,
+  mention_line,
+  pointer_line,
+  text_line,
+  text_lines,
+}
+use Rattle.record_shapes.specs.Entries.{
+  around,
+  below_on,
+  entry_if,
+  entry_of,
+  entry_on,
+  has_its_lines,
+  is_entry,
+  line_at,
+  mention_on,
+  same_forest,
+  same_tree,
+  same_value,
+}
 
 -- a line is the same as itself
 same-self : (v : Value) → same_value v v ≡ true
@@ -41,9 +81,14 @@ mutual
 mention-back : (m : model.Mention) → mention_on (mention_line m) ≡ m
 mention-back m = by m.link
   where
-    by : (o : Option model.Link) → mention_on (mention_line (record { role = m.role; name = m.name; link = o })) ≡ record { role = m.role; name = m.name; link = o }
+    by : (o : Option model.Link) → mention_on (mention_line (record { role = m.role; name = m.name; link = o }))
+        ≡ record { role = m.role; name = m.name; link = o }
     by None = λ i. record { role = ap (λ r. unwrap_or r role.Child) (role_back m.role) i; name = m.name; link = None }
-    by (Some l) = λ i. record { role = ap (λ r. unwrap_or r role.Child) (role_back m.role) i; name = m.name; link = Some l }
+    by (Some l) = λ i. record {
+      role = ap (λ r. unwrap_or r role.Child) (role_back m.role) i;
+      name = m.name;
+      link = Some l;
+    }
 
 mentions-back : (ms : List model.Mention) → map mention_on (filter (tagged (codes "_MENT")) (map mention_line ms)) ≡ ms
 mentions-back [] = refl
@@ -64,12 +109,22 @@ lines_with_date a e d p = pointer_line (codes "SOUR") e.source [] ∷ (text_line
     ++ (entry_place_lines a p ++ (text_line (codes "TEXT") e.text ∷ map mention_line e.mentions)))))
 
 abbrev with_date : model.Entry → Option Date → Option ℕ → model.Entry
-with_date e d p = record { source = e.source; kind = e.kind; page = e.page; item = e.item; date = d; place = p; text = e.text; mentions = e.mentions }
+with_date e d p = record {
+  source = e.source;
+  kind = e.kind;
+  page = e.page;
+  item = e.item;
+  date = d;
+  place = p;
+  text = e.text;
+  mentions = e.mentions;
+}
 
 abbrev place_found : List (Tree Line) → Option ℕ
 place_found ts = option_map number_of (line_at (codes "_LOC") (below_on (first ts)))
 
-entry-by : (a : Around) (e : model.Entry) (d : Option Date) (p : Option ℕ) → entry_on (entry_kind_word e.kind) (lines_with_date a e d p) ≡ with_date e d p
+entry-by : (a : Around) (e : model.Entry) (d : Option Date) (p : Option ℕ) → entry_on (entry_kind_word e.kind)
+    (lines_with_date a e d p) ≡ with_date e d p
 entry-by a e None None = λ i. record {
   source = e.source;
   kind = ap (λ k. unwrap_or k entry_kind.Baptism) (entry_kind_back e.kind) i;
@@ -111,19 +166,24 @@ entry-by a e (Some d) (Some n) = λ i. record {
   mentions = mentions-back e.mentions i;
 }
 
-same-paths : (known : Known) (a : Around) (o : Option ℕ) → ((m : ℕ) → o ≡ Some m → known.path m ≡ Some (a.path m)) → entry_place_lines (around known) o ≡ entry_place_lines a o
+same-paths : (known : Known) (a : Around) (o : Option ℕ) → ((m : ℕ) → o ≡ Some m → known.path m ≡ Some (a.path m))
+    → entry_place_lines (around known) o ≡ entry_place_lines a o
 same-paths known a None h = refl
-same-paths known a (Some n) h = ap (λ path. line (codes "PLAC") (value.Text path) (loc_line n ∷ []) ∷ []) (ap (λ x. unwrap_or x []) (h n refl))
+same-paths known a (Some n) h = ap (λ path. line (codes "PLAC") (value.Text path) (loc_line n ∷ []) ∷ [])
+    (ap (λ x. unwrap_or x []) (h n refl))
 
-pub entry_back : (known : Known) (a : Around) (e : model.Entry) → is_entry known e ≡ true → ((m : ℕ) → e.place ≡ Some m → known.path m ≡ Some (a.path m))
+pub entry_back : (known : Known) (a : Around) (e : model.Entry) → is_entry known e ≡ true
+    → ((m : ℕ) → e.place ≡ Some m → known.path m ≡ Some (a.path m))
     → entry_of known (value.Text (entry_kind_word e.kind)) (entry_lines a e) ≡ Some e
 unfolding entry_of
 entry_back known a e h p =
     let ts = entry_lines a e in
     let v = value.Text (entry_kind_word e.kind) in
-    let same : entry_lines (around known) e ≡ ts = ap (λ ps. pointer_line (codes "SOUR") e.source [] ∷ (text_line (codes "PAGE") e.page
+    let same : entry_lines (around known) e ≡ ts = ap
+    (λ ps. pointer_line (codes "SOUR") e.source [] ∷ (text_line (codes "PAGE") e.page
     ∷ (text_line (codes "_ITEM") (decimal e.item.number) ∷ (text_lines (codes "DATE") (option_map date_text e.date)
     ++ (ps ++ (text_line (codes "TEXT") e.text ∷ map mention_line e.mentions)))))) (same-paths known a e.place p) in
     let its : has_its_lines known v ts e ≡ true =
-    λ i. ap is_some (entry_kind_back e.kind) i && (true && ((ap (λ us. same_forest (forest_of ts) (forest_of us)) same ∙ forest-self (forest_of ts)) i && h i)) in
+    λ i. ap is_some (entry_kind_back e.kind) i &&
+    (true && ((ap (λ us. same_forest (forest_of ts) (forest_of us)) same ∙ forest-self (forest_of ts)) i && h i)) in
     ap (λ x. entry_if (has_its_lines known v ts x) x) (entry-by a e e.date e.place) ∙ ap (λ b. entry_if b e) its

@@ -14,18 +14,42 @@ use Rattle.record_fields.specs.declared.entry_words.EntryKind.TheVariants as ent
 use Rattle.record_fields.specs.declared.entry_words.Role.TheVariants as role
 use Rattle.record_shapes.specs.Paths.{has_part, is_within_limits, normal}
 use Rattle.record_shapes.specs.Forms.{Known, is_some}
-use Rattle.record_shapes.specs.Fields.{a_citation, a_date, a_member, a_name, a_place, a_quality, a_sex, a_side, an_event, carried, citation_field, event_field, family_field, participant_field, person_field, repo_field}
+use Rattle.record_shapes.specs.Fields.{
+  a_citation,
+  a_date,
+  a_member,
+  a_name,
+  a_place,
+  a_quality,
+  a_sex,
+  a_side,
+  an_event,
+  carried,
+  citation_field,
+  event_field,
+  family_field,
+  participant_field,
+  person_field,
+  repo_field,
+}
 use Rattle.record_shapes.specs.Shapes.{Around, entry_lines, line, person_lines, pointer_line, shape, text_line}
 use Rattle.record_shapes.specs.Entries.{entry_of}
 use Rattle.record_shapes.specs.Reading.{family_from, place_from, repo_from, registered, source_from}
 
 -- the places 1, Kent, and 2, Ashby in Kent; a repository 3, a source 4, the persons 5 and 8, a family 6, a note 7
 abbrev pub tag_at : ℕ → List ℕ
-tag_at n = if n == 1 then codes "_LOC" else (if n == 2 then codes "_LOC" else (if n == 3 then codes "REPO" else (if n == 4 then codes "SOUR"
-    else (if n == 5 then codes "INDI" else (if n == 8 then codes "INDI" else (if n == 6 then codes "FAM" else (if n == 7 then codes "NOTE" else [])))))))
+tag_at n = if n == 1 then codes "_LOC"
+    else (if n == 2 then codes "_LOC" else (if n == 3 then codes "REPO" else (if n == 4 then codes "SOUR"
+    else (if n == 5 then codes "INDI"
+    else (if n == 8 then codes "INDI"
+    else (if n == 6 then codes "FAM" else (if n == 7 then codes "NOTE" else [])))))))
 
 abbrev pub known : Known
-known = record { tag = tag_at; path = λ n. if n == 1 then Some (codes "Kent") else (if n == 2 then Some (codes "Ashby, Kent") else None) }
+known = record {
+  tag = tag_at;
+  path = λ n. if n == 1 then Some (codes "Kent")
+      else (if n == 2 then Some (codes "Ashby, Kent") else None);
+}
 
 -- the families of person 5: a child in 6
 abbrev around : Around
@@ -44,10 +68,12 @@ pub another_sex_is_carried : person_field known (text_line (codes "SEX") (codes 
 another_sex_is_carried = refl
 
 -- a line with another below it is no sex, and is a name
-pub a_sex_is_bare : person_field known (line (codes "SEX") (value.Text (codes "M")) (text_line (codes "NOTE") [] ∷ [])) ≡ carried
+pub a_sex_is_bare : person_field known (line (codes "SEX") (value.Text (codes "M")) (text_line (codes "NOTE") [] ∷ []))
+    ≡ carried
 a_sex_is_bare = refl
 
-pub a_name_has_lines : person_field known (line (codes "NAME") (value.Text (codes "Ann /Lee/")) (text_line (codes "NICK") [] ∷ [])) ≡ a_name
+pub a_name_has_lines : person_field known (line (codes "NAME") (value.Text (codes "Ann /Lee/"))
+    (text_line (codes "NICK") [] ∷ [])) ≡ a_name
 a_name_has_lines = refl
 
 -- FAMC names a family; where it names a person it is carried, as it is below a family
@@ -68,10 +94,12 @@ pub a_partner_below_a_person_is_carried : person_field known (pointer_line (code
 a_partner_below_a_person_is_carried = refl
 
 -- a marriage is an event of families alone, a census one of both
-pub a_marriage_is_of_families : (family_field known (text_line (codes "MARR") []) ≡ an_event) × (person_field known (text_line (codes "MARR") []) ≡ carried)
+pub a_marriage_is_of_families : (family_field known (text_line (codes "MARR") []) ≡ an_event)
+    × (person_field known (text_line (codes "MARR") []) ≡ carried)
 a_marriage_is_of_families = (refl, refl)
 
-pub a_census_is_of_both : (family_field known (text_line (codes "CENS") []) ≡ an_event) × (person_field known (text_line (codes "CENS") []) ≡ an_event)
+pub a_census_is_of_both : (family_field known (text_line (codes "CENS") []) ≡ an_event)
+    × (person_field known (text_line (codes "CENS") []) ≡ an_event)
 a_census_is_of_both = (refl, refl)
 
 -- an event has a text: with a pointer the line is carried
@@ -79,14 +107,16 @@ pub an_event_has_a_text : person_field known (pointer_line (codes "BIRT") 7 []) 
 an_event_has_a_text = refl
 
 -- a citation names a source; a text is carried, and so is the line below a repository
-pub a_source_is_cited : (event_field known (pointer_line (codes "SOUR") 4 []) ≡ a_citation) × (event_field known (text_line (codes "SOUR") (codes "a letter")) ≡ carried)
+pub a_source_is_cited : (event_field known (pointer_line (codes "SOUR") 4 []) ≡ a_citation)
+    × (event_field known (text_line (codes "SOUR") (codes "a letter")) ≡ carried)
 a_source_is_cited = (refl, refl)
 
 pub a_repository_cites_nothing : repo_field (pointer_line (codes "SOUR") 4 []) ≡ carried
 a_repository_cites_nothing = refl
 
 -- a quality is 0 to 3
-pub a_quality_is_a_digit : (citation_field (text_line (codes "QUAY") (codes "3")) ≡ a_quality) × (citation_field (text_line (codes "QUAY") (codes "4")) ≡ carried)
+pub a_quality_is_a_digit : (citation_field (text_line (codes "QUAY") (codes "3")) ≡ a_quality)
+    × (citation_field (text_line (codes "QUAY") (codes "4")) ≡ carried)
 a_quality_is_a_digit = (refl, refl)
 
 -- a date may be empty, a role may not
@@ -102,32 +132,45 @@ pub a_place_text_is_made_normal : normal (codes " Ashby ,Kent") ≡ codes "Ashby
 unfolding normal
 a_place_text_is_made_normal = refl
 
-pub a_place_has_a_part : (event_field known (text_line (codes "PLAC") (codes " Ashby ,Kent")) ≡ a_place) × (event_field known (text_line (codes "PLAC") (codes " , ")) ≡ carried)
+pub a_place_has_a_part : (event_field known (text_line (codes "PLAC") (codes " Ashby ,Kent")) ≡ a_place)
+    × (event_field known (text_line (codes "PLAC") (codes " , ")) ≡ carried)
 unfolding normal is_within_limits has_part
 a_place_has_a_part = (refl, refl)
 
 -- a place names one that is known before it; itself it does not
-pub a_place_is_above : place_from known (text_line (codes "NAME") (codes "Ashby") ∷ pointer_line (codes "_LOC") 1 [] ∷ []) ≡ record { name = codes "Ashby"; parent = Some 1; carried = [] }
+pub a_place_is_above : place_from known (text_line (codes "NAME") (codes "Ashby") ∷ pointer_line (codes "_LOC") 1 []
+    ∷ []) ≡ record { name = codes "Ashby"; parent = Some 1; carried = [] }
 unfolding normal is_within_limits
 a_place_is_above = refl
 
-pub no_place_is_above_itself : place_from known (text_line (codes "NAME") (codes "Ashby") ∷ pointer_line (codes "_LOC") 9 [] ∷ [])
+pub no_place_is_above_itself : place_from known
+    (text_line (codes "NAME") (codes "Ashby") ∷ pointer_line (codes "_LOC") 9 [] ∷ [])
     ≡ record { name = codes "Ashby"; parent = None; carried = pointer_line (codes "_LOC") 9 [] ∷ [] }
 unfolding normal is_within_limits
 no_place_is_above_itself = refl
 
 -- ---- records
 -- the first name of a repository counts, also an empty one; a further one is carried
-pub the_first_name_counts : repo_from (text_line (codes "NAME") [] ∷ text_line (codes "NAME") (codes "Kent") ∷ []) ≡ record { name = Some []; carried = text_line (codes "NAME") (codes "Kent") ∷ [] }
+pub the_first_name_counts : repo_from (text_line (codes "NAME") [] ∷ text_line (codes "NAME") (codes "Kent") ∷ [])
+    ≡ record { name = Some []; carried = text_line (codes "NAME") (codes "Kent") ∷ [] }
 the_first_name_counts = refl
 
 -- a line stays in order among those that are carried
-pub carried_lines_stay_in_order : source_from known (text_line (codes "NOTE") (codes "a") ∷ text_line (codes "TITL") (codes "Ashby") ∷ pointer_line (codes "REPO") 5 [] ∷ [])
-    ≡ record { title = Some (codes "Ashby"); author = None; publisher = None; holdings = []; carried = text_line (codes "NOTE") (codes "a") ∷ pointer_line (codes "REPO") 5 [] ∷ [] }
+pub carried_lines_stay_in_order : source_from known
+    (text_line (codes "NOTE") (codes "a") ∷ text_line (codes "TITL") (codes "Ashby") ∷ pointer_line
+    (codes "REPO") 5 [] ∷ [])
+    ≡ record {
+      title = Some (codes "Ashby");
+      author = None;
+      publisher = None;
+      holdings = [];
+      carried = text_line (codes "NOTE") (codes "a") ∷ pointer_line (codes "REPO") 5 [] ∷ [];
+    }
 carried_lines_stay_in_order = refl
 
 -- no person is twice in a family: the first line counts
-pub a_member_is_there_once : family_from known (pointer_line (codes "WIFE") 5 [] ∷ pointer_line (codes "CHIL") 5 [] ∷ pointer_line (codes "CHIL") 8 [] ∷ [])
+pub a_member_is_there_once : family_from known
+    (pointer_line (codes "WIFE") 5 [] ∷ pointer_line (codes "CHIL") 5 [] ∷ pointer_line (codes "CHIL") 8 [] ∷ [])
     ≡ record {
       partners = record { partnership = partnership.Wife; person = 5; carried = []; carried_by_person = [] } ∷ [];
       children = record { person = 8; carried = []; carried_by_person = [] } ∷ [];
@@ -137,16 +180,33 @@ a_member_is_there_once = refl
 
 -- ---- the lines of records
 -- a place below another, an event at it
-pub the_lines_of_a_place : shape around 2 (node (kind.Place (record { name = codes "Ashby"; parent = Some 1; carried = [] })) none)
-    ≡ line (codes "_LOC") (value.Text []) (text_line (codes "NAME") (codes "Ashby") ∷ pointer_line (codes "_LOC") 1 [] ∷ [])
+pub the_lines_of_a_place : shape around 2
+    (node (kind.Place (record { name = codes "Ashby"; parent = Some 1; carried = [] })) none)
+    ≡ line (codes "_LOC") (value.Text []) (text_line (codes "NAME") (codes "Ashby") ∷ pointer_line
+    (codes "_LOC") 1 [] ∷ [])
 the_lines_of_a_place = refl
 
 abbrev burial : Tree Record
-burial = node (kind.Event (record { owner = 5; tag = codes "BURI"; value = []; date = None; place = Some (record { place = 2; carried = [] }); participants = []; carried = [] })) none
+burial = node (kind.Event
+    (record {
+      owner = 5;
+      tag = codes "BURI";
+      value = [];
+      date = None;
+      place = Some (record { place = 2; carried = [] });
+      participants = [];
+      carried = [];
+    })) none
 
-pub the_lines_of_a_person : person_lines around 5 (record { names = record { text = codes "John /Smith/"; carried = [] } ∷ []; sex = Some sex.Male; carried = text_line (codes "NOTE") [] ∷ [] }) (burial ∷ [])
+pub the_lines_of_a_person : person_lines around 5
+    (record {
+      names = record { text = codes "John /Smith/"; carried = [] } ∷ [];
+      sex = Some sex.Male;
+      carried = text_line (codes "NOTE") [] ∷ [];
+    }) (burial ∷ [])
     ≡ text_line (codes "NAME") (codes "John /Smith/") ∷ text_line (codes "SEX") (codes "M")
-    ∷ line (codes "BURI") (value.Text []) (line (codes "PLAC") (value.Text (codes "Ashby, Kent")) (pointer_line (codes "_LOC") 2 [] ∷ []) ∷ [])
+    ∷ line (codes "BURI") (value.Text []) (line (codes "PLAC") (value.Text (codes "Ashby, Kent"))
+    (pointer_line (codes "_LOC") 2 [] ∷ []) ∷ [])
     ∷ pointer_line (codes "FAMC") 6 [] ∷ text_line (codes "NOTE") [] ∷ []
 the_lines_of_a_person = refl
 
@@ -164,13 +224,15 @@ entry = record {
 }
 
 abbrev mention : Tree Line
-mention = line (codes "_MENT") (value.Text (codes "Ann")) (text_line (codes "_ROLE") (codes "child") ∷ pointer_line (codes "_LINK") 5 (text_line (codes "_WHY") [] ∷ []) ∷ [])
+mention = line (codes "_MENT") (value.Text (codes "Ann"))
+    (text_line (codes "_ROLE") (codes "child") ∷ pointer_line (codes "_LINK") 5 (text_line (codes "_WHY") [] ∷ []) ∷ [])
 
 abbrev place_line : Tree Line
 place_line = line (codes "PLAC") (value.Text (codes "Kent")) (pointer_line (codes "_LOC") 1 [] ∷ [])
 
 pub the_lines_of_an_entry : entry_lines around entry
-    ≡ pointer_line (codes "SOUR") 4 [] ∷ text_line (codes "PAGE") (codes "f. 3") ∷ text_line (codes "_ITEM") (codes "1") ∷ place_line ∷ text_line (codes "TEXT") [] ∷ mention ∷ []
+    ≡ pointer_line (codes "SOUR") 4 [] ∷ text_line (codes "PAGE") (codes "f. 3") ∷ text_line (codes "_ITEM") (codes "1")
+    ∷ place_line ∷ text_line (codes "TEXT") [] ∷ mention ∷ []
 unfolding digits
 the_lines_of_an_entry = refl
 
@@ -181,12 +243,14 @@ an_entry_is_read = refl
 
 -- without its text, with its lines in another order, or with a role of another kind it is none
 pub without_its_text_it_is_none : entry_of known (value.Text (codes "BAPTISM"))
-    (pointer_line (codes "SOUR") 4 [] ∷ text_line (codes "PAGE") (codes "f. 3") ∷ text_line (codes "_ITEM") (codes "1") ∷ place_line ∷ mention ∷ []) ≡ None
+    (pointer_line (codes "SOUR") 4 [] ∷ text_line (codes "PAGE") (codes "f. 3") ∷ text_line (codes "_ITEM") (codes "1")
+    ∷ place_line ∷ mention ∷ []) ≡ None
 unfolding digits item_of entry_of has_part
 without_its_text_it_is_none = refl
 
 pub in_another_order_it_is_none : entry_of known (value.Text (codes "BAPTISM"))
-    (pointer_line (codes "SOUR") 4 [] ∷ text_line (codes "PAGE") (codes "f. 3") ∷ text_line (codes "_ITEM") (codes "1") ∷ text_line (codes "TEXT") [] ∷ place_line ∷ mention ∷ []) ≡ None
+    (pointer_line (codes "SOUR") 4 [] ∷ text_line (codes "PAGE") (codes "f. 3") ∷ text_line (codes "_ITEM") (codes "1")
+    ∷ text_line (codes "TEXT") [] ∷ place_line ∷ mention ∷ []) ≡ None
 unfolding digits item_of entry_of has_part
 in_another_order_it_is_none = refl
 
@@ -195,5 +259,6 @@ unfolding digits item_of entry_of has_part
 with_another_role_it_is_none = refl
 
 -- a node of level 0 that is none of these is of no other kind, with its value
-pub a_note_is_of_no_kind : registered known (codes "NOTE") (value.Ref 7) (text_line (codes "NAME") [] ∷ []) ≡ kind.Other (record { tag = codes "NOTE"; value = value.Ref 7; carried = text_line (codes "NAME") [] ∷ [] })
+pub a_note_is_of_no_kind : registered known (codes "NOTE") (value.Ref 7) (text_line (codes "NAME") [] ∷ [])
+    ≡ kind.Other (record { tag = codes "NOTE"; value = value.Ref 7; carried = text_line (codes "NAME") [] ∷ [] })
 a_note_is_of_no_kind = refl

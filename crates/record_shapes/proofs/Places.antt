@@ -8,7 +8,17 @@ use Rattle.stored_lines.specs.Line.{Line}
 use Rattle.record_kinds.specs.Model as model
 use Rattle.record_shapes.specs.Paths.{is_within_limits, normal}
 use Rattle.record_shapes.specs.Forms.{Known, is_some, number_of, text_of}
-use Rattle.record_shapes.specs.Fields.{Field, a_name, a_parent, carried, is_same, parent_field, path_below, place_field, row}
+use Rattle.record_shapes.specs.Fields.{
+  Field,
+  a_name,
+  a_parent,
+  carried,
+  is_same,
+  parent_field,
+  path_below,
+  place_field,
+  row,
+}
 use Rattle.record_shapes.specs.Picking.{all_of, first, is_left, left, without_first}
 use Rattle.record_shapes.specs.Shapes.{loc_line, loc_lines, place_lines, text_line}
 use Rattle.record_shapes.specs.Reading.{parent_line, path_from, path_on, place_from, place_name}
@@ -24,13 +34,16 @@ module _ (earlier : Known) (p : model.Place) (h : IsReadablePlace earlier p) whe
   name_back : place_name (place_lines p) ≡ p.name
   name_back =
       let behind = all_of place_field a_name (loc_lines p.parent ++ p.carried) in
-      ap (λ x. normal (unwrap_or (option_map text_of (first (cond (is_same x a_name) (text_line (codes "NAME") p.name ∷ behind) behind))) [])) name-is
+      ap (λ x. normal (unwrap_or
+      (option_map text_of (first (cond (is_same x a_name) (text_line (codes "NAME") p.name ∷ behind) behind))) []))
+      name-is
       ∙ h.normal_name
 
   without-name : without_first place_field a_name (place_lines p) ≡ loc_lines p.parent ++ p.carried
   without-name =
       let behind = loc_lines p.parent ++ p.carried in
-      ap (λ x. cond (is_same x a_name) behind (text_line (codes "NAME") p.name ∷ without_first place_field a_name behind)) name-is
+      ap (λ x. cond (is_same x a_name) behind
+      (text_line (codes "NAME") p.name ∷ without_first place_field a_name behind)) name-is
 
   parent-is : (t : Tree Line) → option_map loc_line p.parent ≡ Some t → parent_field earlier p.name t ≡ a_parent
   parent-is t e = by p.parent refl e
@@ -50,7 +63,8 @@ module _ (earlier : Known) (p : model.Place) (h : IsReadablePlace earlier p) whe
 
   parent-here : parent_line earlier (place_lines p) ≡ option_map loc_line p.parent
   parent-here = ap (λ name. first (all_of (parent_field earlier name) a_parent (place_lines p))) name_back
-      ∙ one_here (parent_field earlier p.name) a_parent (option_map loc_line p.parent) p.carried parent-is refl no-parent
+      ∙ one_here (parent_field earlier p.name) a_parent (option_map loc_line p.parent) p.carried
+      parent-is refl no-parent
 
   numbers-back : (o : Option ℕ) → option_map number_of (option_map loc_line o) ≡ o
   numbers-back None = refl
@@ -68,8 +82,10 @@ module _ (earlier : Known) (p : model.Place) (h : IsReadablePlace earlier p) whe
         name = name_back i;
         parent = (ap (option_map number_of) parent-here ∙ numbers-back p.parent) i;
         carried = ((λ j. left (parent_field earlier (name_back j)) (a_parent ∷ []) (without-name j))
-            ∙ ap (filter (λ t. is_left (a_parent ∷ []) (f t))) (one_out f a_parent (option_map loc_line p.parent) p.carried parent-is refl no-parent)
-            ∙ kept_all f (is_left (a_parent ∷ [])) p.carried (left_more f (place_leaves p) (is_left (a_parent ∷ [])) p.carried place-kept h.untaken)) i;
+            ∙ ap (filter (λ t. is_left (a_parent ∷ []) (f t)))
+            (one_out f a_parent (option_map loc_line p.parent) p.carried parent-is refl no-parent)
+            ∙ kept_all f (is_left (a_parent ∷ [])) p.carried
+            (left_more f (place_leaves p) (is_left (a_parent ∷ [])) p.carried place-kept h.untaken)) i;
       }
 
   -- the path, by that of the place above

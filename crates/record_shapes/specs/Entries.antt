@@ -1,6 +1,24 @@
--- The register entry that a line of level 0 is, where the lines below it are exactly those of an entry, in order and as they
--- are written: a rule of our own. The entry is guessed, field by field, and its lines are compared.
-use Rattle.std.specs.Prelude.{ℕ, ◌&&◌, ◌==◌, Bool, true, false, List, [], length, map, codes, Option, Some, None, option_map, bytes_eq, nat_le}
+-- The register entry that a line of level 0 is, where the lines below it are exactly those of an entry, in order and as
+-- they are written: a rule of our own. The entry is guessed, field by field, and its lines are compared.
+use Rattle.std.specs.Prelude.{
+  ℕ,
+  ◌&&◌,
+  ◌==◌,
+  Bool,
+  true,
+  false,
+  List,
+  [],
+  length,
+  map,
+  codes,
+  Option,
+  Some,
+  None,
+  option_map,
+  bytes_eq,
+  nat_le,
+}
 use Rattle.std.specs.List.{list_all, filter}
 use Rattle.std.specs.Option.{unwrap_or}
 use Rattle.stored_lines.specs.Tree.{Tree, Forest, node, none, more, forest_of}

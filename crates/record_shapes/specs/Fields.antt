@@ -1,6 +1,22 @@
--- What a line may be in each part of a record: a row for each line of the standard's structures that we read (The GEDCOM
--- Standard Release 5.5.1, chapter 2). A line that no row takes is carried.
-use Rattle.std.specs.Prelude.{ℕ, ◌&&◌, ◌||◌, ◌==◌, not, Bool, List, [], ◌∷◌, codes, Option, Some, None, false, if◌then◌else◌}
+-- What a line may be in each part of a record: a row for each line of the standard's structures that we read (The
+-- GEDCOM Standard Release 5.5.1, chapter 2). A line that no row takes is carried.
+use Rattle.std.specs.Prelude.{
+  ℕ,
+  ◌&&◌,
+  ◌||◌,
+  ◌==◌,
+  not,
+  Bool,
+  List,
+  [],
+  ◌∷◌,
+  codes,
+  Option,
+  Some,
+  None,
+  false,
+  if◌then◌else◌,
+}
 use Rattle.stored_lines.specs.Tree.{Tree}
 use Rattle.stored_lines.specs.Line.{Line}
 use Rattle.record_fields.specs.Words.{sex_of, quality_of}
@@ -8,7 +24,20 @@ pub use Rattle.record_shapes.specs.declared.field.Field.{Field}
 use Rattle.record_shapes.specs.declared.field.Field.TheVariants as part
 use Rattle.record_shapes.specs.Paths.{has_part, is_within_limits, joined, normal}
 use Rattle.record_shapes.specs.Tags.{family_tags, person_tags}
-use Rattle.record_shapes.specs.Forms.{Known, is_among, is_bare, is_childless, is_empty, is_some, is_text, names_a, number_of, tagged, text_of, value_of}
+use Rattle.record_shapes.specs.Forms.{
+  Known,
+  is_among,
+  is_bare,
+  is_childless,
+  is_empty,
+  is_some,
+  is_text,
+  names_a,
+  number_of,
+  tagged,
+  text_of,
+  value_of,
+}
 
 pattern abbrev pub a_name : Field
 a_name = part.Name
@@ -134,7 +163,8 @@ person_field known t =
 -- below a family (FAM_RECORD)
 abbrev pub family_field : Known → Tree Line → Field
 family_field known t =
-    row ((tagged (codes "HUSB") t || (tagged (codes "WIFE") t || tagged (codes "CHIL") t)) && names_a (codes "INDI") known (value_of t)) a_member
+    row ((tagged (codes "HUSB") t ||
+    (tagged (codes "WIFE") t || tagged (codes "CHIL") t)) && names_a (codes "INDI") known (value_of t)) a_member
     (row (is_among family_tags t && is_text t) an_event
     (row (is_citation known t) a_citation carried))
 
@@ -163,11 +193,12 @@ abbrev pub is_above : List ℕ → Option (List ℕ) → Bool
 is_above called None = false
 is_above called (Some path) = is_within_limits (path_below called path)
 
--- below a place, the line that names the place above it: ours. Known are the paths of the places before it alone, so that it
--- is not above itself
+-- below a place, the line that names the place above it: ours. Known are the paths of the places before it alone, so
+-- that it is not above itself
 abbrev pub parent_field : Known → List ℕ → Tree Line → Field
 parent_field known name t =
-    row (tagged (codes "_LOC") t && (is_childless t && (not (is_text t) && is_above name (known.path (number_of t))))) a_parent carried
+    row (tagged (codes "_LOC") t && (is_childless t && (not (is_text t) && is_above name (known.path (number_of t)))))
+    a_parent carried
 
 -- below a place, the line of its name: ours. The text is made normal before the limits are looked at
 abbrev pub place_field : Tree Line → Field

@@ -21,9 +21,24 @@ apart_child c = record { person = c.person; carried = c.carried; carried_by_pers
 -- a record as its own lines tell it: an event or a citation without its owner, which is what it is below, and a family
 -- without the persons' side of its memberships
 abbrev pub apart : Record → Record
-apart (kind.Event e) = kind.Event (record { owner = 0; tag = e.tag; value = e.value; date = e.date; place = e.place; participants = e.participants; carried = e.carried })
-apart (kind.Citation c) = kind.Citation (record { owner = 0; source = c.source; page = c.page; quality = c.quality; carried = c.carried })
-apart (kind.Family f) = kind.Family (record { partners = map apart_partner f.partners; children = map apart_child f.children; carried = f.carried })
+apart (kind.Event e) =
+    kind.Event (record {
+      owner = 0;
+      tag = e.tag;
+      value = e.value;
+      date = e.date;
+      place = e.place;
+      participants = e.participants;
+      carried = e.carried;
+    })
+apart (kind.Citation c) =
+    kind.Citation (record { owner = 0; source = c.source; page = c.page; quality = c.quality; carried = c.carried })
+apart (kind.Family f) =
+    kind.Family (record {
+      partners = map apart_partner f.partners;
+      children = map apart_child f.children;
+      carried = f.carried;
+    })
 apart r = r
 
 -- a record with what it owns, as drafts of which no place is to be found
@@ -35,10 +50,11 @@ abbrev pub IsReadAgain : Type 0
 IsReadAgain = (earlier known : Known) (a : Around) (n : ℕ) (t : Tree Record) → IsReadable earlier known a n t
     → draft_of earlier known (shape a n t) ≡ drafted t
 
--- the lines of a person that name families are those of the families where the person is a child, and then of those where
--- the person is a partner
+-- the lines of a person that name families are those of the families where the person is a child, and then of those
+-- where the person is a partner
 abbrev pub FindsFamilies : Type 0
-FindsFamilies = (known : Known) (a : Around) (n : ℕ) (p : model.Person) (under : List (Tree Record)) → IsReadablePerson known a n p under
+FindsFamilies = (known : Known) (a : Around) (n : ℕ) (p : model.Person) (under : List (Tree Record))
+    → IsReadablePerson known a n p under
     → all_of (person_field known) a_side (person_lines a n p under)
     ≡ map (side_line (codes "FAMC")) (a.child_in n) ++ map (side_line (codes "FAMS")) (a.partner_in n)
 
@@ -46,4 +62,5 @@ FindsFamilies = (known : Known) (a : Around) (n : ℕ) (p : model.Person) (under
 abbrev pub FindsPath : Type 0
 FindsPath = (earlier : Known) (p : model.Place) → IsReadablePlace earlier p
     → ((p.parent ≡ None → path_from earlier (place_lines p) ≡ p.name)
-    × ((q : ℕ) (above : List ℕ) → p.parent ≡ Some q → earlier.path q ≡ Some above → path_from earlier (place_lines p) ≡ path_below p.name above))
+    × ((q : ℕ) (above : List ℕ) → p.parent ≡ Some q → earlier.path q ≡ Some above
+    → path_from earlier (place_lines p) ≡ path_below p.name above))

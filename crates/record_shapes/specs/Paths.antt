@@ -1,5 +1,22 @@
 -- The texts of places: rules of our own.
-use Rattle.std.specs.Prelude.{ℕ, ◌≡◌, ◌≤◌, ◌==◌, ◌&&◌, nat_lt, nat_le, Bool, List, [], ◌∷◌, ◌++◌, length, map, codes, if◌then◌else◌}
+use Rattle.std.specs.Prelude.{
+  ℕ,
+  ◌≡◌,
+  ◌≤◌,
+  ◌==◌,
+  ◌&&◌,
+  nat_lt,
+  nat_le,
+  Bool,
+  List,
+  [],
+  ◌∷◌,
+  ◌++◌,
+  length,
+  map,
+  codes,
+  if◌then◌else◌,
+}
 use Rattle.std.specs.List.{list_any, slice_split}
 
 -- names with comma and space between them

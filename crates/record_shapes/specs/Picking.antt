@@ -1,4 +1,5 @@
--- Lines picked by what they are. Of a field that a record has once the first line counts, and each further one is carried.
+-- Lines picked by what they are. Of a field that a record has once the first line counts, and each further one is
+-- carried.
 use Rattle.std.specs.Prelude.{ℕ, Bool, List, [], ◌∷◌, Option, Some, None, option_map, if◌then◌else◌}
 use Rattle.std.specs.List.{filter, list_any}
 use Rattle.stored_lines.specs.Tree.{Tree}
@@ -6,7 +7,8 @@ use Rattle.stored_lines.specs.Line.{Line, Lines}
 use Rattle.record_shapes.specs.Forms.{text_of}
 use Rattle.record_shapes.specs.Fields.{Field, carried, is_same}
 
--- what is carried once the fields are taken out: a line of no field, and a further one of a field that a record has once
+-- what is carried once the fields are taken out: a line of no field, and a further one of a field that a record has
+-- once
 abbrev pub is_left : List Field → Field → Bool
 is_left once x = list_any (is_same x) (carried ∷ once)
 

@@ -1,7 +1,27 @@
--- The record that lines are read as (The GEDCOM Standard Release 5.5.1, chapter 2, record structures), with the events and
--- citations below it. A family has its own side of the memberships alone. An event or a citation has no owner yet: it is what it
--- is below.
-use Rattle.std.specs.Prelude.{ℕ, ◌&&◌, ◌==◌, not, Bool, true, false, List, [], ◌∷◌, ◌++◌, map, codes, Option, Some, None, option_map, bytes_eq, if◌then◌else◌}
+-- The record that lines are read as (The GEDCOM Standard Release 5.5.1, chapter 2, record structures), with the events
+-- and citations below it. A family has its own side of the memberships alone. An event or a citation has no owner yet:
+-- it is what it is below.
+use Rattle.std.specs.Prelude.{
+  ℕ,
+  ◌&&◌,
+  ◌==◌,
+  not,
+  Bool,
+  true,
+  false,
+  List,
+  [],
+  ◌∷◌,
+  ◌++◌,
+  map,
+  codes,
+  Option,
+  Some,
+  None,
+  option_map,
+  bytes_eq,
+  if◌then◌else◌,
+}
 use Rattle.std.specs.List.{filter, flat_map, list_any}
 use Rattle.std.specs.Option.{unwrap_or}
 use Rattle.stored_lines.specs.Tree.{Tree, node, none, forest_of, list_of}
@@ -17,7 +37,38 @@ use Rattle.record_fields.specs.declared.words.Partnership.{Partnership}
 use Rattle.record_fields.specs.declared.words.Partnership.TheVariants as partnership
 use Rattle.record_shapes.specs.Paths.{normal}
 use Rattle.record_shapes.specs.Forms.{Known, below, is_childless, is_text, number_of, tag_of, tagged, text_of}
-use Rattle.record_shapes.specs.Fields.{Field, a_call_number, a_citation, a_date, a_holding, a_member, a_name, a_page, a_parent, a_participant, a_place, a_publisher, a_quality, a_role, a_sex, a_title, an_author, an_event, citation_field, event_field, family_field, holding_field, is_same, parent_field, participant_field, path_below, person_field, place_field, repo_field, source_field}
+use Rattle.record_shapes.specs.Fields.{
+  Field,
+  a_call_number,
+  a_citation,
+  a_date,
+  a_holding,
+  a_member,
+  a_name,
+  a_page,
+  a_parent,
+  a_participant,
+  a_place,
+  a_publisher,
+  a_quality,
+  a_role,
+  a_sex,
+  a_title,
+  an_author,
+  an_event,
+  citation_field,
+  event_field,
+  family_field,
+  holding_field,
+  is_same,
+  parent_field,
+  participant_field,
+  path_below,
+  person_field,
+  place_field,
+  repo_field,
+  source_field,
+}
 use Rattle.record_shapes.specs.Picking.{all_of, first, left, text_at, without_first}
 use Rattle.record_shapes.specs.Entries.{entry_of}
 
@@ -102,7 +153,8 @@ has_path path None = false
 has_path path (Some p) = bytes_eq p path
 
 abbrev pub is_loc : Known → List ℕ → Tree Line → Bool
-is_loc known path t = tagged (codes "_LOC") t && (is_childless t && (not (is_text t) && has_path path (known.path (number_of t))))
+is_loc known path t = tagged (codes "_LOC") t &&
+    (is_childless t && (not (is_text t) && has_path path (known.path (number_of t))))
 
 -- a list without its first of a kind
 abbrev pub without : {A : Type 0} → (A → Bool) → List A → List A
@@ -115,7 +167,8 @@ place_named known t = first (filter (is_loc known (normal (text_of t))) (below t
 
 abbrev pub event_place_with : Known → Tree Line → Option (Tree Line) → model.EventPlace
 event_place_with known t None = record { place = 0; carried = below t }
-event_place_with known t (Some loc) = record { place = number_of loc; carried = without (is_loc known (normal (text_of t))) (below t) }
+event_place_with known t (Some loc) =
+    record { place = number_of loc; carried = without (is_loc known (normal (text_of t))) (below t) }
 
 abbrev pub event_place_from : Known → Tree Line → model.EventPlace
 event_place_from known t = event_place_with known t (place_named known t)
@@ -178,7 +231,8 @@ person_from known ts = record {
 -- the first line of each person
 abbrev pub once_behind : List ℕ → Lines → Lines
 once_behind seen [] = []
-once_behind seen (t ∷ ts) = if list_any (λ n. n == number_of t) seen then once_behind seen ts else t ∷ once_behind (number_of t ∷ seen) ts
+once_behind seen (t ∷ ts) = if list_any (λ n. n == number_of t) seen then once_behind seen ts else t ∷ once_behind
+    (number_of t ∷ seen) ts
 
 abbrev pub once : Lines → Lines
 once ts = once_behind [] ts
@@ -190,7 +244,12 @@ abbrev pub partnership_of_tag : List ℕ → Partnership
 partnership_of_tag tag = if bytes_eq tag (codes "HUSB") then partnership.Husband else partnership.Wife
 
 abbrev pub partner_from : Tree Line → model.Partner
-partner_from t = record { partnership = partnership_of_tag (tag_of t); person = number_of t; carried = below t; carried_by_person = [] }
+partner_from t = record {
+  partnership = partnership_of_tag (tag_of t);
+  person = number_of t;
+  carried = below t;
+  carried_by_person = [];
+}
 
 abbrev pub child_from : Tree Line → model.Child
 child_from t = record { person = number_of t; carried = below t; carried_by_person = [] }
@@ -221,6 +280,8 @@ draft_of earlier known (node l f) =
     (if bytes_eq l.tag (codes "_LOC") then node (read (kind.Place (place_from earlier ts)) None) none
     else (if bytes_eq l.tag (codes "REPO") then node (read (kind.Repo (repo_from ts)) None) none
     else (if bytes_eq l.tag (codes "SOUR") then node (read (kind.Source (source_from known ts)) None) none
-    else (if bytes_eq l.tag (codes "INDI") then node (read (kind.Person (person_from known ts)) None) (forest_of (flat_map (λ t. draft_if known (person_field known t) t) ts))
-    else (if bytes_eq l.tag (codes "FAM") then node (read (kind.Family (family_from known ts)) None) (forest_of (flat_map (λ t. draft_if known (family_field known t) t) ts))
+    else (if bytes_eq l.tag (codes "INDI") then node (read (kind.Person (person_from known ts)) None)
+    (forest_of (flat_map (λ t. draft_if known (person_field known t) t) ts))
+    else (if bytes_eq l.tag (codes "FAM") then node (read (kind.Family (family_from known ts)) None)
+    (forest_of (flat_map (λ t. draft_if known (family_field known t) t) ts))
     else node (read (registered known l.tag l.value ts) None) none)))))

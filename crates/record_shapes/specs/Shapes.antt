@@ -1,5 +1,5 @@
--- The lines of a record in a file (The GEDCOM Standard Release 5.5.1, chapter 2, record structures), with its events and
--- citations below it. A pointer is the number of the record that it names.
+-- The lines of a record in a file (The GEDCOM Standard Release 5.5.1, chapter 2, record structures), with its events
+-- and citations below it. A pointer is the number of the record that it names.
 use Rattle.std.specs.Prelude.{ℕ, List, [], ◌∷◌, ◌++◌, map, codes, Option, Some, None, option_map, decimal}
 use Rattle.std.specs.List.{flat_map}
 use Rattle.stored_lines.specs.Tree.{Tree, node, forest_of, list_of}
@@ -115,7 +115,8 @@ abbrev pub side_line : List ℕ → Side → Tree Line
 side_line tag s = pointer_line tag s.family s.carried
 
 abbrev pub person_lines : Around → ℕ → model.Person → List (Tree Record) → Lines
-person_lines a n p under = map name_line p.names ++ (text_lines (codes "SEX") (option_map sex_word p.sex) ++ (events_below a under
+person_lines a n p under = map name_line p.names
+    ++ (text_lines (codes "SEX") (option_map sex_word p.sex) ++ (events_below a under
     ++ (map (side_line (codes "FAMC")) (a.child_in n) ++ (map (side_line (codes "FAMS")) (a.partner_in n)
     ++ (citation_lines under ++ p.carried)))))
 
@@ -143,7 +144,8 @@ link_lines None = []
 link_lines (Some l) = pointer_line (codes "_LINK") l.person (text_line (codes "_WHY") l.reason ∷ []) ∷ []
 
 abbrev pub mention_line : model.Mention → Tree Line
-mention_line m = line (codes "_MENT") (value.Text m.name) (text_line (codes "_ROLE") (role_word m.role) ∷ link_lines m.link)
+mention_line m = line (codes "_MENT") (value.Text m.name)
+    (text_line (codes "_ROLE") (role_word m.role) ∷ link_lines m.link)
 
 abbrev pub entry_lines : Around → model.Entry → Lines
 entry_lines a e = pointer_line (codes "SOUR") e.source [] ∷ (text_line (codes "PAGE") e.page

@@ -9,9 +9,12 @@ use Rattle.record_kinds.specs.declared.record.Record.TheVariants as kind
 abbrev pub person_tags : List (List ℕ)
 person_tags =
     codes "BIRT" ∷ codes "CHR" ∷ codes "BAPM" ∷ codes "DEAT" ∷ codes "BURI" ∷ codes "CREM" ∷ codes "ADOP" ∷ codes "BARM"
-    ∷ codes "BASM" ∷ codes "BLES" ∷ codes "CHRA" ∷ codes "CONF" ∷ codes "FCOM" ∷ codes "ORDN" ∷ codes "NATU" ∷ codes "EMIG"
-    ∷ codes "IMMI" ∷ codes "CENS" ∷ codes "PROB" ∷ codes "WILL" ∷ codes "GRAD" ∷ codes "RETI" ∷ codes "EVEN" ∷ codes "CAST"
-    ∷ codes "DSCR" ∷ codes "EDUC" ∷ codes "IDNO" ∷ codes "NATI" ∷ codes "NCHI" ∷ codes "NMR" ∷ codes "OCCU" ∷ codes "PROP"
+    ∷ codes "BASM" ∷ codes "BLES" ∷ codes "CHRA" ∷ codes "CONF" ∷ codes "FCOM" ∷ codes "ORDN"
+    ∷ codes "NATU" ∷ codes "EMIG"
+    ∷ codes "IMMI" ∷ codes "CENS" ∷ codes "PROB" ∷ codes "WILL" ∷ codes "GRAD" ∷ codes "RETI"
+    ∷ codes "EVEN" ∷ codes "CAST"
+    ∷ codes "DSCR" ∷ codes "EDUC" ∷ codes "IDNO" ∷ codes "NATI" ∷ codes "NCHI" ∷ codes "NMR"
+    ∷ codes "OCCU" ∷ codes "PROP"
     ∷ codes "RELI" ∷ codes "RESI" ∷ codes "SSN" ∷ codes "TITL" ∷ codes "FACT" ∷ []
 
 abbrev pub family_tags : List (List ℕ)

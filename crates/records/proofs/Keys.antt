@@ -1,5 +1,22 @@
 -- The words by which an entry is found are a text.
-use Rattle.std.specs.Prelude.{◌≡◌, ◌≤◌, ◌<◌, ◌^◌, ◌+◌, ◌==◌, ◌||◌, ℕ, List, ◌++◌, Bool, false, codes, decimal, length, refl}
+use Rattle.std.specs.Prelude.{
+  ◌≡◌,
+  ◌≤◌,
+  ◌<◌,
+  ◌^◌,
+  ◌+◌,
+  ◌==◌,
+  ◌||◌,
+  ℕ,
+  List,
+  ◌++◌,
+  Bool,
+  false,
+  codes,
+  decimal,
+  length,
+  refl,
+}
 use Rattle.std.specs.List.{list_any}
 use Rattle.std.proofs.Common.{sym, subst, ap₂, ◌∙◌, arith}
 use Rattle.std.proofs.lemmas.Fmt.{length-decimal-le}
@@ -13,22 +30,27 @@ small : (n : ℕ) → n ≤ 999999 → n < 2 ^ 64
 small n h = omega arith
 
 few-digits : (i : Item) → length (decimal i.number) ≤ 6
-few-digits i = let top : i.number ≤ 999999 = i.in_range.1 in length-decimal-le 6 i.number (omega arith) (omega arith) (small i.number i.in_range.1)
+few-digits i = let top : i.number ≤ 999999 = i.in_range.1 in
+    length-decimal-le 6 i.number (omega arith) (omega arith) (small i.number i.in_range.1)
 
 neither : (a b : Bool) → a ≡ false → b ≡ false → (a || b) ≡ false
 neither a b e f = ap₂ (λ x y. x || y) e f
 
-without : (x : ℕ) (ds page : List ℕ) → ((32 == x) || false) ≡ false → list_any (λ b. b == x) ds ≡ false → list_any (λ b. b == x) page ≡ false → list_any (λ b. b == x) ((ds ++ codes " ") ++ page) ≡ false
+without : (x : ℕ) (ds page : List ℕ) → ((32 == x) || false) ≡ false → list_any (λ b. b == x) ds ≡ false
+    → list_any (λ b. b == x) page ≡ false → list_any (λ b. b == x) ((ds ++ codes " ") ++ page) ≡ false
 without x ds page blank e f =
     let front = list_any-append (λ b. b == x) ds (codes " ") ∙ neither _ _ e blank in
     list_any-append (λ b. b == x) (ds ++ codes " ") page ∙ neither _ _ front f
 
-pub key_is_plain : (i : Item) (page text : List ℕ) → text ≡ (decimal i.number ++ codes " ") ++ page → IsText page → length page ≤ 1000 → IsPlain text
+pub key_is_plain : (i : Item) (page text : List ℕ) → text ≡ (decimal i.number ++ codes " ") ++ page → IsText page
+    → length page ≤ 1000 → IsPlain text
 key_is_plain i page text e is short =
     let digits = decimal_is_plain i.number (decimal i.number) refl i.in_range in
     let few : length (decimal i.number) ≤ 6 = few-digits i in
-    let front : length (decimal i.number ++ codes " ") ≡ length (decimal i.number) + 1 = length-append (decimal i.number) (codes " ") in
-    let long : length ((decimal i.number ++ codes " ") ++ page) ≡ length (decimal i.number ++ codes " ") + length page = length-append (decimal i.number ++ codes " ") page in
+    let front : length (decimal i.number ++ codes " ") ≡ length (decimal i.number) + 1 = length-append
+    (decimal i.number) (codes " ") in
+    let long : length ((decimal i.number ++ codes " ") ++ page) ≡ length (decimal i.number ++ codes " ")
+    + length page = length-append (decimal i.number ++ codes " ") page in
     subst IsPlain (sym e) (record {
       no_nul = without 0 (decimal i.number) page refl digits.no_nul is.no_nul;
       no_cr = without 13 (decimal i.number) page refl digits.no_cr is.no_cr;

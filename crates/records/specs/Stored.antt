@@ -1,7 +1,23 @@
 -- How a record is kept: a tree of lines, listed in order with their depths. The first line has the word of the kind;
 -- each field stands on a line with a word of its own, and a line may have a text and the number of a record together.
 -- The carried lines of a part stand last, below one line. So nothing is escaped, and a carried line may have any tag.
-use Rattle.std.specs.Prelude.{ℕ, List, [], ◌∷◌, ◌++◌, map, codes, Option, Some, None, option_map, decimal, cond, nat_le, length}
+use Rattle.std.specs.Prelude.{
+  ℕ,
+  List,
+  [],
+  ◌∷◌,
+  ◌++◌,
+  map,
+  codes,
+  Option,
+  Some,
+  None,
+  option_map,
+  decimal,
+  cond,
+  nat_le,
+  length,
+}
 use Rattle.stored_lines.specs.Tree.{Tree, node, forest_of, flat, relabel}
 use Rattle.stored_lines.specs.Line.{Label, Lines, Branches, label_for, label_of}
 use Rattle.record_kinds.specs.Model as model
@@ -133,10 +149,12 @@ bare_place n = record { place = n; carried = [] }
 
 -- by what an entry is found among those of its source: its item and its page, or the item alone where the page is long
 abbrev pub key_words : Item → List ℕ → List ℕ
-key_words item page = cond (nat_le (length page) 1000) (decimal item.number ++ (codes " " ++ page)) (decimal item.number)
+key_words item page = cond (nat_le (length page) 1000) (decimal item.number ++ (codes " " ++ page))
+    (decimal item.number)
 
 abbrev pub entry_tree : model.Entry → Tree Label
-entry_tree e = branch field.Entry (Some (entry_kind_word e.kind)) None ((branch field.Key (Some (key_words e.item e.page)) (Some e.source) [] ∷ [])
+entry_tree e = branch field.Entry (Some (entry_kind_word e.kind)) None
+    ((branch field.Key (Some (key_words e.item e.page)) (Some e.source) [] ∷ [])
     ++ (text_trees field.Page (Some e.page) ++ (text_trees field.Item (Some (decimal e.item.number))
     ++ (when_trees (option_map date_text e.date) (option_map bare_place e.place)
     ++ (text_trees field.Text (Some e.text) ++ map mention_tree e.mentions)))))

@@ -6,8 +6,27 @@ ghost use Rattle.record_fields.specs.Words.{entry_kind_of, entry_kind_word, role
 ghost use Rattle.record_fields.specs.Items.{first_item, item_of};
 ghost use Rattle.record_fields.specs.declared.entry_words.EntryKind.TheVariants as kinds;
 ghost use Rattle.record_fields.specs.declared.entry_words.Role.TheVariants as roles;
-ghost use Rattle.records.specs.Stored.{branch, mention_tree, entry_tree, link_person, link_reason, bare_place, key_words};
-ghost use Rattle.records.specs.Reading.{shallow_lines, mention_from, entry_from, link_from, read_by, place_number, event_place_from, first, under, text_from};
+ghost use Rattle.records.specs.Stored.{
+  branch,
+  mention_tree,
+  entry_tree,
+  link_person,
+  link_reason,
+  bare_place,
+  key_words,
+};
+ghost use Rattle.records.specs.Reading.{
+  shallow_lines,
+  mention_from,
+  entry_from,
+  link_from,
+  read_by,
+  place_number,
+  event_place_from,
+  first,
+  under,
+  text_from,
+};
 ghost use Rattle.records.specs.declared.field.Field.TheVariants as field;
 
 use crate::entry_keys::entry_key;
@@ -94,7 +113,8 @@ impl Part for Entry {
 
 /// The line by which an entry is found; it names the source.
 fn key_line(alloc: Global, entry: &Entry) -> Result<Branch, AllocError>
-    ensures { IfOk result (λ line. line ≡ branch field.Key (Some (key_words entry.now.item entry.now.page)) (Some entry.now.source) []) }
+    ensures { IfOk result (λ line. line ≡ branch field.Key (Some (key_words entry.now.item entry.now.page))
+        (Some entry.now.source) []) }
 {
     let words = Some(entry_key(alloc, entry.item, &entry.page)?);
     Field::Key.branch(alloc, words, Some(entry.source), Vec::new(alloc))

@@ -5,7 +5,19 @@ ghost use Rattle.record_fields.specs.Dated.{date_text, date_from};
 ghost use Rattle.stored_lines.specs.Levels.{AreShallow};
 ghost use Rattle.records.specs.Shallow.{InPlaceLine, InParticipant, InEvent};
 ghost use Rattle.records.specs.Stored.{participant_tree, event_tree, place_line, when_trees};
-ghost use Rattle.records.specs.Reading.{shallow_lines, participant_from, event_from, event_place_from, text_from, first, under, tag_or_event, text_or_empty, text_at as text_of_first, rest};
+ghost use Rattle.records.specs.Reading.{
+  shallow_lines,
+  participant_from,
+  event_from,
+  event_place_from,
+  text_from,
+  first,
+  under,
+  tag_or_event,
+  text_or_empty,
+  text_at as text_of_first,
+  rest,
+};
 ghost use Rattle.records.specs.declared.field.Field.TheVariants as field;
 
 use crate::field::Field;

@@ -7,7 +7,16 @@ ghost use Rattle.records.specs.Stored.{name_tree, person_tree, partner_tree, chi
 ghost use Rattle.std.specs.Option.{unwrap_or};
 ghost use Rattle.record_fields.specs.Words.{sex_word, partnership_word, sex_of, partnership_of};
 ghost use Rattle.record_fields.specs.declared.words.Partnership.TheVariants as partnerships;
-ghost use Rattle.records.specs.Reading.{shallow_lines, name_from, person_from, partner_from, child_from, family_from, read_by, under};
+ghost use Rattle.records.specs.Reading.{
+  shallow_lines,
+  name_from,
+  person_from,
+  partner_from,
+  child_from,
+  family_from,
+  read_by,
+  under,
+};
 ghost use Rattle.records.specs.declared.field.Field.TheVariants as field;
 
 use crate::field::Field;

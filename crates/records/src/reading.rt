@@ -1,7 +1,18 @@
 //! The fields of branches, each by its word.
 
 ghost use Rattle.std.specs.Prelude.{◌≡◌, IfOk, option_copied, bytes_eq};
-ghost use Rattle.records.specs.Reading.{shallow_lines, below, tag_of, under, first, text_or_empty, number_or_0, number_at as number_of_first, lines_from, text_from};
+ghost use Rattle.records.specs.Reading.{
+  shallow_lines,
+  below,
+  tag_of,
+  under,
+  first,
+  text_or_empty,
+  number_or_0,
+  number_at as number_of_first,
+  lines_from,
+  text_from,
+};
 ghost use Rattle.records.specs.Stored.{word};
 
 use crate::field::Field;

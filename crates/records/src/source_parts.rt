@@ -3,9 +3,25 @@
 ghost use Rattle.std.specs.Prelude.{[], ◌≡◌, IfOk, Some, option_map};
 ghost use Rattle.stored_lines.specs.Levels.{AreShallow};
 ghost use Rattle.records.specs.Shallow.{InHolding, InSource};
-ghost use Rattle.records.specs.Stored.{branch, place_tree, repo_tree, holding_tree, source_fields, source_tree, citation_tree};
+ghost use Rattle.records.specs.Stored.{
+  branch,
+  place_tree,
+  repo_tree,
+  holding_tree,
+  source_fields,
+  source_tree,
+  citation_tree,
+};
 ghost use Rattle.record_fields.specs.Words.{quality_word, quality_of};
-ghost use Rattle.records.specs.Reading.{shallow_lines, place_from, repo_from, holding_from, source_from, citation_from, read_by};
+ghost use Rattle.records.specs.Reading.{
+  shallow_lines,
+  place_from,
+  repo_from,
+  holding_from,
+  source_from,
+  citation_from,
+  read_by,
+};
 ghost use Rattle.records.specs.declared.field.Field.TheVariants as field;
 
 use crate::field::Field;

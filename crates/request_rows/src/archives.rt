@@ -80,8 +80,8 @@ impl Archives {
         }
     }
 
-    /// Asks the archive in files. Whether its outcomes are these and it then holds what the others hold; so is one that is not
-    /// kept.
+    /// Asks the archive in files. Whether its outcomes are these and it then holds what the others hold; so is one that
+    /// is not kept.
     pub(crate) fn agrees(
         &mut self,
         alloc: Global,

@@ -1,4 +1,5 @@
-//! Answers rows of requests, over archives in memory and in files in memory. A tool of the tests, no part of the product.
+//! Answers rows of requests, over archives in memory and in files in memory. A tool of the tests, no part of the
+//! product.
 #![tactic(auto)]
 
 mod archives;

@@ -22,7 +22,8 @@ abbrev pub repo : Option (List ℕ) → Lines → Record
 repo name carried = kind.Repo (record { name = name; carried = carried })
 
 abbrev pub source : Option (List ℕ) → List model.Holding → Lines → Record
-source title holdings carried = kind.Source (record { title = title; author = None; publisher = None; holdings = holdings; carried = carried })
+source title holdings carried =
+    kind.Source (record { title = title; author = None; publisher = None; holdings = holdings; carried = carried })
 
 -- a person without name and sex
 abbrev pub person : Lines → Record
@@ -41,18 +42,47 @@ abbrev pub family : List model.Partner → List model.Child → Lines → Record
 family partners children carried = kind.Family (record { partners = partners; children = children; carried = carried })
 
 abbrev pub citation : ℕ → ℕ → Option (List ℕ) → Lines → Record
-citation owner source page carried = kind.Citation (record { owner = owner; source = source; page = page; quality = None; carried = carried })
+citation owner source page carried =
+    kind.Citation (record { owner = owner; source = source; page = page; quality = None; carried = carried })
 
 abbrev pub event : ℕ → List ℕ → Option ℕ → List model.Participant → Lines → Record
-event owner tag None participants carried = kind.Event (record { owner = owner; tag = tag; value = []; date = None; place = None; participants = participants; carried = carried })
-event owner tag (Some n) participants carried = kind.Event (record { owner = owner; tag = tag; value = []; date = None; place = Some (record { place = n; carried = [] }); participants = participants; carried = carried })
+event owner tag None participants carried =
+    kind.Event (record {
+      owner = owner;
+      tag = tag;
+      value = [];
+      date = None;
+      place = None;
+      participants = participants;
+      carried = carried;
+    })
+event owner tag (Some n) participants carried =
+    kind.Event (record {
+      owner = owner;
+      tag = tag;
+      value = [];
+      date = None;
+      place = Some (record { place = n; carried = [] });
+      participants = participants;
+      carried = carried;
+    })
 
 abbrev pub mention : Role → model.Mention
 mention r = record { role = r; name = codes "Ann"; link = None }
 
 -- a baptism on a page of a source
 abbrev pub baptism : ℕ → List ℕ → Option ℕ → List model.Mention → Record
-baptism source page place mentions = kind.Entry (record { source = source; kind = entry_kind.Baptism; page = page; item = first_item; date = None; place = place; text = []; mentions = mentions })
+baptism source page place mentions =
+    kind.Entry (record {
+      source = source;
+      kind = entry_kind.Baptism;
+      page = page;
+      item = first_item;
+      date = None;
+      place = place;
+      text = [];
+      mentions = mentions;
+    })
 
 abbrev pub other : List ℕ → Lines → Record
 other tag carried = kind.Other (record { tag = tag; value = value.Text []; carried = carried })

@@ -1,4 +1,5 @@
--- What the list of broken rules says by the definition: an archive that breaks none is sound, one that breaks some is not.
+-- What the list of broken rules says by the definition: an archive that breaks none is sound, one that breaks some is
+-- not.
 use Rattle.std.proofs.Common.{◌≡◌, ℕ, List, [], ◌∷◌, Bool, true, false, not, map, refl, sym, subst, ◌∙◌}
 use Rattle.std.specs.Prelude.{Option, Some, cond}
 use Rattle.std.specs.List.{All, filter}
@@ -13,7 +14,50 @@ use Rattle.archive_state.specs.Slips.{Slip}
 use Rattle.archive_state.specs.Sound.{IsSound, old_records}
 use Rattle.archive_state.proofs.Each.{each_back, each_front}
 use Rattle.sound_archives.specs.Archives.{Archive, at, content, olds}
-use Rattle.sound_archives.specs.Rules.{AreMerges, ArchiveRule, IsMerge, OneBreaks, Rule, SlipRule, apart, archive_keeps, archive_rules, ascending, begun, bounded, broken, distinct, event_tags, free, gone_person, joinable, keep_person, keys, levels, linked, members, mentions, normal_names, numbers, of_olds, of_records, of_slips, parents, paths, places, rules, shapes, slip_links, slip_numbers, slip_rules, stayed, tags, texts, trailers, untaken}
+use Rattle.sound_archives.specs.Rules.{
+  AreMerges,
+  ArchiveRule,
+  IsMerge,
+  OneBreaks,
+  Rule,
+  SlipRule,
+  apart,
+  archive_keeps,
+  archive_rules,
+  ascending,
+  begun,
+  bounded,
+  broken,
+  distinct,
+  event_tags,
+  free,
+  gone_person,
+  joinable,
+  keep_person,
+  keys,
+  levels,
+  linked,
+  members,
+  mentions,
+  normal_names,
+  numbers,
+  of_olds,
+  of_records,
+  of_slips,
+  parents,
+  paths,
+  places,
+  rules,
+  shapes,
+  slip_links,
+  slip_numbers,
+  slip_rules,
+  stayed,
+  tags,
+  texts,
+  trailers,
+  untaken,
+}
 use Rattle.sound_archives.proofs.Whole.{is_sound, not_sound, old_same, slips_same}
 
 -- ---- the lists of rules have them all
@@ -51,23 +95,27 @@ archive_rule_in P h distinct = h.1.1.0
 archive_rule_in P h linked = h.1.1.1.0
 archive_rule_in P h stayed = h.1.1.1.1.0
 archive_rule_in P h free = h.1.1.1.1.1.0
-archive_rule_in P h (of_records r) = rule_in (λ x. P (of_records x)) (each_front P (map (λ x. of_records x) rules) (map (λ x. of_slips x) slip_rules) h.1.1.1.1.1.1) r
-archive_rule_in P h (of_slips r) = slip_rule_in (λ x. P (of_slips x)) (each_back P (map (λ x. of_records x) rules) (map (λ x. of_slips x) slip_rules) h.1.1.1.1.1.1) r
+archive_rule_in P h (of_records r) = rule_in (λ x. P (of_records x))
+    (each_front P (map (λ x. of_records x) rules) (map (λ x. of_slips x) slip_rules) h.1.1.1.1.1.1) r
+archive_rule_in P h (of_slips r) = slip_rule_in (λ x. P (of_slips x))
+    (each_back P (map (λ x. of_records x) rules) (map (λ x. of_slips x) slip_rules) h.1.1.1.1.1.1) r
 
 -- ---- what a list without some elements says
 none_left : {A : Type 0} (q : A → Bool) (xs : List A) → filter (λ x. not (q x)) xs ≡ [] → EachOf (λ x. q x ≡ true) xs
 none_left q [] e = tt
-none_left q (x ∷ xs) e = elim (q x) as (λ b. q x ≡ b → cond (not b) (x ∷ filter (λ y. not (q y)) xs) (filter (λ y. not (q y)) xs) ≡ [] → (q x ≡ true) × EachOf (λ y. q y ≡ true) xs) [
-  | true ↦ λ is rest. (is, none_left q xs rest)
-  | false ↦ λ is rest. absurd cc
-] refl e
+none_left q (x ∷ xs) e = elim (q x) as (λ b. q x ≡ b → cond (not b) (x ∷ filter (λ y. not (q y)) xs)
+    (filter (λ y. not (q y)) xs) ≡ [] → (q x ≡ true) × EachOf (λ y. q y ≡ true) xs) [
+      | true ↦ λ is rest. (is, none_left q xs rest)
+      | false ↦ λ is rest. absurd cc
+    ] refl e
 
 is_false : (b : Bool) → not b ≡ true → b ≡ false
 is_false true e = sym e
 is_false false e = refl
 
 -- ---- merges
-listed : (P : Slip → Type 0) (n : ℕ) (es : List (ℕ × Slip)) (s : Slip) → EachOf (λ (e : ℕ × Slip). P e.1) es → at es n ≡ Some s → P s
+listed : (P : Slip → Type 0) (n : ℕ) (es : List (ℕ × Slip)) (s : Slip) → EachOf (λ (e : ℕ × Slip). P e.1) es
+    → at es n ≡ Some s → P s
 listed P n [] s h e = absurd cc
 listed P n (f ∷ es) s h e = elim (eq_by_cmp nat_cmp n f.0) as (λ b. cond b (Some f.1) (at es n) ≡ Some s → P s) [
   | true ↦ λ found. let same : f.1 ≡ s = cc in subst P same h.0
@@ -94,5 +142,6 @@ pub unmerged : (a : Archive) (n : ℕ) (s : Slip) → at a.slips n ≡ Some s �
 unmerged a n s there none h = none (subst (IsMergeOf s) (same_look s) ((h.slips n s (slips_same a n ∙ there)).merges))
 
 -- each pair of the examples is one of the definition
-pub judged : (r : ArchiveRule) (a b : Archive) → OneBreaks r a b → AreMerges b.slips → ¬ (IsSound (content a)) × IsSound (content b)
+pub judged : (r : ArchiveRule) (a b : Archive) → OneBreaks r a b → AreMerges b.slips → ¬ (IsSound (content a))
+    × IsSound (content b)
 judged r a b h merges = (unsound a r [] h.0, sound b h.1 merges)

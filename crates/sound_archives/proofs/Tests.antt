@@ -11,11 +11,13 @@ use Rattle.archive_state.specs.Sound.{EachIn}
 use Rattle.sound_archives.specs.Archives.{at}
 use Rattle.sound_archives.specs.Judged.{all_some, each}
 
-pub each_of : {A : Type 0} (p : A → Bool) (P : A → Type 0) → ((x : A) → Decides (p x) (P x)) → (xs : List A) → Decides (list_all p xs) (EachOf P xs)
+pub each_of : {A : Type 0} (p : A → Bool) (P : A → Type 0) → ((x : A) → Decides (p x) (P x)) → (xs : List A)
+    → Decides (list_all p xs) (EachOf P xs)
 each_of p P d [] = (λ _. tt, λ _. refl)
 each_of p P d (x ∷ xs) = Decides-and (p x) (list_all p xs) (d x) (each_of p P d xs)
 
-pub if_some : {A : Type 0} (p : A → Bool) (P : A → Type 0) → ((x : A) → Decides (p x) (P x)) → (o : Option A) → Decides (all_some p o) (IfSome o P)
+pub if_some : {A : Type 0} (p : A → Bool) (P : A → Type 0) → ((x : A) → Decides (p x) (P x)) → (o : Option A)
+    → Decides (all_some p o) (IfSome o P)
 if_some p P d None = (λ _. tt, λ _. refl)
 if_some p P d (Some x) = d x
 
@@ -23,11 +25,13 @@ if_some p P d (Some x) = d x
 at_one : (q : ℕ → Bool) (n k : ℕ) (b : Bool) → eq_by_cmp nat_cmp n k ≡ b → b ≡ true → q k ≡ true → q n ≡ true
 at_one q n k b e is h = let same : n ≡ k = grind (arith, nat_tests) in subst (λ i. q i ≡ true) (sym same) h
 
-pub all_there : {X : Type 0} (q : ℕ → Bool) (n : ℕ) (es : List (ℕ × X)) (x : X) → list_all (λ e. q e.0) es ≡ true → at es n ≡ Some x → q n ≡ true
+pub all_there : {X : Type 0} (q : ℕ → Bool) (n : ℕ) (es : List (ℕ × X)) (x : X) → list_all (λ e. q e.0) es ≡ true
+    → at es n ≡ Some x → q n ≡ true
 all_there q n [] x h e = absurd cc
 all_there q n (f ∷ es) x h e =
     let parts = (Decides-and (q f.0) (list_all (λ g. q g.0) es) (λ i. i, λ i. i) (λ i. i, λ i. i)).0 h in
-    elim (eq_by_cmp nat_cmp n f.0) as (λ b. eq_by_cmp nat_cmp n f.0 ≡ b → cond b (Some f.1) (at es n) ≡ Some x → q n ≡ true) [
+    elim (eq_by_cmp nat_cmp n f.0) as (λ b. eq_by_cmp nat_cmp n f.0 ≡ b → cond b (Some f.1) (at es n)
+    ≡ Some x → q n ≡ true) [
       | true ↦ λ is _. at_one q n f.0 true is refl parts.0
       | false ↦ λ _ g. all_there q n es x parts.1 g
     ] refl e
@@ -48,5 +52,6 @@ pub each_in : {X : Type 0} (p : ℕ → X → Bool) (P : ℕ → X → Type 0) �
 each_in p P d m es same = (
   λ h n x e. let there : at es n ≡ Some x = sym (same n) ∙ e in
       (d n x).0 (from_some (p n) (at es n) x there (all_there (λ k. all_some (p k) (at es k)) n es x h there)),
-  λ h. to_all (λ e. all_some (p e.0) (at es e.0)) es (λ e. to_some (p e.0) (at es e.0) (λ x is. (d e.0 x).1 (h e.0 x (same e.0 ∙ is)))),
+  λ h. to_all (λ e. all_some (p e.0) (at es e.0)) es
+      (λ e. to_some (p e.0) (at es e.0) (λ x is. (d e.0 x).1 (h e.0 x (same e.0 ∙ is)))),
 )

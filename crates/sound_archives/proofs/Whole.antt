@@ -1,5 +1,24 @@
 -- The test of each rule on slips, and on all that an archive holds, decides it; what breaks a rule is not sound.
-use Rattle.std.proofs.Common.{◌≡◌, ℕ, ◌<◌, ◌==◌, List, [], ◌∷◌, true, false, not, nat_lt, map, refl, sym, ap, subst, ◌∙◌, true≢false}
+use Rattle.std.proofs.Common.{
+  ◌≡◌,
+  ℕ,
+  ◌<◌,
+  ◌==◌,
+  List,
+  [],
+  ◌∷◌,
+  true,
+  false,
+  not,
+  nat_lt,
+  map,
+  refl,
+  sym,
+  ap,
+  subst,
+  ◌∙◌,
+  true≢false,
+}
 use Rattle.std.specs.Prelude.{Option, Some, None, IfSome, MatchOption}
 use Rattle.std.specs.Bool.{Decides}
 use Rattle.std.proofs.lemmas.Bool.Decides.{Decides-and, Decides-eqb, Decides-ltb, Decides-not}
@@ -14,10 +33,74 @@ use Rattle.archive_state.specs.declared.slip.Change.{Change}
 use Rattle.archive_state.specs.Content.{Content, Records}
 use Rattle.archive_state.specs.Merging.{clashes, merged}
 use Rattle.archive_state.specs.Slips.{Slip}
-use Rattle.archive_state.specs.Sound.{EachIn, HasSoundRecords, IsEmptyPerson, IsNumber, IsPerson, IsSound, IsSoundSlip, Stands, StandsIfThere, change_names, old_records}
+use Rattle.archive_state.specs.Sound.{
+  EachIn,
+  HasSoundRecords,
+  IsEmptyPerson,
+  IsNumber,
+  IsPerson,
+  IsSound,
+  IsSoundSlip,
+  Stands,
+  StandsIfThere,
+  change_names,
+  old_records,
+}
 use Rattle.sound_archives.specs.Archives.{Archive, at, content, olds}
-use Rattle.sound_archives.specs.Judged.{all_some, ascends, is_empty_person, is_nil, is_number, is_person, is_some_person, may_keep, stands, stands_if_there}
-use Rattle.sound_archives.specs.Rules.{ArchiveKeeps, ArchiveRule, Keeps, Rule, SlipKeeps, SlipRule, apart, archive_keeps, ascending, begun, bounded, distinct, event_tags, free, gone_person, is_none, joinable, keep_person, keys, levels, linked, members, mentions, normal_names, numbers, of_olds, of_records, of_slips, parents, paths, places, shapes, slip_keeps, slip_links, slip_numbers, stayed, tags, texts, trailers, untaken}
+use Rattle.sound_archives.specs.Judged.{
+  all_some,
+  ascends,
+  is_empty_person,
+  is_nil,
+  is_number,
+  is_person,
+  is_some_person,
+  may_keep,
+  stands,
+  stands_if_there,
+}
+use Rattle.sound_archives.specs.Rules.{
+  ArchiveKeeps,
+  ArchiveRule,
+  Keeps,
+  Rule,
+  SlipKeeps,
+  SlipRule,
+  apart,
+  archive_keeps,
+  ascending,
+  begun,
+  bounded,
+  distinct,
+  event_tags,
+  free,
+  gone_person,
+  is_none,
+  joinable,
+  keep_person,
+  keys,
+  levels,
+  linked,
+  members,
+  mentions,
+  normal_names,
+  numbers,
+  of_olds,
+  of_records,
+  of_slips,
+  parents,
+  paths,
+  places,
+  shapes,
+  slip_keeps,
+  slip_links,
+  slip_numbers,
+  stayed,
+  tags,
+  texts,
+  trailers,
+  untaken,
+}
 use Rattle.sound_archives.proofs.Tests.{each_in, each_of, from_some, if_some, to_some}
 use Rattle.sound_archives.proofs.Judging.{all_stand, all_stand_there, decides}
 use Rattle.sound_archives.proofs.Parts as part
@@ -42,28 +125,42 @@ person_at (Some x) = (
   λ h. let found : Some x ≡ Some h.0 = h.1 in let same : x ≡ h.0 = cc in (a_person x).1 (subst IsPerson (sym same) h.2),
 )
 
-keep_at : (g o : Option Record) → Decides (may_keep g o) (MatchOption o ((r : Record) → g ≡ Some r → IsEmptyPerson r) IsPerson)
-keep_at g None = (λ h r e. (empty_person r).0 (from_some is_empty_person g r e h), λ h. to_some is_empty_person g (λ r e. (empty_person r).1 (h r e)))
+keep_at : (g o : Option Record) → Decides (may_keep g o)
+    (MatchOption o ((r : Record) → g ≡ Some r → IsEmptyPerson r) IsPerson)
+keep_at g None = (
+  λ h r e. (empty_person r).0 (from_some is_empty_person g r e h),
+  λ h. to_some is_empty_person g (λ r e. (empty_person r).1 (h r e)),
+)
 keep_at g (Some r) = a_person r
 
 ascend : (ns : List ℕ) → Decides (ascends ns) (Ascends ns)
 ascend [] = part.yes
-ascend (n ∷ ns) = Decides-and (list_all (λ m. nat_lt n m) ns) (ascends ns) (each_of (λ m. nat_lt n m) (λ m. n < m) (λ m. Decides-ltb n m) ns) (ascend ns)
+ascend (n ∷ ns) = Decides-and (list_all (λ m. nat_lt n m) ns) (ascends ns)
+    (each_of (λ m. nat_lt n m) (λ m. n < m) (λ m. Decides-ltb n m) ns) (ascend ns)
 
 pub old_same : (s : Slip) (n : ℕ) → get (old_records s) n ≡ at (olds s) n
 old_same s n = get-from_entries nat_cmp_total (olds s) n
 
 pub slip_decides : (next n : ℕ) (s : Slip) (r : SlipRule) → Decides (slip_keeps next n s r) (SlipKeeps next n s r)
-slip_decides next n s slip_numbers = each_of (is_number next) (IsNumber next) (part.number next) (n ∷ (s.keep ∷ (s.gone ∷ flat_map change_names s.changes)))
+slip_decides next n s slip_numbers = each_of (is_number next) (IsNumber next) (part.number next)
+    (n ∷ (s.keep ∷ (s.gone ∷ flat_map change_names s.changes)))
 slip_decides next n s ascending = ascend (map (λ (c : Change). c.number) s.changes)
-slip_decides next n s gone_person = subst (λ o. Decides (is_some_person (at (olds s) s.gone)) ((r : Record) × (o ≡ Some r) × IsPerson r)) (sym (old_same s s.gone)) (person_at (at (olds s) s.gone))
+slip_decides next n s gone_person =
+    subst (λ o. Decides (is_some_person (at (olds s) s.gone)) ((r : Record) × (o ≡ Some r) × IsPerson r))
+    (sym (old_same s s.gone)) (person_at (at (olds s) s.gone))
 slip_decides next n s keep_person =
-    subst (λ o. Decides (may_keep (at (olds s) s.gone) (at (olds s) s.keep)) (MatchOption o ((r : Record) → get (old_records s) s.gone ≡ Some r → IsEmptyPerson r) IsPerson)) (sym (old_same s s.keep))
-    (subst (λ g. Decides (may_keep (at (olds s) s.gone) (at (olds s) s.keep)) (MatchOption (at (olds s) s.keep) ((r : Record) → g ≡ Some r → IsEmptyPerson r) IsPerson)) (sym (old_same s s.gone))
+    subst (λ o. Decides (may_keep (at (olds s) s.gone) (at (olds s) s.keep))
+    (MatchOption o ((r : Record) → get (old_records s) s.gone ≡ Some r → IsEmptyPerson r) IsPerson))
+    (sym (old_same s s.keep))
+    (subst (λ g. Decides (may_keep (at (olds s) s.gone) (at (olds s) s.keep))
+    (MatchOption (at (olds s) s.keep) ((r : Record) → g ≡ Some r → IsEmptyPerson r) IsPerson))
+    (sym (old_same s s.gone))
     (keep_at (at (olds s) s.gone) (at (olds s) s.keep)))
 slip_decides next n s apart = Decides-not (s.keep == s.gone) (Decides-eqb s.keep s.gone)
-slip_decides next n s joinable = each_in (λ k r. not (clashes s.keep s.gone r)) (λ k r. clashes s.keep s.gone r ≡ false) (λ k r. part.is_not (clashes s.keep s.gone r)) (old_records s) (olds s) (old_same s)
-slip_decides next n s slip_links = each_in (λ k r. list_all (stands_if_there (at (olds s))) (links r)) (λ k r. EachOf (StandsIfThere (old_records s)) (links r))
+slip_decides next n s joinable = each_in (λ k r. not (clashes s.keep s.gone r)) (λ k r. clashes s.keep s.gone r ≡ false)
+    (λ k r. part.is_not (clashes s.keep s.gone r)) (old_records s) (olds s) (old_same s)
+slip_decides next n s slip_links = each_in (λ k r. list_all (stands_if_there (at (olds s))) (links r))
+    (λ k r. EachOf (StandsIfThere (old_records s)) (links r))
     (λ k r. all_stand_there (old_records s) (olds s) (old_same s) r) (old_records s) (olds s) (old_same s)
 slip_decides next n s (of_olds r) = decides (old_records s) (olds s) (old_same s) next r
 
@@ -85,15 +182,21 @@ module _ (a : Archive) where
   pub archive_decides : (r : ArchiveRule) → Decides (archive_keeps a r) (ArchiveKeeps (content a) r)
   archive_decides begun = Decides-ltb 0 a.next
   archive_decides bounded = part.at_most a.next 4294967296
-  archive_decides distinct = each_in (λ n r. is_none (at a.slips n)) (λ n r. get (content a).slips n ≡ None) (λ n r. no_slip n) (content a).records a.records records_same
-  archive_decides linked = each_in (λ n r. list_all (stands (at a.records)) (links r)) (λ n r. EachOf (Stands (content a).records) (links r))
+  archive_decides distinct = each_in (λ n r. is_none (at a.slips n)) (λ n r. get (content a).slips n ≡ None)
+      (λ n r. no_slip n) (content a).records a.records records_same
+  archive_decides linked = each_in (λ n r. list_all (stands (at a.records)) (links r))
+      (λ n r. EachOf (Stands (content a).records) (links r))
       (λ n r. all_stand (content a).records a.records records_same r) (content a).records a.records records_same
-  archive_decides stayed = each_in (λ n s. all_some is_person (at a.records s.keep)) (λ n s. IfSome (get (content a).records s.keep) IsPerson)
-      (λ n s. subst (λ o. Decides (all_some is_person (at a.records s.keep)) (IfSome o IsPerson)) (sym (records_same s.keep)) (if_some is_person IsPerson a_person (at a.records s.keep)))
+  archive_decides stayed = each_in (λ n s. all_some is_person (at a.records s.keep))
+      (λ n s. IfSome (get (content a).records s.keep) IsPerson)
+      (λ n s. subst (λ o. Decides (all_some is_person (at a.records s.keep)) (IfSome o IsPerson))
+      (sym (records_same s.keep)) (if_some is_person IsPerson a_person (at a.records s.keep)))
       (content a).slips a.slips slips_same
-  archive_decides free = each_in (λ n s. is_none (at a.slips s.gone)) (λ n s. get (content a).slips s.gone ≡ None) (λ n s. no_slip s.gone) (content a).slips a.slips slips_same
+  archive_decides free = each_in (λ n s. is_none (at a.slips s.gone)) (λ n s. get (content a).slips s.gone ≡ None)
+      (λ n s. no_slip s.gone) (content a).slips a.slips slips_same
   archive_decides (of_records r) = decides (content a).records a.records records_same a.next r
-  archive_decides (of_slips r) = each_in (λ n s. slip_keeps a.next n s r) (λ n s. SlipKeeps a.next n s r) (λ n s. slip_decides a.next n s r) (content a).slips a.slips slips_same
+  archive_decides (of_slips r) = each_in (λ n s. slip_keeps a.next n s r) (λ n s. SlipKeeps a.next n s r)
+      (λ n s. slip_decides a.next n s r) (content a).slips a.slips slips_same
 
 -- ---- the rules are those of the definition
 keeps_of : (next : ℕ) (m : Records) → HasSoundRecords next m → (r : Rule) → Keeps next m r
@@ -160,7 +263,8 @@ not_sound a r e h = true≢false (sym ((archive_decides a r).1 (archive_of (cont
 abbrev pub IsNew : Slip → Type 0
 IsNew s = EachOf (λ (c : Change). c.new ≡ merged s.keep s.gone (get (old_records s)) c.number) s.changes
 
-pub is_sound : (a : Archive) → ((r : ArchiveRule) → archive_keeps a r ≡ true) → EachIn (content a).slips (λ n s. IsNew s) → IsSound (content a)
+pub is_sound : (a : Archive) → ((r : ArchiveRule) → archive_keeps a r ≡ true)
+    → EachIn (content a).slips (λ n s. IsNew s) → IsSound (content a)
 is_sound a h new =
     let kept : (r : ArchiveRule) → ArchiveKeeps (content a) r = λ r. (archive_decides a r).0 (h r) in
     record {

@@ -1,5 +1,31 @@
 -- Whether an archive written by hand keeps each rule, by computing: a test for each rule of what a sound archive is.
-use Rattle.std.specs.Prelude.{ℕ, ◌+◌, zero, suc, Bool, true, false, not, ◌&&◌, ◌||◌, ◌==◌, nat_lt, nat_le, List, [], ◌∷◌, ◌++◌, length, codes, bytes_eq, Option, Some, None, option_map, if◌then◌else◌}
+use Rattle.std.specs.Prelude.{
+  ℕ,
+  ◌+◌,
+  zero,
+  suc,
+  Bool,
+  true,
+  false,
+  not,
+  ◌&&◌,
+  ◌||◌,
+  ◌==◌,
+  nat_lt,
+  nat_le,
+  List,
+  [],
+  ◌∷◌,
+  ◌++◌,
+  length,
+  codes,
+  bytes_eq,
+  Option,
+  Some,
+  None,
+  option_map,
+  if◌then◌else◌,
+}
 use Rattle.std.specs.List.{list_all, list_any}
 use Rattle.std.specs.Str.{is_utf8}
 use Rattle.stored_lines.specs.Tree.{Tree, forest_of, node, none}
@@ -14,14 +40,34 @@ use Rattle.record_links.specs.Carried.{carried_tags}
 use Rattle.record_links.specs.Links.{Link, is_wanted}
 use Rattle.record_shapes.specs.Entries.{entry_of}
 use Rattle.record_shapes.specs.declared.field.Field.{Field}
-use Rattle.record_shapes.specs.Fields.{citation_field, event_field, family_field, holding_field, parent_field, participant_field, person_field, repo_field, source_field}
+use Rattle.record_shapes.specs.Fields.{
+  citation_field,
+  event_field,
+  family_field,
+  holding_field,
+  parent_field,
+  participant_field,
+  person_field,
+  repo_field,
+  source_field,
+}
 use Rattle.record_shapes.specs.Forms.{Known, is_among, is_some}
 use Rattle.record_shapes.specs.Levels.{room_below}
 use Rattle.record_shapes.specs.Members.{members}
 use Rattle.record_shapes.specs.Paths.{has_part, normal}
 use Rattle.record_shapes.specs.Roles.{is_role_of}
 use Rattle.record_shapes.specs.Tags.{is_event_tag}
-use Rattle.record_shapes.specs.Untaken.{citation_leaves, event_leaves, family_leaves, holding_leaves, participant_leaves, person_leaves, place_leaves, repo_leaves, source_leaves}
+use Rattle.record_shapes.specs.Untaken.{
+  citation_leaves,
+  event_leaves,
+  family_leaves,
+  holding_leaves,
+  participant_leaves,
+  person_leaves,
+  place_leaves,
+  repo_leaves,
+  source_leaves,
+}
 use Rattle.archive_state.specs.Known.{path_with, tag_at}
 use Rattle.archive_state.specs.Sound.{own_tags, place_of}
 use Rattle.archive_state.specs.Texts.{carried_texts, own_texts}
@@ -44,7 +90,11 @@ abbrev pub seen : (ℕ → Option Record) → Known
 seen look = record { tag = λ n. tag_at (look n); path = λ n. path_seen (n + 1) look n }
 
 abbrev pub seen_before : (ℕ → Option Record) → ℕ → Known
-seen_before look k = record { tag = λ n. tag_at (look n); path = λ n. if nat_lt n k then path_seen (n + 1) look n else None }
+seen_before look k = record {
+  tag = λ n. tag_at (look n);
+  path = λ n. if nat_lt n k then path_seen
+      (n + 1) look n else None;
+}
 
 -- ---- the rules on one record
 abbrev pub is_number : ℕ → ℕ → Bool
@@ -84,7 +134,8 @@ abbrev pub is_ascii : List ℕ → Bool
 is_ascii bytes = list_all (λ b. nat_lt b 128) bytes
 
 abbrev pub is_text : List ℕ → Bool
-is_text bytes = (is_ascii bytes || is_utf8 bytes) && (not (list_any (λ b. b == 0) bytes) && (not (list_any (λ b. b == 13) bytes) && nat_le (length bytes) 1048576))
+is_text bytes = (is_ascii bytes || is_utf8 bytes) &&
+    (not (list_any (λ b. b == 0) bytes) && (not (list_any (λ b. b == 13) bytes) && nat_le (length bytes) 1048576))
 
 abbrev pub has_texts : Record → Bool
 has_texts r = list_all is_text (own_texts r ++ carried_texts r)
@@ -109,20 +160,24 @@ abbrev pub has_untaken : Known → Known → Record → Bool
 has_untaken earlier known (kind.Place p) = are_untaken (parent_field earlier p.name) (place_leaves p) p.carried
 has_untaken earlier known (kind.Repo r) = are_untaken repo_field (repo_leaves r) r.carried
 has_untaken earlier known (kind.Source s) =
-    list_all (λ (h : model.Holding). are_untaken holding_field (holding_leaves h) h.carried) s.holdings && are_untaken (source_field known) (source_leaves s) s.carried
+    list_all (λ (h : model.Holding). are_untaken holding_field (holding_leaves h) h.carried) s.holdings && are_untaken
+    (source_field known) (source_leaves s) s.carried
 has_untaken earlier known (kind.Person p) = are_untaken (person_field known) (person_leaves p) p.carried
 has_untaken earlier known (kind.Family f) = are_untaken (family_field known) (λ x. family_leaves x) f.carried
 has_untaken earlier known (kind.Citation c) = are_untaken citation_field (citation_leaves c) c.carried
 has_untaken earlier known (kind.Event e) =
-    list_all (λ (p : model.Participant). are_untaken participant_field (participant_leaves p) p.carried) e.participants && are_untaken (event_field known) (event_leaves e) e.carried
+    list_all (λ (p : model.Participant). are_untaken participant_field (participant_leaves p) p.carried) e.participants
+    && are_untaken (event_field known) (event_leaves e) e.carried
 has_untaken earlier known (kind.Entry e) = true
 has_untaken earlier known (kind.Other o) = true
 
 abbrev pub has_own_tag : model.Other → Bool
-has_own_tag o = not (is_among (codes "_LOC" ∷ codes "REPO" ∷ codes "SOUR" ∷ codes "INDI" ∷ codes "FAM" ∷ []) (node (record { tag = o.tag; value = o.value }) none))
+has_own_tag o = not (is_among (codes "_LOC" ∷ codes "REPO" ∷ codes "SOUR" ∷ codes "INDI" ∷ codes "FAM" ∷ [])
+    (node (record { tag = o.tag; value = o.value }) none))
 
 abbrev pub has_own_shape : Known → Record → Bool
-has_own_shape known (kind.Other o) = has_own_tag o && (not (bytes_eq o.tag (codes "_REG")) || not (is_some (entry_of known o.value o.carried)))
+has_own_shape known (kind.Other o) = has_own_tag o &&
+    (not (bytes_eq o.tag (codes "_REG")) || not (is_some (entry_of known o.value o.carried)))
 has_own_shape known _ = true
 
 abbrev pub are_within : ℕ → Lines → Bool
@@ -136,10 +191,14 @@ owner_seen look _ = None
 abbrev pub has_room : Option Record → Record → Bool
 has_room owner (kind.Place p) = are_within 98 p.carried
 has_room owner (kind.Repo r) = are_within 98 r.carried
-has_room owner (kind.Source s) = list_all (λ (h : model.Holding). are_within 97 h.carried) s.holdings && are_within 98 s.carried
-has_room owner (kind.Person p) = list_all (λ (n : model.Name). are_within 97 n.carried) p.names && are_within 98 p.carried
-has_room owner (kind.Family f) = list_all (λ (p : model.Partner). are_within 97 p.carried && are_within 97 p.carried_by_person) f.partners
-    && (list_all (λ (c : model.Child). are_within 97 c.carried && are_within 97 c.carried_by_person) f.children && are_within 98 f.carried)
+has_room owner (kind.Source s) = list_all (λ (h : model.Holding). are_within 97 h.carried) s.holdings &&
+    are_within 98 s.carried
+has_room owner (kind.Person p) = list_all (λ (n : model.Name). are_within 97 n.carried) p.names &&
+    are_within 98 p.carried
+has_room owner (kind.Family f) =
+    list_all (λ (p : model.Partner). are_within 97 p.carried && are_within 97 p.carried_by_person) f.partners
+    && (list_all (λ (c : model.Child). are_within 97 c.carried && are_within 97 c.carried_by_person) f.children &&
+    are_within 98 f.carried)
 has_room owner (kind.Citation c) = are_within (room_below owner) c.carried
 has_room owner (kind.Event e) = all_some (λ (p : model.EventPlace). are_within 96 p.carried) e.place
     && (list_all (λ (p : model.Participant). are_within 96 p.carried) e.participants && are_within 97 e.carried)

@@ -1,5 +1,28 @@
 -- The rules of what a sound archive is, each by its name: what it says, and the test of it.
-use Rattle.std.specs.Prelude.{ℕ, ◌≡◌, ◌≢◌, ◌<◌, ◌≤◌, ◌==◌, Bool, true, false, not, nat_lt, nat_le, List, [], ◌∷◌, ◌++◌, map, Option, Some, None, IfSome, MatchOption}
+use Rattle.std.specs.Prelude.{
+  ℕ,
+  ◌≡◌,
+  ◌≢◌,
+  ◌<◌,
+  ◌≤◌,
+  ◌==◌,
+  Bool,
+  true,
+  false,
+  not,
+  nat_lt,
+  nat_le,
+  List,
+  [],
+  ◌∷◌,
+  ◌++◌,
+  map,
+  Option,
+  Some,
+  None,
+  IfSome,
+  MatchOption,
+}
 use Rattle.std.specs.List.{filter, flat_map, list_all}
 use Rattle.std.specs.FinMap.{get}
 use Rattle.record_kinds.specs.Model as model
@@ -19,14 +42,61 @@ use Rattle.archive_state.specs.Known.{known_before, known_of}
 use Rattle.archive_state.specs.Merging.{clashes, merged}
 use Rattle.archive_state.specs.Paths.{HasPath}
 use Rattle.archive_state.specs.Slips.{Slip}
-use Rattle.archive_state.specs.Sound.{EachIn, HasEventTag, HasMembersOnce, HasNormalName, HasOwnShape, HasSaidPlace, HasSmallerParent, HasSoundMentions, IsEmptyPerson, IsNoTrailer, IsNumber, IsOfRecords, IsPerson, Stands, StandsIfThere, change_names, old_records, own_tags, owner_in}
+use Rattle.archive_state.specs.Sound.{
+  EachIn,
+  HasEventTag,
+  HasMembersOnce,
+  HasNormalName,
+  HasOwnShape,
+  HasSaidPlace,
+  HasSmallerParent,
+  HasSoundMentions,
+  IsEmptyPerson,
+  IsNoTrailer,
+  IsNumber,
+  IsOfRecords,
+  IsPerson,
+  Stands,
+  StandsIfThere,
+  change_names,
+  old_records,
+  own_tags,
+  owner_in,
+}
 use Rattle.archive_state.specs.Texts.{carried_texts, own_texts}
 use Rattle.sound_archives.specs.Archives.{Archive, at, olds}
-use Rattle.sound_archives.specs.Judged.{all_some, ascends, each, has_event_tag, has_members_once, has_normal_name, has_own_key, has_own_shape, has_room, has_said_place, has_smaller_parent, has_sound_mentions, has_tags, has_texts, has_untaken, is_no_trailer, is_number, is_person, is_some_person, may_keep, owner_seen, seen, seen_before, stands, stands_if_there}
+use Rattle.sound_archives.specs.Judged.{
+  all_some,
+  ascends,
+  each,
+  has_event_tag,
+  has_members_once,
+  has_normal_name,
+  has_own_key,
+  has_own_shape,
+  has_room,
+  has_said_place,
+  has_smaller_parent,
+  has_sound_mentions,
+  has_tags,
+  has_texts,
+  has_untaken,
+  is_no_trailer,
+  is_number,
+  is_person,
+  is_some_person,
+  may_keep,
+  owner_seen,
+  seen,
+  seen_before,
+  stands,
+  stands_if_there,
+}
 
 -- ---- the rules on records
 pub data Rule : Type 0 where
-  numbers parents normal_names paths members tags trailers texts places event_tags mentions untaken shapes levels keys : Rule
+  numbers parents normal_names paths members tags trailers texts places event_tags mentions untaken shapes
+      levels keys : Rule
 
 -- what each says
 abbrev pub Keeps : ℕ → Records → Rule → Type 0
@@ -44,7 +114,8 @@ Keeps next m mentions = EachIn m (λ n r. HasSoundMentions r)
 Keeps next m untaken = EachIn m (λ n r. HasUntaken (known_before m n) (known_of m) r)
 Keeps next m shapes = EachIn m (λ n r. HasOwnShape m r)
 Keeps next m levels = EachIn m (λ n r. HasRoom (owner_in m r) r)
-Keeps next m keys = (n k : ℕ) (e : model.Entry) → get m n ≡ Some (kind.Entry e) → IsEntryAt m e.source e.kind e.page e.item k → n ≡ k
+Keeps next m keys = (n k : ℕ) (e : model.Entry) → get m n ≡ Some (kind.Entry e)
+    → IsEntryAt m e.source e.kind e.page e.item k → n ≡ k
 
 -- whether records keep it
 abbrev pub keeps : ℕ → List (ℕ × Record) → Rule → Bool
@@ -65,7 +136,8 @@ keeps next es levels = each (λ n r. has_room (owner_seen (at es) r) r) es
 keeps next es keys = each (has_own_key es) es
 
 abbrev pub rules : List Rule
-rules = numbers ∷ parents ∷ normal_names ∷ paths ∷ members ∷ tags ∷ trailers ∷ texts ∷ places ∷ event_tags ∷ mentions ∷ untaken ∷ shapes ∷ levels ∷ keys ∷ []
+rules = numbers ∷ parents ∷ normal_names ∷ paths ∷ members ∷ tags ∷ trailers ∷ texts ∷ places ∷ event_tags ∷ mentions
+    ∷ untaken ∷ shapes ∷ levels ∷ keys ∷ []
 
 -- ---- the rules on a slip
 pub data SlipRule : Type 0 where
@@ -94,7 +166,8 @@ slip_keeps next n s slip_links = each (λ n r. list_all (stands_if_there (at (ol
 slip_keeps next n s (of_olds rule) = keeps next (olds s) rule
 
 abbrev pub slip_rules : List SlipRule
-slip_rules = slip_numbers ∷ ascending ∷ gone_person ∷ keep_person ∷ apart ∷ joinable ∷ slip_links ∷ map (λ r. of_olds r) rules
+slip_rules = slip_numbers ∷ ascending ∷ gone_person ∷ keep_person ∷ apart ∷ joinable ∷ slip_links ∷ map
+    (λ r. of_olds r) rules
 
 -- ---- the rules on all
 pub data ArchiveRule : Type 0 where
@@ -127,7 +200,8 @@ archive_keeps a (of_records rule) = keeps a.next a.records rule
 archive_keeps a (of_slips rule) = each (λ n s. slip_keeps a.next n s rule) a.slips
 
 abbrev pub archive_rules : List ArchiveRule
-archive_rules = begun ∷ bounded ∷ distinct ∷ linked ∷ stayed ∷ free ∷ (map (λ r. of_records r) rules ++ map (λ r. of_slips r) slip_rules)
+archive_rules = begun ∷ bounded ∷ distinct ∷ linked ∷ stayed ∷ free
+    ∷ (map (λ r. of_records r) rules ++ map (λ r. of_slips r) slip_rules)
 
 -- the rules that an archive breaks
 abbrev pub broken : Archive → List ArchiveRule

@@ -1,5 +1,31 @@
 -- From changes that were decided and written to the machine.
-use Rattle.std.proofs.Common.{◌≡◌, ◌≢◌, ◌⊎◌, inl, inr, ℕ, Bool, true, false, List, [], ◌∷◌, cond, Option, None, Some, Result, Ok, Err, refl, sym, ap, ◌∙◌, subst, true≢false}
+use Rattle.std.proofs.Common.{
+  ◌≡◌,
+  ◌≢◌,
+  ◌⊎◌,
+  inl,
+  inr,
+  ℕ,
+  Bool,
+  true,
+  false,
+  List,
+  [],
+  ◌∷◌,
+  cond,
+  Option,
+  None,
+  Some,
+  Result,
+  Ok,
+  Err,
+  refl,
+  sym,
+  ap,
+  ◌∙◌,
+  subst,
+  true≢false,
+}
 use Rattle.std.specs.Prelude.{MatchOption}
 use Rattle.std.specs.FinMap.{get}
 use Rattle.sqlite.specs.Effect.{Database}
@@ -35,27 +61,33 @@ use Rattle.store.specs.Histories.{Accepts, Allows, MayBeFound, has_failed, in_do
 use Rattle.store.proofs.Unchanged.{applies_nothing, rows_stay, society_stays}
 
 -- what is decided of one reading of rows is decided of any
-pub decides_same : (P : Content → Type 0) (rows : Rows) (held c : Content) → Means rows held → Means rows c → P held → P c
+pub decides_same : (P : Content → Type 0) (rows : Rows) (held c : Content) → Means rows held
+    → Means rows c → P held → P c
 decides_same P rows held c p q h = subst P (one_content rows held c p q) h
 
 -- ---- a request whose token is kept
-nothing_if_kept : (N : Type 0) (o : Option Receipt) (kept wanted : Option Kept) (k : Kept) → wanted ≡ Some k → MatchOption o (kept ≡ wanted) (λ _. N) → kept ≡ None → N
+nothing_if_kept : (N : Type 0) (o : Option Receipt) (kept wanted : Option Kept) (k : Kept) → wanted ≡ Some k
+    → MatchOption o (kept ≡ wanted) (λ _. N) → kept ≡ None → N
 nothing_if_kept N None kept wanted k is h none = absurd cc
 nothing_if_kept N (Some receipt) kept wanted k is h none = h
 
-pub nothing_changes : (c : Content) (r : Request) (changes : Changes) → IsExactFor c r changes → changes.kept ≡ None → ChangesNothing c changes
+pub nothing_changes : (c : Content) (r : Request) (changes : Changes) → IsExactFor c r changes → changes.kept ≡ None
+    → ChangesNothing c changes
 nothing_changes c r changes exact none = nothing_if_kept _ (get c.receipts r.token) changes.kept _ _ refl exact.0 none
 
 there_is : (N P : Type 0) (o : Option Receipt) → o ≢ None → MatchOption o P (λ _. N) → N
 there_is N P None there h = absurd (there refl)
 there_is N P (Some receipt) there h = h
 
-pub writes_nothing : (c : Content) (r : Request) (changes : Changes) → IsExactFor c r changes → get c.receipts r.token ≢ None → changes.kept ≡ None
+pub writes_nothing : (c : Content) (r : Request) (changes : Changes) → IsExactFor c r changes
+    → get c.receipts r.token ≢ None → changes.kept ≡ None
 writes_nothing c r changes exact there = (there_is _ _ (get c.receipts r.token) there exact.0).kept
 
 -- ---- what the archive is afterwards
-module _ (society : List ℕ) (c : Content) (rows : Rows) (r : Request) (changes : Changes) (keeps : Keeps society c rows) (decided : Decides c (Ok changes) (outcome c r)) (words : HasUtf8Words r.command) where
-  pub keeps_on : (AllShallow c → AllShallow (applied c changes)) → Keeps society (applied c changes) (with_changes changes rows)
+module _ (society : List ℕ) (c : Content) (rows : Rows) (r : Request) (changes : Changes) (keeps : Keeps society c rows)
+    (decided : Decides c (Ok changes) (outcome c r)) (words : HasUtf8Words r.command) where
+  pub keeps_on : (AllShallow c → AllShallow (applied c changes)) → Keeps society (applied c changes)
+      (with_changes changes rows)
   keeps_on shallow = record {
     means = changes_mean changes rows c keeps.means;
     shallow = shallow keeps.shallow;
@@ -63,10 +95,17 @@ module _ (society : List ℕ) (c : Content) (rows : Rows) (r : Request) (changes
     society_is = society_stays changes rows ∙ keeps.society_is;
   }
 
-  pub acknowledged_anew : (new : State) → IsExactFor c r changes → (AllShallow c → AllShallow (applied c changes)) → Settled new (with_changes changes rows)
+  pub acknowledged_anew : (new : State) → IsExactFor c r changes → (AllShallow c → AllShallow (applied c changes))
+      → Settled new (with_changes changes rows)
       → AcknowledgedBy society c rows r changes.answer new
-  acknowledged_anew new exact shallow settled =
-      (applied c changes, with_changes changes rows, decided, settled, keeps_on shallow, rows_stay c changes exact.1 rows keeps.sound)
+  acknowledged_anew new exact shallow settled = (
+    applied c changes,
+    with_changes changes rows,
+    decided,
+    settled,
+    keeps_on shallow,
+    rows_stay c changes exact.1 rows keeps.sound,
+  )
 
   pub acknowledged_again : (new : State) → IsExactFor c r changes → changes.kept ≡ None → Settled new rows
       → AcknowledgedBy society c rows r changes.answer new
@@ -77,7 +116,11 @@ module _ (society : List ℕ) (c : Content) (rows : Rows) (r : Request) (changes
   pub done_or_not : (s : State) → LeavesEither s rows changes → LeavesDoneOrNot s society c rows r
   done_or_not s either t leaves = elim (either t leaves) [
     | inl before ↦ inl before
-    | inr after ↦ inr (applied c changes, (changes.answer, decided), (with_changes changes rows, after.0, keeps_on (after.1 c)))
+    | inr after ↦ inr (
+      applied c changes,
+      (changes.answer, decided),
+      (with_changes changes rows, after.0, keeps_on (after.1 c)),
+    )
   ]
 
 -- ---- a request by itself
@@ -92,22 +135,29 @@ pub not_failed : (r : Request) (o : Result Answer Refusal) → in_doubt ((r, o) 
 not_failed r o e = failed_is_doubted (has_failed o) r e
 
 -- what a stop leaves of a request that was answered
-pub may_be_answered : (c after : Content) (r : Request) (o : Result Answer Refusal) → has_failed o ≡ false → Does c r o after → MayBeFound c ((r, o) ∷ []) after
+pub may_be_answered : (c after : Content) (r : Request) (o : Result Answer Refusal) → has_failed o ≡ false
+    → Does c r o after → MayBeFound c ((r, o) ∷ []) after
 may_be_answered c after r o sure did =
     subst (λ b. Allows c (cond b [] ((r, o) ∷ [])) (cond b (Some r) None) after) (sym sure) (after, did, refl)
 
 -- and of one in doubt
-pub may_be_before : (c : Content) (r : Request) (o : Result Answer Refusal) → has_failed o ≡ true → MayBeFound c ((r, o) ∷ []) c
-may_be_before c r o lost = subst (λ b. Allows c (cond b [] ((r, o) ∷ [])) (cond b (Some r) None) c) (sym lost) (c, refl, inl refl)
+pub may_be_before : (c : Content) (r : Request) (o : Result Answer Refusal) → has_failed o ≡ true
+    → MayBeFound c ((r, o) ∷ []) c
+may_be_before c r o lost = subst (λ b. Allows c (cond b [] ((r, o) ∷ [])) (cond b (Some r) None) c) (sym lost)
+    (c, refl, inl refl)
 
-pub may_be_done : (c after : Content) (r : Request) (o : Result Answer Refusal) → has_failed o ≡ true → Accepts c r after → MayBeFound c ((r, o) ∷ []) after
-may_be_done c after r o lost did = subst (λ b. Allows c (cond b [] ((r, o) ∷ [])) (cond b (Some r) None) after) (sym lost) (c, refl, inr did)
+pub may_be_done : (c after : Content) (r : Request) (o : Result Answer Refusal) → has_failed o ≡ true
+    → Accepts c r after → MayBeFound c ((r, o) ∷ []) after
+may_be_done c after r o lost did = subst (λ b. Allows c (cond b [] ((r, o) ∷ [])) (cond b (Some r) None) after)
+    (sym lost) (c, refl, inr did)
 
 -- ---- calls in a transaction, and its commit
-pub settles : (old mid new : State) (f : Rows → Rows) (rows : Rows) → Follows (record old { in_transaction = true }) mid f → Shows mid new mid.now mid.now false
+pub settles : (old mid new : State) (f : Rows → Rows) (rows : Rows)
+    → Follows (record old { in_transaction = true }) mid f → Shows mid new mid.now mid.now false
     → Settled old rows → Settled new (f rows)
 settles old mid new f rows follows shows was =
-    let inside = (follows rows (record { is_open = was.is_open; inside = refl; schema = was.schema; good = was.good })).0 in
+    let inside = (follows rows
+    (record { is_open = was.is_open; inside = refl; schema = was.schema; good = was.good })).0 in
     record {
       is_open = shows.is_open;
       autocommit = shows.mode;
@@ -117,7 +167,8 @@ settles old mid new f rows follows shows was =
     }
 
 -- ---- a request that is refused, or in doubt
-pub stays_same : (s : State) (society : List ℕ) (c : Content) (rows : Rows) (r : Request) → LeavesOnly s rows → LeavesDoneOrNot s society c rows r
+pub stays_same : (s : State) (society : List ℕ) (c : Content) (rows : Rows) (r : Request) → LeavesOnly s rows
+    → LeavesDoneOrNot s society c rows r
 stays_same s society c rows r only t leaves = inl (only t leaves)
 
 pub by_kept : {P : Type 0} (kept : Option Kept) → (kept ≡ None → P) → (kept ≢ None → P) → P
@@ -130,13 +181,15 @@ no_stop Storage want storage bad = storage
 no_stop BadStored want storage bad = absurd (bad refl)
 no_stop _ want storage bad = refl
 
-pub want_refused : (c : Content) (r : Request) (kind : RefusalKind) → (kind ≡ OutOfMemory) ⊎ (kind ≡ Storage) → is_storage kind ≡ false
+pub want_refused : (c : Content) (r : Request) (kind : RefusalKind) → (kind ≡ OutOfMemory) ⊎ (kind ≡ Storage)
+    → is_storage kind ≡ false
     → Does c r (Err (record { kind = kind; at = None })) c
 want_refused c r kind (inl want) sure = (refl, λ none. absurd (true≢false (subst (λ k. is_want k ≡ false) want none)))
 want_refused c r kind (inr lost) sure = absurd (true≢false (subst (λ k. is_storage k ≡ false) lost sure))
 
 -- ---- one request as calls
-pub ok_performs : (old new : State) (r : Request) (a : Answer) → Acknowledges old r a new → ((rows : Rows) → Settled new rows → LeavesOnly new rows) → HasCleanDisk old
+pub ok_performs : (old new : State) (r : Request) (a : Answer) → Acknowledges old r a new
+    → ((rows : Rows) → Settled new rows → LeavesOnly new rows) → HasCleanDisk old
     → Performs old ((r, Ok a) ∷ []) new
 ok_performs old new r a ack leaves clean = record {
   done = λ none society c has.
@@ -148,12 +201,15 @@ ok_performs old new r a ack leaves clean = record {
   clean = clean;
 }
 
--- where the refusal is no 80, the machine refuses, and the tables are as they were; in any case a crash leaves it done or not
+-- where the refusal is no 80, the machine refuses, and the tables are as they were; in any case a crash leaves it done
+-- or not
 module _ (old new : State) (r : Request) (e : Refusal)
-    (refused : is_storage e.kind ≡ false → OnArchive old (λ society c rows. Does c r (Err e) c × Settled new rows × LeavesOnly new rows))
+    (refused : is_storage e.kind ≡ false
+    → OnArchive old (λ society c rows. Does c r (Err e) c × Settled new rows × LeavesOnly new rows))
     (crash : OnArchive old (λ society c rows. LeavesDoneOrNot new society c rows r)) where
   left_by : (b : Bool) → is_storage e.kind ≡ b → (society : List ℕ) (c : Content) → HasArchive society c old
-      → (t : Trees) → new.may_leave t → (found : Content) × MayBeFound c ((r, Err e) ∷ []) found × IsArchive society found t
+      → (t : Trees) → new.may_leave t → (found : Content) × MayBeFound c ((r, Err e) ∷ []) found
+      × IsArchive society found t
   left_by false sure society c has t l =
       let did = refused sure society c has.0 has.1 has.2 in
       (c, may_be_answered c c r (Err e) sure did.0, (has.0, did.2 t l, has.2))

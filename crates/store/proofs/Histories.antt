@@ -1,5 +1,27 @@
 -- Histories one after the other, and what counts of them.
-use Rattle.std.proofs.Common.{◌≡◌, inl, inr, ℕ, Bool, true, false, List, [], ◌∷◌, ◌++◌, cond, Option, None, Some, Ok, refl, sym, ap, ◌∙◌, subst}
+use Rattle.std.proofs.Common.{
+  ◌≡◌,
+  inl,
+  inr,
+  ℕ,
+  Bool,
+  true,
+  false,
+  List,
+  [],
+  ◌∷◌,
+  ◌++◌,
+  cond,
+  Option,
+  None,
+  Some,
+  Ok,
+  refl,
+  sym,
+  ap,
+  ◌∙◌,
+  subst,
+}
 use Rattle.sqlite.specs.State.{State}
 use Rattle.sqlite.specs.Tree.{Trees}
 use Rattle.sqlite_trees.specs.declared.store.Store.{Ghosts}
@@ -32,16 +54,20 @@ answered_after (x ∷ xs) ys none =
     let parts = doubt_on (has_failed x.1) x.0 (in_doubt xs) none in
     ap (λ b. cond b [] (x ∷ answered (xs ++ ys))) parts.0 ∙ ap (λ zs. x ∷ zs) (answered_after xs ys parts.1)
 
-allowed_after : (c between found : Content) (xs ys : List Done) (o : Option Request) → Runs c xs between → Allows between ys o found → Allows c (xs ++ ys) o found
+allowed_after : (c between found : Content) (xs ys : List Done) (o : Option Request) → Runs c xs between
+    → Allows between ys o found → Allows c (xs ++ ys) o found
 allowed_after c between found xs ys None first h = joined xs ys c between found first h
 allowed_after c between found xs ys (Some r) first h = (h.0, joined xs ys c between h.0 first h.1, h.2)
 
-pub found_after : (c between found : Content) (xs ys : List Done) → in_doubt xs ≡ None → Runs c xs between → MayBeFound between ys found → MayBeFound c (xs ++ ys) found
+pub found_after : (c between found : Content) (xs ys : List Done) → in_doubt xs ≡ None → Runs c xs between
+    → MayBeFound between ys found → MayBeFound c (xs ++ ys) found
 found_after c between found xs ys none first h =
     subst (λ o. Allows c (answered (xs ++ ys)) o found) (sym (doubt_after xs ys none))
-    (subst (λ dones. Allows c dones (in_doubt ys) found) (sym (answered_after xs ys none)) (allowed_after c between found xs (answered ys) (in_doubt ys) first h))
+    (subst (λ dones. Allows c dones (in_doubt ys) found) (sym (answered_after xs ys none))
+    (allowed_after c between found xs (answered ys) (in_doubt ys) first h))
 
-pub performs_then : (a b d : State) (xs ys : List Done) → Performs a xs b → in_doubt xs ≡ None → Performs b ys d → Performs a (xs ++ ys) d
+pub performs_then : (a b d : State) (xs ys : List Done) → Performs a xs b → in_doubt xs ≡ None → Performs b ys d
+    → Performs a (xs ++ ys) d
 performs_then a b d xs ys first none next = record {
   done = λ all society c has.
       let one = first.done none society c has in
@@ -55,24 +81,29 @@ performs_then a b d xs ys first none next = record {
 }
 
 -- ---- calls after one that is in doubt
-doubt_stays_on : (b : Bool) (r : Request) (x y : Option Request) (s : Request) → (x ≡ Some s → y ≡ x) → cond b (Some r) x ≡ Some s → cond b (Some r) y ≡ cond b (Some r) x
+doubt_stays_on : (b : Bool) (r : Request) (x y : Option Request) (s : Request) → (x ≡ Some s → y ≡ x)
+    → cond b (Some r) x ≡ Some s → cond b (Some r) y ≡ cond b (Some r) x
 doubt_stays_on true r x y s more e = refl
 doubt_stays_on false r x y s more e = more e
 
 pub doubt_stays : (xs ys : List Done) (s : Request) → in_doubt xs ≡ Some s → in_doubt (xs ++ ys) ≡ in_doubt xs
 doubt_stays [] ys s e = absurd cc
-doubt_stays (x ∷ xs) ys s e = doubt_stays_on (has_failed x.1) x.0 (in_doubt xs) (in_doubt (xs ++ ys)) s (doubt_stays xs ys s) e
+doubt_stays (x ∷ xs) ys s e = doubt_stays_on (has_failed x.1) x.0 (in_doubt xs) (in_doubt (xs ++ ys)) s
+    (doubt_stays xs ys s) e
 
-answered_on : (b : Bool) (r : Request) (x : Done) (more : Option Request) (xs ys : List Done) (s : Request) → (more ≡ Some s → ys ≡ xs) → cond b (Some r) more ≡ Some s
+answered_on : (b : Bool) (r : Request) (x : Done) (more : Option Request) (xs ys : List Done) (s : Request)
+    → (more ≡ Some s → ys ≡ xs) → cond b (Some r) more ≡ Some s
     → cond b [] (x ∷ ys) ≡ cond b [] (x ∷ xs)
 answered_on true r x more xs ys s same e = refl
 answered_on false r x more xs ys s same e = ap (λ zs. x ∷ zs) (same e)
 
 pub answered_stays : (xs ys : List Done) (s : Request) → in_doubt xs ≡ Some s → answered (xs ++ ys) ≡ answered xs
 answered_stays [] ys s e = absurd cc
-answered_stays (x ∷ xs) ys s e = answered_on (has_failed x.1) x.0 x (in_doubt xs) (answered xs) (answered (xs ++ ys)) s (answered_stays xs ys s) e
+answered_stays (x ∷ xs) ys s e = answered_on (has_failed x.1) x.0 x (in_doubt xs) (answered xs) (answered (xs ++ ys)) s
+    (answered_stays xs ys s) e
 
-pub performs_still : (a b : State) (xs ys : List Done) (s : Request) → Performs a xs b → in_doubt xs ≡ Some s → Performs a (xs ++ ys) b
+pub performs_still : (a b : State) (xs ys : List Done) (s : Request) → Performs a xs b → in_doubt xs ≡ Some s
+    → Performs a (xs ++ ys) b
 performs_still a b xs ys s first doubted = record {
   done = λ none. absurd (some_is_not s (sym doubted ∙ sym (doubt_stays xs ys s doubted) ∙ none));
   crash = λ society c has t leaves.
@@ -86,25 +117,38 @@ performs_still a b xs ys s first doubted = record {
 }
 
 -- ---- what counts
-counted : (calls : List Done) (c found : Content) (o : Option Request) → in_doubt calls ≡ o → Allows c (answered calls) o found
+counted : (calls : List Done) (c found : Content) (o : Option Request) → in_doubt calls ≡ o
+    → Allows c (answered calls) o found
     → (dones : List Done) × Counts calls dones × Runs c dones found
 counted calls c found None e runs = (answered calls, inl refl, runs)
 counted calls c found (Some r) e h = elim h.2 [
   | inl same ↦ (answered calls, inl refl, subst (Runs c (answered calls)) (sym same) h.1)
-  | inr did ↦ (answered calls ++ (r, Ok did.0) ∷ [], inr (r, did.0, e, refl), joined (answered calls) ((r, Ok did.0) ∷ []) c h.0 found h.1 (found, did.1, refl))
+  | inr did ↦ (
+    answered calls ++ (r, Ok did.0) ∷ [],
+    inr (r, did.0, e, refl),
+    joined (answered calls) ((r, Ok did.0) ∷ []) c h.0 found h.1 (found, did.1, refl),
+  )
 ]
 
-of_session : {S : Type 0} (g : Ghosts S) (before after : Trees) (calls : List Done) (society : List ℕ) (c : Content) → Session g before calls after → IsArchive society c before
+of_session : {S : Type 0} (g : Ghosts S) (before after : Trees) (calls : List Done) (society : List ℕ) (c : Content)
+    → Session g before calls after → IsArchive society c before
     → (found : Content) × (dones : List Done) × IsArchive society found after × Counts calls dones × Runs c dones found
 of_session g before after calls society c s is =
     let left = s.3.crash society c (s.2 society c is) after s.4 in
     let all = counted calls c left.0 (in_doubt calls) refl left.1 in
     (left.0, all.0, left.2, all.1, all.2)
 
-pub of_life : {S : Type 0} (g : Ghosts S) (more : List (List Done)) (before after : Trees) (calls : List Done) (society : List ℕ) (c : Content) → Life g before calls more after → IsArchive society c before
-    → (found : Content) × (dones : List Done) × IsArchive society found after × CountInAll calls more dones × Runs c dones found
+pub of_life : {S : Type 0} (g : Ghosts S) (more : List (List Done)) (before after : Trees) (calls : List Done)
+    (society : List ℕ) (c : Content) → Life g before calls more after → IsArchive society c before
+    → (found : Content) × (dones : List Done) × IsArchive society found after × CountInAll calls more dones
+    × Runs c dones found
 of_life g [] before after calls society c life is = of_session g before after calls society c life is
 of_life g (next ∷ more) before after calls society c life is =
     let one = of_session g before life.0 calls society c life.1 is in
-    let rest = of_life g more life.0 after next society one.0 life.2 one.2 in
-    (rest.0, one.1 ++ rest.1, rest.2, (one.1, rest.1, one.3, rest.3, refl), joined one.1 rest.1 c one.0 rest.0 one.4 rest.4)
+    let rest = of_life g more life.0 after next society one.0 life.2 one.2 in (
+      rest.0,
+      one.1 ++ rest.1,
+      rest.2,
+      (one.1, rest.1, one.3, rest.3, refl),
+      joined one.1 rest.1 c one.0 rest.0 one.4 rest.4,
+    )

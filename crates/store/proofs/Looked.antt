@@ -20,8 +20,10 @@ storage_is : (k : RefusalKind) → is_storage k ≡ true → k ≡ Storage
 storage_is Storage e = refl
 storage_is _ e = absurd (true≢false (sym e))
 
-pub ok_reads : {A : Type 0} (Is : List ℕ → Content → A → Type 0) (old new : State) (a : A) → ((rows : Rows) (society : List ℕ) (c : Content) → Settled old rows → Keeps society c rows → Is society c a)
-    → ((rows : Rows) → Settled old rows → Settled new rows) → ((rows : Rows) → Settled old rows → LeavesOnly new rows) → HasCleanDisk old → Reads Is old (Ok a) new
+pub ok_reads : {A : Type 0} (Is : List ℕ → Content → A → Type 0) (old new : State) (a : A)
+    → ((rows : Rows) (society : List ℕ) (c : Content) → Settled old rows → Keeps society c rows → Is society c a)
+    → ((rows : Rows) → Settled old rows → Settled new rows) → ((rows : Rows) → Settled old rows → LeavesOnly new rows)
+    → HasCleanDisk old → Reads Is old (Ok a) new
 ok_reads Is old new a is same leaves clean = record {
   read = λ society c has. is has.0 society c has.1 has.2;
   refused = tt;
@@ -30,14 +32,18 @@ ok_reads Is old new a is same leaves clean = record {
   clean = clean;
 }
 
-fails_as : (b : Bool) (kind result : RefusalKind) → is_storage result ≡ b → (b ≡ false → result ≡ kind) → IsFailure kind → IsFailure result
+fails_as : (b : Bool) (kind result : RefusalKind) → is_storage result ≡ b → (b ≡ false → result ≡ kind) → IsFailure kind
+    → IsFailure result
 fails_as true kind result e same failure = inr (storage_is result e)
 fails_as false kind result e same failure = subst IsFailure (sym (same refl)) failure
 
 -- where the connection was asked afterwards whether it answers still
-pub err_reads : {A : Type 0} (Is : List ℕ → Content → A → Type 0) (old mid new : State) (kind result : RefusalKind) → ((society : List ℕ) (c : Content) → HasArchive society c old → IsFailure kind)
-    → ((rows : Rows) → Settled old rows → LeavesOnly mid rows) → HasCleanDisk old → (is_storage result ≡ false → (rows : Rows) → LeavesOnly mid rows → Settled new rows)
-    → (is_storage result ≡ false → result ≡ kind) → ((t : Trees) → new.may_leave t → mid.may_leave t) → Reads Is old (Err result) new
+pub err_reads : {A : Type 0} (Is : List ℕ → Content → A → Type 0) (old mid new : State) (kind result : RefusalKind)
+    → ((society : List ℕ) (c : Content) → HasArchive society c old → IsFailure kind)
+    → ((rows : Rows) → Settled old rows → LeavesOnly mid rows) → HasCleanDisk old
+    → (is_storage result ≡ false → (rows : Rows) → LeavesOnly mid rows → Settled new rows)
+    → (is_storage result ≡ false → result ≡ kind) → ((t : Trees) → new.may_leave t → mid.may_leave t)
+    → Reads Is old (Err result) new
 err_reads Is old mid new kind result failure leaves clean settled same left = record {
   read = tt;
   refused = λ society c has. fails_as (is_storage result) kind result refl same (failure society c has);
@@ -60,4 +66,9 @@ new_shallow : AllShallow nothing
 new_shallow = record { records = λ n x e. absurd (none_there n x e); slips = λ n x e. absurd (none_there n x e) }
 
 pub new_keeps : (society : List ℕ) → Keeps society nothing (nothing_yet society)
-new_keeps society = record { means = new_means society; shallow = new_shallow; sound = nothing_is_sound; society_is = refl }
+new_keeps society = record {
+  means = new_means society;
+  shallow = new_shallow;
+  sound = nothing_is_sound;
+  society_is = refl;
+}

@@ -1,5 +1,26 @@
 -- What exact changes leave: the rows of every number at which the same is found before and after, and the society.
-use Rattle.std.proofs.Common.{◌≡◌, ◌≢◌, ℕ, Bool, true, false, List, [], ◌∷◌, map, cond, Option, None, Some, refl, sym, ap, ◌∙◌, ◌<◌, arith}
+use Rattle.std.proofs.Common.{
+  ◌≡◌,
+  ◌≢◌,
+  ℕ,
+  Bool,
+  true,
+  false,
+  List,
+  [],
+  ◌∷◌,
+  map,
+  cond,
+  Option,
+  None,
+  Some,
+  refl,
+  sym,
+  ap,
+  ◌∙◌,
+  ◌<◌,
+  arith,
+}
 use Rattle.std.specs.Prelude.{◌==◌, ◌||◌}
 use Rattle.std.specs.List.{list_any}
 use Rattle.std.specs.FinMap.{get, insert, remove}
@@ -21,7 +42,8 @@ use Rattle.store_rows.proofs.Slips.{changes_only}
 use Rattle.store_rows.proofs.Staying.{others_stay}
 use Rattle.store.specs.Calls.{KeepsRows}
 
-each_both : {A : Type 0} (P Q R : A → Type 0) → ((x : A) → P x → Q x → R x) → (xs : List A) → EachOf P xs → EachOf Q xs → EachOf R xs
+each_both : {A : Type 0} (P Q R : A → Type 0) → ((x : A) → P x → Q x → R x) → (xs : List A) → EachOf P xs
+    → EachOf Q xs → EachOf R xs
 each_both P Q R f [] p q = tt
 each_both P Q R f (x ∷ xs) p q = (f x p.0 q.0, each_both P Q R f xs p.1 q.1)
 
@@ -43,26 +65,34 @@ number_differs a b h = grind (arith, h)
 left_at : (ns : List ℕ) (m : Records) (n : ℕ) → EachOf (λ k. k ≢ n) ns → get (without m ns) n ≡ get m n
 left_at [] m n others = refl
 left_at (k ∷ ns) m n others =
-    left_at ns (remove m k) n others.1 ∙ got_removed m k n ∙ ap (λ b. cond b None (get m n)) (number_differs k n others.0)
+    left_at ns (remove m k) n others.1 ∙ got_removed m k n ∙ ap (λ b. cond b None (get m n))
+    (number_differs k n others.0)
 
 none_stays : (ns : List ℕ) (m : Records) (n : ℕ) → get m n ≡ None → get (without m ns) n ≡ None
 none_stays [] m n none = none
 none_stays (k ∷ ns) m n none =
-    none_stays ns (remove m k) n (got_removed m k n ∙ (elim (k == n) as (λ b. cond b None (get m n) ≡ None) [ true ↦ refl | false ↦ none ]))
+    none_stays ns (remove m k) n
+    (got_removed m k n ∙ (elim (k == n) as (λ b. cond b None (get m n) ≡ None) [ true ↦ refl | false ↦ none ]))
 
 gone : (ns : List ℕ) (m : Records) → EachOf (λ n. get (without m ns) n ≡ None) ns
 gone [] m = tt
-gone (n ∷ ns) m = (none_stays ns (remove m n) n (got_removed m n n ∙ ap (λ b. cond b None (get m n)) (same_number n n refl)), gone ns (remove m n))
+gone (n ∷ ns) m = (
+  none_stays ns (remove m n) n
+      (got_removed m n n ∙ ap (λ b. cond b None (get m n)) (same_number n n refl)),
+  gone ns (remove m n),
+)
 
 -- ---- what a map has after puts of ascending numbers
-put_elsewhere : (ps : List Numbered) (m : Records) (n : ℕ) → EachOf (λ k. n < k) (map (λ (p : Numbered). p.number) ps) → get (with_puts m ps) n ≡ get m n
+put_elsewhere : (ps : List Numbered) (m : Records) (n : ℕ) → EachOf (λ k. n < k) (map (λ (p : Numbered). p.number) ps)
+    → get (with_puts m ps) n ≡ get m n
 put_elsewhere [] m n above = refl
 put_elsewhere (p ∷ ps) m n above =
     let differs : p.number ≢ n = λ e. omega (arith, above.0, e) in
     put_elsewhere ps (insert m p.number p.«record») n above.1
     ∙ got_put m p.number p.«record» n ∙ ap (λ b. cond b (Some p.«record») (get m n)) (number_differs p.number n differs)
 
-each_put : (ps : List Numbered) (m : Records) → Ascends (map (λ (p : Numbered). p.number) ps) → EachOf (λ (p : Numbered). get (with_puts m ps) p.number ≡ Some p.«record») ps
+each_put : (ps : List Numbered) (m : Records) → Ascends (map (λ (p : Numbered). p.number) ps)
+    → EachOf (λ (p : Numbered). get (with_puts m ps) p.number ≡ Some p.«record») ps
 each_put [] m ascends = tt
 each_put (p ∷ ps) m ascends = (
   put_elsewhere ps (insert m p.number p.«record») p.number ascends.0 ∙ got_put m p.number p.«record» p.number
@@ -75,35 +105,45 @@ or_parts : (a b : Bool) → (a || b) ≡ false → (a ≡ false) × (b ≡ false
 or_parts false b e = (refl, e)
 or_parts true b e = absurd cc
 
-apart_one : (k : ℕ) (ps : List Numbered) → list_any (λ m. m == k) (map (λ (p : Numbered). p.number) ps) ≡ false → EachOf (λ (p : Numbered). k ≢ p.number) ps
+apart_one : (k : ℕ) (ps : List Numbered) → list_any (λ m. m == k) (map (λ (p : Numbered). p.number) ps) ≡ false
+    → EachOf (λ (p : Numbered). k ≢ p.number) ps
 apart_one k [] e = tt
 apart_one k (p ∷ ps) e =
     let parts = or_parts (p.number == k) (list_any (λ m. m == k) (map (λ (q : Numbered). q.number) ps)) e in
     ((λ same. other_number p.number k parts.0 (sym same)), apart_one k ps parts.1)
 
-apart_all : (ks : List ℕ) (ps : List Numbered) → EachOf (λ k. list_any (λ m. m == k) (map (λ (p : Numbered). p.number) ps) ≡ false) ks
+apart_all : (ks : List ℕ) (ps : List Numbered)
+    → EachOf (λ k. list_any (λ m. m == k) (map (λ (p : Numbered). p.number) ps) ≡ false) ks
     → EachOf (λ (p : Numbered). EachOf (λ k. k ≢ p.number) ks) ps
 apart_all [] ps apart = each_true (λ (p : Numbered). EachOf (λ k. k ≢ p.number) []) (λ p. tt) ps
 apart_all (k ∷ ks) ps apart =
-    each_both (λ (p : Numbered). k ≢ p.number) (λ (p : Numbered). EachOf (λ j. j ≢ p.number) ks) (λ (p : Numbered). EachOf (λ j. j ≢ p.number) (k ∷ ks))
+    each_both (λ (p : Numbered). k ≢ p.number) (λ (p : Numbered). EachOf (λ j. j ≢ p.number) ks)
+    (λ (p : Numbered). EachOf (λ j. j ≢ p.number) (k ∷ ks))
     (λ p here there. (here, there)) ps (apart_one k ps apart.0) (apart_all ks ps apart.1)
 
 -- ---- the rows of numbers at which nothing changes
 module _ (c : Content) (changes : Changes) (exact : IsExact c changes) where
-  put_there : IsSound c → EachOf (λ (p : Numbered). get (applied c changes).records p.number ≡ Some p.«record») changes.puts
+  put_there : IsSound c → EachOf (λ (p : Numbered). get (applied c changes).records p.number ≡ Some p.«record»)
+      changes.puts
   put_there sound =
-      each_both (λ (p : Numbered). get (with_puts c.records changes.puts) p.number ≡ Some p.«record») (λ (p : Numbered). EachOf (λ k. k ≢ p.number) changes.removals)
+      each_both (λ (p : Numbered). get (with_puts c.records changes.puts) p.number ≡ Some p.«record»)
+      (λ (p : Numbered). EachOf (λ k. k ≢ p.number) changes.removals)
       (λ (p : Numbered). get (applied c changes).records p.number ≡ Some p.«record»)
       (λ p here others. left_at changes.removals (with_puts c.records changes.puts) p.number others ∙ here)
-      changes.puts (each_put changes.puts c.records (exact.puts sound)) (apart_all changes.removals changes.puts exact.apart)
+      changes.puts (each_put changes.puts c.records (exact.puts sound))
+      (apart_all changes.removals changes.puts exact.apart)
 
   pub rows_stay : (rows : Rows) → IsSound c → KeepsRows c (applied c changes) rows (with_changes changes rows)
   rows_stay rows sound m same =
       others_stay changes rows m
-      (each_both (λ (p : Numbered). get c.records p.number ≢ Some p.«record») (λ (p : Numbered). get (applied c changes).records p.number ≡ Some p.«record») (λ (p : Numbered). p.number ≢ m)
-      (λ p new there e. new (ap (get c.records) e ∙ same ∙ ap (get (applied c changes).records) (sym e) ∙ there)) changes.puts (exact.new sound) (put_there sound))
+      (each_both (λ (p : Numbered). get c.records p.number ≢ Some p.«record»)
+      (λ (p : Numbered). get (applied c changes).records p.number ≡ Some p.«record»)
+      (λ (p : Numbered). p.number ≢ m)
+      (λ p new there e. new (ap (get c.records) e ∙ same ∙ ap (get (applied c changes).records) (sym e) ∙ there))
+      changes.puts (exact.new sound) (put_there sound))
       (each_both (λ n. get c.records n ≢ None) (λ n. get (applied c changes).records n ≡ None) (λ n. n ≢ m)
-      (λ n there none e. there (ap (get c.records) e ∙ same ∙ ap (get (applied c changes).records) (sym e) ∙ none)) changes.removals exact.there
+      (λ n there none e. there (ap (get c.records) e ∙ same ∙ ap (get (applied c changes).records) (sym e) ∙ none))
+      changes.removals exact.there
       (gone changes.removals (with_puts c.records changes.puts)))
 
 -- nothing changes
@@ -124,4 +164,5 @@ pub society_stays : (changes : Changes) (rows : Rows) → (with_changes changes 
 society_stays changes rows =
     let put = with_puts_written changes.puts rows in
     slip_society changes.slip _ ∙ kept_society changes.kept _
-    ∙ ap (λ (r : Rows). r.society) (removed_only changes.removals put) ∙ ap (λ (r : Rows). r.society) (puts_only changes.puts rows)
+    ∙ ap (λ (r : Rows). r.society) (removed_only changes.removals put) ∙ ap (λ (r : Rows). r.society)
+    (puts_only changes.puts rows)

@@ -1,5 +1,27 @@
 -- An archive as a view, from what the looks at its rows say.
-use Rattle.std.proofs.Common.{◌≡◌, ◌⊎◌, ◌||◌, ◌<◌, ◌-◌, ◌^◌, arith, inl, inr, ℕ, Bool, true, false, Ok, Err, refl, sym, ap, ◌∙◌, subst, true≢false}
+use Rattle.std.proofs.Common.{
+  ◌≡◌,
+  ◌⊎◌,
+  ◌||◌,
+  ◌<◌,
+  ◌-◌,
+  ◌^◌,
+  arith,
+  inl,
+  inr,
+  ℕ,
+  Bool,
+  true,
+  false,
+  Ok,
+  Err,
+  refl,
+  sym,
+  ap,
+  ◌∙◌,
+  subst,
+  true≢false,
+}
 use Rattle.std.specs.Prelude.{◌≢◌, Result, IfErr, OnOk}
 use Rattle.sqlite.specs.State.{HasCleanDisk, State}
 use Rattle.sqlite.specs.Tree.{Trees}
@@ -20,17 +42,26 @@ abbrev pub kept_of : (rows : Rows) (c : Content) → Means rows c → AllShallow
 kept_of rows c means shallow = record { rows = rows; content = c; means = means; shallow = shallow }
 
 -- before the first look
-abbrev pub shown_of : (s : State) (lost : Bool) (kept : Kept) → Settled s kept.rows → LeavesOnly s kept.rows → Shows s lost 0 kept
+abbrev pub shown_of : (s : State) (lost : Bool) (kept : Kept) → Settled s kept.rows → LeavesOnly s kept.rows
+    → Shows s lost 0 kept
 shown_of s lost kept was leaves = record { crash = leaves; settled = λ _. was; none = λ _. refl }
 
 -- ---- a look that answers
-pub ok_shown : {A : Type 0} (Is : Content → A → Type 0) (old new : State) (lost : Bool) (failures : ℕ) (a : A) → lost ≡ false → Sees Is old new (Ok a) → HasCleanDisk new
-    → HasCleanDisk old × ((kept : Kept) → Shows old lost failures kept → Shows new lost failures kept × Is kept.content a)
+pub ok_shown : {A : Type 0} (Is : Content → A → Type 0) (old new : State) (lost : Bool) (failures : ℕ) (a : A)
+    → lost ≡ false → Sees Is old new (Ok a) → HasCleanDisk new
+    → HasCleanDisk old × ((kept : Kept) → Shows old lost failures kept → Shows new lost failures kept
+    × Is kept.content a)
 ok_shown Is old new lost failures a on sees clean = (
   sees.clean clean,
   λ kept shown.
-      let was = shown.settled on in
-      (record { crash = sees.crash clean kept.rows was; settled = λ _. sees.same clean kept.rows was; none = shown.none }, sees.read clean kept.rows was kept.content kept.means),
+      let was = shown.settled on in (
+        record {
+          crash = sees.crash clean kept.rows was;
+          settled = λ _. sees.same clean kept.rows was;
+          none = shown.none;
+        },
+        sees.read clean kept.rows was kept.content kept.means,
+      ),
 )
 
 -- ---- a look that is refused
@@ -43,24 +74,30 @@ not_storage false k e = e
 not_storage true k e = absurd (true≢false e)
 
 -- what is refused with is want of memory, or 80
-fails : (rows : Rows) (kind : RefusalKind) → AreReadable rows → IsFailure kind ⊎ ((kind ≡ BadStored) × ¬ (AreReadable rows)) → IsFailure kind
+fails : (rows : Rows) (kind : RefusalKind) → AreReadable rows → IsFailure kind
+    ⊎ ((kind ≡ BadStored) × ¬ (AreReadable rows)) → IsFailure kind
 fails rows kind readable (inl failure) = failure
 fails rows kind readable (inr bad) = absurd (bad.1 readable)
 
-want_is : (kind result : RefusalKind) → is_storage result ≡ false → (is_storage result ≡ false → result ≡ kind) → IsFailure kind → result ≡ OutOfMemory
+want_is : (kind result : RefusalKind) → is_storage result ≡ false → (is_storage result ≡ false → result ≡ kind)
+    → IsFailure kind → result ≡ OutOfMemory
 want_is kind result sure same (inl want) = same sure ∙ want
 want_is kind result sure same (inr lost) = absurd (true≢false (sym (ap is_storage (same sure ∙ lost)) ∙ sure))
 
-stops_as : (b : Bool) (kind result : RefusalKind) → is_storage result ≡ b → (is_storage result ≡ false → result ≡ kind) → IsFailure kind → is_stop result ≡ true
+stops_as : (b : Bool) (kind result : RefusalKind) → is_storage result ≡ b → (is_storage result ≡ false → result ≡ kind)
+    → IsFailure kind → is_stop result ≡ true
 stops_as true kind result e same failure = ap is_stop (storage_is result e)
 stops_as false kind result e same failure = ap is_stop (want_is kind result e same failure)
 
 -- the connection was asked afterwards whether it answers still
-pub err_shown : {A : Type 0} (Is : Content → A → Type 0) (old mid new : State) (lost lost_now : Bool) (failures failures_now : ℕ) (kind result : RefusalKind) → lost ≡ false
+pub err_shown : {A : Type 0} (Is : Content → A → Type 0) (old mid new : State) (lost lost_now : Bool)
+    (failures failures_now : ℕ) (kind result : RefusalKind) → lost ≡ false
     → Sees Is old mid (Err kind) → HasCleanDisk mid → ((t : Trees) → new.may_leave t → mid.may_leave t)
-    → (is_storage result ≡ false → (rows : Rows) → LeavesOnly mid rows → Settled new rows) → (is_storage result ≡ false → result ≡ kind)
+    → (is_storage result ≡ false → (rows : Rows) → LeavesOnly mid rows → Settled new rows)
+    → (is_storage result ≡ false → result ≡ kind)
     → lost_now ≡ lost || is_storage result → (is_failure result ≡ false → failures_now ≡ failures)
-    → HasCleanDisk old × ((kept : Kept) → Shows old lost failures kept → Shows new lost_now failures_now kept × (is_stop result ≡ true))
+    → HasCleanDisk old × ((kept : Kept) → Shows old lost failures kept → Shows new lost_now failures_now kept
+    × (is_stop result ≡ true))
 err_shown Is old mid new lost lost_now failures failures_now kind result on sees clean left settled same now passed = (
   sees.clean clean,
   λ kept shown.
@@ -78,9 +115,12 @@ err_shown Is old mid new lost lost_now failures failures_now kind result on sees
 )
 
 -- the archive was lost before
-pub lost_shown : (old new : State) (lost lost_now : Bool) (failures failures_now : ℕ) (result : RefusalKind) → lost ≡ true
-    → HasCleanDisk old → ((t : Trees) → new.may_leave t → old.may_leave t) → (is_storage result ≡ false → result ≡ Storage) → lost_now ≡ lost || is_storage result
-    → HasCleanDisk old × ((kept : Kept) → Shows old lost failures kept → Shows new lost_now failures_now kept × (is_stop result ≡ true))
+pub lost_shown : (old new : State) (lost lost_now : Bool) (failures failures_now : ℕ)
+    (result : RefusalKind) → lost ≡ true
+    → HasCleanDisk old → ((t : Trees) → new.may_leave t → old.may_leave t)
+    → (is_storage result ≡ false → result ≡ Storage) → lost_now ≡ lost || is_storage result
+    → HasCleanDisk old × ((kept : Kept) → Shows old lost failures kept → Shows new lost_now failures_now kept
+    × (is_stop result ≡ true))
 lost_shown old new lost lost_now failures failures_now result was clean left same now =
     let still : lost_now ≡ true = now ∙ ap (λ b. b || is_storage result) was in (
       clean,
@@ -103,8 +143,10 @@ not_risen : Rose 0 0 → ⊥
 not_risen (inl less) = absurd (omega (arith, less))
 not_risen (inr last) = absurd (omega (arith, last))
 
-pub none_is_bad : (before after : ℕ) (e : Refusal) → before ≡ 0 → after ≡ 0 → (is_failure e.kind ≡ true → Rose before after) → e.kind ≢ BadStored
-none_is_bad before after e first last rose bad = not_risen (subst (λ n. Rose n 0) first (subst (λ n. Rose before n) last (rose (ap is_failure bad))))
+pub none_is_bad : (before after : ℕ) (e : Refusal) → before ≡ 0 → after ≡ 0
+    → (is_failure e.kind ≡ true → Rose before after) → e.kind ≢ BadStored
+none_is_bad before after e first last rose bad =
+    not_risen (subst (λ n. Rose n 0) first (subst (λ n. Rose before n) last (rose (ap is_failure bad))))
 
 -- what is said of a refusal, of a result
 pub if_there : {A E : Type 0} {P Q : E → Type 0} (r : Result A E) → ((e : E) → P e → Q e) → IfErr r P → IfErr r Q

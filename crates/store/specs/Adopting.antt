@@ -15,9 +15,11 @@ LacksTable s = (sql : List ℕ) × Has all_queries sql × NamesMissing s.now.sch
 
 -- the store shows neither this version nor a later one; or it shows this version, and something that is read is missing
 abbrev pub IsNoArchive : {S : Type 0} → Ghosts S → State → Type 0
-IsNoArchive {S} g old = (read : Held S) × (IsRefusedStore old (state g read) NotAnArchive ⊎ (ShowsVersion 1 old (state g read) × LacksTable (state g read)))
+IsNoArchive {S} g old = (read : Held S)
+    × (IsRefusedStore old (state g read) NotAnArchive ⊎ (ShowsVersion 1 old (state g read) × LacksTable (state g read)))
 
--- 82: the store is no archive. 83: it shows a later version. Memory may be refused, and the database may fail, of any store
+-- 82: the store is no archive. 83: it shows a later version. Memory may be refused, and the database may fail, of any
+-- store
 abbrev pub RefusesToAdopt : {S : Type 0} → Ghosts S → State → RefusalKind → Type 0
 RefusesToAdopt g old NotAnArchive = IsNoArchive g old
 RefusesToAdopt {S} g old NewerSchema = (read : Held S) × IsRefusedStore old (state g read) NewerSchema

@@ -25,4 +25,5 @@ HasArchive society c s = (rows : Rows) × Settled s rows × Keeps society c rows
 
 -- whatever a crash may leave is good, and holds something that may be found
 abbrev pub LeavesArchive : State → List ℕ → (Content → Type 0) → Type 0
-LeavesArchive s society MayBeFound = (t : Trees) → s.may_leave t → (found : Content) × MayBeFound found × IsArchive society found t
+LeavesArchive s society MayBeFound = (t : Trees) → s.may_leave t → (found : Content) × MayBeFound found
+    × IsArchive society found t

@@ -18,21 +18,25 @@ use Rattle.store_tables.specs.Rows.{Rows, LineRow, RecordRow}
 use Rattle.store.specs.Archives.{HasArchive, IsArchive, Keeps, LeavesArchive}
 use Rattle.store.specs.Histories.{Accepts, MayBeFound, has_broken, in_doubt}
 
--- requests with their outcomes. Where the database did not fail, they are a run of the machine, and the archive holds what it
--- leaves; in any case a stop leaves what their history allows
+-- requests with their outcomes. Where the database did not fail, they are a run of the machine, and the archive holds
+-- what it leaves; in any case a stop leaves what their history allows
 pub record Performs (old : State) (calls : List Done) (new : State) : Type 0 where
   pub done : in_doubt calls ≡ None → (society : List ℕ) (c : Content) → HasArchive society c old
       → (after : Content) × Runs c calls after × HasArchive society after new
-  pub crash : (society : List ℕ) (c : Content) → HasArchive society c old → LeavesArchive new society (MayBeFound c calls)
+  pub crash : (society : List ℕ) (c : Content) → HasArchive society c old → LeavesArchive new society
+      (MayBeFound c calls)
   pub clean : HasCleanDisk old
 
--- a call that reads: it answers this of what the archive holds, which stays, also after a stop; it is refused only for want
--- of memory, or because the database failed
-pub record Reads {A : Type 0} (Is : List ℕ → Content → A → Type 0) (old : State) (result : Result A RefusalKind) (new : State) : Type 0 where
+-- a call that reads: it answers this of what the archive holds, which stays, also after a stop; it is refused only for
+-- want of memory, or because the database failed
+pub record Reads {A : Type 0} (Is : List ℕ → Content → A → Type 0) (old : State) (result : Result A RefusalKind)
+    (new : State) : Type 0 where
   pub read : IfOk result (λ (a : A). (society : List ℕ) (c : Content) → HasArchive society c old → Is society c a)
   pub refused : IfErr result (λ kind. (society : List ℕ) (c : Content) → HasArchive society c old → IsFailure kind)
-  pub same : has_broken result ≡ false → (society : List ℕ) (c : Content) → HasArchive society c old → HasArchive society c new
-  pub crash : (society : List ℕ) (c : Content) → HasArchive society c old → LeavesArchive new society (λ found. found ≡ c)
+  pub same : has_broken result ≡ false → (society : List ℕ) (c : Content) → HasArchive society c old
+      → HasArchive society c new
+  pub crash : (society : List ℕ) (c : Content) → HasArchive society c old → LeavesArchive new society
+      (λ found. found ≡ c)
   pub clean : HasCleanDisk old
 
 -- the rows of each number at which the same is before and after: its row in `record` and its lines, with their keys
@@ -43,12 +47,14 @@ KeepsRows c after rows now = (m : ℕ) → get c.records m ≡ get after.records
 
 -- a request on good tables: what is said of it is said of what they hold and of their rows
 abbrev pub OnArchive : State → (List ℕ → Content → Rows → Type 0) → Type 0
-OnArchive s P = (society : List ℕ) (c : Content) (rows : Rows) → Settled s rows → Keeps society c rows → P society c rows
+OnArchive s P = (society : List ℕ) (c : Content) (rows : Rows) → Settled s rows → Keeps society c rows
+    → P society c rows
 
 -- an acknowledged request is done, and leaves the rows of what it does not change
 abbrev pub AcknowledgedBy : List ℕ → Content → Rows → Request → Answer → State → Type 0
 AcknowledgedBy society c rows r answer new =
-    (after : Content) × (now : Rows) × Does c r (Ok answer) after × Settled new now × Keeps society after now × KeepsRows c after rows now
+    (after : Content) × (now : Rows) × Does c r (Ok answer) after × Settled new now × Keeps society after now
+    × KeepsRows c after rows now
 
 abbrev pub Acknowledges : State → Request → Answer → State → Type 0
 Acknowledges old r answer new = OnArchive old (λ society c rows. AcknowledgedBy society c rows r answer new)
@@ -56,8 +62,10 @@ Acknowledges old r answer new = OnArchive old (λ society c rows. AcknowledgedBy
 -- whatever a crash may leave has these rows, or those with the changes written; the latter can be read again
 abbrev pub LeavesEither : State → Rows → Changes → Type 0
 LeavesEither s rows changes = (t : Trees) → s.may_leave t
-    → Good rows t ⊎ (Good (with_changes changes rows) t × ((c : Content) → AllShallow c → AllShallow (applied c changes)))
+    → Good rows t ⊎ (Good (with_changes changes rows) t
+    × ((c : Content) → AllShallow c → AllShallow (applied c changes)))
 
 -- whatever a crash may leave has these rows, or is the archive with the request done
 abbrev pub LeavesDoneOrNot : State → List ℕ → Content → Rows → Request → Type 0
-LeavesDoneOrNot s society c rows r = (t : Trees) → s.may_leave t → Good rows t ⊎ ((after : Content) × Accepts c r after × IsArchive society after t)
+LeavesDoneOrNot s society c rows r = (t : Trees) → s.may_leave t → Good rows t
+    ⊎ ((after : Content) × Accepts c r after × IsArchive society after t)

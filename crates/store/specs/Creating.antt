@@ -16,7 +16,8 @@ IsSociety society = IsText society × (society ≢ [])
 
 -- a store where nothing was made is left so, or with the new archive
 abbrev pub LeavesBlankOrNew : List ℕ → State → State → Type 0
-LeavesBlankOrNew society old new = HasCleanDisk new → SettledBlank old → (t : Trees) → new.may_leave t → IsBlank t ⊎ IsArchive society nothing t
+LeavesBlankOrNew society old new = HasCleanDisk new → SettledBlank old → (t : Trees) → new.may_leave t
+    → IsBlank t ⊎ IsArchive society nothing t
 
 -- 82: something was made in the store before; 80: the database failed
 abbrev pub RefusesToMake : List ℕ → State → State → RefusalKind → Type 0
@@ -25,4 +26,5 @@ RefusesToMake society old new kind =
 
 -- 58: the society has no name; else as above
 abbrev pub RefusesToCreate : List ℕ → State → State → RefusalKind → Type 0
-RefusesToCreate society old new kind = ((kind ≡ BadText) × ¬ (IsSociety society)) ⊎ (IsSociety society × RefusesToMake society old new kind)
+RefusesToCreate society old new kind = ((kind ≡ BadText) × ¬ (IsSociety society))
+    ⊎ (IsSociety society × RefusesToMake society old new kind)

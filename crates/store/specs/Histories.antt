@@ -1,4 +1,5 @@
--- What may be found after a stop: what the answered requests make, and perhaps the one that was in doubt. Rules of our own.
+-- What may be found after a stop: what the answered requests make, and perhaps the one that was in doubt. Rules of our
+-- own.
 use Rattle.std.specs.Prelude.{◌≡◌, ◌⊎◌, Bool, true, false, List, [], ◌∷◌, cond, Option, Some, None, Result, Ok, Err}
 use Rattle.record_text.specs.declared.refusal.Refusal.{Refusal}
 use Rattle.record_text.specs.declared.refusal.RefusalKind.{RefusalKind}
@@ -41,11 +42,12 @@ in_doubt (call ∷ calls) = cond (has_failed call.1) (Some call.0) (in_doubt cal
 abbrev pub Accepts : Content → Request → Content → Type 0
 Accepts c r after = (answer : Answer) × (outcome c r ≡ Ok (after, answer))
 
--- what a stop may leave, where these requests were answered and perhaps one more was in doubt: what the run of the first
--- leaves; or that with the one in doubt done, where it is accepted
+-- what a stop may leave, where these requests were answered and perhaps one more was in doubt: what the run of the
+-- first leaves; or that with the one in doubt done, where it is accepted
 abbrev pub Allows : Content → List Done → Option Request → Content → Type 0
 Allows start dones None found = Runs start dones found
-Allows start dones (Some r) found = (before : Content) × Runs start dones before × ((found ≡ before) ⊎ Accepts before r found)
+Allows start dones (Some r) found = (before : Content) × Runs start dones before
+    × ((found ≡ before) ⊎ Accepts before r found)
 
 -- what a stop may leave after these calls
 abbrev pub MayBeFound : Content → List Done → Content → Type 0

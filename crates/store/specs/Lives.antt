@@ -18,13 +18,15 @@ IsOpenedOver t s = (society : List ℕ) (c : Content) → IsArchive society c t 
 
 -- a session: an archive is opened over these tables, performs requests, and is stopped, which leaves those tables
 abbrev pub Session : {S : Type 0} → Ghosts S → Trees → List Done → Trees → Type 0
-Session {S} g before calls after = (first : Held S) × (last : Held S) × IsOpenedOver before (state g first) × Performs (state g first) calls (state g last)
+Session {S} g before calls after = (first : Held S) × (last : Held S) × IsOpenedOver before (state g first)
+    × Performs (state g first) calls (state g last)
     × (state g last).may_leave after
 
 -- a session, and then others
 abbrev pub Life : {S : Type 0} → Ghosts S → Trees → List Done → List (List Done) → Trees → Type 0
 Life g before calls [] after = Session g before calls after
-Life g before calls (next ∷ more) after = (between : Trees) × Session g before calls between × Life g between next more after
+Life g before calls (next ∷ more) after = (between : Trees) × Session g before calls between
+    × Life g between next more after
 
 -- what counts of a session: the requests that were answered, and then the one that was in doubt, done, or not
 abbrev pub Counts : List Done → List Done → Type 0
@@ -34,4 +36,5 @@ Counts calls dones = (dones ≡ answered calls)
 -- what counts of sessions, one after the other
 abbrev pub CountInAll : List Done → List (List Done) → List Done → Type 0
 CountInAll calls [] dones = Counts calls dones
-CountInAll calls (next ∷ more) dones = (first : List Done) × (rest : List Done) × Counts calls first × CountInAll next more rest × (dones ≡ first ++ rest)
+CountInAll calls (next ∷ more) dones = (first : List Done) × (rest : List Done) × Counts calls first
+    × CountInAll next more rest × (dones ≡ first ++ rest)

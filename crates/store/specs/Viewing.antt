@@ -1,4 +1,5 @@
--- What an archive shows to those who look at single rows of it: rows whose content nobody has read whole. Rules of our own.
+-- What an archive shows to those who look at single rows of it: rows whose content nobody has read whole. Rules of our
+-- own.
 use Rattle.std.specs.Prelude.{ℕ, ◌≡◌, Bool, false}
 use Rattle.sqlite.specs.State.{State}
 use Rattle.archive_state.specs.Content.{Content}
@@ -13,7 +14,8 @@ pub record Kept : Type 0 where
   pub means : Means rows content
   pub shallow : AllShallow content
 
--- an archive shows these rows: a crash leaves nothing else; and while it is not lost, its connection has them, and no look has failed
+-- an archive shows these rows: a crash leaves nothing else; and while it is not lost, its connection has them, and no
+-- look has failed
 pub record Shows (s : State) (is_lost : Bool) (failures : ℕ) (kept : Kept) : Type 0 where
   pub crash : LeavesOnly s kept.rows
   pub settled : is_lost ≡ false → Settled s kept.rows

@@ -1,6 +1,24 @@
 //! An archive: made, opened, asked, and changed by requests.
 
-ghost use Rattle.std.specs.Prelude.{◌≡◌, ◌≢◌, ◌⊎◌, ⊤, List, ℕ, [], ◌∷◌, length, false, None, Ok, Err, IfOk, IfErr, IsTrue, MatchOption};
+ghost use Rattle.std.specs.Prelude.{
+  ◌≡◌,
+  ◌≢◌,
+  ◌⊎◌,
+  ⊤,
+  List,
+  ℕ,
+  [],
+  ◌∷◌,
+  length,
+  false,
+  None,
+  Ok,
+  Err,
+  IfOk,
+  IfErr,
+  IsTrue,
+  MatchOption,
+};
 ghost use Rattle.std.specs.List.{zip};
 ghost use Rattle.std.specs.String.{string_bytes};
 ghost use Rattle.std.specs.FinMap.{get};
@@ -47,12 +65,17 @@ impl<S: Alter> Archive<S> {
         society: String,
     ) -> Result<Archive<S>, (RefusalKind, Connection<S>)>
         requires autocommit { conn.in_transaction ≡ false }
-        ensures created { IfOk result (λ made. HasCleanDisk (state S.Store made.conn) → SettledBlank (state S.Store conn)
-            → HasArchive (string_bytes society) nothing (state S.Store made.conn) × LeavesArchive (state S.Store made.conn) (string_bytes society) (λ found. found ≡ nothing)) }
-        ensures named { IfOk result (λ made. (made.is_lost ≡ false) × IsSociety (string_bytes society) × ((state S.Store conn).now.schema ≡ no_schema)) }
-        ensures refused { IfErr result (λ e. RefusesToCreate (string_bytes society) (state S.Store conn) (state S.Store e.1) e.0) }
+        ensures created { IfOk result (λ made. HasCleanDisk (state S.Store made.conn)
+            → SettledBlank (state S.Store conn)
+            → HasArchive (string_bytes society) nothing (state S.Store made.conn) × LeavesArchive
+            (state S.Store made.conn) (string_bytes society) (λ found. found ≡ nothing)) }
+        ensures named { IfOk result (λ made. (made.is_lost ≡ false) × IsSociety (string_bytes society)
+            × ((state S.Store conn).now.schema ≡ no_schema)) }
+        ensures refused { IfErr result (λ e. RefusesToCreate (string_bytes society) (state S.Store conn)
+            (state S.Store e.1) e.0) }
         ensures back { IfErr result (λ e. is_storage e.0 ≡ false → e.1 ≡ conn) }
-        ensures clean { IfOk result (λ made. HasCleanDisk (state S.Store made.conn) → HasCleanDisk (state S.Store conn)) }
+        ensures clean { IfOk result (λ made. HasCleanDisk (state S.Store made.conn)
+            → HasCleanDisk (state S.Store conn)) }
         ensures ended { IfErr result (λ e. e.1.in_transaction ≡ false) }
     {
         match society_named(society) {
@@ -67,9 +90,12 @@ impl<S: Alter> Archive<S> {
     pub fn adopt(mut conn: Connection<S>) -> Result<Archive<S>, (RefusalKind, Connection<S>)>
         requires autocommit { conn.in_transaction ≡ false }
         ensures adopted { IfOk result (λ made. (made.is_lost ≡ false)
-            × (HasCleanDisk (state S.Store made.conn) → Reads {A = Unit {0}} (λ _ _ _. ⊤) (state S.Store conn) (Ok tt) (state S.Store made.conn))) }
-        ensures refused { IfErr result (λ e. HasCleanDisk (state S.Store e.1) → Reads {A = Unit {0}} (λ _ _ _. ⊤) (state S.Store conn) (Err e.0) (state S.Store e.1)) }
-        ensures told { IfErr result (λ e. HasCleanDisk (state S.Store e.1) → RefusesToAdopt S.Store (state S.Store conn) e.0) }
+            × (HasCleanDisk (state S.Store made.conn) → Reads {A = Unit {0}} (λ _ _ _. ⊤) (state S.Store conn) (Ok tt)
+            (state S.Store made.conn))) }
+        ensures refused { IfErr result (λ e. HasCleanDisk (state S.Store e.1)
+            → Reads {A = Unit {0}} (λ _ _ _. ⊤) (state S.Store conn) (Err e.0) (state S.Store e.1)) }
+        ensures told { IfErr result (λ e. HasCleanDisk (state S.Store e.1) → RefusesToAdopt S.Store
+            (state S.Store conn) e.0) }
         ensures ended { IfErr result (λ e. e.1.in_transaction ≡ false) }
     {
         match recognise(&mut conn) {
@@ -82,8 +108,8 @@ impl<S: Alter> Archive<S> {
         }
     }
 
-    /// Does a request in one commit, and then answers. A request whose token is kept is answered as before, and nothing is
-    /// written.
+    /// Does a request in one commit, and then answers. A request whose token is kept is answered as before, and nothing
+    /// is written.
     ///
     /// Any refusal but 80 leaves the archive as it was. 80: the database failed, and the request is done or not; the
     /// archive has to be opened again, and each later call answers 81.
@@ -91,11 +117,14 @@ impl<S: Alter> Archive<S> {
         ensures performs { HasCleanDisk (state S.Store self.new.conn) → self.old.is_lost ≡ false
             → Performs (state S.Store self.old.conn) ((«request».now, result) ∷ []) (state S.Store self.new.conn) }
         ensures acknowledged { HasCleanDisk (state S.Store self.new.conn)
-            → IfOk result (λ answer. Acknowledges (state S.Store self.old.conn) «request».now answer (state S.Store self.new.conn)) }
-        ensures repeated { HasCleanDisk (state S.Store self.new.conn) → OnArchive (state S.Store self.old.conn) (λ society c rows.
+            → IfOk result (λ answer. Acknowledges (state S.Store self.old.conn) «request».now answer
+            (state S.Store self.new.conn)) }
+        ensures repeated { HasCleanDisk (state S.Store self.new.conn) → OnArchive (state S.Store self.old.conn)
+            (λ society c rows.
             get c.receipts «request».now.token ≢ None → LeavesOnly (state S.Store self.new.conn) rows) }
         ensures lost { self.old.is_lost ≡ false → self.new.is_lost ≡ has_failed result }
-        ensures reopen { IsTrue self.old.is_lost → (result ≡ Err (refused_at None refusal.Reopen)) × (self.new.conn ≡ self.old.conn) × IsTrue self.new.is_lost }
+        ensures reopen { IsTrue self.old.is_lost → (result ≡ Err (refused_at None refusal.Reopen))
+            × (self.new.conn ≡ self.old.conn) × IsTrue self.new.is_lost }
     {
         if self.is_lost {
             return Err(RefusalKind::Reopen.into());
@@ -129,12 +158,14 @@ impl<S: Alter> Archive<S> {
 
     /// All that the archive holds.
     ///
-    /// 40: stored lines are no record, as where somebody else wrote the file. 80: the database failed. 81: it failed before. 1: memory was refused.
+    /// 40: stored lines are no record, as where somebody else wrote the file. 80: the database failed. 81: it failed
+    /// before. 1: memory was refused.
     pub fn state(&mut self, alloc: Global) -> Result<State, RefusalKind>
         ensures reads { HasCleanDisk (state S.Store self.new.conn) → self.old.is_lost ≡ false
             → Reads (λ _ c held. held ≡ c) (state S.Store self.old.conn) result (state S.Store self.new.conn) }
         ensures lost { self.old.is_lost ≡ false → self.new.is_lost ≡ has_broken result }
-        ensures reopen { IsTrue self.old.is_lost → (result ≡ Err refusal.Reopen) × (self.new.conn ≡ self.old.conn) × IsTrue self.new.is_lost }
+        ensures reopen { IsTrue self.old.is_lost → (result ≡ Err refusal.Reopen) × (self.new.conn ≡ self.old.conn)
+            × IsTrue self.new.is_lost }
     {
         if self.is_lost {
             return Err(RefusalKind::Reopen);
@@ -147,9 +178,11 @@ impl<S: Alter> Archive<S> {
     /// The society that the archive was made for. Refusals as of `state`.
     pub fn society(&mut self, alloc: Global) -> Result<Text, RefusalKind>
         ensures reads { HasCleanDisk (state S.Store self.new.conn) → self.old.is_lost ≡ false
-            → Reads (λ society _ text. text ≡ society) (state S.Store self.old.conn) result (state S.Store self.new.conn) }
+            → Reads (λ society _ text. text ≡ society) (state S.Store self.old.conn) result
+            (state S.Store self.new.conn) }
         ensures lost { self.old.is_lost ≡ false → self.new.is_lost ≡ has_broken result }
-        ensures reopen { IsTrue self.old.is_lost → (result ≡ Err refusal.Reopen) × (self.new.conn ≡ self.old.conn) × IsTrue self.new.is_lost }
+        ensures reopen { IsTrue self.old.is_lost → (result ≡ Err refusal.Reopen) × (self.new.conn ≡ self.old.conn)
+            × IsTrue self.new.is_lost }
     {
         if self.is_lost {
             return Err(RefusalKind::Reopen);
@@ -174,7 +207,8 @@ impl<S: Alter> Archive<S> {
 
 /// The string as the name of a society. `None`: it is empty or no text.
 pub fn society_named(society: String) -> Option<Text>
-    ensures { MatchOption result (¬ (IsSociety (string_bytes society))) (λ text. (text ≡ string_bytes society) × IsSociety text) }
+    ensures { MatchOption result (¬ (IsSociety (string_bytes society)))
+        (λ text. (text ≡ string_bytes society) × IsSociety text) }
 {
     let text = Text::try_new(society)?;
     if text.as_str().is_empty() {
@@ -190,7 +224,8 @@ fn create_named<S: Alter>(
 ) -> Result<Archive<S>, (RefusalKind, Connection<S>)>
     requires autocommit { conn.in_transaction ≡ false }
     ensures created { IfOk result (λ made. HasCleanDisk (state S.Store made.conn) → SettledBlank (state S.Store conn)
-        → HasArchive society.now nothing (state S.Store made.conn) × LeavesArchive (state S.Store made.conn) society.now (λ found. found ≡ nothing)) }
+        → HasArchive society.now nothing (state S.Store made.conn) × LeavesArchive (state S.Store made.conn) society.now
+        (λ found. found ≡ nothing)) }
     ensures blank { IfOk result (λ made. (made.is_lost ≡ false) × ((state S.Store conn).now.schema ≡ no_schema)) }
     ensures refused { IfErr result (λ e. RefusesToMake society.now (state S.Store conn) (state S.Store e.1) e.0) }
     ensures back { IfErr result (λ e. is_storage e.0 ≡ false → e.1 ≡ conn) }

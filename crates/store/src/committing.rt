@@ -28,12 +28,15 @@ pub(crate) fn commit_changes<S: Alter>(
 ) -> Result<(), RefusalKind>
     requires autocommit { conn.old.in_transaction ≡ false }
     ensures done { HasCleanDisk (state S.Store conn.new)
-        → OnOk result ((rows : Rows) → Settled (state S.Store conn.old) rows → Settled (state S.Store conn.new) (with_changes changes.now rows)) }
+        → OnOk result ((rows : Rows) → Settled (state S.Store conn.old) rows → Settled (state S.Store conn.new)
+        (with_changes changes.now rows)) }
     ensures shallow { OnOk result ((c : Content) → AllShallow c → AllShallow (applied c changes.now)) }
     ensures crash { HasCleanDisk (state S.Store conn.new)
-        → (rows : Rows) → Settled (state S.Store conn.old) rows → LeavesEither (state S.Store conn.new) rows changes.now }
+        → (rows : Rows) → Settled (state S.Store conn.old) rows → LeavesEither (state S.Store conn.new)
+        rows changes.now }
     ensures undone { HasCleanDisk (state S.Store conn.new)
-        → IfErr result (λ kind. is_storage kind ≡ false → (rows : Rows) → Settled (state S.Store conn.old) rows → LeavesOnly (state S.Store conn.new) rows) }
+        → IfErr result (λ kind. is_storage kind ≡ false → (rows : Rows) → Settled (state S.Store conn.old) rows
+        → LeavesOnly (state S.Store conn.new) rows) }
     ensures refused { IfErr result (λ kind. (kind ≡ OutOfMemory) ⊎ (kind ≡ Storage)) }
     ensures clean { HasCleanDisk (state S.Store conn.new) → HasCleanDisk (state S.Store conn.old) }
     ensures ended { conn.new.in_transaction ≡ false }
@@ -54,12 +57,15 @@ fn try_commit<S: Alter>(
 ) -> Result<Result<(), Error>, RefusalKind>
     requires autocommit { conn.old.in_transaction ≡ false }
     ensures done { HasCleanDisk (state S.Store conn.new) → IfOk result (λ committed. OnOk committed
-        ((rows : Rows) → Settled (state S.Store conn.old) rows → Settled (state S.Store conn.new) (with_changes changes.now rows))) }
+        ((rows : Rows) → Settled (state S.Store conn.old) rows → Settled (state S.Store conn.new)
+        (with_changes changes.now rows))) }
     ensures shallow { OnOk result ((c : Content) → AllShallow c → AllShallow (applied c changes.now)) }
     ensures crash { HasCleanDisk (state S.Store conn.new)
-        → (rows : Rows) → Settled (state S.Store conn.old) rows → LeavesEither (state S.Store conn.new) rows changes.now }
+        → (rows : Rows) → Settled (state S.Store conn.old) rows → LeavesEither (state S.Store conn.new)
+        rows changes.now }
     ensures undone { HasCleanDisk (state S.Store conn.new)
-        → OnErr result ((rows : Rows) → Settled (state S.Store conn.old) rows → LeavesOnly (state S.Store conn.new) rows) }
+        → OnErr result ((rows : Rows) → Settled (state S.Store conn.old) rows
+        → LeavesOnly (state S.Store conn.new) rows) }
     ensures refused { IfErr result (λ kind. (kind ≡ OutOfMemory) ⊎ (kind ≡ Storage)) }
     ensures clean { HasCleanDisk (state S.Store conn.new) → HasCleanDisk (state S.Store conn.old) }
     ensures ended { conn.new.in_transaction ≡ false }

@@ -18,8 +18,8 @@ use record_text::{Refusal, RefusalKind};
 use sqlite::Alter;
 use std::alloc::Global;
 
-/// What a request changes in an archive. It is refused as by `decide`, and with 80 where a look lost the archive; nothing is
-/// written.
+/// What a request changes in an archive. It is refused as by `decide`, and with 80 where a look lost the archive;
+/// nothing is written.
 pub(crate) fn decide_on<S: Alter>(
     alloc: Global,
     archive: &mut Archive<S>,
@@ -33,7 +33,8 @@ pub(crate) fn decide_on<S: Alter>(
     ensures readable { HasCleanDisk (state S.Store archive.new.conn)
         → OnReadable (state S.Store archive.old.conn) (λ _ _. IfErr result (λ e. e.kind ≢ BadStored)) }
     ensures same { HasCleanDisk (state S.Store archive.new.conn)
-        → OnReadable (state S.Store archive.old.conn) (λ rows _. OnOk result (Settled (state S.Store archive.new.conn) rows)) }
+        → OnReadable (state S.Store archive.old.conn)
+        (λ rows _. OnOk result (Settled (state S.Store archive.new.conn) rows)) }
     ensures crash { HasCleanDisk (state S.Store archive.new.conn)
         → OnReadable (state S.Store archive.old.conn) (λ rows _. LeavesOnly (state S.Store archive.new.conn) rows) }
     ensures clean { HasCleanDisk (state S.Store archive.new.conn) → HasCleanDisk (state S.Store archive.old.conn) }

@@ -15,17 +15,21 @@ ghost use Rattle.store.specs.Lives.{CountInAll, Life};
 
 use sqlite::Alter;
 
-/// However often an archive is opened, used and stopped, within a call or between two: what is found in the end is a good archive
-/// of the same society, and it holds what a run of the machine makes of the first archive by all requests that were answered, in
-/// their order, and of each session perhaps the one request that was in doubt when it was stopped.
+/// However often an archive is opened, used and stopped, within a call or between two: what is found in the end is a
+/// good archive of the same society, and it holds what a run of the machine makes of the first archive by all requests
+/// that were answered, in their order, and of each session perhaps the one request that was in doubt when it was
+/// stopped.
 pub fn a_stop_loses_nothing<S: Alter>()
     ensures { (before after : Trees) (calls : List Done) (more : List (List Done)) (society : List ℕ) (c : Content)
         → Life S.Store before calls more after → IsArchive society c before
-        → (found : Content) × (dones : List Done) × IsArchive society found after × CountInAll calls more dones × Runs c dones found }
+        → (found : Content) × (dones : List Done) × IsArchive society found after × CountInAll calls more dones
+        × Runs c dones found }
 {}
 
 /// Calls that follow each other do what one call of all their requests does.
 pub fn calls_follow_each_other<S: Alter>()
-    ensures { (old between new : Held S) (first rest : List Done) → Performs (state S.Store old) first (state S.Store between) → in_doubt first ≡ None
-        → Performs (state S.Store between) rest (state S.Store new) → Performs (state S.Store old) (first ++ rest) (state S.Store new) }
+    ensures { (old between new : Held S) (first rest : List Done) → Performs (state S.Store old) first
+        (state S.Store between) → in_doubt first ≡ None
+        → Performs (state S.Store between) rest (state S.Store new) → Performs (state S.Store old) (first ++ rest)
+        (state S.Store new) }
 {}

@@ -1,4 +1,5 @@
-//! A society's archive in one SQLite file: made, opened, asked and changed by requests, each in one commit before it is answered.
+//! A society's archive in one SQLite file: made, opened, asked and changed by requests, each in one commit before it is
+//! answered.
 #![tactic(auto)]
 
 mod archive;

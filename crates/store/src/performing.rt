@@ -36,8 +36,10 @@ pub(crate) fn perform_on<S: Alter>(
     ensures performs { HasCleanDisk (state S.Store archive.new.conn)
         → Performs (state S.Store archive.old.conn) ((«request».now, result) ∷ []) (state S.Store archive.new.conn) }
     ensures acknowledged { HasCleanDisk (state S.Store archive.new.conn)
-        → IfOk result (λ answer. Acknowledges (state S.Store archive.old.conn) «request».now answer (state S.Store archive.new.conn)) }
-    ensures repeated { HasCleanDisk (state S.Store archive.new.conn) → OnArchive (state S.Store archive.old.conn) (λ society c rows.
+        → IfOk result (λ answer. Acknowledges (state S.Store archive.old.conn) «request».now answer
+        (state S.Store archive.new.conn)) }
+    ensures repeated { HasCleanDisk (state S.Store archive.new.conn) → OnArchive (state S.Store archive.old.conn)
+        (λ society c rows.
         get c.receipts «request».now.token ≢ None → LeavesOnly (state S.Store archive.new.conn) rows) }
 {
     match try_request(alloc, archive, request) {
@@ -49,7 +51,8 @@ pub(crate) fn perform_on<S: Alter>(
 /// The refusal of a request: 80 where the connection answers no more.
 fn refusal_after<S: Alter>(conn: &mut Connection<S>, refusal: Refusal) -> Refusal
     requires autocommit { conn.old.in_transaction ≡ false }
-    ensures settled { HasCleanDisk (state S.Store conn.new) → is_storage result.kind ≡ false → (rows : Rows) → LeavesOnly (state S.Store conn.old) rows → Settled (state S.Store conn.new) rows }
+    ensures settled { HasCleanDisk (state S.Store conn.new) → is_storage result.kind ≡ false → (rows : Rows)
+        → LeavesOnly (state S.Store conn.old) rows → Settled (state S.Store conn.new) rows }
     ensures same { is_storage result.kind ≡ false → result ≡ refusal }
     ensures survives { Survives (state S.Store conn.old) (state S.Store conn.new) (λ _. ⊥) }
     ensures ended { conn.new.in_transaction ≡ false }
@@ -69,12 +72,16 @@ fn try_request<S: Alter>(
 ) -> Result<Answer, Refusal>
     requires kept { archive.old.is_lost ≡ false }
     ensures acknowledged { HasCleanDisk (state S.Store archive.new.conn)
-        → IfOk result (λ answer. Acknowledges (state S.Store archive.old.conn) «request».now answer (state S.Store archive.new.conn)) }
-    ensures refused { HasCleanDisk (state S.Store archive.new.conn) → IfErr result (λ e. is_storage e.kind ≡ false → OnArchive (state S.Store archive.old.conn) (λ society c rows.
+        → IfOk result (λ answer. Acknowledges (state S.Store archive.old.conn) «request».now answer
+        (state S.Store archive.new.conn)) }
+    ensures refused { HasCleanDisk (state S.Store archive.new.conn)
+        → IfErr result (λ e. is_storage e.kind ≡ false → OnArchive (state S.Store archive.old.conn) (λ society c rows.
         Does c «request».now (Err e) c × LeavesOnly (state S.Store archive.new.conn) rows)) }
-    ensures crash { HasCleanDisk (state S.Store archive.new.conn) → IfErr result (λ e. OnArchive (state S.Store archive.old.conn) (λ society c rows.
+    ensures crash { HasCleanDisk (state S.Store archive.new.conn)
+        → IfErr result (λ e. OnArchive (state S.Store archive.old.conn) (λ society c rows.
         LeavesDoneOrNot (state S.Store archive.new.conn) society c rows «request».now)) }
-    ensures repeated { HasCleanDisk (state S.Store archive.new.conn) → OnArchive (state S.Store archive.old.conn) (λ society c rows.
+    ensures repeated { HasCleanDisk (state S.Store archive.new.conn) → OnArchive (state S.Store archive.old.conn)
+        (λ society c rows.
         get c.receipts «request».now.token ≢ None → LeavesOnly (state S.Store archive.new.conn) rows) }
     ensures clean { HasCleanDisk (state S.Store archive.new.conn) → HasCleanDisk (state S.Store archive.old.conn) }
 {
@@ -100,12 +107,15 @@ fn make_changes<S: Alter>(
     ensures again { changes.kept ≡ None → conn.new ≡ conn.old }
     ensures kept { IfErr result (λ _. changes.kept ≢ None) }
     ensures made { changes.kept ≢ None → HasCleanDisk (state S.Store conn.new)
-        → OnOk result ((rows : Rows) → Settled (state S.Store conn.old) rows → Settled (state S.Store conn.new) (with_changes changes rows)) }
-    ensures shallow { changes.kept ≢ None → OnOk result ((c : Content) → AllShallow c → AllShallow (applied c changes)) }
+        → OnOk result ((rows : Rows) → Settled (state S.Store conn.old) rows → Settled (state S.Store conn.new)
+        (with_changes changes rows)) }
+    ensures shallow { changes.kept ≢ None
+        → OnOk result ((c : Content) → AllShallow c → AllShallow (applied c changes)) }
     ensures crash { changes.kept ≢ None → HasCleanDisk (state S.Store conn.new)
         → (rows : Rows) → Settled (state S.Store conn.old) rows → LeavesEither (state S.Store conn.new) rows changes }
     ensures undone { HasCleanDisk (state S.Store conn.new)
-        → IfErr result (λ kind. is_storage kind ≡ false → (rows : Rows) → Settled (state S.Store conn.old) rows → LeavesOnly (state S.Store conn.new) rows) }
+        → IfErr result (λ kind. is_storage kind ≡ false → (rows : Rows) → Settled (state S.Store conn.old) rows
+        → LeavesOnly (state S.Store conn.new) rows) }
     ensures refused { IfErr result (λ kind. (kind ≡ OutOfMemory) ⊎ (kind ≡ Storage)) }
     ensures clean { HasCleanDisk (state S.Store conn.new) → HasCleanDisk (state S.Store conn.old) }
     ensures ended { conn.new.in_transaction ≡ false }

@@ -25,7 +25,8 @@ pub(crate) fn state_on<S: Alter>(
     conn: &mut Connection<S>,
 ) -> Result<State, RefusalKind>
     requires autocommit { conn.old.in_transaction ≡ false }
-    ensures reads { HasCleanDisk (state S.Store conn.new) → Reads (λ _ c held. held ≡ c) (state S.Store conn.old) result (state S.Store conn.new) }
+    ensures reads { HasCleanDisk (state S.Store conn.new) → Reads (λ _ c held. held ≡ c) (state S.Store conn.old) result
+        (state S.Store conn.new) }
     ensures ended { conn.new.in_transaction ≡ false }
 {
     match read_state(alloc, conn) {
@@ -40,7 +41,8 @@ pub(crate) fn society_on<S: Alter>(
     conn: &mut Connection<S>,
 ) -> Result<Text, RefusalKind>
     requires autocommit { conn.old.in_transaction ≡ false }
-    ensures reads { HasCleanDisk (state S.Store conn.new) → Reads (λ society _ text. text ≡ society) (state S.Store conn.old) result (state S.Store conn.new) }
+    ensures reads { HasCleanDisk (state S.Store conn.new) → Reads (λ society _ text. text ≡ society)
+        (state S.Store conn.old) result (state S.Store conn.new) }
     ensures ended { conn.new.in_transaction ≡ false }
 {
     match store_tables::society(alloc, conn) {
@@ -53,8 +55,10 @@ pub(crate) fn society_on<S: Alter>(
 /// still answers.
 pub(crate) fn recognise<S: Alter>(conn: &mut Connection<S>) -> Result<(), RefusalKind>
     requires autocommit { conn.old.in_transaction ≡ false }
-    ensures reads { HasCleanDisk (state S.Store conn.new) → Reads (λ _ _ _. ⊤) (state S.Store conn.old) result (state S.Store conn.new) }
-    ensures told { HasCleanDisk (state S.Store conn.new) → IfErr result (RefusesToAdopt S.Store (state S.Store conn.old)) }
+    ensures reads { HasCleanDisk (state S.Store conn.new) → Reads (λ _ _ _. ⊤) (state S.Store conn.old) result
+        (state S.Store conn.new) }
+    ensures told { HasCleanDisk (state S.Store conn.new)
+        → IfErr result (RefusesToAdopt S.Store (state S.Store conn.old)) }
     ensures ended { conn.new.in_transaction ≡ false }
 {
     match look_at_tables(conn) {
@@ -67,7 +71,8 @@ pub(crate) fn recognise<S: Alter>(conn: &mut Connection<S>) -> Result<(), Refusa
 fn look_at_tables<S: Alter>(conn: &mut Connection<S>) -> Result<(), RefusalKind>
     requires autocommit { conn.old.in_transaction ≡ false }
     ensures looks { Looks (λ _ _. ⊤) (state S.Store conn.old) (state S.Store conn.new) result }
-    ensures told { HasCleanDisk (state S.Store conn.new) → IfErr result (RefusesToAdopt S.Store (state S.Store conn.old)) }
+    ensures told { HasCleanDisk (state S.Store conn.new)
+        → IfErr result (RefusesToAdopt S.Store (state S.Store conn.old)) }
     ensures ended { conn.new.in_transaction ≡ false }
 {
     match check_version(conn) {
@@ -79,7 +84,8 @@ fn look_at_tables<S: Alter>(conn: &mut Connection<S>) -> Result<(), RefusalKind>
 /// The refusal of a call: 80 where the connection answers no more.
 pub(crate) fn refusal_after<S: Alter>(conn: &mut Connection<S>, kind: RefusalKind) -> RefusalKind
     requires autocommit { conn.old.in_transaction ≡ false }
-    ensures settled { HasCleanDisk (state S.Store conn.new) → is_storage result ≡ false → (rows : Rows) → LeavesOnly (state S.Store conn.old) rows → Settled (state S.Store conn.new) rows }
+    ensures settled { HasCleanDisk (state S.Store conn.new) → is_storage result ≡ false → (rows : Rows)
+        → LeavesOnly (state S.Store conn.old) rows → Settled (state S.Store conn.new) rows }
     ensures same { is_storage result ≡ false → result ≡ kind }
     ensures survives { Survives (state S.Store conn.old) (state S.Store conn.new) (λ _. ⊥) }
     ensures ended { conn.new.in_transaction ≡ false }

@@ -117,7 +117,8 @@ impl<S: Alter> View for Archive<S> {
 /// The refusal of a look, which is noted: 80 where the connection answers no more.
 fn fail<S: Alter>(archive: &mut Archive<S>, kind: RefusalKind) -> RefusalKind
     ensures settled { HasCleanDisk (state S.Store archive.new.conn) → is_storage result ≡ false
-        → (rows : Rows) → LeavesOnly (state S.Store archive.old.conn) rows → Settled (state S.Store archive.new.conn) rows }
+        → (rows : Rows) → LeavesOnly (state S.Store archive.old.conn) rows
+        → Settled (state S.Store archive.new.conn) rows }
     ensures same { is_storage result ≡ false → result ≡ kind }
     ensures survives { Survives (state S.Store archive.old.conn) (state S.Store archive.new.conn) (λ _. ⊥) }
     ensures lost { archive.new.is_lost ≡ archive.old.is_lost || is_storage result }

@@ -1,5 +1,37 @@
 -- Places found by a path, and entries by a key: which numbers an index gives, and which of them is the answer.
-use Rattle.std.proofs.Common.{◌+◌, ◌≡◌, ◌≢◌, ◌⊎◌, inl, inr, ℕ, ◌<◌, Bool, true, false, List, [], ◌∷◌, ◌++◌, filter, cond, length, refl, sym, ap, subst, ◌∙◌, arith, ap₂, map, ◌↔◌, Result, Ok, get_or, bytes_eq}
+use Rattle.std.proofs.Common.{
+  ◌+◌,
+  ◌≡◌,
+  ◌≢◌,
+  ◌⊎◌,
+  inl,
+  inr,
+  ℕ,
+  ◌<◌,
+  Bool,
+  true,
+  false,
+  List,
+  [],
+  ◌∷◌,
+  ◌++◌,
+  filter,
+  cond,
+  length,
+  refl,
+  sym,
+  ap,
+  subst,
+  ◌∙◌,
+  arith,
+  ap₂,
+  map,
+  ◌↔◌,
+  Result,
+  Ok,
+  get_or,
+  bytes_eq,
+}
 use Rattle.std.specs.Prelude.{◌==◌, ◌&&◌, ◌||◌, nat_lt, codes, Option, Some, None, IsTrue}
 use Rattle.std.specs.List.{list_any}
 use Rattle.std.specs.FinMap.{get}
@@ -26,7 +58,16 @@ use Rattle.store_tables.specs.Keyed.{is_text, is_number, lines_saying, lines_say
 use Rattle.store_tables.specs.Looking.{Looks}
 use Rattle.store_tables.specs.Rows.{Rows, LineRow, lines_of}
 use Rattle.store_tables.proofs.Calls.{if_ok, if_err}
-use Rattle.store_rows.specs.Finding.{IsAmong, IsLowestAmong, IsFront, HasAllSaying, HasSaying, IsClimbFrom, IsEntryFound, lower}
+use Rattle.store_rows.specs.Finding.{
+  IsAmong,
+  IsLowestAmong,
+  IsFront,
+  HasAllSaying,
+  HasSaying,
+  IsClimbFrom,
+  IsEntryFound,
+  lower,
+}
 use Rattle.store_rows.specs.declared.finding.Climb.TheVariants as climb
 use Rattle.store_rows.specs.Looking.{Sees}
 use Rattle.store_rows.specs.Meaning.{Means, IsRecordAt}
@@ -35,17 +76,23 @@ use Rattle.store_rows.proofs.Own.{it}
 use Rattle.store_rows.proofs.Seen.{any_kept, any_map}
 
 -- ---- one look after another
-pub sees_then : {A B : Type 0} {P : Content → A → Type 0} {Q : Content → B → Type 0} {old mid new : State} {a : A} {result : Result B RefusalKind}
+pub sees_then : {A B : Type 0} {P : Content → A → Type 0} {Q : Content → B
+    → Type 0} {old mid new : State} {a : A} {result : Result B RefusalKind}
     → Sees P old mid (Ok a) → Sees Q mid new result → Sees (λ c b. P c a × Q c b) old new result
 sees_then {result = result} h k = record {
-  read = λ clean. if_ok result (λ b is rows was c means. (h.read (k.clean clean) rows was c means, is rows (h.same (k.clean clean) rows was) c means)) (k.read clean);
+  read = λ clean. if_ok result
+      (λ b is rows was c means. (
+        h.read (k.clean clean) rows was c means,
+        is rows (h.same (k.clean clean) rows was) c means,
+      )) (k.read clean);
   same = λ clean. if_ok result (λ b is rows was. is rows (h.same (k.clean clean) rows was)) (k.same clean);
   refused = λ clean. if_err result (λ kind is rows was. is rows (h.same (k.clean clean) rows was)) (k.refused clean);
   crash = λ clean rows was. k.crash clean rows (h.same (k.clean clean) rows was);
   clean = λ clean. h.clean (k.clean clean);
 }
 
-pub sees_where : {A : Type 0} {P Q : Content → A → Type 0} {old new : State} (result : Result A RefusalKind) → ((c : Content) (a : A) → P c a → Q c a) → Sees P old new result → Sees Q old new result
+pub sees_where : {A : Type 0} {P Q : Content → A → Type 0} {old new : State} (result : Result A RefusalKind)
+    → ((c : Content) (a : A) → P c a → Q c a) → Sees P old new result → Sees Q old new result
 sees_where result f h = record {
   read = λ clean. if_ok result (λ a is rows was c means. f c a (is rows was c means)) (h.read clean);
   same = h.same;
@@ -55,10 +102,13 @@ sees_where result f h = record {
 }
 
 -- a look after rows were read
-pub sees_after : {A B : Type 0} {P : Rows → A → Type 0} {Q Is : Content → B → Type 0} {old mid new : State} {a : A} (result : Result B RefusalKind)
-    → ((rows : Rows) (c : Content) (b : B) → P rows a → Means rows c → Q c b → Is c b) → Looks P old mid (Ok a) → Sees Q mid new result → Sees Is old new result
+pub sees_after : {A B : Type 0} {P : Rows → A → Type 0} {Q Is : Content → B → Type 0} {old mid new : State} {a : A}
+    (result : Result B RefusalKind)
+    → ((rows : Rows) (c : Content) (b : B) → P rows a → Means rows c → Q c b → Is c b) → Looks P old mid (Ok a)
+    → Sees Q mid new result → Sees Is old new result
 sees_after {a = a} result f h k = record {
-  read = λ clean. if_ok result (λ b is rows was c means. f rows c b (h.read (k.clean clean) rows was) means (is rows (h.same (k.clean clean) rows was) c means)) (k.read clean);
+  read = λ clean. if_ok result (λ b is rows was c means. f rows c b (h.read (k.clean clean) rows was) means
+      (is rows (h.same (k.clean clean) rows was) c means)) (k.read clean);
   same = λ clean. if_ok result (λ b is rows was. is rows (h.same (k.clean clean) rows was)) (k.same clean);
   refused = λ clean. if_err result (λ kind is rows was. is rows (h.same (k.clean clean) rows was)) (k.refused clean);
   crash = λ clean rows was. k.crash clean rows (h.same (k.clean clean) rows was);
@@ -88,7 +138,8 @@ is_no_less m n h less = grind (arith, nat_tests, h, less)
 abbrev pub IsWithOne : List ℕ → ℕ → List ℕ → Type 0
 IsWithOne ns n more = (k : ℕ) → list_any (λ j. j == k) more ≡ (list_any (λ j. j == k) ns || (n == k))
 
-pub one_found : (P : ℕ → Type 0) (ns more : List ℕ) (n : ℕ) (lowest : Option ℕ) → IsWithOne ns n more → IsLowestAmong P ns lowest → P n → IsLowestAmong P more (Some (lower lowest n))
+pub one_found : (P : ℕ → Type 0) (ns more : List ℕ) (n : ℕ) (lowest : Option ℕ) → IsWithOne ns n more
+    → IsLowestAmong P ns lowest → P n → IsLowestAmong P more (Some (lower lowest n))
 one_found P ns more n None grows none here = (
   here,
   λ k among less. elim (either _ _ (sym (grows k) ∙ among)) [
@@ -97,12 +148,14 @@ one_found P ns more n None grows none here = (
   ],
 )
 one_found P ns more n (Some m) grows (there, low) here =
-    elim (nat_lt m n) as (λ b. nat_lt m n ≡ b → P (cond b m n) × ((k : ℕ) → IsAmong k more → k < cond b m n → ¬ (P k))) [
+    elim (nat_lt m n) as (λ b. nat_lt m n ≡ b → P (cond b m n)
+    × ((k : ℕ) → IsAmong k more → k < cond b m n → ¬ (P k))) [
       | true ↦ λ e. (
         there,
         λ k among less. elim (either _ _ (sym (grows k) ∙ among)) [
           | inl old ↦ low k old less
-          | inr is ↦ let same : n ≡ k = it n k is in let under : m < n = is_less m n e in absurd (omega (arith, same, less, under))
+          | inr is ↦ let same : n ≡ k = it n k is in let under : m < n = is_less m n e in
+              absurd (omega (arith, same, less, under))
         ],
       )
       | false ↦ λ e. (
@@ -117,7 +170,8 @@ one_found P ns more n (Some m) grows (there, low) here =
       )
     ] refl
 
-pub one_passed : (P : ℕ → Type 0) (ns more : List ℕ) (n : ℕ) (lowest : Option ℕ) → IsWithOne ns n more → IsLowestAmong P ns lowest → ¬ (P n) → IsLowestAmong P more lowest
+pub one_passed : (P : ℕ → Type 0) (ns more : List ℕ) (n : ℕ) (lowest : Option ℕ) → IsWithOne ns n more
+    → IsLowestAmong P ns lowest → ¬ (P n) → IsLowestAmong P more lowest
 one_passed P ns more n None grows none other = λ k among p. elim (either _ _ (sym (grows k) ∙ among)) [
   | inl old ↦ none k old p
   | inr is ↦ other (subst P (sym (it n k is)) p)
@@ -133,44 +187,57 @@ one_passed P ns more n (Some m) grows (there, low) other = (
 -- ---- what stands before comma and space
 -- names that are the path, or that end before this byte
 abbrev pub IsFrontBelow : ℕ → List ℕ → List ℕ → Type 0
-IsFrontBelow at name path = (path ≡ name) ⊎ ((rest : List ℕ) × (path ≡ name ++ (codes ", " ++ rest)) × (length name < at))
+IsFrontBelow at name path = (path ≡ name) ⊎ ((rest : List ℕ) × (path ≡ name ++ (codes ", " ++ rest))
+    × (length name < at))
 
 abbrev pub HasBelow : ℕ → List ℕ → Rows → List ℕ → Type 0
-HasBelow at path rows ns = (n : ℕ) (name : List ℕ) → IsFrontBelow at name path → IsAmong n (lines_saying name rows) → IsAmong n ns
+HasBelow at path rows ns = (n : ℕ) (name : List ℕ) → IsFrontBelow at name path
+    → IsAmong n (lines_saying name rows) → IsAmong n ns
 
 pub first_fronts : (path : List ℕ) (rows : Rows) (ns : List ℕ) → ns ≡ lines_saying path rows → HasBelow 0 path rows ns
-first_fronts path rows ns is n name (inl whole) among = subst (IsAmong n) (sym is) (subst (λ t. IsAmong n (lines_saying t rows)) (sym whole) among)
+first_fronts path rows ns is n name (inl whole) among = subst (IsAmong n) (sym is)
+    (subst (λ t. IsAmong n (lines_saying t rows)) (sym whole) among)
 first_fronts path rows ns is n name (inr (rest, e, low)) among = absurd (omega (arith, low))
 
-pub more_fronts : (at : ℕ) (path : List ℕ) (rows : Rows) (ns more all : List ℕ) → HasBelow at path rows ns → HasSaying at path rows more → all ≡ ns ++ more → HasBelow (at + 1) path rows all
+pub more_fronts : (at : ℕ) (path : List ℕ) (rows : Rows) (ns more all : List ℕ) → HasBelow at path rows ns
+    → HasSaying at path rows more → all ≡ ns ++ more → HasBelow (at + 1) path rows all
 more_fronts at path rows ns more all h k is n name (inl whole) among =
     ap (list_any (λ j. j == n)) is ∙ list_any-append (λ j. j == n) ns more ∙ left_of _ _ (h n name (inl whole) among)
 more_fronts at path rows ns more all h k is n name (inr (rest, e, low)) among =
     ap (list_any (λ j. j == n)) is ∙ list_any-append (λ j. j == n) ns more
-    ∙ (elim (nat_lt (length name) at) as (λ b. nat_lt (length name) at ≡ b → (list_any (λ j. j == n) ns || list_any (λ j. j == n) more) ≡ true) [
+    ∙ (elim (nat_lt (length name) at) as (λ b. nat_lt (length name) at ≡ b
+    → (list_any (λ j. j == n) ns || list_any (λ j. j == n) more) ≡ true) [
       | true ↦ λ f. left_of _ _ (h n name (inr (rest, e, is_less (length name) at f)) among)
-      | false ↦ λ f. let same : length name ≡ at = grind (arith, nat_tests, f, low) in right_of (list_any (λ j. j == n) ns) _ (k n name rest e same among)
+      | false ↦ λ f. let same : length name ≡ at = grind (arith, nat_tests, f, low) in
+          right_of (list_any (λ j. j == n) ns) _ (k n name rest e same among)
     ] refl)
 
-pub all_fronts : (at : ℕ) (path : List ℕ) (rows : Rows) (ns : List ℕ) → at ≡ length path → HasBelow at path rows ns → HasAllSaying path rows ns
+pub all_fronts : (at : ℕ) (path : List ℕ) (rows : Rows) (ns : List ℕ) → at ≡ length path → HasBelow at path rows ns
+    → HasAllSaying path rows ns
 all_fronts at path rows ns is h n name (inl whole) among = h n name (inl whole) among
 all_fronts at path rows ns is h n name (inr (rest, e)) among =
-    let long : length path ≡ length name + length (codes ", " ++ rest) = ap length e ∙ length-append name (codes ", " ++ rest) in
+    let long : length path ≡ length name + length (codes ", " ++ rest) = ap length e ∙ length-append name
+    (codes ", " ++ rest) in
     let low : length name < at = omega (arith, long, is) in
     h n name (inr (rest, e, low)) among
 
 -- where no comma is, no name ends
-comma_at : (at : ℕ) (path name rest : List ℕ) → path ≡ name ++ (codes ", " ++ rest) → length name ≡ at → get_or path at 0 ≡ 44
-comma_at at path name rest e is = ap (λ t. get_or t at 0) e ∙ ap (λ i. get_or (name ++ (codes ", " ++ rest)) i 0) (sym is) ∙ get_or-append_seam name 44 (32 ∷ rest) 0
+comma_at : (at : ℕ) (path name rest : List ℕ) → path ≡ name ++ (codes ", " ++ rest) → length name ≡ at
+    → get_or path at 0 ≡ 44
+comma_at at path name rest e is = ap (λ t. get_or t at 0) e ∙ ap (λ i. get_or (name ++ (codes ", " ++ rest)) i 0)
+    (sym is) ∙ get_or-append_seam name 44 (32 ∷ rest) 0
 
-pub no_comma : (at : ℕ) (path : List ℕ) (rows : Rows) (ns : List ℕ) → (get_or path at 0 == 44) ≡ false → HasSaying at path rows ns
+pub no_comma : (at : ℕ) (path : List ℕ) (rows : Rows) (ns : List ℕ) → (get_or path at 0 == 44) ≡ false
+    → HasSaying at path rows ns
 no_comma at path rows ns off n name rest e is among =
     let comma : get_or path at 0 ≡ 44 = comma_at at path name rest e is in
     let both : (44 == 44) ≡ false = subst (λ b. (b == 44) ≡ false) comma off in absurd cc
 
-pub saying_before : (at : ℕ) (path : List ℕ) (rows : Rows) (ns : List ℕ) → ns ≡ lines_saying (take at path) rows → HasSaying at path rows ns
+pub saying_before : (at : ℕ) (path : List ℕ) (rows : Rows) (ns : List ℕ) → ns ≡ lines_saying (take at path) rows
+    → HasSaying at path rows ns
 saying_before at path rows ns is n name rest e long among =
-    let front : take at path ≡ name = ap (take at) e ∙ ap (λ i. take i (name ++ (codes ", " ++ rest))) (sym long) ∙ take-append_seam name (codes ", " ++ rest) in
+    let front : take at path ≡ name = ap (take at) e ∙ ap (λ i. take i (name ++ (codes ", " ++ rest))) (sym long)
+    ∙ take-append_seam name (codes ", " ++ rest) in
     subst (IsAmong n) (sym (is ∙ ap (λ t. lines_saying t rows) front)) among
 
 -- ---- the line of a place's name
@@ -178,73 +245,102 @@ same_bytes : (xs : List ℕ) → bytes_eq xs xs ≡ true
 same_bytes [] = refl
 same_bytes (x ∷ xs) = let here : (x == x) ≡ true = grind (arith, nat_tests) in rw here (same_bytes xs)
 
-pub said_where : (says : Label → Bool) (n : ℕ) (rows : Rows) → list_any (λ k. k == n) (map (λ (l : LineRow). l.no) (filter (λ (l : LineRow). says l.line.1) rows.lines)) ≡ list_any (λ (x : ℕ × Label). says x.1) (lines_of n rows)
+pub said_where : (says : Label → Bool) (n : ℕ) (rows : Rows) → list_any (λ k. k == n)
+    (map (λ (l : LineRow). l.no) (filter (λ (l : LineRow). says l.line.1) rows.lines)) ≡ list_any
+    (λ (x : ℕ × Label). says x.1) (lines_of n rows)
 said_where says n rows =
     let told = (λ (l : LineRow). says l.line.1) in
     let own = (λ (l : LineRow). l.no == n) in
     any_map (λ k. k == n) (λ (l : LineRow). l.no) (filter told rows.lines) ∙ sym (any_kept told own rows.lines)
     ∙ any_same (λ l. told l && own l) (λ l. own l && told l) (λ l. and_swap (told l) (own l)) rows.lines
-    ∙ any_kept own told rows.lines ∙ sym (any_map (λ (x : ℕ × Label). says x.1) (λ (l : LineRow). l.line) (filter own rows.lines))
+    ∙ any_kept own told rows.lines
+    ∙ sym (any_map (λ (x : ℕ × Label). says x.1) (λ (l : LineRow). l.line) (filter own rows.lines))
 
-pub kept_as : (n : ℕ) (rows : Rows) (c : Content) (r : Record) → Means rows c → get c.records n ≡ Some r → lines_of n rows ≡ stored r
-kept_as n rows c r means at = let is : IsRecordAt rows n (Some r) = subst (IsRecordAt rows n) at (means.records n) in is.1
+pub kept_as : (n : ℕ) (rows : Rows) (c : Content) (r : Record) → Means rows c → get c.records n ≡ Some r
+    → lines_of n rows ≡ stored r
+kept_as n rows c r means at = let is : IsRecordAt rows n (Some r) = subst (IsRecordAt rows n) at (means.records n) in
+    is.1
 
-name_said : (n : ℕ) (rows : Rows) (c : Content) (p : model.Place) → Means rows c → IsPlaceAt c.records n p → IsAmong n (lines_saying p.name rows)
+name_said : (n : ℕ) (rows : Rows) (c : Content) (p : model.Place) → Means rows c → IsPlaceAt c.records n p
+    → IsAmong n (lines_saying p.name rows)
 name_said n rows c p means at =
-    said_where (λ (l : Label). is_text p.name l.text) n rows ∙ ap (list_any (λ (x : ℕ × Label). is_text p.name x.1.text)) (kept_as n rows c (kind.Place p) means at) ∙ left_of (bytes_eq p.name p.name) _ (same_bytes p.name)
+    said_where (λ (l : Label). is_text p.name l.text) n rows
+    ∙ ap (list_any (λ (x : ℕ × Label). is_text p.name x.1.text)) (kept_as n rows c (kind.Place p) means at)
+    ∙ left_of (bytes_eq p.name p.name) _ (same_bytes p.name)
 
 place_there : (m : Records) (n : ℕ) (path : List ℕ) → HasPath m n path → (p : model.Place) × IsPlaceAt m n p
 place_there m n path ([], h, e) = absurd h
 place_there m n path ((name ∷ []), (p, at, named, none), e) = (p, at)
 place_there m n path ((name ∷ (above ∷ names)), (p, at, named, up), e) = (p, at)
 
-front_of : (m : Records) (n : ℕ) (name : List ℕ) (parent : Option ℕ) (path : List ℕ) → Goes m n name parent path → IsFront name path
+front_of : (m : Records) (n : ℕ) (name : List ℕ) (parent : Option ℕ) (path : List ℕ) → Goes m n name parent path
+    → IsFront name path
 front_of m n name None path e = inl e
 front_of m n name (Some q) path (less, (rest, e, h)) = inr (rest, e)
 
-path_among : (path : List ℕ) (rows : Rows) (c : Content) (ns : List ℕ) (n : ℕ) → Means rows c → HasAllSaying path rows ns → HasPath c.records n path → IsAmong n ns
+path_among : (path : List ℕ) (rows : Rows) (c : Content) (ns : List ℕ) (n : ℕ) → Means rows c
+    → HasAllSaying path rows ns → HasPath c.records n path → IsAmong n ns
 path_among path rows c ns n means all h =
     let there = place_there c.records n path h in
-    all n there.0.name (front_of c.records n there.0.name there.0.parent path (path_goes c.records n there.0 path there.1 h)) (name_said n rows c there.0 means there.1)
+    all n there.0.name (front_of c.records n there.0.name there.0.parent path
+    (path_goes c.records n there.0 path there.1 h)) (name_said n rows c there.0 means there.1)
 
 -- the lowest of numbers among which each with P is, is the lowest of all
-pub lowest_of_all : (P : ℕ → Type 0) (ns : List ℕ) (found : Option ℕ) → ((n : ℕ) → P n → IsAmong n ns) → IsLowestAmong P ns found → IsLowest P found
+pub lowest_of_all : (P : ℕ → Type 0) (ns : List ℕ) (found : Option ℕ) → ((n : ℕ) → P n → IsAmong n ns)
+    → IsLowestAmong P ns found → IsLowest P found
 lowest_of_all P ns None among none = λ n p. none n (among n p) p
 lowest_of_all P ns (Some k) among (there, low) = (there, λ j less p. low j (among j p) less p)
 
-pub place_found : (path : List ℕ) (rows : Rows) (c : Content) (ns : List ℕ) (found : Option ℕ) → Means rows c → HasAllSaying path rows ns → IsLowestAmong (λ n. HasPath c.records n path) ns found → IsLowest (λ n. HasPath c.records n path) found
-place_found path rows c ns found means all low = lowest_of_all (λ n. HasPath c.records n path) ns found (λ n h. path_among path rows c ns n means all h) low
+pub place_found : (path : List ℕ) (rows : Rows) (c : Content) (ns : List ℕ) (found : Option ℕ) → Means rows c
+    → HasAllSaying path rows ns → IsLowestAmong (λ n. HasPath c.records n path) ns found
+    → IsLowest (λ n. HasPath c.records n path) found
+place_found path rows c ns found means all low = lowest_of_all (λ n. HasPath c.records n path) ns found
+    (λ n h. path_among path rows c ns n means all h) low
 
 -- ---- the line of an entry's key
-key_said : (n : ℕ) (rows : Rows) (c : Content) (e : model.Entry) → Means rows c → get c.records n ≡ Some (kind.Entry e) → IsAmong n (lines_saying_of (key_words e.item e.page) e.source rows)
+key_said : (n : ℕ) (rows : Rows) (c : Content) (e : model.Entry) → Means rows c → get c.records n ≡ Some (kind.Entry e)
+    → IsAmong n (lines_saying_of (key_words e.item e.page) e.source rows)
 key_said n rows c e means at =
     let words = key_words e.item e.page in
     let says = (λ (l : Label). is_text words l.text && is_number e.source l.target) in
     let of : (e.source == e.source) ≡ true = grind (arith, nat_tests) in
     said_where says n rows ∙ ap (list_any (λ (x : ℕ × Label). says x.1)) (kept_as n rows c (kind.Entry e) means at)
-    ∙ right_of (is_text words (Some (entry_kind_word e.kind)) && false) _ (left_of (bytes_eq words words && (e.source == e.source)) _ (ap₂ (λ a b. a && b) (same_bytes words) of))
+    ∙ right_of (is_text words (Some (entry_kind_word e.kind)) && false) _
+    (left_of (bytes_eq words words && (e.source == e.source)) _ (ap₂ (λ a b. a && b) (same_bytes words) of))
 
-key_among : (source : ℕ) (k : EntryKind) (page : List ℕ) (item : Item) (rows : Rows) (c : Content) (ns : List ℕ) (n : ℕ) → Means rows c → ns ≡ lines_saying_of (key_words item page) source rows → IsEntryAt c.records source k page item n → IsAmong n ns
+key_among : (source : ℕ) (k : EntryKind) (page : List ℕ) (item : Item) (rows : Rows) (c : Content) (ns : List ℕ) (n : ℕ)
+    → Means rows c → ns ≡ lines_saying_of (key_words item page) source rows
+    → IsEntryAt c.records source k page item n → IsAmong n ns
 key_among source k page item rows c ns n means is (e, at, (from, same, on, of)) =
     let words : key_words e.item e.page ≡ key_words item page = ap₂ key_words of on in
-    subst (IsAmong n) (sym is) (subst (λ t. IsAmong n (lines_saying_of t source rows)) words (subst (λ m. IsAmong n (lines_saying_of (key_words e.item e.page) m rows)) from (key_said n rows c e means at)))
+    subst (IsAmong n) (sym is) (subst (λ t. IsAmong n (lines_saying_of t source rows)) words
+    (subst (λ m. IsAmong n (lines_saying_of (key_words e.item e.page) m rows)) from (key_said n rows c e means at)))
 
-pub key_found : (source : ℕ) (k : EntryKind) (page : List ℕ) (item : Item) (rows : Rows) (c : Content) (ns : List ℕ) (found : Option ℕ) → Means rows c → ns ≡ lines_saying_of (key_words item page) source rows
-    → IsLowestAmong (λ n. IsEntryAt c.records source k page item n) ns found → IsLowest (λ n. IsEntryAt c.records source k page item n) found
-key_found source k page item rows c ns found means is low = lowest_of_all (λ n. IsEntryAt c.records source k page item n) ns found (λ n h. key_among source k page item rows c ns n means is h) low
+pub key_found : (source : ℕ) (k : EntryKind) (page : List ℕ) (item : Item) (rows : Rows) (c : Content) (ns : List ℕ)
+    (found : Option ℕ) → Means rows c → ns ≡ lines_saying_of (key_words item page) source rows
+    → IsLowestAmong (λ n. IsEntryAt c.records source k page item n) ns found
+    → IsLowest (λ n. IsEntryAt c.records source k page item n) found
+key_found source k page item rows c ns found means is low =
+    lowest_of_all (λ n. IsEntryAt c.records source k page item n) ns found
+    (λ n h. key_among source k page item rows c ns n means is h) low
 
 -- ---- what was found is an entry of a key
-pub key_seen : {b : Bool} {found : Option Record} {r : Record} (source : ℕ) (k : EntryKind) (page : List ℕ) (item : Item) (same : found ≡ Some r)
-    → IsTrue b ↔ ((e : model.Entry) × (r ≡ kind.Entry e) × HasKey source k page item e) → IsTrue b ↔ IsEntryFound found source k page item
+pub key_seen : {b : Bool} {found : Option Record} {r : Record} (source : ℕ) (k : EntryKind) (page : List ℕ)
+    (item : Item) (same : found ≡ Some r)
+    → IsTrue b ↔ ((e : model.Entry) × (r ≡ kind.Entry e) × HasKey source k page item e)
+    → IsTrue b ↔ IsEntryFound found source k page item
 key_seen source k page item same iff = (
   λ t. let h = iff.0 t in (h.0, same ∙ ap Some h.1, h.2),
   λ h. iff.1 (h.0, (let both : Some _ ≡ Some (kind.Entry h.0) = sym same ∙ h.1 in cc), h.2),
 )
 
-pub no_key_seen : {found : Option Record} (source : ℕ) (k : EntryKind) (page : List ℕ) (item : Item) → found ≡ None → IsTrue false ↔ IsEntryFound found source k page item
-no_key_seen source k page item none = (λ t. absurd cc, λ h. let both : None ≡ Some (kind.Entry h.0) = sym none ∙ h.1 in absurd cc)
+pub no_key_seen : {found : Option Record} (source : ℕ) (k : EntryKind) (page : List ℕ) (item : Item) → found ≡ None
+    → IsTrue false ↔ IsEntryFound found source k page item
+no_key_seen source k page item none =
+    (λ t. absurd cc, λ h. let both : None ≡ Some (kind.Entry h.0) = sym none ∙ h.1 in absurd cc)
 
 -- ---- one step up
 -- what is no place has no path
-pub no_place_there : (found : Option Record) (n : ℕ) (path : List ℕ) → ((p : model.Place) → found ≢ Some (kind.Place p)) → IsClimbFrom found n path (climb.Ended false)
+pub no_place_there : (found : Option Record) (n : ℕ) (path : List ℕ) → ((p : model.Place) → found ≢ Some (kind.Place p))
+    → IsClimbFrom found n path (climb.Ended false)
 no_place_there found n path other m at = none_iff m n path (λ p here. other p (sym at ∙ here))

@@ -1,5 +1,24 @@
 -- The lines that name a number are those of its referrers.
-use Rattle.std.proofs.Common.{◌≡◌, ℕ, Bool, true, false, List, [], ◌∷◌, map, filter, cond, refl, sym, ap, ap₂, subst, ◌∙◌, arith}
+use Rattle.std.proofs.Common.{
+  ◌≡◌,
+  ℕ,
+  Bool,
+  true,
+  false,
+  List,
+  [],
+  ◌∷◌,
+  map,
+  filter,
+  cond,
+  refl,
+  sym,
+  ap,
+  ap₂,
+  subst,
+  ◌∙◌,
+  arith,
+}
 use Rattle.std.specs.Prelude.{◌==◌, ◌&&◌, ◌||◌, Option, Some, None, T}
 use Rattle.std.specs.List.{list_any}
 use Rattle.std.specs.FinMap.{get, entries, entries_sorted, get-entries, find, is_sorted}
@@ -38,7 +57,8 @@ less_is Greater p = absurd p
 not_there : (k : ℕ) (es : List (ℕ × Record)) → T (below_all nat_cmp k es) → find nat_cmp k es ≡ None
 not_there k [] h = refl
 not_there k (e ∷ es) h =
-    ap (λ o. cond (is_eq o) (Some e.1) (find nat_cmp k es)) (less_is (nat_cmp k e.0) (first (is_lt (nat_cmp k e.0)) (below_all nat_cmp k es) h))
+    ap (λ o. cond (is_eq o) (Some e.1) (find nat_cmp k es))
+    (less_is (nat_cmp k e.0) (first (is_lt (nat_cmp k e.0)) (below_all nat_cmp k es) h))
     ∙ not_there k es (second (is_lt (nat_cmp k e.0)) (below_all nat_cmp k es) h)
 
 -- whether a record that may be missing names a number
@@ -50,21 +70,30 @@ is_it : (m k : ℕ) → (k == m) ≡ true → m ≡ k
 is_it m k e = grind (arith, nat_tests, e)
 
 -- a number is among those of entries that name another exactly where the record that is found under it does
-named_found : (n m : ℕ) (es : List (ℕ × Record)) → T (is_sorted nat_cmp es) → list_any (λ k. k == m) (naming n es) ≡ names_at n (find nat_cmp m es)
+named_found : (n m : ℕ) (es : List (ℕ × Record)) → T (is_sorted nat_cmp es) → list_any (λ k. k == m) (naming n es)
+    ≡ names_at n (find nat_cmp m es)
 named_found n m [] h = refl
 named_found n m (e ∷ es) h =
     let more = named_found n m es (second (below_all nat_cmp e.0 es) (is_sorted nat_cmp es) h) in
     let below = first (below_all nat_cmp e.0 es) (is_sorted nat_cmp es) h in
-    (elim (e.0 == m) as (λ b. (e.0 == m) ≡ b → list_any (λ k. k == m) (naming n (e ∷ es)) ≡ names_at n (cond b (Some e.1) (find nat_cmp m es))) [
+    (elim (e.0 == m) as (λ b. (e.0 == m) ≡ b → list_any (λ k. k == m) (naming n (e ∷ es)) ≡ names_at n
+    (cond b (Some e.1) (find nat_cmp m es))) [
       | true ↦ λ here.
-          let none : find nat_cmp m es ≡ None = not_there m es (subst (λ k. T (below_all nat_cmp k es)) (sym (is_it m e.0 here)) below) in
+          let none : find nat_cmp m es ≡ None = not_there m es
+          (subst (λ k. T (below_all nat_cmp k es)) (sym (is_it m e.0 here)) below) in
           let rest : list_any (λ k. k == m) (naming n es) ≡ false = more ∙ ap (names_at n) none in
-          elim (is_among n (links e.1)) as (λ a. list_any (λ k. k == m) (map (λ (x : ℕ × Record). x.0) (cond a (e ∷ filter (λ (x : ℕ × Record). is_among n (links x.1)) es) (filter (λ (x : ℕ × Record). is_among n (links x.1)) es))) ≡ a) [
+          elim (is_among n (links e.1)) as (λ a. list_any (λ k. k == m)
+          (map (λ (x : ℕ × Record). x.0)
+          (cond a (e ∷ filter (λ (x : ℕ × Record). is_among n (links x.1)) es)
+          (filter (λ (x : ℕ × Record). is_among n (links x.1)) es))) ≡ a) [
             | true ↦ ap (λ b. b || list_any (λ k. k == m) (naming n es)) here
             | false ↦ rest
           ]
       | false ↦ λ off.
-          elim (is_among n (links e.1)) as (λ a. list_any (λ k. k == m) (map (λ (x : ℕ × Record). x.0) (cond a (e ∷ filter (λ (x : ℕ × Record). is_among n (links x.1)) es) (filter (λ (x : ℕ × Record). is_among n (links x.1)) es))) ≡ names_at n (find nat_cmp m es)) [
+          elim (is_among n (links e.1)) as (λ a. list_any (λ k. k == m)
+          (map (λ (x : ℕ × Record). x.0)
+          (cond a (e ∷ filter (λ (x : ℕ × Record). is_among n (links x.1)) es)
+          (filter (λ (x : ℕ × Record). is_among n (links x.1)) es))) ≡ names_at n (find nat_cmp m es)) [
             | true ↦ ap (λ b. b || list_any (λ k. k == m) (naming n es)) off ∙ more
             | false ↦ more
           ]
@@ -86,19 +115,24 @@ same_test : (n : ℕ) (o : Option ℕ) → is_number n o ≡ is_target n o
 same_test n None = refl
 same_test n (Some k) = refl
 
-lines_named : (n m : ℕ) (rows : Rows) → list_any (λ k. k == m) (lines_naming n rows) ≡ some_line_names n (lines_of m rows)
+lines_named : (n m : ℕ) (rows : Rows) → list_any (λ k. k == m) (lines_naming n rows) ≡ some_line_names n
+    (lines_of m rows)
 lines_named n m rows =
     let names = (λ (l : LineRow). is_number n l.line.1.target) in
     let own = (λ (l : LineRow). l.no == m) in
     any_map (λ k. k == m) (λ (l : LineRow). l.no) (filter names rows.lines) ∙ sym (any_kept names own rows.lines)
-    ∙ any_same (λ l. names l && own l) (λ l. own l && is_target n l.line.1.target) (λ l. and_swap (names l) (own l) ∙ ap (λ b. own l && b) (same_test n l.line.1.target)) rows.lines
-    ∙ any_kept own (λ l. is_target n l.line.1.target) rows.lines ∙ sym (any_map (λ x. is_target n x.1.target) (λ (l : LineRow). l.line) (filter own rows.lines))
+    ∙ any_same (λ l. names l && own l) (λ l. own l && is_target n l.line.1.target)
+    (λ l. and_swap (names l) (own l) ∙ ap (λ b. own l && b) (same_test n l.line.1.target)) rows.lines
+    ∙ any_kept own (λ l. is_target n l.line.1.target) rows.lines
+    ∙ sym (any_map (λ x. is_target n x.1.target) (λ (l : LineRow). l.line) (filter own rows.lines))
 
-pub tell_referrers : (rows : Rows) (c : Content) (n m : ℕ) → Means rows c → list_any (λ k. k == m) (referrers c n) ≡ (has_record m rows && list_any (λ k. k == m) (lines_naming n rows))
+pub tell_referrers : (rows : Rows) (c : Content) (n m : ℕ) → Means rows c → list_any (λ k. k == m) (referrers c n)
+    ≡ (has_record m rows && list_any (λ k. k == m) (lines_naming n rows))
 tell_referrers rows c n m means =
     named_found n m (entries c.records) (entries_sorted c.records) ∙ ap (names_at n) (sym (get-entries c.records m))
     ∙ go (get c.records m) (means.records m) ∙ ap (λ b. has_record m rows && b) (sym (lines_named n m rows))
   where
-    go : (found : Option Record) → IsRecordAt rows m found → names_at n found ≡ (has_record m rows && some_line_names n (lines_of m rows))
+    go : (found : Option Record) → IsRecordAt rows m found → names_at n found
+        ≡ (has_record m rows && some_line_names n (lines_of m rows))
     go None absent = sym (ap (λ b. b && some_line_names n (lines_of m rows)) absent)
     go (Some r) is = sym (ap₂ (λ a b. a && b) is.0 (ap (some_line_names n) is.1 ∙ lines_tell r n))

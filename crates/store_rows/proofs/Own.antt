@@ -1,5 +1,23 @@
 -- The rows of one number in a table whose rows have numbers: what a put, a removal and a change of rows make of them.
-use Rattle.std.proofs.Common.{◌≡◌, ◌≢◌, ℕ, true, false, List, [], ◌∷◌, ◌++◌, map, filter, not, cond, refl, ap, ◌∙◌, arith}
+use Rattle.std.proofs.Common.{
+  ◌≡◌,
+  ◌≢◌,
+  ℕ,
+  true,
+  false,
+  List,
+  [],
+  ◌∷◌,
+  ◌++◌,
+  map,
+  filter,
+  not,
+  cond,
+  refl,
+  ap,
+  ◌∙◌,
+  arith,
+}
 use Rattle.std.specs.Prelude.{◌==◌}
 use Rattle.std.specs.Ordering.{nat_cmp, match_ordering}
 use Rattle.std.specs.declared.cmp.Ordering.TheVariants.{Less, Equal, Greater}
@@ -36,8 +54,10 @@ module _ {X : Type 0} (key : X → ℕ) where
   put_here n x [] here = let same : (key x == n) ≡ true = grind (arith, nat_tests) in ([], rw same refl)
   put_here n x (y ∷ ys) here =
       let same : (key x == n) ≡ true = grind (arith, nat_tests) in
-      elim (nat_cmp (key y) (key x)) as (λ o. nat_cmp (key y) (key x) ≡ o → (more : List X) × (own n (match_ordering o (y ∷ put_by key x ys) (x ∷ ys) (x ∷ y ∷ ys)) ≡ x ∷ more)) [
-        | Less ↦ λ p. let apart : (key y == n) ≡ false = below (key y) (key x) n p here in rw apart (put_here n x ys here)
+      elim (nat_cmp (key y) (key x)) as (λ o. nat_cmp (key y) (key x) ≡ o → (more : List X)
+      × (own n (match_ordering o (y ∷ put_by key x ys) (x ∷ ys) (x ∷ y ∷ ys)) ≡ x ∷ more)) [
+        | Less ↦ λ p. let apart : (key y == n) ≡ false = below (key y) (key x) n p here in
+            rw apart (put_here n x ys here)
         | Equal ↦ λ p. (own n ys, rw same refl)
         | Greater ↦ λ p. (own n (y ∷ ys), rw same refl)
       ] refl
@@ -45,9 +65,11 @@ module _ {X : Type 0} (key : X → ℕ) where
   pub put_elsewhere : (m : ℕ) (x : X) (xs : List X) → key x ≢ m → own m (put_by key x xs) ≡ own m xs
   put_elsewhere m x [] off = rw (is_not (key x) m off) refl
   put_elsewhere m x (y ∷ ys) off =
-      elim (nat_cmp (key y) (key x)) as (λ o. nat_cmp (key y) (key x) ≡ o → own m (match_ordering o (y ∷ put_by key x ys) (x ∷ ys) (x ∷ y ∷ ys)) ≡ own m (y ∷ ys)) [
+      elim (nat_cmp (key y) (key x)) as (λ o. nat_cmp (key y) (key x) ≡ o
+      → own m (match_ordering o (y ∷ put_by key x ys) (x ∷ ys) (x ∷ y ∷ ys)) ≡ own m (y ∷ ys)) [
         | Less ↦ λ p. ap (λ (zs : List X). cond (key y == m) (y ∷ zs) zs) (put_elsewhere m x ys off)
-        | Equal ↦ λ p. let same : key y ≡ key x = nat_cmp-IsAntisymmetric (key y) (key x) p in rw (same, is_not (key x) m off) refl
+        | Equal ↦ λ p. let same : key y ≡ key x = nat_cmp-IsAntisymmetric (key y) (key x) p in
+            rw (same, is_not (key x) m off) refl
         | Greater ↦ λ p. rw (is_not (key x) m off) refl
       ] refl
 
@@ -63,15 +85,18 @@ module _ {X : Type 0} (key : X → ℕ) where
   others_left m n [] off = refl
   others_left m n (x ∷ xs) off =
       elim (key x == n) as (λ b. (key x == n) ≡ b → own m (cond (not b) (x ∷ rest n xs) (rest n xs)) ≡ own m (x ∷ xs)) [
-        | true ↦ λ e. let apart : (key x == m) ≡ false = grind (arith, nat_tests, e, off) in rw apart (others_left m n xs off)
+        | true ↦ λ e. let apart : (key x == m) ≡ false = grind (arith, nat_tests, e, off) in
+            rw apart (others_left m n xs off)
         | false ↦ λ e. ap (λ (ys : List X). cond (key x == m) (x ∷ ys) ys) (others_left m n xs off)
       ] refl
 
   -- a change that leaves the numbers
-  pub own_changed : (f : X → X) → ((x : X) → key (f x) ≡ key x) → (n : ℕ) (xs : List X) → own n (map f xs) ≡ map f (own n xs)
+  pub own_changed : (f : X → X) → ((x : X) → key (f x) ≡ key x) → (n : ℕ) (xs : List X)
+      → own n (map f xs) ≡ map f (own n xs)
   own_changed f same n [] = refl
   own_changed f same n (x ∷ xs) = rw same
-      (elim (key x == n) as (λ b. cond b (f x ∷ own n (map f xs)) (own n (map f xs)) ≡ map f (cond b (x ∷ own n xs) (own n xs))) [
+      (elim (key x == n) as (λ b. cond b (f x ∷ own n (map f xs)) (own n (map f xs)) ≡ map f
+      (cond b (x ∷ own n xs) (own n xs))) [
         | true ↦ ap (λ ys. f x ∷ ys) (own_changed f same n xs)
         | false ↦ own_changed f same n xs
       ])
@@ -84,4 +109,5 @@ module _ {X : Type 0} (key : X → ℕ) where
 
   pub more_elsewhere : (m : ℕ) (x : X) (xs : List X) → key x ≢ m → own m (xs ++ x ∷ []) ≡ own m xs
   more_elsewhere m x xs off =
-      filter-append (λ y. key y == m) xs (x ∷ []) ∙ ap (λ b. own m xs ++ cond b (x ∷ []) []) (is_not (key x) m off) ∙ append-nil (own m xs)
+      filter-append (λ y. key y == m) xs (x ∷ []) ∙ ap (λ b. own m xs ++ cond b (x ∷ []) []) (is_not (key x) m off)
+      ∙ append-nil (own m xs)

@@ -1,5 +1,34 @@
 -- What is seen of rows that were read by a number or a token, of the content that all rows mean.
-use Rattle.std.proofs.Common.{◌≡◌, ◌⊎◌, inl, ℕ, Bool, true, false, List, [], ◌∷◌, ◌++◌, map, filter, cond, fold, refl, sym, ap, ap₂, subst, ◌∙◌, Result, Ok, Err, IfOk, IfErr, not, bytes_eq}
+use Rattle.std.proofs.Common.{
+  ◌≡◌,
+  ◌⊎◌,
+  inl,
+  ℕ,
+  Bool,
+  true,
+  false,
+  List,
+  [],
+  ◌∷◌,
+  ◌++◌,
+  map,
+  filter,
+  cond,
+  fold,
+  refl,
+  sym,
+  ap,
+  ap₂,
+  subst,
+  ◌∙◌,
+  Result,
+  Ok,
+  Err,
+  IfOk,
+  IfErr,
+  not,
+  bytes_eq,
+}
 use Rattle.std.specs.Prelude.{◌==◌, ◌&&◌, ◌||◌, Option, Some, None, option_to_list}
 use Rattle.std.specs.List.{list_any, flat_map}
 use Rattle.std.specs.FinMap.{get, insert, empty, get-insert, get-empty}
@@ -22,20 +51,42 @@ use Rattle.archive_state.specs.Slips.{Slip}
 use Rattle.store_tables.specs.Keyed.{records_at, receipts_at, slips_at, slip_lines_at}
 use Rattle.store_tables.specs.Looking.{IsFailure, Looks}
 use Rattle.store_tables.specs.Reading.{read_record, read_receipt, read_slip_line}
-use Rattle.store_tables.specs.Rows.{Rows, BatchRow, RecordRow, ReceiptRow, SlipRow, SlipLineRow, lines_of, slip_lines_of}
+use Rattle.store_tables.specs.Rows.{
+  Rows,
+  BatchRow,
+  RecordRow,
+  ReceiptRow,
+  SlipRow,
+  SlipLineRow,
+  lines_of,
+  slip_lines_of,
+}
 use Rattle.store_tables.proofs.Calls.{if_ok, if_err}
 use Rattle.store_rows.specs.Grouped.{NoRecord, last_kept}
 use Rattle.store_rows.specs.Looking.{Sees}
-use Rattle.store_rows.specs.Meaning.{Means, AreReadable, IsRecordAt, IsSlipAt, IsShallowSlip, is_closed, has_record, change_lines, slip_row, slip_row_at}
+use Rattle.store_rows.specs.Meaning.{
+  Means,
+  AreReadable,
+  IsRecordAt,
+  IsSlipAt,
+  IsShallowSlip,
+  is_closed,
+  has_record,
+  change_lines,
+  slip_row,
+  slip_row_at,
+}
 use Rattle.store_rows.specs.Sides.{side_lines_in, NoChanges}
 use Rattle.store_rows.proofs.OneContent.{one_at, one_slip}
 use Rattle.store_rows.proofs.Own.{either_way, it}
 
 -- ---- one look after another
 -- rows that were read, and what is made of them
-pub sees_with : {A B : Type 0} {P : Rows → A → Type 0} {Is : Content → B → Type 0} {old new : State} {a : A} (result : Result B RefusalKind) → Looks P old new (Ok a)
+pub sees_with : {A B : Type 0} {P : Rows → A → Type 0} {Is : Content → B → Type 0} {old new : State} {a : A}
+    (result : Result B RefusalKind) → Looks P old new (Ok a)
     → IfOk result (λ b. (rows : Rows) → P rows a → (c : Content) → Means rows c → Is c b)
-    → IfErr result (λ kind. (rows : Rows) → P rows a → IsFailure kind ⊎ ((kind ≡ BadStored) × ¬ (AreReadable rows))) → Sees Is old new result
+    → IfErr result (λ kind. (rows : Rows) → P rows a → IsFailure kind ⊎ ((kind ≡ BadStored) × ¬ (AreReadable rows)))
+    → Sees Is old new result
 sees_with result h ok err = record {
   read = λ clean. if_ok result (λ b is rows was c means. is rows (h.read clean rows was) c means) ok;
   same = λ clean. if_ok result (λ b is. h.same clean) ok;
@@ -44,7 +95,9 @@ sees_with result h ok err = record {
   clean = h.clean;
 }
 
-pub sees_as : {A : Type 0} {P : Rows → A → Type 0} {Is : Content → A → Type 0} {old new : State} (result : Result A RefusalKind) → ((rows : Rows) (a : A) → P rows a → (c : Content) → Means rows c → Is c a) → Looks P old new result → Sees Is old new result
+pub sees_as : {A : Type 0} {P : Rows → A → Type 0} {Is : Content → A → Type 0} {old new : State}
+    (result : Result A RefusalKind) → ((rows : Rows) (a : A) → P rows a → (c : Content) → Means rows c → Is c a)
+    → Looks P old new result → Sees Is old new result
 sees_as result f h = record {
   read = λ clean. if_ok result (λ a is rows was c means. f rows a (is rows was) c means) (h.read clean);
   same = h.same;
@@ -53,7 +106,9 @@ sees_as result f h = record {
   clean = h.clean;
 }
 
-pub sees_lost : {A B : Type 0} {P : Rows → A → Type 0} {Is : Content → B → Type 0} {old new : State} {kind : RefusalKind} (result : Result B RefusalKind) → result ≡ Err kind → Looks P old new (Err kind) → Sees Is old new result
+pub sees_lost : {A B : Type 0} {P : Rows → A → Type 0} {Is : Content → B → Type 0} {old new : State}
+    {kind : RefusalKind} (result : Result B RefusalKind) → result ≡ Err kind → Looks P old new (Err kind)
+    → Sees Is old new result
 sees_lost {Is = Is} {old = old} {new = new} result is h = subst (Sees Is old new) (sym is) (record {
   read = λ clean. tt;
   same = λ clean. tt;
@@ -63,7 +118,8 @@ sees_lost {Is = Is} {old = old} {new = new} result is h = subst (Sees Is old new
 })
 
 -- the same of what was seen
-pub sees_from : {A B : Type 0} {P : Content → A → Type 0} {Is : Content → B → Type 0} {old new : State} {a : A} (result : Result B RefusalKind) → Sees P old new (Ok a)
+pub sees_from : {A B : Type 0} {P : Content → A → Type 0} {Is : Content → B → Type 0} {old new : State} {a : A}
+    (result : Result B RefusalKind) → Sees P old new (Ok a)
     → IfOk result (λ b. (c : Content) → P c a → Is c b) → IfErr result (λ kind. IsFailure kind) → Sees Is old new result
 sees_from result h ok err = record {
   read = λ clean. if_ok result (λ b is rows was c means. is c (h.read clean rows was c means)) ok;
@@ -73,8 +129,11 @@ sees_from result h ok err = record {
   clean = h.clean;
 }
 
-pub sees_not : {A B : Type 0} {P : Content → A → Type 0} {Is : Content → B → Type 0} {old new : State} {kind : RefusalKind} (result : Result B RefusalKind) → result ≡ Err kind → Sees P old new (Err kind) → Sees Is old new result
-sees_not {Is = Is} {old = old} {new = new} result is h = subst (Sees Is old new) (sym is) (record { read = λ clean. tt; same = λ clean. tt; refused = h.refused; crash = h.crash; clean = h.clean })
+pub sees_not : {A B : Type 0} {P : Content → A → Type 0} {Is : Content → B
+    → Type 0} {old new : State} {kind : RefusalKind} (result : Result B RefusalKind) → result ≡ Err kind
+    → Sees P old new (Err kind) → Sees Is old new result
+sees_not {Is = Is} {old = old} {new = new} result is h = subst (Sees Is old new) (sym is)
+    (record { read = λ clean. tt; same = λ clean. tt; refused = h.refused; crash = h.crash; clean = h.clean })
 
 -- ---- whether a number has a record
 or_false : (a : Bool) → (a || false) ≡ a
@@ -84,37 +143,50 @@ or_false false = refl
 pub any_kept : {X : Type 0} (p q : X → Bool) (xs : List X) → list_any (λ x. p x && q x) xs ≡ list_any q (filter p xs)
 any_kept p q [] = refl
 any_kept p q (x ∷ xs) =
-    elim (p x) as (λ b. ((b && q x) || list_any (λ y. p y && q y) xs) ≡ list_any q (cond b (x ∷ filter p xs) (filter p xs))) [
+    elim (p x) as (λ b. ((b && q x) || list_any (λ y. p y && q y) xs) ≡ list_any q
+    (cond b (x ∷ filter p xs) (filter p xs))) [
       | true ↦ ap (λ b. q x || b) (any_kept p q xs)
       | false ↦ any_kept p q xs
     ]
 
-pub any_map : {X Y : Type 0} (q : Y → Bool) (f : X → Y) (xs : List X) → list_any q (map f xs) ≡ list_any (λ x. q (f x)) xs
+pub any_map : {X Y : Type 0} (q : Y → Bool) (f : X → Y) (xs : List X) → list_any q (map f xs)
+    ≡ list_any (λ x. q (f x)) xs
 any_map q f [] = refl
 any_map q f (x ∷ xs) = ap (λ b. q (f x) || b) (any_map q f xs)
 
 pub none_closed : (n : ℕ) (bs : List BatchRow) → filter (λ (b : BatchRow). b.no == n) bs ≡ [] → false ≡ is_closed n bs
-none_closed n bs none = sym (any_kept (λ (b : BatchRow). b.no == n) (λ b. not b.is_open) bs ∙ ap (list_any (λ (b : BatchRow). not b.is_open)) none)
+none_closed n bs none = sym (any_kept (λ (b : BatchRow). b.no == n) (λ b. not b.is_open) bs
+    ∙ ap (list_any (λ (b : BatchRow). not b.is_open)) none)
 
-pub one_closed : (n : ℕ) (bs : List BatchRow) (b : BatchRow) → filter (λ (b : BatchRow). b.no == n) bs ≡ b ∷ [] → not b.is_open ≡ is_closed n bs
-one_closed n bs b one = sym (any_kept (λ (b : BatchRow). b.no == n) (λ b. not b.is_open) bs ∙ ap (list_any (λ (b : BatchRow). not b.is_open)) one ∙ or_false (not b.is_open))
+pub one_closed : (n : ℕ) (bs : List BatchRow) (b : BatchRow) → filter (λ (b : BatchRow). b.no == n) bs ≡ b ∷ []
+    → not b.is_open ≡ is_closed n bs
+one_closed n bs b one = sym (any_kept (λ (b : BatchRow). b.no == n) (λ b. not b.is_open) bs
+    ∙ ap (list_any (λ (b : BatchRow). not b.is_open)) one ∙ or_false (not b.is_open))
 
-recorded_by : (n : ℕ) (rows : Rows) → has_record n rows ≡ list_any (λ (r : ℕ × ℕ). is_closed r.1 rows.batches) (records_at n rows)
+recorded_by : (n : ℕ) (rows : Rows) → has_record n rows ≡ list_any (λ (r : ℕ × ℕ). is_closed r.1 rows.batches)
+    (records_at n rows)
 recorded_by n rows = any_kept (λ (r : RecordRow). r.no == n) (λ r. is_closed r.batch rows.batches) rows.records
-    ∙ sym (any_map (λ (r : ℕ × ℕ). is_closed r.1 rows.batches) read_record (filter (λ (r : RecordRow). r.no == n) rows.records))
+    ∙ sym (any_map (λ (r : ℕ × ℕ). is_closed r.1 rows.batches) read_record
+    (filter (λ (r : RecordRow). r.no == n) rows.records))
 
 pub none_recorded : (n : ℕ) (rows : Rows) → records_at n rows ≡ [] → false ≡ has_record n rows
 none_recorded n rows none = sym (recorded_by n rows ∙ ap (list_any (λ (r : ℕ × ℕ). is_closed r.1 rows.batches)) none)
 
-pub one_recorded : (n : ℕ) (rows : Rows) (r : ℕ × ℕ) → records_at n rows ≡ r ∷ [] → is_closed r.1 rows.batches ≡ has_record n rows
-one_recorded n rows r one = sym (recorded_by n rows ∙ ap (list_any (λ (q : ℕ × ℕ). is_closed q.1 rows.batches)) one ∙ or_false (is_closed r.1 rows.batches))
+pub one_recorded : (n : ℕ) (rows : Rows) (r : ℕ × ℕ) → records_at n rows ≡ r ∷ []
+    → is_closed r.1 rows.batches ≡ has_record n rows
+one_recorded n rows r one = sym (recorded_by n rows ∙ ap (list_any (λ (q : ℕ × ℕ). is_closed q.1 rows.batches)) one
+    ∙ or_false (is_closed r.1 rows.batches))
 
 -- ---- the record of a number
-pub record_none : (n : ℕ) (rows : Rows) (c : Content) → Means rows c → false ≡ has_record n rows → None ≡ get c.records n
-record_none n rows c means has = one_at (has_record n rows) (lines_of n rows) None (get c.records n) (sym has) (means.records n)
+pub record_none : (n : ℕ) (rows : Rows) (c : Content) → Means rows c → false ≡ has_record n rows
+    → None ≡ get c.records n
+record_none n rows c means has = one_at (has_record n rows) (lines_of n rows) None (get c.records n) (sym has)
+    (means.records n)
 
-pub record_some : (n : ℕ) (rows : Rows) (c : Content) (r : Record) → Means rows c → true ≡ has_record n rows → lines_of n rows ≡ stored r → Some r ≡ get c.records n
-record_some n rows c r means has kept = one_at (has_record n rows) (lines_of n rows) (Some r) (get c.records n) (sym has, kept) (means.records n)
+pub record_some : (n : ℕ) (rows : Rows) (c : Content) (r : Record) → Means rows c → true ≡ has_record n rows
+    → lines_of n rows ≡ stored r → Some r ≡ get c.records n
+record_some n rows c r means has kept = one_at (has_record n rows) (lines_of n rows) (Some r) (get c.records n)
+    (sym has, kept) (means.records n)
 
 pub record_bad : (n : ℕ) (rows : Rows) → true ≡ has_record n rows → NoRecord (lines_of n rows) → AreReadable rows → ⊥
 record_bad n rows has bad readable = go (get readable.0.records n) (λ r. readable.2.records n r) (readable.1.records n)
@@ -130,44 +202,60 @@ bytes_swap [] (y ∷ ys) = refl
 bytes_swap (x ∷ xs) [] = refl
 bytes_swap (x ∷ xs) (y ∷ ys) = ap₂ (λ a b. a && b) (either_way x y) (bytes_swap xs ys)
 
-kept_more : (token : List ℕ) (r : ReceiptRow) (m : Receipts) → get (insert m r.token r.receipt) token ≡ cond (bytes_eq r.token token) (Some r.receipt) (get m token)
-kept_more token r m = get-insert nat_list_cmp_total m r.token r.receipt token ∙ ap (λ b. cond b (Some r.receipt) (get m token)) (is_eq-slice_cmp token r.token ∙ bytes_swap token r.token)
+kept_more : (token : List ℕ) (r : ReceiptRow) (m : Receipts) → get (insert m r.token r.receipt) token
+    ≡ cond (bytes_eq r.token token) (Some r.receipt) (get m token)
+kept_more token r m = get-insert nat_list_cmp_total m r.token r.receipt token
+    ∙ ap (λ b. cond b (Some r.receipt) (get m token)) (is_eq-slice_cmp token r.token ∙ bytes_swap token r.token)
 
 kept_from : (token : List ℕ) (rs : List ReceiptRow) (m : Receipts)
-    → get (fold (λ k (r : ReceiptRow). insert k r.token r.receipt) m rs) token ≡ fold (λ _ (p : List ℕ × Receipt). Some p.1) (get m token) (map read_receipt (filter (λ (r : ReceiptRow). bytes_eq r.token token) rs))
+    → get (fold (λ k (r : ReceiptRow). insert k r.token r.receipt) m rs) token ≡ fold
+    (λ _ (p : List ℕ × Receipt). Some p.1) (get m token)
+    (map read_receipt (filter (λ (r : ReceiptRow). bytes_eq r.token token) rs))
 kept_from token [] m = refl
 kept_from token (r ∷ rs) m =
     let own = filter (λ (r : ReceiptRow). bytes_eq r.token token) rs in
-    kept_from token rs (insert m r.token r.receipt) ∙ ap (λ o. fold (λ _ (p : List ℕ × Receipt). Some p.1) o (map read_receipt own)) (kept_more token r m)
-    ∙ (elim (bytes_eq r.token token) as (λ b. fold (λ _ (p : List ℕ × Receipt). Some p.1) (cond b (Some r.receipt) (get m token)) (map read_receipt own) ≡ fold (λ _ (p : List ℕ × Receipt). Some p.1) (get m token) (map read_receipt (cond b (r ∷ own) own))) [
+    kept_from token rs (insert m r.token r.receipt)
+    ∙ ap (λ o. fold (λ _ (p : List ℕ × Receipt). Some p.1) o (map read_receipt own)) (kept_more token r m)
+    ∙ (elim (bytes_eq r.token token) as (λ b. fold (λ _ (p : List ℕ × Receipt). Some p.1)
+    (cond b (Some r.receipt) (get m token)) (map read_receipt own) ≡ fold (λ _ (p : List ℕ × Receipt). Some p.1)
+    (get m token) (map read_receipt (cond b (r ∷ own) own))) [
       | true ↦ refl
       | false ↦ refl
     ])
 
-pub kept_at : (token : List ℕ) (rows : Rows) (c : Content) (kept : List (List ℕ × Receipt)) → Means rows c → kept ≡ receipts_at token rows → last_kept kept ≡ get c.receipts token
+pub kept_at : (token : List ℕ) (rows : Rows) (c : Content) (kept : List (List ℕ × Receipt)) → Means rows c
+    → kept ≡ receipts_at token rows → last_kept kept ≡ get c.receipts token
 kept_at token rows c kept means is =
-    ap last_kept is ∙ ap (λ o. fold (λ _ (p : List ℕ × Receipt). Some p.1) o (receipts_at token rows)) (sym (get-empty (slice_cmp nat_cmp) token)) ∙ sym (kept_from token rows.receipts empty)
+    ap last_kept is ∙ ap (λ o. fold (λ _ (p : List ℕ × Receipt). Some p.1) o (receipts_at token rows))
+    (sym (get-empty (slice_cmp nat_cmp) token)) ∙ sym (kept_from token rows.receipts empty)
     ∙ ap (λ m. get m token) (sym means.receipts)
 
 -- the last row, taken off the end
-pub kept_last : (rows : List (List ℕ × Receipt)) (before : List (List ℕ × Receipt)) (found : Option (List ℕ × Receipt)) → rows ≡ before ++ option_to_list found → (found ≡ None → rows ≡ [])
+pub kept_last : (rows : List (List ℕ × Receipt)) (before : List (List ℕ × Receipt)) (found : Option (List ℕ × Receipt))
+    → rows ≡ before ++ option_to_list found → (found ≡ None → rows ≡ [])
     → last_kept rows ≡ elim found [ Some p ↦ Some p.1 | None ↦ None ]
 kept_last rows before None is none = ap last_kept (none refl)
-kept_last rows before (Some p) is none = ap last_kept is ∙ fold-append (λ _ (q : List ℕ × Receipt). Some q.1) None before (p ∷ [])
+kept_last rows before (Some p) is none = ap last_kept is ∙ fold-append (λ _ (q : List ℕ × Receipt). Some q.1)
+    None before (p ∷ [])
 
 -- ---- the slip of a number
-row_first : (n : ℕ) (ss : List SlipRow) (s : SlipRow) → filter (λ (s : SlipRow). s.no == n) ss ≡ s ∷ [] → (slip_row_at n ss ≡ Some s) × (s.no ≡ n)
+row_first : (n : ℕ) (ss : List SlipRow) (s : SlipRow) → filter (λ (s : SlipRow). s.no == n) ss ≡ s ∷ []
+    → (slip_row_at n ss ≡ Some s) × (s.no ≡ n)
 row_first n [] s e = absurd cc
 row_first n (x ∷ xs) s e =
-    elim (x.no == n) as (λ b. (x.no == n) ≡ b → cond b (x ∷ filter (λ (s : SlipRow). s.no == n) xs) (filter (λ (s : SlipRow). s.no == n) xs) ≡ s ∷ [] → (cond b (Some x) (slip_row_at n xs) ≡ Some s) × (s.no ≡ n)) [
-      | true ↦ λ here one. let same : x ≡ s = cc in (ap Some same, subst (λ (y : SlipRow). y.no ≡ n) same (it x.no n here))
+    elim (x.no == n) as (λ b. (x.no == n) ≡ b → cond b (x ∷ filter (λ (s : SlipRow). s.no == n) xs)
+    (filter (λ (s : SlipRow). s.no == n) xs) ≡ s ∷ []
+    → (cond b (Some x) (slip_row_at n xs) ≡ Some s) × (s.no ≡ n)) [
+      | true ↦ λ here one. let same : x ≡ s = cc in
+          (ap Some same, subst (λ (y : SlipRow). y.no ≡ n) same (it x.no n here))
       | false ↦ λ off one. row_first n xs s one
     ] refl e
 
 row_none : (n : ℕ) (ss : List SlipRow) → filter (λ (s : SlipRow). s.no == n) ss ≡ [] → slip_row_at n ss ≡ None
 row_none n [] e = refl
 row_none n (x ∷ xs) e =
-    elim (x.no == n) as (λ b. cond b (x ∷ filter (λ (s : SlipRow). s.no == n) xs) (filter (λ (s : SlipRow). s.no == n) xs) ≡ [] → cond b (Some x) (slip_row_at n xs) ≡ None) [
+    elim (x.no == n) as (λ b. cond b (x ∷ filter (λ (s : SlipRow). s.no == n) xs)
+    (filter (λ (s : SlipRow). s.no == n) xs) ≡ [] → cond b (Some x) (slip_row_at n xs) ≡ None) [
       | true ↦ λ none. absurd cc
       | false ↦ λ none. row_none n xs none
     ] e
@@ -176,19 +264,25 @@ lines_read : (n : ℕ) (rows : Rows) → side_lines_in (slip_lines_at n rows) �
 lines_read n rows = map-map _ read_slip_line (filter (λ (s : SlipLineRow). s.slip == n) rows.slip_lines)
 
 pub slip_none : (n : ℕ) (rows : Rows) (c : Content) → Means rows c → slips_at n rows ≡ [] → None ≡ get c.slips n
-slip_none n rows c means none = one_slip n (slip_row_at n rows.slips) (slip_lines_of n rows) None (get c.slips n) (row_none n rows.slips none) (means.slips n)
+slip_none n rows c means none = one_slip n (slip_row_at n rows.slips) (slip_lines_of n rows) None (get c.slips n)
+    (row_none n rows.slips none) (means.slips n)
 
-pub slip_some : (n : ℕ) (rows : Rows) (c : Content) (row : SlipRow) (slip : Slip) → Means rows c → slips_at n rows ≡ row ∷ [] → row ≡ slip_row row.no slip → slip_lines_of n rows ≡ flat_map change_lines slip.changes → Some slip ≡ get c.slips n
+pub slip_some : (n : ℕ) (rows : Rows) (c : Content) (row : SlipRow) (slip : Slip) → Means rows c
+    → slips_at n rows ≡ row ∷ [] → row ≡ slip_row row.no slip → slip_lines_of n rows
+    ≡ flat_map change_lines slip.changes → Some slip ≡ get c.slips n
 slip_some n rows c row slip means one is changes =
     let first = row_first n rows.slips row one in
-    one_slip n (slip_row_at n rows.slips) (slip_lines_of n rows) (Some slip) (get c.slips n) (first.0 ∙ ap Some (is ∙ ap (λ k. slip_row k slip) first.1), changes) (means.slips n)
+    one_slip n (slip_row_at n rows.slips) (slip_lines_of n rows) (Some slip) (get c.slips n)
+    (first.0 ∙ ap Some (is ∙ ap (λ k. slip_row k slip) first.1), changes) (means.slips n)
 
-pub slip_bad : (n : ℕ) (rows : Rows) (row : SlipRow) → slips_at n rows ≡ row ∷ [] → NoChanges (slip_lines_of n rows) → AreReadable rows → ⊥
+pub slip_bad : (n : ℕ) (rows : Rows) (row : SlipRow) → slips_at n rows ≡ row ∷ [] → NoChanges (slip_lines_of n rows)
+    → AreReadable rows → ⊥
 slip_bad n rows row one bad readable = go (get readable.0.slips n) (λ s. readable.2.slips n s) (readable.1.slips n)
   where
     go : (found : Option Slip) → ((s : Slip) → found ≡ Some s → IsShallowSlip s) → IsSlipAt rows n found → ⊥
     go None shallow absent = let no : None ≡ Some row = sym absent ∙ (row_first n rows.slips row one).0 in absurd cc
     go (Some s) shallow is = bad s.changes (shallow s refl) is.1
 
-pub lines_seen : (n : ℕ) (rows : Rows) (lines : List (ℕ × (Bool × (ℕ × (ℕ × Label))))) → lines ≡ slip_lines_at n rows → side_lines_in lines ≡ slip_lines_of n rows
+pub lines_seen : (n : ℕ) (rows : Rows) (lines : List (ℕ × (Bool × (ℕ × (ℕ × Label))))) → lines ≡ slip_lines_at n rows
+    → side_lines_in lines ≡ slip_lines_of n rows
 lines_seen n rows lines is = ap side_lines_in is ∙ lines_read n rows

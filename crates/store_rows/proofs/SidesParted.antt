@@ -1,5 +1,28 @@
 -- Lines in pieces are parted in one way, and so lines are those of one list of changes at the most.
-use Rattle.std.specs.Prelude.{ℕ, ◌+◌, ◌≡◌, ◌==◌, ◌||◌, cond, not, Bool, true, false, List, [], ◌∷◌, ◌++◌, map, length, take, drop, Option, Some, None, refl}
+use Rattle.std.specs.Prelude.{
+  ℕ,
+  ◌+◌,
+  ◌≡◌,
+  ◌==◌,
+  ◌||◌,
+  cond,
+  not,
+  Bool,
+  true,
+  false,
+  List,
+  [],
+  ◌∷◌,
+  ◌++◌,
+  map,
+  length,
+  take,
+  drop,
+  Option,
+  Some,
+  None,
+  refl,
+}
 use Rattle.std.specs.List.{flat_map, list_any, position_or_len}
 use Rattle.std.proofs.Common.{ap, sym, ◌∙◌, arith, append_assoc, append-nil}
 use Rattle.std.proofs.Math.Seq.{take-append_seam, drop-append_seam}
@@ -31,11 +54,13 @@ module _ {X : Type 0} (begins : X → Bool) where
   abbrev pub piece_length : List X → ℕ
   piece_length xs = position_or_len begins (drop 1 xs) + 1
 
-  rest_length : (xs ys : List X) → list_any begins xs ≡ false → Begins ys → position_or_len begins (xs ++ ys) ≡ length xs
+  rest_length : (xs ys : List X) → list_any begins xs ≡ false → Begins ys → position_or_len begins
+      (xs ++ ys) ≡ length xs
   rest_length [] [] deep here = refl
   rest_length [] (y ∷ ys) deep here = rw here refl
   rest_length (x ∷ xs) ys deep here =
-      elim (begins x) as (λ b. (b || list_any begins xs) ≡ false → cond (not b) (1 + position_or_len begins (xs ++ ys)) 0 ≡ length (x ∷ xs)) [
+      elim (begins x) as (λ b. (b || list_any begins xs) ≡ false → cond (not b) (1 + position_or_len begins (xs ++ ys))
+      0 ≡ length (x ∷ xs)) [
         | true ↦ λ h. absurd cc
         | false ↦ λ h. omega (arith, rest_length xs ys h here)
       ] deep
@@ -64,20 +89,27 @@ module _ {A X : Type 0} (begins : X → Bool) (items : A → List X) (pieces : (
   not_empty [] ys piece e = piece
   not_empty (x ∷ xs) ys piece e = cc
 
-  pub first_same : (ls : List X) (a : A) (ps : List A) → ls ≡ items a ++ flat_map items ps → take (piece_length begins ls) ls ≡ items a
-  first_same ls a ps e = ap (λ (xs : List X). take (piece_length begins xs) xs) e ∙ piece_first begins (items a) (flat_map items ps) (pieces a) (begins_all ps)
+  pub first_same : (ls : List X) (a : A) (ps : List A) → ls ≡ items a ++ flat_map items ps
+      → take (piece_length begins ls) ls ≡ items a
+  first_same ls a ps e = ap (λ (xs : List X). take (piece_length begins xs) xs) e ∙ piece_first begins (items a)
+      (flat_map items ps) (pieces a) (begins_all ps)
 
-  pub after_same : (ls : List X) (a : A) (ps : List A) → ls ≡ items a ++ flat_map items ps → drop (piece_length begins ls) ls ≡ flat_map items ps
-  after_same ls a ps e = ap (λ (xs : List X). drop (piece_length begins xs) xs) e ∙ piece_after begins (items a) (flat_map items ps) (pieces a) (begins_all ps)
+  pub after_same : (ls : List X) (a : A) (ps : List A) → ls ≡ items a ++ flat_map items ps
+      → drop (piece_length begins ls) ls ≡ flat_map items ps
+  after_same ls a ps e = ap (λ (xs : List X). drop (piece_length begins xs) xs) e ∙ piece_after begins (items a)
+      (flat_map items ps) (pieces a) (begins_all ps)
 
   -- items are those of one list of pieces at the most
-  pub one_parting : ((a b : A) → items a ≡ items b → a ≡ b) → (ps qs : List A) → flat_map items ps ≡ flat_map items qs → ps ≡ qs
+  pub one_parting : ((a b : A) → items a ≡ items b → a ≡ b) → (ps qs : List A) → flat_map items ps
+      ≡ flat_map items qs → ps ≡ qs
   one_parting one [] [] e = refl
   one_parting one [] (b ∷ qs) e = absurd (not_empty (items b) (flat_map items qs) (pieces b) e)
   one_parting one (a ∷ ps) [] e = absurd (not_empty (items a) (flat_map items ps) (pieces a) (sym e))
   one_parting one (a ∷ ps) (b ∷ qs) e =
-      let head : a ≡ b = one a b (sym (first_same (flat_map items (a ∷ ps)) a ps refl) ∙ first_same (flat_map items (a ∷ ps)) b qs e) in
-      let tail : ps ≡ qs = one_parting one ps qs (sym (after_same (flat_map items (a ∷ ps)) a ps refl) ∙ after_same (flat_map items (a ∷ ps)) b qs e) in
+      let head : a ≡ b = one a b (sym (first_same (flat_map items (a ∷ ps)) a ps refl) ∙ first_same
+      (flat_map items (a ∷ ps)) b qs e) in
+      let tail : ps ≡ qs = one_parting one ps qs (sym (after_same (flat_map items (a ∷ ps)) a ps refl)
+      ∙ after_same (flat_map items (a ∷ ps)) b qs e) in
       cc
 
 -- ---- the lines of a side are a piece
@@ -89,7 +121,8 @@ module _ {A : Type 0} where
 
     deep_all : (d : ℕ) (f : Forest A) → list_any (λ l. l.0 == 0) (flat_all (d + 1) f) ≡ false
     deep_all d none = refl
-    deep_all d (more t f) = list_any-append (λ l. l.0 == 0) (flat (d + 1) t) (flat_all (d + 1) f) ∙ rw (deep d t, deep_all d f) refl
+    deep_all d (more t f) = list_any-append (λ l. l.0 == 0) (flat (d + 1) t) (flat_all (d + 1) f)
+        ∙ rw (deep d t, deep_all d f) refl
 
 module _ (b : Bool) (n : ℕ) where
   deep_side : (ls : List (ℕ × Label)) → list_any begins_side (side_lines b n ls) ≡ list_any (λ l. l.0 == 0) ls
@@ -107,7 +140,8 @@ pub side_piece : (s : Side) → IsPiece begins_side (lines_of_side s)
 side_piece s = tree_piece s.is_new s.number (record_tree s.«record»)
 
 -- a tree's lines are of one side and number
-same_head : (b c : Bool) (n m : ℕ) (t u : Tree Label) → side_lines b n (flat 0 t) ≡ side_lines c m (flat 0 u) → (b ≡ c) × (n ≡ m)
+same_head : (b c : Bool) (n m : ℕ) (t u : Tree Label) → side_lines b n (flat 0 t) ≡ side_lines c m (flat 0 u)
+    → (b ≡ c) × (n ≡ m)
 same_head b c n m (node a f) (node x g) e =
     let first : SideLine = (b, (n, (0, a))) in
     let other : SideLine = (c, (m, (0, x))) in
@@ -116,8 +150,10 @@ same_head b c n m (node a f) (node x g) e =
 
 pub one_side : (s t : Side) → lines_of_side s ≡ lines_of_side t → s ≡ t
 one_side s t e =
-    let head : (s.is_new ≡ t.is_new) × (s.number ≡ t.number) = same_head s.is_new t.is_new s.number t.number (record_tree s.«record») (record_tree t.«record») e in
-    let lines : stored s.«record» ≡ stored t.«record» = sym (stored_back s.is_new s.number (stored s.«record»)) ∙ ap (map (λ (l : SideLine). l.1.1)) e ∙ stored_back t.is_new t.number (stored t.«record») in
+    let head : (s.is_new ≡ t.is_new) × (s.number ≡ t.number) = same_head s.is_new t.is_new s.number t.number
+    (record_tree s.«record») (record_tree t.«record») e in
+    let lines : stored s.«record» ≡ stored t.«record» = sym (stored_back s.is_new s.number (stored s.«record»))
+    ∙ ap (map (λ (l : SideLine). l.1.1)) e ∙ stored_back t.is_new t.number (stored t.«record») in
     let same : s.«record» ≡ t.«record» = stored_one s.«record» t.«record» lines in
     λ i. record { is_new = head.0 i; number = head.1 i; «record» = same i }
 
@@ -159,7 +195,8 @@ new_lines n None = refl
 new_lines n (Some r) = sym (append-nil (side_lines true n (stored r)))
 
 -- the lines of changes are those of their sides
-pub lines_of_sides : (cs : List Change) → flat_map change_lines cs ≡ flat_map lines_of_side (flat_map sides_of_change cs)
+pub lines_of_sides : (cs : List Change) → flat_map change_lines cs ≡ flat_map lines_of_side
+    (flat_map sides_of_change cs)
 lines_of_sides [] = refl
 lines_of_sides (c ∷ cs) =
     let old : List SideLine = side_lines false c.number (stored c.old) in
@@ -167,8 +204,10 @@ lines_of_sides (c ∷ cs) =
     append_assoc old (new_side c.number c.new) (flat_map change_lines cs)
     ∙ ap (λ (ls : List SideLine). old ++ (new_side c.number c.new ++ ls)) (lines_of_sides cs)
     ∙ ap (λ (ls : List SideLine). old ++ (ls ++ more)) (new_lines c.number c.new)
-    ∙ ap (λ (ls : List SideLine). old ++ ls) (sym (flat_map-append lines_of_side (new_sides c.number c.new) (flat_map sides_of_change cs)))
+    ∙ ap (λ (ls : List SideLine). old ++ ls)
+    (sym (flat_map-append lines_of_side (new_sides c.number c.new) (flat_map sides_of_change cs)))
 
 -- lines are those of one list of changes at the most
 pub one_changes : (cs ds : List Change) → flat_map change_lines cs ≡ flat_map change_lines ds → cs ≡ ds
-one_changes cs ds e = one_pairing cs ds (one_sides (flat_map sides_of_change cs) (flat_map sides_of_change ds) (sym (lines_of_sides cs) ∙ e ∙ lines_of_sides ds))
+one_changes cs ds e = one_pairing cs ds (one_sides (flat_map sides_of_change cs) (flat_map sides_of_change ds)
+    (sym (lines_of_sides cs) ∙ e ∙ lines_of_sides ds))

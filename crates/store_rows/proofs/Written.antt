@@ -32,27 +32,34 @@ module _ {X : Type 0} (P : X → Type 0) where
   each_left : (m : FinMap nat_cmp X) (k : ℕ) → EachIn m (λ _. P) → EachIn (remove m k) (λ _. P)
   each_left m k all n x e = all n x (left_of (k == n) (get m n) x (sym (got_removed m k n) ∙ e))
 
-puts_shallow : (ps : List Numbered) (m : Records) → EachOf IsShallowPut ps → EachIn m (λ _. IsShallow) → EachIn (with_puts m ps) (λ _. IsShallow)
+puts_shallow : (ps : List Numbered) (m : Records) → EachOf IsShallowPut ps → EachIn m (λ _. IsShallow)
+    → EachIn (with_puts m ps) (λ _. IsShallow)
 puts_shallow [] m h all = all
-puts_shallow (p ∷ ps) m h all = puts_shallow ps (insert m p.number p.«record») h.1 (each_put IsShallow m p.number p.«record» h.0 all)
+puts_shallow (p ∷ ps) m h all = puts_shallow ps (insert m p.number p.«record») h.1
+    (each_put IsShallow m p.number p.«record» h.0 all)
 
 left_shallow : (ns : List ℕ) (m : Records) → EachIn m (λ _. IsShallow) → EachIn (without m ns) (λ _. IsShallow)
 left_shallow [] m all = all
 left_shallow (n ∷ ns) m all = left_shallow ns (remove m n) (each_left IsShallow m n all)
 
 -- a slip that is undone has the changes that it had
-undone_shallow : (b : Bool) (o : Option Slip) (x : Slip) → ((s : Slip) → o ≡ Some s → IsShallowSlip s) → cond b (option_map as_undone o) o ≡ Some x → IsShallowSlip x
+undone_shallow : (b : Bool) (o : Option Slip) (x : Slip) → ((s : Slip) → o ≡ Some s → IsShallowSlip s)
+    → cond b (option_map as_undone o) o ≡ Some x → IsShallowSlip x
 undone_shallow true None x all e = absurd cc
 undone_shallow true (Some s) x all e = let same : as_undone s ≡ x = cc in subst IsShallowSlip same (all s refl)
 undone_shallow false o x all e = all x e
 
-slip_shallow : (slip : Option SlipChange) (m : Slips) → IsShallowSlipChange slip → EachIn m (λ _. IsShallowSlip) → EachIn (with_slip m slip) (λ _. IsShallowSlip)
+slip_shallow : (slip : Option SlipChange) (m : Slips) → IsShallowSlipChange slip → EachIn m (λ _. IsShallowSlip)
+    → EachIn (with_slip m slip) (λ _. IsShallowSlip)
 slip_shallow None m h all = all
 slip_shallow (Some (change.Made k slip)) m h all = each_put IsShallowSlip m k slip h all
-slip_shallow (Some (change.Undone k)) m h all = λ n x e. undone_shallow (k == n) (get m n) x (all n) (sym (got_undone m k n (get m k) refl) ∙ e)
+slip_shallow (Some (change.Undone k)) m h all = λ n x e. undone_shallow (k == n) (get m n) x (all n)
+    (sym (got_undone m k n (get m k) refl) ∙ e)
 
-pub shallow_applied : (changes : Changes) (c : Content) → AreShallowChanges changes → AllShallow c → AllShallow (applied c changes)
+pub shallow_applied : (changes : Changes) (c : Content) → AreShallowChanges changes → AllShallow c
+    → AllShallow (applied c changes)
 shallow_applied changes c h all = record {
-  records = left_shallow changes.removals (with_puts c.records changes.puts) (puts_shallow changes.puts c.records h.puts all.records);
+  records = left_shallow changes.removals (with_puts c.records changes.puts)
+      (puts_shallow changes.puts c.records h.puts all.records);
   slips = slip_shallow changes.slip c.slips h.slip all.slips;
 }

@@ -1,6 +1,26 @@
--- What the code that looks for a place by its path, or for an entry by its key, meets on its way. No clause that callers see names
--- these definitions.
-use Rattle.std.specs.Prelude.{ℕ, ◌≡◌, ◌<◌, ◌==◌, ◌⊎◌, ◌↔◌, ◌++◌, true, Bool, List, Option, Some, None, MatchOption, cond, codes, length, nat_lt, IsTrue}
+-- What the code that looks for a place by its path, or for an entry by its key, meets on its way. No clause that
+-- callers see names these definitions.
+use Rattle.std.specs.Prelude.{
+  ℕ,
+  ◌≡◌,
+  ◌<◌,
+  ◌==◌,
+  ◌⊎◌,
+  ◌↔◌,
+  ◌++◌,
+  true,
+  Bool,
+  List,
+  Option,
+  Some,
+  None,
+  MatchOption,
+  cond,
+  codes,
+  length,
+  nat_lt,
+  IsTrue,
+}
 use Rattle.std.specs.List.{list_any}
 use Rattle.std.specs.FinMap.{get}
 use Rattle.record_fields.specs.declared.entry_words.EntryKind.{EntryKind}
@@ -22,7 +42,8 @@ IsAmong n ns = list_any (λ k. k == n) ns ≡ true
 
 -- the lowest of these numbers of which P holds; none where it holds of none of them
 abbrev pub IsLowestAmong : (ℕ → Type 0) → List ℕ → Option ℕ → Type 0
-IsLowestAmong P ns found = MatchOption found ((n : ℕ) → IsAmong n ns → ¬ (P n)) (λ n. P n × ((k : ℕ) → IsAmong k ns → k < n → ¬ (P k)))
+IsLowestAmong P ns found = MatchOption found ((n : ℕ) → IsAmong n ns → ¬ (P n))
+    (λ n. P n × ((k : ℕ) → IsAmong k ns → k < n → ¬ (P k)))
 
 -- the lower of two numbers, where the first is there
 abbrev pub lower : Option ℕ → ℕ → ℕ
@@ -35,14 +56,16 @@ IsFront name path = (path ≡ name) ⊎ ((rest : List ℕ) × (path ≡ name ++ 
 
 -- among these are the numbers of all lines whose text is such a name
 abbrev pub HasAllSaying : List ℕ → Rows → List ℕ → Type 0
-HasAllSaying path rows ns = (n : ℕ) (name : List ℕ) → IsFront name path → IsAmong n (lines_saying name rows) → IsAmong n ns
+HasAllSaying path rows ns = (n : ℕ) (name : List ℕ) → IsFront name path
+    → IsAmong n (lines_saying name rows) → IsAmong n ns
 
 -- the same of names with so many bytes that stand before comma and space
 abbrev pub HasSaying : ℕ → List ℕ → Rows → List ℕ → Type 0
-HasSaying at path rows ns = (n : ℕ) (name rest : List ℕ) → path ≡ name ++ (codes ", " ++ rest) → length name ≡ at → IsAmong n (lines_saying name rows) → IsAmong n ns
+HasSaying at path rows ns = (n : ℕ) (name rest : List ℕ) → path ≡ name ++ (codes ", " ++ rest) → length name ≡ at
+    → IsAmong n (lines_saying name rows) → IsAmong n ns
 
--- what one step up says of records in which this place is at the number: whether it has the path, or that it has where its parent has
--- the rest
+-- what one step up says of records in which this place is at the number: whether it has the path, or that it has where
+-- its parent has the rest
 abbrev pub IsClimb : Records → ℕ → List ℕ → Climb → Type 0
 IsClimb m n path (climb.Ended is) = IsTrue is ↔ HasPath m n path
 IsClimb m n path (climb.Above q rest) = (is : Bool) → IsTrue is ↔ HasPath m q rest.now → IsTrue is ↔ HasPath m n path

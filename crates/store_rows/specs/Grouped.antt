@@ -1,5 +1,26 @@
 -- What the rows are as they are read, group by group. No clause that callers see names these definitions.
-use Rattle.std.specs.Prelude.{ℕ, ◌≡◌, ◌≢◌, ◌==◌, ◌&&◌, ◌⊎◌, Bool, true, false, List, [], map, filter, fold, Option, Some, None, MatchOption, unwrap_or, option_map}
+use Rattle.std.specs.Prelude.{
+  ℕ,
+  ◌≡◌,
+  ◌≢◌,
+  ◌==◌,
+  ◌&&◌,
+  ◌⊎◌,
+  Bool,
+  true,
+  false,
+  List,
+  [],
+  map,
+  filter,
+  fold,
+  Option,
+  Some,
+  None,
+  MatchOption,
+  unwrap_or,
+  option_map,
+}
 use Rattle.std.specs.List.{list_any, flat_map}
 use Rattle.std.specs.BTreeMap.{BTreeMap}
 use Rattle.std.specs.Global.{Vec}
@@ -61,7 +82,8 @@ last_kept = fold (λ _ r. Some r.1) None
 
 -- what slip is at a number, by its row and its lines
 abbrev pub IsSlipBy : ℕ → Option SlipRow → List SideLine → Option Slip → Type 0
-IsSlipBy n row lines found = MatchOption found (row ≡ None) (λ slip. (row ≡ Some (slip_row n slip)) × (lines ≡ flat_map change_lines slip.changes))
+IsSlipBy n row lines found = MatchOption found (row ≡ None)
+    (λ slip. (row ≡ Some (slip_row n slip)) × (lines ≡ flat_map change_lines slip.changes))
 
 -- the slips of these rows, each with the changes that are kept as the lines of its number
 abbrev pub AreSlipsOf : (ℕ → List SideLine) → List SlipRow → Slips → Type 0

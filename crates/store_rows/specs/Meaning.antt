@@ -1,6 +1,26 @@
--- What the rows of an archive mean: its records, the next number, its receipts and its slips. A relation; a law says that rows
--- mean one content at the most. Rules of our own.
-use Rattle.std.specs.Prelude.{ℕ, ◌≡◌, ◌==◌, ◌&&◌, not, Bool, true, false, List, [], ◌∷◌, ◌++◌, map, fold, cond, Option, Some, None, MatchOption}
+-- What the rows of an archive mean: its records, the next number, its receipts and its slips. A relation; a law says
+-- that rows mean one content at the most. Rules of our own.
+use Rattle.std.specs.Prelude.{
+  ℕ,
+  ◌≡◌,
+  ◌==◌,
+  ◌&&◌,
+  not,
+  Bool,
+  true,
+  false,
+  List,
+  [],
+  ◌∷◌,
+  ◌++◌,
+  map,
+  fold,
+  cond,
+  Option,
+  Some,
+  None,
+  MatchOption,
+}
 use Rattle.std.specs.List.{list_any, flat_map}
 use Rattle.std.specs.FinMap.{get, insert, empty}
 use Rattle.stored_lines.specs.Line.{Label}
@@ -24,7 +44,8 @@ has_record n rows = list_any (λ (r : RecordRow). (r.no == n) && is_closed r.bat
 
 -- what is at a number: where it has a record, the one that is kept as its lines
 abbrev pub IsRecordAt : Rows → ℕ → Option Record → Type 0
-IsRecordAt rows n found = MatchOption found (has_record n rows ≡ false) (λ r. (has_record n rows ≡ true) × (lines_of n rows ≡ stored r))
+IsRecordAt rows n found = MatchOption found (has_record n rows ≡ false)
+    (λ r. (has_record n rows ≡ true) × (lines_of n rows ≡ stored r))
 
 -- what is kept under the tokens; of two rows of one token the later one
 abbrev pub receipts_in : List ReceiptRow → Receipts
@@ -51,10 +72,12 @@ slip_row_at n (s ∷ ss) = cond (s.no == n) (Some s) (slip_row_at n ss)
 abbrev pub slip_row : ℕ → Slip → SlipRow
 slip_row n slip = record { no = n; keep = slip.keep; gone = slip.gone; is_undone = slip.is_undone }
 
--- what slip is at a number: its row has the two persons and whether it was undone, its lines are those of the changes in order
+-- what slip is at a number: its row has the two persons and whether it was undone, its lines are those of the changes
+-- in order
 abbrev pub IsSlipAt : Rows → ℕ → Option Slip → Type 0
 IsSlipAt rows n found = MatchOption found (slip_row_at n rows.slips ≡ None)
-    (λ slip. (slip_row_at n rows.slips ≡ Some (slip_row n slip)) × (slip_lines_of n rows ≡ flat_map change_lines slip.changes))
+    (λ slip. (slip_row_at n rows.slips ≡ Some (slip_row n slip))
+    × (slip_lines_of n rows ≡ flat_map change_lines slip.changes))
 
 pub record Means (rows : Rows) (c : Content) : Type 0 where
   -- the batch of all commands but imports is there and closed

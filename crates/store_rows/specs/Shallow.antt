@@ -1,4 +1,5 @@
--- Changes whose records are all shallow, as those of a program are by their type: so what is written of them can be read again.
+-- Changes whose records are all shallow, as those of a program are by their type: so what is written of them can be
+-- read again.
 use Rattle.std.specs.Prelude.{Option, Some, None}
 use Rattle.records.specs.Shallow.{IsShallow}
 use Rattle.archive_state.specs.Changes.{Changes}

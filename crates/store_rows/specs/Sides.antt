@@ -60,7 +60,8 @@ abbrev pub after_new : ℕ → List Side → List Side
 after_new n [] = []
 after_new n (s ∷ ss) = cond (begins_new n (s ∷ ss)) ss (s ∷ ss)
 
--- lines that are those of no side, of no sides and of no changes whose records are shallow; sides that are those of no changes
+-- lines that are those of no side, of no sides and of no changes whose records are shallow; sides that are those of no
+-- changes
 abbrev pub NoSide : List SideLine → Type 0
 NoSide ls = (s : Side) → IsShallow s.«record» → ls ≢ lines_of_side s
 
@@ -68,7 +69,8 @@ abbrev pub NoSides : List SideLine → Type 0
 NoSides ls = (ss : List Side) → EachOf (λ (s : Side). IsShallow s.«record») ss → ls ≢ flat_map lines_of_side ss
 
 abbrev pub NoChanges : List SideLine → Type 0
-NoChanges ls = (cs : List Change) → EachOf (λ (c : Change). IsShallow c.old × IsShallowOption c.new) cs → ls ≢ flat_map change_lines cs
+NoChanges ls = (cs : List Change) → EachOf (λ (c : Change). IsShallow c.old × IsShallowOption c.new) cs
+    → ls ≢ flat_map change_lines cs
 
 abbrev pub NoPairs : List Side → Type 0
 NoPairs ss = (cs : List Change) → ss ≢ flat_map sides_of_change cs

@@ -10,7 +10,19 @@ use Rattle.archive_state.specs.declared.changes.Kept.{Kept}
 use Rattle.archive_state.specs.declared.changes.SlipChange.{SlipChange}
 use Rattle.archive_state.specs.declared.changes.SlipChange.TheVariants as change
 use Rattle.archive_state.specs.declared.slip.Change.{Change}
-use Rattle.store_tables.specs.Rows.{Rows, with_next, with_record_row, without_record_row, without_lines, with_changed_lines, with_receipt, with_slip_row, with_undone, without_slip_lines, with_slip_lines}
+use Rattle.store_tables.specs.Rows.{
+  Rows,
+  with_next,
+  with_record_row,
+  without_record_row,
+  without_lines,
+  with_changed_lines,
+  with_receipt,
+  with_slip_row,
+  with_undone,
+  without_slip_lines,
+  with_slip_lines,
+}
 
 -- the word of a kind
 abbrev pub kind_word : Record → List ℕ
@@ -67,7 +79,8 @@ with_slip_changes slip (c ∷ cs) rows = with_slip_changes slip cs (with_change 
 
 -- a slip's row, and its lines in place of those that its number had
 abbrev pub with_slip_made : ℕ → Slip → Rows → Rows
-with_slip_made n slip rows = with_slip_changes n slip.changes (without_slip_lines n (with_slip_row n slip.keep slip.gone slip.is_undone rows))
+with_slip_made n slip rows = with_slip_changes n slip.changes
+    (without_slip_lines n (with_slip_row n slip.keep slip.gone slip.is_undone rows))
 
 abbrev pub with_slip_written : Option SlipChange → Rows → Rows
 with_slip_written None rows = rows

@@ -8,7 +8,15 @@ ghost use Rattle.archive_state.specs.Entries.{IsEntryAt};
 ghost use Rattle.archive_state.specs.Paths.{HasPath};
 ghost use Rattle.store_tables.specs.Looking.{Looks};
 ghost use Rattle.store_rows.specs.Looking.{Sees};
-ghost use Rattle.store_rows.specs.Finding.{HasAllSaying, HasSaying, IsClimbFrom, IsEntryFound, IsLowestAmong, LeadsBelow, lower};
+ghost use Rattle.store_rows.specs.Finding.{
+  HasAllSaying,
+  HasSaying,
+  IsClimbFrom,
+  IsEntryFound,
+  IsLowestAmong,
+  LeadsBelow,
+  lower,
+};
 
 use crate::looking::record_at;
 use archive_state::is_entry_of;
@@ -26,7 +34,8 @@ pub(crate) fn lines_with_a_front<S: Alter>(
     path: &str,
 ) -> Result<Vec<u32>, RefusalKind>
     requires autocommit { conn.old.in_transaction ≡ false }
-    ensures looks { Looks (λ rows found. HasAllSaying path.now rows found.items) (state S.Store conn.old) (state S.Store conn.new) result }
+    ensures looks { Looks (λ rows found. HasAllSaying path.now rows found.items) (state S.Store conn.old)
+        (state S.Store conn.new) result }
     ensures ended { conn.new.in_transaction ≡ false }
 {
     let mut found = keyed::lines_saying(alloc, conn, path)?;
@@ -46,7 +55,8 @@ fn lines_before<S: Alter>(
 ) -> Result<Vec<u32>, RefusalKind>
     requires autocommit { conn.old.in_transaction ≡ false }
     requires within { at < length path.now }
-    ensures looks { Looks (λ rows found. HasSaying at path.now rows found.items) (state S.Store conn.old) (state S.Store conn.new) result }
+    ensures looks { Looks (λ rows found. HasSaying at path.now rows found.items) (state S.Store conn.old)
+        (state S.Store conn.new) result }
     ensures ended { conn.new.in_transaction ≡ false }
 {
     if path.as_bytes()[at] != b',' {
@@ -70,7 +80,8 @@ pub(crate) fn lowest_place<S: Alter>(
     path: &[u8],
 ) -> Result<Option<u32>, RefusalKind>
     requires autocommit { conn.old.in_transaction ≡ false }
-    ensures sees { Sees (λ c found. IsLowestAmong (λ n. HasPath c.records n path.now) numbers.now found) (state S.Store conn.old) (state S.Store conn.new) result }
+    ensures sees { Sees (λ c found. IsLowestAmong (λ n. HasPath c.records n path.now) numbers.now found)
+        (state S.Store conn.old) (state S.Store conn.new) result }
     ensures ended { conn.new.in_transaction ≡ false }
 {
     let mut lowest = None;
@@ -101,7 +112,8 @@ fn has_path<S: Alter>(
     path: &[u8],
 ) -> Result<bool, RefusalKind>
     requires autocommit { conn.old.in_transaction ≡ false }
-    ensures sees { Sees (λ c is. IsTrue is ↔ HasPath c.records number path.now) (state S.Store conn.old) (state S.Store conn.new) result }
+    ensures sees { Sees (λ c is. IsTrue is ↔ HasPath c.records number path.now) (state S.Store conn.old)
+        (state S.Store conn.new) result }
     ensures ended { conn.new.in_transaction ≡ false }
 {
     let found = record_at(alloc, conn, number)?;
@@ -190,7 +202,8 @@ pub(crate) fn lowest_entry<S: Alter>(
     item: Item,
 ) -> Result<Option<u32>, RefusalKind>
     requires autocommit { conn.old.in_transaction ≡ false }
-    ensures sees { Sees (λ c found. IsLowestAmong (λ n. IsEntryAt c.records source kind page.now item n) numbers.now found) (state S.Store conn.old) (state S.Store conn.new) result }
+    ensures sees { Sees (λ c found. IsLowestAmong (λ n. IsEntryAt c.records source kind page.now item n) numbers.now
+        found) (state S.Store conn.old) (state S.Store conn.new) result }
     ensures ended { conn.new.in_transaction ≡ false }
 {
     let mut lowest = None;
@@ -213,7 +226,8 @@ fn is_entry_at<S: Alter>(
     item: Item,
 ) -> Result<bool, RefusalKind>
     requires autocommit { conn.old.in_transaction ≡ false }
-    ensures sees { Sees (λ c is. IsTrue is ↔ IsEntryAt c.records source kind page.now item number) (state S.Store conn.old) (state S.Store conn.new) result }
+    ensures sees { Sees (λ c is. IsTrue is ↔ IsEntryAt c.records source kind page.now item number)
+        (state S.Store conn.old) (state S.Store conn.new) result }
     ensures ended { conn.new.in_transaction ≡ false }
 {
     let found = record_at(alloc, conn, number)?;

@@ -29,8 +29,10 @@ pub fn written_changes_mean_what_they_make()
 pub fn rows_of_other_numbers_stay()
     ensures { (changes : Changes) (rows : Rows) (m : ℕ)
         → EachOf (λ (p : Numbered). p.number ≢ m) changes.puts → EachOf (λ n. n ≢ m) changes.removals
-        → (filter (λ (l : LineRow). l.no == m) (with_changes changes rows).lines ≡ filter (λ (l : LineRow). l.no == m) rows.lines)
-        × (filter (λ (r : RecordRow). r.no == m) (with_changes changes rows).records ≡ filter (λ (r : RecordRow). r.no == m) rows.records) }
+        → (filter (λ (l : LineRow). l.no == m) (with_changes changes rows).lines ≡ filter
+        (λ (l : LineRow). l.no == m) rows.lines)
+        × (filter (λ (r : RecordRow). r.no == m) (with_changes changes rows).records ≡ filter
+        (λ (r : RecordRow). r.no == m) rows.records) }
 {}
 
 /// Of rows that mean a content, a number is among the referrers of another exactly where it has a record and a line

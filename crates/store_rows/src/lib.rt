@@ -1,4 +1,5 @@
-//! An archive as rows of tables: what the rows mean, the changes of a request written as rows, and the state read of them.
+//! An archive as rows of tables: what the rows mean, the changes of a request written as rows, and the state read of
+//! them.
 #![tactic(auto)]
 
 mod finding;

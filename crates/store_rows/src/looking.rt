@@ -35,7 +35,8 @@ pub fn record_at<S: Alter>(
     number: u32,
 ) -> Result<Option<Record>, RefusalKind>
     requires autocommit { conn.old.in_transaction ≡ false }
-    ensures sees { Sees (λ c found. found ≡ map.get c.records number) (state S.Store conn.old) (state S.Store conn.new) result }
+    ensures sees { Sees (λ c found. found ≡ map.get c.records number) (state S.Store conn.old)
+        (state S.Store conn.new) result }
     ensures ended { conn.new.in_transaction ≡ false }
 {
     if !has_record(alloc, conn, number)? {
@@ -53,7 +54,8 @@ pub fn referrers_of<S: Alter>(
     number: u32,
 ) -> Result<Vec<u32>, RefusalKind>
     requires autocommit { conn.old.in_transaction ≡ false }
-    ensures sees { Sees (λ c found. found.items ≡ referrers c number) (state S.Store conn.old) (state S.Store conn.new) result }
+    ensures sees { Sees (λ c found. found.items ≡ referrers c number) (state S.Store conn.old)
+        (state S.Store conn.new) result }
     ensures ended { conn.new.in_transaction ≡ false }
 {
     let lines = keyed::lines_naming(alloc, conn, number)?;
@@ -68,7 +70,8 @@ pub fn receipt_at<S: Alter>(
     token: &Token,
 ) -> Result<Option<Receipt>, RefusalKind>
     requires autocommit { conn.old.in_transaction ≡ false }
-    ensures sees { Sees (λ c found. found ≡ map.get c.receipts token.now) (state S.Store conn.old) (state S.Store conn.new) result }
+    ensures sees { Sees (λ c found. found ≡ map.get c.receipts token.now) (state S.Store conn.old)
+        (state S.Store conn.new) result }
     ensures ended { conn.new.in_transaction ≡ false }
 {
     Ok(last_kept(keyed::receipts_at(alloc, conn, token)?))
@@ -81,7 +84,8 @@ pub fn slip_at<S: Alter>(
     number: u32,
 ) -> Result<Option<Slip>, RefusalKind>
     requires autocommit { conn.old.in_transaction ≡ false }
-    ensures sees { Sees (λ c found. found ≡ map.get c.slips number) (state S.Store conn.old) (state S.Store conn.new) result }
+    ensures sees { Sees (λ c found. found ≡ map.get c.slips number) (state S.Store conn.old)
+        (state S.Store conn.new) result }
     ensures ended { conn.new.in_transaction ≡ false }
 {
     let Some(row) = keyed::slip_at(alloc, conn, number)? else {
@@ -106,14 +110,16 @@ pub fn next<S: Alter>(alloc: Global, conn: &mut Connection<S>) -> Result<u64, Re
 }
 
 /// The lowest number of a place that has this path, read of the records that an index gives: those with a line whose
-/// text is what stands before a comma in the path, or the whole path. Of each the places that it is within are read too.
+/// text is what stands before a comma in the path, or the whole path. Of each the places that it is within are read
+/// too.
 pub fn place_at<S: Alter>(
     alloc: Global,
     conn: &mut Connection<S>,
     path: &Text,
 ) -> Result<Option<u32>, RefusalKind>
     requires autocommit { conn.old.in_transaction ≡ false }
-    ensures sees { Sees (λ c found. IsLowest (λ n. HasPath c.records n path.now) found) (state S.Store conn.old) (state S.Store conn.new) result }
+    ensures sees { Sees (λ c found. IsLowest (λ n. HasPath c.records n path.now) found) (state S.Store conn.old)
+        (state S.Store conn.new) result }
     ensures ended { conn.new.in_transaction ≡ false }
 {
     let numbers = finding::lines_with_a_front(alloc, conn, path.as_str())?;
@@ -131,7 +137,8 @@ pub fn entry_at<S: Alter>(
     item: Item,
 ) -> Result<Option<u32>, RefusalKind>
     requires autocommit { conn.old.in_transaction ≡ false }
-    ensures sees { Sees (λ c found. IsLowest (λ n. IsEntryAt c.records source kind page.now item n) found) (state S.Store conn.old) (state S.Store conn.new) result }
+    ensures sees { Sees (λ c found. IsLowest (λ n. IsEntryAt c.records source kind page.now item n) found)
+        (state S.Store conn.old) (state S.Store conn.new) result }
     ensures ended { conn.new.in_transaction ≡ false }
 {
     let words = entry_key(alloc, item, page)?;
@@ -157,7 +164,8 @@ fn recorded<S: Alter>(
     numbers: &BTreeSet<u32>,
 ) -> Result<Vec<u32>, RefusalKind>
     requires autocommit { conn.old.in_transaction ≡ false }
-    ensures looks { Looks (λ rows found. found.items ≡ filter (λ m. has_record m rows) numbers.now.keys) (state S.Store conn.old) (state S.Store conn.new) result }
+    ensures looks { Looks (λ rows found. found.items ≡ filter (λ m. has_record m rows) numbers.now.keys)
+        (state S.Store conn.old) (state S.Store conn.new) result }
     ensures ordered { set.IsOrdered nat_cmp numbers.now }
     ensures ended { conn.new.in_transaction ≡ false }
 {
@@ -185,7 +193,8 @@ fn has_record<S: Alter>(
     number: u32,
 ) -> Result<bool, RefusalKind>
     requires autocommit { conn.old.in_transaction ≡ false }
-    ensures looks { Looks (λ rows is. is ≡ has_record number rows) (state S.Store conn.old) (state S.Store conn.new) result }
+    ensures looks { Looks (λ rows is. is ≡ has_record number rows) (state S.Store conn.old)
+        (state S.Store conn.new) result }
     ensures ended { conn.new.in_transaction ≡ false }
 {
     match keyed::record_at(alloc, conn, number)? {
@@ -201,7 +210,8 @@ fn is_closed<S: Alter>(
     batch: u32,
 ) -> Result<bool, RefusalKind>
     requires autocommit { conn.old.in_transaction ≡ false }
-    ensures looks { Looks (λ rows is. is ≡ is_closed batch rows.batches) (state S.Store conn.old) (state S.Store conn.new) result }
+    ensures looks { Looks (λ rows is. is ≡ is_closed batch rows.batches) (state S.Store conn.old)
+        (state S.Store conn.new) result }
     ensures ended { conn.new.in_transaction ≡ false }
 {
     match keyed::batch_at(alloc, conn, batch)? {

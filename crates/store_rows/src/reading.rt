@@ -24,7 +24,8 @@ pub fn read_state<S: Alter>(alloc: Global, conn: &mut Connection<S>) -> Result<S
     ensures read { HasCleanDisk (state S.Store conn.new)
         → IfOk result (λ s. (rows : Rows) → Settled (state S.Store conn.old) rows → Means rows s) }
     ensures same { HasCleanDisk (state S.Store conn.new)
-        → IfOk result (λ _. (rows : Rows) → Settled (state S.Store conn.old) rows → Settled (state S.Store conn.new) rows) }
+        → IfOk result (λ _. (rows : Rows) → Settled (state S.Store conn.old) rows
+        → Settled (state S.Store conn.new) rows) }
     ensures refused { HasCleanDisk (state S.Store conn.new)
         → IfErr result (λ kind. (rows : Rows) → Settled (state S.Store conn.old) rows
         → IsFailure kind ⊎ ((kind ≡ BadStored) × ¬ (AreReadable rows))) }

@@ -5,7 +5,21 @@ ghost use Rattle.std.specs.Prelude.{◌≡◌, ◌⊎◌, ◌<◌, ◌≤◌, Li
 ghost use Rattle.std.specs.List.{flat_map, list_all, position_or_len};
 ghost use Rattle.record_text.specs.declared.refusal.RefusalKind.TheVariants as kinds;
 ghost use Rattle.store_rows.specs.Meaning.{change_lines};
-ghost use Rattle.store_rows.specs.Sides.{side_lines_in, lines_of_side, sides_of_change, begins_side, first_length, begins_new, first_new, after_new, is_of, NoSide, NoSides, NoPairs, NoChanges};
+ghost use Rattle.store_rows.specs.Sides.{
+  side_lines_in,
+  lines_of_side,
+  sides_of_change,
+  begins_side,
+  first_length,
+  begins_new,
+  first_new,
+  after_new,
+  is_of,
+  NoSide,
+  NoSides,
+  NoPairs,
+  NoChanges,
+};
 
 use archive_state::Change;
 use record_text::RefusalKind;

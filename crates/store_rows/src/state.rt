@@ -11,7 +11,18 @@ ghost use Rattle.store_tables.specs.Reading.{read_of};
 ghost use Rattle.store_tables.specs.Rows as tables;
 ghost use Rattle.store_rows.specs.Meaning.{AreReadable, Means, is_closed, change_lines, slip_row};
 ghost use Rattle.store_rows.specs.Sides.{NoChanges};
-ghost use Rattle.store_rows.specs.Grouped.{items_at, group_at, slip_group_at, with_kept, AreRecordsOf, AreSlipsOf, NoRecord, LacksRecord, LacksChanges, IsRefusedBy};
+ghost use Rattle.store_rows.specs.Grouped.{
+  items_at,
+  group_at,
+  slip_group_at,
+  with_kept,
+  AreRecordsOf,
+  AreSlipsOf,
+  NoRecord,
+  LacksRecord,
+  LacksChanges,
+  IsRefusedBy,
+};
 
 use crate::grouping::{closed_batches, grouped_lines, grouped_slip_lines};
 use crate::sides::changes_of;
@@ -106,7 +117,8 @@ fn put_row(
 ) -> Result<(), RefusalKind>
     ensures read { OnOk result ((rows : List (ℕ × ℕ))
         → AreRecordsOf (set.contains nat_cmp closed.now) (group_at groups.now) rows state.old.records
-        → AreRecordsOf (set.contains nat_cmp closed.now) (group_at groups.now) (rows ++ row.now ∷ []) state.new.records) }
+        → AreRecordsOf (set.contains nat_cmp closed.now) (group_at groups.now) (rows ++ row.now ∷ [])
+        state.new.records) }
     ensures others { OnOk result (state.new ≡ record state.old { records = state.new.records }) }
     ensures refused { IfErr result (IsRefusedBy
         ((set.contains nat_cmp closed.now row.now.1 ≡ true) × NoRecord (group_at groups.now row.now.0))) }

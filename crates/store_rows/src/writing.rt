@@ -33,12 +33,14 @@ pub fn write_changes<S: Alter>(
 ) -> Result<(), RefusalKind>
     ensures same_reference { tx.new.conn.ghost_name ≡ tx.old.conn.ghost_name }
     ensures ok { HasCleanDisk (state S.Store tx.new.conn.now)
-        → OnOk result (Follows (state S.Store tx.old.conn.now) (state S.Store tx.new.conn.now) (with_changes changes.now)) }
+        → OnOk result (Follows (state S.Store tx.old.conn.now) (state S.Store tx.new.conn.now)
+        (with_changes changes.now)) }
     ensures survives { Survives (state S.Store tx.old.conn.now) (state S.Store tx.new.conn.now) (λ _. ⊥) }
     ensures shallow { OnOk result ((c : Content) → AllShallow c → AllShallow (applied c changes.now)) }
     ensures means { HasCleanDisk (state S.Store tx.new.conn.now)
         → OnOk result ((rows : Rows) (c : Content) → Inside (state S.Store tx.old.conn.now) rows → Means rows c
-        → Inside (state S.Store tx.new.conn.now) (with_changes changes.now rows) × Means (with_changes changes.now rows) (applied c changes.now)) }
+        → Inside (state S.Store tx.new.conn.now) (with_changes changes.now rows) × Means (with_changes changes.now rows)
+        (applied c changes.now)) }
     ensures refused { IfErr result (λ kind. (kind ≡ OutOfMemory) ⊎ (kind ≡ Storage)) }
 {
     match write_all(alloc, tx, changes) {
@@ -87,7 +89,8 @@ fn write_all<S: Alter>(
 ) -> Result<(), Unwritten>
     ensures same_reference { tx.new.conn.ghost_name ≡ tx.old.conn.ghost_name }
     ensures ok { HasCleanDisk (state S.Store tx.new.conn.now)
-        → OnOk result (Follows (state S.Store tx.old.conn.now) (state S.Store tx.new.conn.now) (with_changes changes.now)) }
+        → OnOk result (Follows (state S.Store tx.old.conn.now) (state S.Store tx.new.conn.now)
+        (with_changes changes.now)) }
     ensures survives { Survives (state S.Store tx.old.conn.now) (state S.Store tx.new.conn.now) (λ _. ⊥) }
     ensures shallow { OnOk result (AreShallowChanges changes.now) }
 {
@@ -101,7 +104,8 @@ fn write_all<S: Alter>(
 fn write_kept<S: Alter>(tx: &mut Transaction<'_, S>, kept: &Option<Kept>) -> Result<(), Error>
     ensures same_reference { tx.new.conn.ghost_name ≡ tx.old.conn.ghost_name }
     ensures ok { HasCleanDisk (state S.Store tx.new.conn.now)
-        → OnOk result (Follows (state S.Store tx.old.conn.now) (state S.Store tx.new.conn.now) (with_kept_written kept.now)) }
+        → OnOk result (Follows (state S.Store tx.old.conn.now) (state S.Store tx.new.conn.now)
+        (with_kept_written kept.now)) }
     ensures survives { Survives (state S.Store tx.old.conn.now) (state S.Store tx.new.conn.now) (λ _. ⊥) }
 {
     match kept {

@@ -1,5 +1,33 @@
 -- From what a call in a transaction ensures to what it makes of the rows, and calls one after the other.
-use Rattle.std.proofs.Common.{◌≡◌, ℕ, List, [], ◌∷◌, ◌<◌, zero, suc, Bool, true, false, Ok, Err, Result, IsTrue, OnOk, IfOk, IfErr, refl, ◌∙◌, arith, Bor, Option, None, Some, pos, option_copied}
+use Rattle.std.proofs.Common.{
+  ◌≡◌,
+  ℕ,
+  List,
+  [],
+  ◌∷◌,
+  ◌<◌,
+  zero,
+  suc,
+  Bool,
+  true,
+  false,
+  Ok,
+  Err,
+  Result,
+  IsTrue,
+  OnOk,
+  IfOk,
+  IfErr,
+  refl,
+  ◌∙◌,
+  arith,
+  Bor,
+  Option,
+  None,
+  Some,
+  pos,
+  option_copied,
+}
 use Rattle.std.specs.List.{AllByRecursion}
 use Rattle.sqlite.specs.declared.types.Value.TheVariants.{Text, Int}
 use Rattle.sqlite.specs.Order.{Row}
@@ -29,7 +57,8 @@ is_inside false h = absurd (h refl)
 pub followed : (sql : List ℕ) (params : Row) (old new : State) (count : ℕ) (f : Rows → Rows)
     → (old.now.schema ≡ archive_schema → Executes sql params old new (Ok count) → Becomes old new f)
     → ((rows : Rows) → AreTyped rows → AreTyped (f rows))
-    → ExecutesInside 0 sql params old new (Ok count) → (rows : Rows) → Inside old rows → Inside new (f rows) × (new.committed ≡ old.committed)
+    → ExecutesInside 0 sql params old new (Ok count) → (rows : Rows) → Inside old rows → Inside new (f rows)
+    × (new.committed ≡ old.committed)
 followed sql params old new count f means typed ran rows was =
     let did = means was.schema ran.0 in (
       record {
@@ -56,14 +85,16 @@ if_err (Err e) f h = f e h
 pub follows_none : (s : State) → Follows s s (λ rows. rows)
 follows_none s rows was = (was, refl)
 
-pub follows_then : (a b c : State) (f g : Rows → Rows) → Follows a b f → Follows b c g → Follows a c (λ rows. g (f rows))
+pub follows_then : (a b c : State) (f g : Rows → Rows) → Follows a b f → Follows b c g
+    → Follows a c (λ rows. g (f rows))
 follows_then a b c f g p q rows was =
     let one = p rows was in
     let two = q (f rows) one.0 in
     (two.0, two.1 ∙ one.1)
 
 -- ---- what may be missing, as it is bound
-pub words_bound : (o : Option (Bor (List ℕ))) → bound_value (or_null (λ (t : Bor (List ℕ)). Text t.now) o) ≡ words_or_null (option_copied o)
+pub words_bound : (o : Option (Bor (List ℕ))) → bound_value (or_null (λ (t : Bor (List ℕ)). Text t.now) o)
+    ≡ words_or_null (option_copied o)
 words_bound None = refl
 words_bound (Some t) = refl
 
@@ -72,11 +103,13 @@ number_bound None = refl
 number_bound (Some n) = refl
 
 -- ---- a new archive
-stay_empty : (old new : Trees) (ts : List Table) → KeepsRows ts old new → AllByRecursion (λ (t : Table). old t.tree ≡ []) ts → AllByRecursion (λ (t : Table). new t.tree ≡ []) ts
+stay_empty : (old new : Trees) (ts : List Table) → KeepsRows ts old new
+    → AllByRecursion (λ (t : Table). old t.tree ≡ []) ts → AllByRecursion (λ (t : Table). new t.tree ≡ []) ts
 stay_empty old new [] keeps empty = tt
 stay_empty old new (t ∷ ts) keeps empty = (keeps.0 ∙ empty.0, stay_empty old new ts keeps.1 empty.1)
 
-pub builds_table : (schema : Schema) (table : Table) (text : List ℕ) (old new : State) (count : ℕ) → IsCreate schema text table → ExecutesInside 0 text [] old new (Ok count)
+pub builds_table : (schema : Schema) (table : Table) (text : List ℕ) (old new : State) (count : ℕ)
+    → IsCreate schema text table → ExecutesInside 0 text [] old new (Ok count)
     → Builds old new schema (created schema table)
 builds_table schema table text old new count is ran was =
     let did = creates schema text table old new count is was.schema ran.0 in (
@@ -85,12 +118,15 @@ builds_table schema table text old new count is ran was =
         inside = ran.1.mode;
         schema = did.schema_is;
         sound = did.sound;
-        empty = all_then (λ (t : Table). new.now.trees t.tree ≡ []) schema.tables (record table { tree = next_tree schema }) (stay_empty old.now.trees new.now.trees schema.tables did.others was.empty) did.empty;
+        empty = all_then (λ (t : Table). new.now.trees t.tree ≡ []) schema.tables
+            (record table { tree = next_tree schema })
+            (stay_empty old.now.trees new.now.trees schema.tables did.others was.empty) did.empty;
       },
       ran.1.committed_is,
     )
 
-pub builds_index : (schema : Schema) (at : ℕ) (table : Table) (index : Index) (text : List ℕ) (old new : State) (count : ℕ) → IsCreateIndex schema text at table index → ExecutesInside 0 text [] old new (Ok count)
+pub builds_index : (schema : Schema) (at : ℕ) (table : Table) (index : Index) (text : List ℕ) (old new : State)
+    (count : ℕ) → IsCreateIndex schema text at table index → ExecutesInside 0 text [] old new (Ok count)
     → Builds old new schema (indexed schema table index)
 builds_index schema at table index text old new count is ran was =
     let did = creates_index schema text at table index old new count is was.schema ran.0 in (
@@ -104,7 +140,8 @@ builds_index schema at table index text old new count is ran was =
       ran.1.committed_is,
     )
 
-of_seven : (t : Trees) → AllByRecursion (λ (table : Table). t table.tree ≡ []) archive_schema.tables → (n : ℕ) → n < 7 → t n ≡ []
+of_seven : (t : Trees) → AllByRecursion (λ (table : Table). t table.tree ≡ []) archive_schema.tables → (n : ℕ)
+    → n < 7 → t n ≡ []
 of_seven t all zero low = all.0
 of_seven t all (suc zero) low = all.1.0
 of_seven t all (suc (suc zero)) low = all.1.1.0
@@ -114,12 +151,28 @@ of_seven t all (suc (suc (suc (suc (suc zero))))) low = all.1.1.1.1.1.0
 of_seven t all (suc (suc (suc (suc (suc (suc zero)))))) low = all.1.1.1.1.1.1.0
 of_seven t all (suc (suc (suc (suc (suc (suc (suc n))))))) low = absurd (omega (arith, low))
 
-pub begins : (society : List ℕ) (old new : State) (count : ℕ) → IsText society → ExecutesInside 0 insert_meta (Text society ∷ []) old new (Ok count)
+pub begins : (society : List ℕ) (old new : State) (count : ℕ) → IsText society
+    → ExecutesInside 0 insert_meta (Text society ∷ []) old new (Ok count)
     → Built old archive_schema → Inside new (bare society) × (new.committed ≡ old.committed)
 begins society old new count text ran was =
     let did = inserts_meta old new society count was.schema (of_seven old.now.trees was.empty) ran.0 in
-    let typed : AreTyped (bare society) = record { society = text; batches = tt; records = tt; lines = tt; receipts = tt; slips = tt; slip_lines = tt } in
-    (record { is_open = ran.1.is_open; inside = ran.1.mode; schema = did.0; good = record { sound = did.1; holds = did.2; typed = typed } }, ran.1.committed_is)
+    let typed : AreTyped (bare society) = record {
+      society = text;
+      batches = tt;
+      records = tt;
+      lines = tt;
+      receipts = tt;
+      slips = tt;
+      slip_lines = tt;
+    } in (
+      record {
+        is_open = ran.1.is_open;
+        inside = ran.1.mode;
+        schema = did.0;
+        good = record { sound = did.1; holds = did.2; typed = typed };
+      },
+      ran.1.committed_is,
+    )
 
 pub builds_then : (a b c : State) (r s t : Schema) → Builds a b r s → Builds b c s t → Builds a c r t
 builds_then a b c r s t p q was =

@@ -1,5 +1,40 @@
 -- A table whose rows are coded items with numbers of their own: what a step's edit makes of it.
-use Rattle.std.proofs.Common.{◌≡◌, ℕ, ◌<◌, ◌+◌, ◌+ℤ◌, ◌==◌, ℤ, pos, List, [], ◌∷◌, ◌++◌, map, filter, fold, Bool, true, false, not, ◌&&◌, ◌||◌, cond, refl, sym, ap, ap₂, subst, ◌∙◌, arith, Ordering, Less, Equal, Greater, nat_cmp}
+use Rattle.std.proofs.Common.{
+  ◌≡◌,
+  ℕ,
+  ◌<◌,
+  ◌+◌,
+  ◌+ℤ◌,
+  ◌==◌,
+  ℤ,
+  pos,
+  List,
+  [],
+  ◌∷◌,
+  ◌++◌,
+  map,
+  filter,
+  fold,
+  Bool,
+  true,
+  false,
+  not,
+  ◌&&◌,
+  ◌||◌,
+  cond,
+  refl,
+  sym,
+  ap,
+  ap₂,
+  subst,
+  ◌∙◌,
+  arith,
+  Ordering,
+  Less,
+  Equal,
+  Greater,
+  nat_cmp,
+}
 use Rattle.std.specs.Ordering.{is_eq, match_ordering}
 use Rattle.std.specs.List.{AllByRecursion, list_any}
 use Rattle.std.specs.List.Sorted.{IsPermutation}
@@ -31,11 +66,13 @@ filter_twice p q [] = refl
 filter_twice p q (x ∷ xs) = go (filter_twice p q xs) (p x)
   where
     go : filter q (filter p xs) ≡ filter (λ x. p x && q x) xs → (b : Bool)
-        → filter q (cond b (x ∷ filter p xs) (filter p xs)) ≡ cond (b && q x) (x ∷ filter (λ x. p x && q x) xs) (filter (λ x. p x && q x) xs)
+        → filter q (cond b (x ∷ filter p xs) (filter p xs)) ≡ cond (b && q x) (x ∷ filter (λ x. p x && q x) xs)
+        (filter (λ x. p x && q x) xs)
     go ih true = ap (λ ys. cond (q x) (x ∷ ys) ys) ih
     go ih false = ih
 
-pub filter_same : {X : Type 0} (p q : X → Bool) (xs : List X) → AllByRecursion (λ x. p x ≡ q x) xs → filter p xs ≡ filter q xs
+pub filter_same : {X : Type 0} (p q : X → Bool) (xs : List X) → AllByRecursion (λ x. p x ≡ q x) xs
+    → filter p xs ≡ filter q xs
 filter_same p q [] h = refl
 filter_same p q (x ∷ xs) h = rw (h.0, filter_same p q xs h.1) refl
 
@@ -47,28 +84,33 @@ all_true : {X : Type 0} (P : X → Type 0) → ((x : X) → P x) → (xs : List 
 all_true P h [] = tt
 all_true P h (x ∷ xs) = (h x, all_true P h xs)
 
-all_both : {X : Type 0} (P Q R : X → Type 0) → ((x : X) → P x → Q x → R x) → (xs : List X) → AllByRecursion P xs → AllByRecursion Q xs → AllByRecursion R xs
+all_both : {X : Type 0} (P Q R : X → Type 0) → ((x : X) → P x → Q x → R x) → (xs : List X) → AllByRecursion P xs
+    → AllByRecursion Q xs → AllByRecursion R xs
 all_both P Q R h [] ps qs = tt
 all_both P Q R h (x ∷ xs) ps qs = (h x ps.0 qs.0, all_both P Q R h xs ps.1 qs.1)
 
 -- taking rowids out one by one is one filter
-pub taken_out : (ids : List ℤ) (rows : List Row) → without_all rows ids ≡ filter (λ r. not (list_any (λ id. has_rowid id r) ids)) rows
+pub taken_out : (ids : List ℤ) (rows : List Row) → without_all rows ids ≡ filter
+    (λ r. not (list_any (λ id. has_rowid id r) ids)) rows
 taken_out [] rows = sym (filter_all rows)
 taken_out (id ∷ ids) rows =
     taken_out ids (without_rowid id rows) ∙ filter_twice _ _ rows
     ∙ filter_same _ _ rows (all_true _ (λ r. none_of (has_rowid id r) (list_any (λ i. has_rowid i r) ids)) rows)
 
 module _ {X : Type 0} (key : X → ℕ) where
-  none_above : (k : ℕ) (q : X → Bool) (xs : List X) → AllByRecursion (λ y. k < key y) xs → list_any (λ y. key y == k) (filter q xs) ≡ false
+  none_above : (k : ℕ) (q : X → Bool) (xs : List X) → AllByRecursion (λ y. k < key y) xs
+      → list_any (λ y. key y == k) (filter q xs) ≡ false
   none_above k q [] h = refl
   none_above k q (x ∷ xs) h = go (none_above k q xs h.1) (q x)
     where
-      go : list_any (λ y. key y == k) (filter q xs) ≡ false → (b : Bool) → list_any (λ y. key y == k) (cond b (x ∷ filter q xs) (filter q xs)) ≡ false
+      go : list_any (λ y. key y == k) (filter q xs) ≡ false → (b : Bool) → list_any (λ y. key y == k)
+          (cond b (x ∷ filter q xs) (filter q xs)) ≡ false
       go ih true = let off : (key x == k) ≡ false = grind (arith, nat_tests, h.0) in rw off ih
       go ih false = ih
 
   -- where no key comes twice, an item's key is among those of a filter exactly if it passes
-  pub key_passes : (q : X → Bool) (xs : List X) → IsAscending (λ a b. key a < key b) xs → AllByRecursion (λ x. list_any (λ y. key y == key x) (filter q xs) ≡ q x) xs
+  pub key_passes : (q : X → Bool) (xs : List X) → IsAscending (λ a b. key a < key b) xs
+      → AllByRecursion (λ x. list_any (λ y. key y == key x) (filter q xs) ≡ q x) xs
   key_passes q [] h = tt
   key_passes q (z ∷ zs) h = (first (q z), all_both _ _ _ later zs h.0 (key_passes q zs h.1))
     where
@@ -76,14 +118,16 @@ module _ {X : Type 0} (key : X → ℕ) where
       first true = let same : (key z == key z) ≡ true = grind (arith, nat_tests) in rw same refl
       first false = none_above (key z) q zs h.0
 
-      later : (x : X) → key z < key x → list_any (λ y. key y == key x) (filter q zs) ≡ q x → list_any (λ y. key y == key x) (cond (q z) (z ∷ filter q zs) (filter q zs)) ≡ q x
+      later : (x : X) → key z < key x → list_any (λ y. key y == key x) (filter q zs) ≡ q x
+          → list_any (λ y. key y == key x) (cond (q z) (z ∷ filter q zs) (filter q zs)) ≡ q x
       later x low ih = go (q z)
         where
           go : (b : Bool) → list_any (λ y. key y == key x) (cond b (z ∷ filter q zs) (filter q zs)) ≡ q x
           go true = let off : (key z == key x) ≡ false = grind (arith, nat_tests, low) in rw off ih
           go false = ih
 
-list_any-map : {X Y : Type 0} (p : Y → Bool) (f : X → Y) (xs : List X) → list_any p (map f xs) ≡ list_any (λ x. p (f x)) xs
+list_any-map : {X Y : Type 0} (p : Y → Bool) (f : X → Y) (xs : List X) → list_any p (map f xs)
+    ≡ list_any (λ x. p (f x)) xs
 list_any-map p f [] = refl
 list_any-map p f (x ∷ xs) = ap (λ b. p (f x) || b) (list_any-map p f xs)
 
@@ -93,20 +137,29 @@ list_any_same p q h (x ∷ xs) = rw (h x, list_any_same p q h xs) refl
 
 module _ {X : Type 0} (enc : X → Row) (key : X → ℕ) (keyed : (x : X) → rowid (enc x) ≡ Int (pos (key x))) where
   is_row : (x y : X) → has_rowid (pos (key y)) (enc x) ≡ (key y == key x)
-  is_row x y = ap (λ v. is_eq (value_cmp v (Int (pos (key y))))) (keyed x) ∙ same_int (key x) (key y) ∙ grind (arith, nat_tests)
+  is_row x y = ap (λ v. is_eq (value_cmp v (Int (pos (key y))))) (keyed x) ∙ same_int (key x) (key y)
+      ∙ grind (arith, nat_tests)
 
   -- the rows that a DELETE finds, in any order, are taken out
-  pub deleted : (q : X → Bool) (xs : List X) (ids : List ℤ) → IsAscending (λ a b. key a < key b) xs → IsPermutation (map (λ x. pos (key x)) (filter q xs)) ids
+  pub deleted : (q : X → Bool) (xs : List X) (ids : List ℤ) → IsAscending (λ a b. key a < key b) xs
+      → IsPermutation (map (λ x. pos (key x)) (filter q xs)) ids
       → without_all (map enc xs) ids ≡ map enc (filter (λ x. not (q x)) xs)
   deleted q xs ids rise found =
       taken_out ids (map enc xs) ∙ filter-map _ enc xs
-      ∙ ap (map enc) (filter_same _ _ xs (all_both _ (λ _. Unit {0}) _ (λ x h _. ap not (sym (list_any-IsPermutation (λ id. has_rowid id (enc x)) _ _ found) ∙ list_any-map _ _ (filter q xs) ∙ list_any_same _ _ (is_row x) (filter q xs) ∙ h)) xs (key_passes key q xs rise) (all_true _ (λ _. tt) xs)))
+      ∙ ap (map enc) (filter_same _ _ xs
+      (all_both _ (λ _. Unit {0}) _
+      (λ x h _. ap not (sym (list_any-IsPermutation (λ id. has_rowid id (enc x)) _ _ found)
+      ∙ list_any-map _ _ (filter q xs) ∙ list_any_same _ _ (is_row x) (filter q xs) ∙ h)) xs
+      (key_passes key q xs rise) (all_true _ (λ _. tt) xs)))
 
   -- a row that comes after all others is put last
-  pub put_last : (new : X) (xs : List X) → AllByRecursion (λ x. key x < key new) xs → put_row (enc new) (map enc xs) ≡ map enc (xs ++ new ∷ [])
+  pub put_last : (new : X) (xs : List X) → AllByRecursion (λ x. key x < key new) xs
+      → put_row (enc new) (map enc xs) ≡ map enc (xs ++ new ∷ [])
   put_last new [] below = refl
   put_last new (x ∷ xs) below =
-      ap (λ o. match_ordering o (enc x ∷ put_row (enc new) (map enc xs)) (enc new ∷ map enc xs) (enc new ∷ enc x ∷ map enc xs)) (ap₂ value_cmp (keyed x) (keyed new) ∙ int_order (key x) (key new) ∙ less (key x) (key new) below.0)
+      ap (λ o. match_ordering o (enc x ∷ put_row (enc new) (map enc xs)) (enc new ∷ map enc xs)
+      (enc new ∷ enc x ∷ map enc xs)) (ap₂ value_cmp (keyed x) (keyed new) ∙ int_order (key x) (key new)
+      ∙ less (key x) (key new) below.0)
       ∙ ap (λ rows. enc x ∷ rows) (put_last new xs below.1)
 
 below_if : (m n : ℕ) → nat_cmp m n ≡ Less → m < n
@@ -118,7 +171,8 @@ same_if m n e = grind (arith, nat_tests, e)
 above_if : (m n : ℕ) → nat_cmp m n ≡ Greater → n < m
 above_if m n e = grind (arith, nat_tests, e)
 
-pub kept_by : {X : Type 0} (P : X → Type 0) (p : X → Bool) (xs : List X) → AllByRecursion P xs → AllByRecursion P (filter p xs)
+pub kept_by : {X : Type 0} (P : X → Type 0) (p : X → Bool) (xs : List X) → AllByRecursion P xs
+    → AllByRecursion P (filter p xs)
 kept_by P p [] h = tt
 kept_by P p (x ∷ xs) h = go (p x) (kept_by P p xs h.1)
   where
@@ -126,7 +180,8 @@ kept_by P p (x ∷ xs) h = go (p x) (kept_by P p xs h.1)
     go true more = (h.0, more)
     go false more = more
 
-pub still_ascends : {X : Type 0} (R : X → X → Type 0) (p : X → Bool) (xs : List X) → IsAscending R xs → IsAscending R (filter p xs)
+pub still_ascends : {X : Type 0} (R : X → X → Type 0) (p : X → Bool) (xs : List X) → IsAscending R xs
+    → IsAscending R (filter p xs)
 still_ascends R p [] h = tt
 still_ascends R p (x ∷ xs) h = go (p x) (still_ascends R p xs h.1)
   where
@@ -134,29 +189,35 @@ still_ascends R p (x ∷ xs) h = go (p x) (still_ascends R p xs h.1)
     go true more = (kept_by (R x) p xs h.0, more)
     go false more = more
 
-pub all_then : {X : Type 0} (P : X → Type 0) (xs : List X) (x : X) → AllByRecursion P xs → P x → AllByRecursion P (xs ++ x ∷ [])
+pub all_then : {X : Type 0} (P : X → Type 0) (xs : List X) (x : X) → AllByRecursion P xs → P x
+    → AllByRecursion P (xs ++ x ∷ [])
 all_then P [] x h p = (p, tt)
 all_then P (y ∷ ys) x h p = (h.0, all_then P ys x h.1 p)
 
-rises_then : {X : Type 0} (R : X → X → Type 0) (xs : List X) (x : X) → IsAscending R xs → AllByRecursion (λ y. R y x) xs → IsAscending R (xs ++ x ∷ [])
+rises_then : {X : Type 0} (R : X → X → Type 0) (xs : List X) (x : X) → IsAscending R xs → AllByRecursion (λ y. R y x) xs
+    → IsAscending R (xs ++ x ∷ [])
 rises_then R [] x h below = (tt, tt)
 rises_then R (y ∷ ys) x h below = (all_then (R y) ys x h.0 below.0, rises_then R ys x h.1 below.1)
 
 module _ {X : Type 0} (key : X → ℕ) where
-  put_above : (k : ℕ) (p : X) (qs : List X) → k < key p → AllByRecursion (λ q. k < key q) qs → AllByRecursion (λ q. k < key q) (put_by key p qs)
+  put_above : (k : ℕ) (p : X) (qs : List X) → k < key p → AllByRecursion (λ q. k < key q) qs
+      → AllByRecursion (λ q. k < key q) (put_by key p qs)
   put_above k p [] low h = (low, tt)
   put_above k p (q ∷ qs) low h = go (nat_cmp (key q) (key p)) (put_above k p qs low h.1)
     where
-      go : (o : Ordering) → AllByRecursion (λ q. k < key q) (put_by key p qs) → AllByRecursion (λ q. k < key q) (match_ordering o (q ∷ put_by key p qs) (p ∷ qs) (p ∷ q ∷ qs))
+      go : (o : Ordering) → AllByRecursion (λ q. k < key q) (put_by key p qs)
+          → AllByRecursion (λ q. k < key q) (match_ordering o (q ∷ put_by key p qs) (p ∷ qs) (p ∷ q ∷ qs))
       go Less more = (h.0, more)
       go Equal more = (low, h.1)
       go Greater more = (low, (h.0, h.1))
 
-  pub all_lower : (j k : ℕ) (qs : List X) → j < k → AllByRecursion (λ q. k < key q) qs → AllByRecursion (λ q. j < key q) qs
+  pub all_lower : (j k : ℕ) (qs : List X) → j < k → AllByRecursion (λ q. k < key q) qs
+      → AllByRecursion (λ q. j < key q) qs
   all_lower j k [] low h = tt
   all_lower j k (q ∷ qs) low h = (omega (arith, h.0, low), all_lower j k qs low h.1)
 
-  pub put_rises : (p : X) (qs : List X) → IsAscending (λ a b. key a < key b) qs → IsAscending (λ a b. key a < key b) (put_by key p qs)
+  pub put_rises : (p : X) (qs : List X) → IsAscending (λ a b. key a < key b) qs
+      → IsAscending (λ a b. key a < key b) (put_by key p qs)
   put_rises p [] h = (tt, tt)
   put_rises p (q ∷ qs) h = go (nat_cmp (key q) (key p)) refl (put_rises p qs h.1)
     where
@@ -170,22 +231,30 @@ module _ {X : Type 0} (enc : X → Row) (key : X → ℕ) (keyed : (x : X) → r
   put_is : (p : X) (qs : List X) → put_row (enc p) (map enc qs) ≡ map enc (put_by key p qs)
   put_is p [] = refl
   put_is p (q ∷ qs) =
-      ap (λ o. match_ordering o (enc q ∷ put_row (enc p) (map enc qs)) (enc p ∷ map enc qs) (enc p ∷ enc q ∷ map enc qs)) (ap₂ value_cmp (keyed q) (keyed p) ∙ int_order (key q) (key p))
+      ap (λ o. match_ordering o (enc q ∷ put_row (enc p) (map enc qs)) (enc p ∷ map enc qs)
+      (enc p ∷ enc q ∷ map enc qs)) (ap₂ value_cmp (keyed q) (keyed p) ∙ int_order (key q) (key p))
       ∙ go (nat_cmp (key q) (key p)) (put_is p qs)
     where
       go : (o : Ordering) → put_row (enc p) (map enc qs) ≡ map enc (put_by key p qs)
-          → match_ordering o (enc q ∷ put_row (enc p) (map enc qs)) (enc p ∷ map enc qs) (enc p ∷ enc q ∷ map enc qs) ≡ map enc (match_ordering o (q ∷ put_by key p qs) (p ∷ qs) (p ∷ q ∷ qs))
+          → match_ordering o (enc q ∷ put_row (enc p) (map enc qs)) (enc p ∷ map enc qs) (enc p ∷ enc q ∷ map enc qs)
+          ≡ map enc (match_ordering o (q ∷ put_by key p qs) (p ∷ qs) (p ∷ q ∷ qs))
       go Less ih = ap (λ rows. enc q ∷ rows) ih
       go Equal ih = refl
       go Greater ih = refl
 
   -- a row with a given key
-  pub keeps_put : (p : X) (xs : List X) (rows : List Row) → Keeps enc key xs rows → Keeps enc key (put_by key p xs) (put_row (enc p) rows)
-  keeps_put p xs rows was = record { is = ap (put_row (enc p)) was.is ∙ put_is p xs; rise = put_rises key p xs was.rise }
+  pub keeps_put : (p : X) (xs : List X) (rows : List Row) → Keeps enc key xs rows
+      → Keeps enc key (put_by key p xs) (put_row (enc p) rows)
+  keeps_put p xs rows was = record {
+    is = ap (put_row (enc p)) was.is ∙ put_is p xs;
+    rise = put_rises key p xs was.rise;
+  }
 
-  next_from : (a : ℕ) (xs : List X) → fold (λ _ r. id_in (rowid r) +ℤ pos 1) (pos a) (map enc xs) ≡ pos (fold (λ _ x. key x + 1) a xs)
+  next_from : (a : ℕ) (xs : List X) → fold (λ _ r. id_in (rowid r) +ℤ pos 1) (pos a) (map enc xs)
+      ≡ pos (fold (λ _ x. key x + 1) a xs)
   next_from a [] = refl
-  next_from a (x ∷ xs) = ap (λ i. fold (λ _ r. id_in (rowid r) +ℤ pos 1) i (map enc xs)) (ap (λ v. id_in v +ℤ pos 1) (keyed x)) ∙ next_from (key x + 1) xs
+  next_from a (x ∷ xs) = ap (λ i. fold (λ _ r. id_in (rowid r) +ℤ pos 1) i (map enc xs))
+      (ap (λ v. id_in v +ℤ pos 1) (keyed x)) ∙ next_from (key x + 1) xs
 
   -- the rowid that is chosen
   pub chosen_key : (xs : List X) (rows : List Row) → rows ≡ map enc xs → next_rowid rows ≡ pos (next_key key xs)
@@ -195,21 +264,32 @@ module _ {X : Type 0} (enc : X → Row) (key : X → ℕ) (keyed : (x : X) → r
   above_from k a [] low h = low
   above_from k a (x ∷ xs) low h = above_from k (key x + 1) xs (omega (arith, h.0)) h.1
 
-  below_next : (a : ℕ) (xs : List X) → IsAscending (λ x y. key x < key y) xs → AllByRecursion (λ x. key x < fold (λ _ x. key x + 1) a xs) xs
+  below_next : (a : ℕ) (xs : List X) → IsAscending (λ x y. key x < key y) xs
+      → AllByRecursion (λ x. key x < fold (λ _ x. key x + 1) a xs) xs
   below_next a [] h = tt
   below_next a (x ∷ xs) h = (above_from (key x) (key x + 1) xs (omega arith) h.0, below_next (key x + 1) xs h.1)
 
   -- a row whose key is chosen
-  pub keeps_last : (new : X) (xs : List X) (rows : List Row) → key new ≡ next_key key xs → Keeps enc key xs rows → Keeps enc key (xs ++ new ∷ []) (put_row (enc new) rows)
+  pub keeps_last : (new : X) (xs : List X) (rows : List Row) → key new ≡ next_key key xs → Keeps enc key xs rows
+      → Keeps enc key (xs ++ new ∷ []) (put_row (enc new) rows)
   keeps_last new xs rows chosen was =
       let below = subst (λ k. AllByRecursion (λ x. key x < k) xs) (sym chosen) (below_next 1 xs was.rise) in
-      record { is = ap (put_row (enc new)) was.is ∙ put_last enc key keyed new xs below; rise = rises_then _ xs new was.rise below }
+      record {
+        is = ap (put_row (enc new)) was.is ∙ put_last enc key keyed new xs below;
+        rise = rises_then _ xs new was.rise below;
+      }
 
   -- the rows that a query found, in any order, taken out
-  pub keeps_less : (q : X → Bool) (xs : List X) (rows : List Row) (ids : List ℤ) → IsPermutation (map (λ x. pos (key x)) (filter q xs)) ids → Keeps enc key xs rows
+  pub keeps_less : (q : X → Bool) (xs : List X) (rows : List Row) (ids : List ℤ)
+      → IsPermutation (map (λ x. pos (key x)) (filter q xs)) ids → Keeps enc key xs rows
       → Keeps enc key (filter (λ x. not (q x)) xs) (without_all rows ids)
-  keeps_less q xs rows ids found was = record { is = ap (λ rs. without_all rs ids) was.is ∙ deleted enc key keyed q xs ids was.rise found; rise = still_ascends _ _ xs was.rise }
+  keeps_less q xs rows ids found was =
+      record {
+        is = ap (λ rs. without_all rs ids) was.is ∙ deleted enc key keyed q xs ids was.rise found;
+        rise = still_ascends _ _ xs was.rise;
+      }
 
 -- a table that is not touched
-pub keeps_on : {X : Type 0} {enc : X → Row} {key : X → ℕ} (xs : List X) (rows now : List Row) → now ≡ rows → Keeps enc key xs rows → Keeps enc key xs now
+pub keeps_on : {X : Type 0} {enc : X → Row} {key : X → ℕ} (xs : List X) (rows now : List Row) → now ≡ rows
+    → Keeps enc key xs rows → Keeps enc key xs now
 keeps_on xs rows now same was = record { is = same ∙ was.is; rise = was.rise }

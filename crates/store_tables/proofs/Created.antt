@@ -13,8 +13,59 @@ use Rattle.sqlite.specs.State.{State, Writes, Executes, mode_of}
 use Rattle.sqlite_catalog.specs.Listing.{IsSound}
 use Rattle.sqlite_tied.specs.Compute.{everything}
 use Rattle.sqlite.proofs.Callers.{runs_as}
-use Rattle.store_tables.specs.Schema.{schema_1, schema_2, schema_3, schema_4, schema_5, schema_6, schema_7, schema_8, schema_9, schema_10, schema_11, archive_schema, no_schema, meta, batches, records, lines, receipts, slips, slip_lines, line_by_record, line_by_target, receipt_by_token, slip_line_by_slip, line_by_text}
-use Rattle.store_tables.proofs.Texts.{create_meta, create_batch, create_record, create_line, create_receipt, create_slip, create_slip_line, create_line_by_record, create_line_by_target, create_receipt_by_token, create_slip_line_by_slip, create_line_by_text, meta_is, batch_is, record_is, line_is, receipt_is, slip_is, slip_line_is, line_by_record_is, line_by_target_is, receipt_by_token_is, slip_line_by_slip_is, line_by_text_is}
+use Rattle.store_tables.specs.Schema.{
+  schema_1,
+  schema_2,
+  schema_3,
+  schema_4,
+  schema_5,
+  schema_6,
+  schema_7,
+  schema_8,
+  schema_9,
+  schema_10,
+  schema_11,
+  archive_schema,
+  no_schema,
+  meta,
+  batches,
+  records,
+  lines,
+  receipts,
+  slips,
+  slip_lines,
+  line_by_record,
+  line_by_target,
+  receipt_by_token,
+  slip_line_by_slip,
+  line_by_text,
+}
+use Rattle.store_tables.proofs.Texts.{
+  create_meta,
+  create_batch,
+  create_record,
+  create_line,
+  create_receipt,
+  create_slip,
+  create_slip_line,
+  create_line_by_record,
+  create_line_by_target,
+  create_receipt_by_token,
+  create_slip_line_by_slip,
+  create_line_by_text,
+  meta_is,
+  batch_is,
+  record_is,
+  line_is,
+  receipt_is,
+  slip_is,
+  slip_line_is,
+  line_by_record_is,
+  line_by_target_is,
+  receipt_by_token_is,
+  slip_line_by_slip_is,
+  line_by_text_is,
+}
 use Rattle.store_tables.proofs.Writing.{went, same_value}
 use Rattle.store_tables.specs.Creating.{IsCreate, IsCreateIndex}
 
@@ -28,23 +79,29 @@ no_match : (b : Bool) (A B : Type 0) → b ≡ false → MatchBool b A B → B
 no_match true A B e m = absurd cc
 no_match false A B e m = m
 
-pub creates : (schema : Schema) (text : List ℕ) (table : Table) (old new : State) (count : ℕ) → IsCreate schema text table → old.now.schema ≡ schema → Executes text [] old new (Ok count)
+pub creates : (schema : Schema) (text : List ℕ) (table : Table) (old new : State) (count : ℕ)
+    → IsCreate schema text table → old.now.schema ≡ schema → Executes text [] old new (Ok count)
     → Makes old new schema (created schema table)
 creates schema text table old new count is has h =
-    let w = subst (λ t. Writes old new None CreateTable t [] count) is.whole (runs_as text [] old new schema has CreateTable is.command is.plain count h) in
+    let w = subst (λ t. Writes old new None CreateTable t [] count) is.whole
+    (runs_as text [] old new schema has CreateTable is.command is.plain count h) in
     let all = went w.changed in
     let first = went all.1 in
     let made = first.1 in
     let both : Ok made.table ≡ Ok table = sym made.defined ∙ is.defined in
     let same : made.table ≡ table = same_value both in
-    let after : first.0.schema ≡ created schema table = made.is ∙ ap (λ s. created s made.table) has ∙ ap (created schema) same in
+    let after : first.0.schema ≡ created schema table = made.is ∙ ap (λ s. created s made.table) has
+    ∙ ap (created schema) same in
     let plain : lacks_sequence first.0.schema ≡ false = ap lacks_sequence after ∙ is.counts in
-    let now : new.now ≡ first.0 = ap (λ (p : Tally × Database). p.1) (same_value all.2) ∙ same_value (no_match _ _ _ plain first.2) in
+    let now : new.now ≡ first.0 = ap (λ (p : Tally × Database). p.1) (same_value all.2)
+    ∙ same_value (no_match _ _ _ plain first.2) in
     let schema_is = ap (λ (d : Database). d.schema) now ∙ after in
     record {
       schema_is = schema_is;
-      empty = ap (λ (d : Database). d.trees (next_tree schema)) now ∙ subst (λ s. first.0.trees (next_tree s) ≡ []) has made.empty;
-      others = subst (λ (d : Database). KeepsRows schema.tables old.now.trees d.trees) (sym now) (subst (λ s. KeepsRows s.tables old.now.trees first.0.trees) has made.others);
+      empty = ap (λ (d : Database). d.trees (next_tree schema)) now
+          ∙ subst (λ s. first.0.trees (next_tree s) ≡ []) has made.empty;
+      others = subst (λ (d : Database). KeepsRows schema.tables old.now.trees d.trees) (sym now)
+          (subst (λ s. KeepsRows s.tables old.now.trees first.0.trees) has made.others);
       sound = subst (λ s. IsSound s new.now.trees) schema_is w.sound;
     }
 
@@ -55,17 +112,22 @@ pub record MakesIndex (old new : State) (schema after : Schema) : Type 0 where
   pub rows : KeepsRows schema.tables old.now.trees new.now.trees
   pub sound : IsSound after new.now.trees
 
-pub creates_index : (schema : Schema) (text : List ℕ) (at : ℕ) (table : Table) (index : Index) (old new : State) (count : ℕ) → IsCreateIndex schema text at table index → old.now.schema ≡ schema
+pub creates_index : (schema : Schema) (text : List ℕ) (at : ℕ) (table : Table) (index : Index) (old new : State)
+    (count : ℕ) → IsCreateIndex schema text at table index → old.now.schema ≡ schema
     → Executes text [] old new (Ok count) → MakesIndex old new schema (indexed schema table index)
 creates_index schema text at table index old new count is has h =
-    let w = subst (λ t. Writes old new None (CreateIndex at) t [] count) is.whole (runs_as text [] old new schema has (CreateIndex at) is.command is.plain count h) in
-    let here = rw is.listed at (subst (λ s. Does old.step_limit (mode_of old) [] (record old.now { schema = s }) text None (CreateIndex at) (Ok (w.tally, new.now))) has w.changed) in
+    let w = subst (λ t. Writes old new None (CreateIndex at) t [] count) is.whole
+    (runs_as text [] old new schema has (CreateIndex at) is.command is.plain count h) in
+    let here = rw is.listed at
+    (subst (λ s. Does old.step_limit (mode_of old) [] (record old.now { schema = s }) text None (CreateIndex at)
+    (Ok (w.tally, new.now))) has w.changed) in
     let all = went here in
     let made = all.1 in
     let both : Ok made.index ≡ Ok index = sym made.defined ∙ is.defined in
     let same : made.index ≡ index = same_value both in
     let now : new.now ≡ all.0 = ap (λ (p : Tally × Database). p.1) (same_value all.2) in
-    let schema_is : new.now.schema ≡ indexed schema table index = ap (λ (d : Database). d.schema) now ∙ made.is ∙ ap (indexed schema table) same in
+    let schema_is : new.now.schema ≡ indexed schema table index = ap (λ (d : Database). d.schema) now ∙ made.is
+    ∙ ap (indexed schema table) same in
     record {
       schema_is = schema_is;
       rows = subst (λ (d : Database). KeepsRows schema.tables old.now.trees d.trees) (sym now) made.rows;
@@ -123,35 +185,67 @@ after_slip_line = refl
 
 pub makes_line_by_record : IsCreateIndex schema_7 create_line_by_record 3 lines (record line_by_record { tree = 0 })
 unfolding understood everything
-makes_line_by_record = record { command = refl; whole = refl; plain = (refl, refl); listed = refl; defined = line_by_record_is }
+makes_line_by_record = record {
+  command = refl;
+  whole = refl;
+  plain = (refl, refl);
+  listed = refl;
+  defined = line_by_record_is;
+}
 
 pub after_line_by_record : indexed schema_7 lines (record line_by_record { tree = 0 }) ≡ schema_8
 after_line_by_record = refl
 
 pub makes_line_by_target : IsCreateIndex schema_8 create_line_by_target 3 lines (record line_by_target { tree = 0 })
 unfolding understood everything
-makes_line_by_target = record { command = refl; whole = refl; plain = (refl, refl); listed = refl; defined = line_by_target_is }
+makes_line_by_target = record {
+  command = refl;
+  whole = refl;
+  plain = (refl, refl);
+  listed = refl;
+  defined = line_by_target_is;
+}
 
 pub after_line_by_target : indexed schema_8 lines (record line_by_target { tree = 0 }) ≡ schema_9
 after_line_by_target = refl
 
-pub makes_receipt_by_token : IsCreateIndex schema_9 create_receipt_by_token 4 receipts (record receipt_by_token { tree = 0 })
+pub makes_receipt_by_token : IsCreateIndex schema_9 create_receipt_by_token 4 receipts
+    (record receipt_by_token { tree = 0 })
 unfolding understood everything
-makes_receipt_by_token = record { command = refl; whole = refl; plain = (refl, refl); listed = refl; defined = receipt_by_token_is }
+makes_receipt_by_token = record {
+  command = refl;
+  whole = refl;
+  plain = (refl, refl);
+  listed = refl;
+  defined = receipt_by_token_is;
+}
 
 pub after_receipt_by_token : indexed schema_9 receipts (record receipt_by_token { tree = 0 }) ≡ schema_10
 after_receipt_by_token = refl
 
-pub makes_slip_line_by_slip : IsCreateIndex schema_10 create_slip_line_by_slip 6 slip_lines (record slip_line_by_slip { tree = 0 })
+pub makes_slip_line_by_slip : IsCreateIndex schema_10 create_slip_line_by_slip 6 slip_lines
+    (record slip_line_by_slip { tree = 0 })
 unfolding understood everything
-makes_slip_line_by_slip = record { command = refl; whole = refl; plain = (refl, refl); listed = refl; defined = slip_line_by_slip_is }
+makes_slip_line_by_slip = record {
+  command = refl;
+  whole = refl;
+  plain = (refl, refl);
+  listed = refl;
+  defined = slip_line_by_slip_is;
+}
 
 pub after_slip_line_by_slip : indexed schema_10 slip_lines (record slip_line_by_slip { tree = 0 }) ≡ schema_11
 after_slip_line_by_slip = refl
 
 pub makes_line_by_text : IsCreateIndex schema_11 create_line_by_text 3 lines (record line_by_text { tree = 0 })
 unfolding understood everything
-makes_line_by_text = record { command = refl; whole = refl; plain = (refl, refl); listed = refl; defined = line_by_text_is }
+makes_line_by_text = record {
+  command = refl;
+  whole = refl;
+  plain = (refl, refl);
+  listed = refl;
+  defined = line_by_text_is;
+}
 
 pub after_line_by_text : indexed schema_11 lines (record line_by_text { tree = 0 }) ≡ archive_schema
 after_line_by_text = refl

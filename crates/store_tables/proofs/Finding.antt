@@ -1,5 +1,26 @@
 -- What a query over one table of coded rows answers.
-use Rattle.std.proofs.Common.{◌≡◌, ℕ, pos, negsuc, List, [], ◌∷◌, ◌++◌, map, filter, Bool, true, false, cond, None, refl, sym, ap, subst, ◌∙◌}
+use Rattle.std.proofs.Common.{
+  ◌≡◌,
+  ℕ,
+  pos,
+  negsuc,
+  List,
+  [],
+  ◌∷◌,
+  ◌++◌,
+  map,
+  filter,
+  Bool,
+  true,
+  false,
+  cond,
+  None,
+  refl,
+  sym,
+  ap,
+  subst,
+  ◌∙◌,
+}
 use Rattle.std.specs.List.{flat_map, list_all}
 use Rattle.std.specs.List.Sorted.{IsPermutation}
 use Rattle.std.proofs.lemmas.List.Sorted.{IsPermutation-map}
@@ -18,11 +39,13 @@ pub map_twice : {X Y Z : Type 0} (f : Y → Z) (g : X → Y) (xs : List X) → m
 map_twice f g [] = refl
 map_twice f g (x ∷ xs) = ap (λ zs. f (g x) ∷ zs) (map_twice f g xs)
 
-all_map : {X Y : Type 0} (P : Y → Type 0) (f : X → Y) (xs : List X) → AllByRecursion (λ x. P (f x)) xs → AllByRecursion P (map f xs)
+all_map : {X Y : Type 0} (P : Y → Type 0) (f : X → Y) (xs : List X) → AllByRecursion (λ x. P (f x)) xs
+    → AllByRecursion P (map f xs)
 all_map P f [] h = tt
 all_map P f (x ∷ xs) h = (h.0, all_map P f xs h.1)
 
-rises_map : {X Y : Type 0} (R : Y → Y → Type 0) (f : X → Y) (xs : List X) → IsAscending (λ a b. R (f a) (f b)) xs → IsAscending R (map f xs)
+rises_map : {X Y : Type 0} (R : Y → Y → Type 0) (f : X → Y) (xs : List X) → IsAscending (λ a b. R (f a) (f b)) xs
+    → IsAscending R (map f xs)
 rises_map R f [] h = tt
 rises_map R f (x ∷ xs) h = (all_map (R (f x)) f xs h.0, rises_map R f xs h.1)
 
@@ -40,39 +63,54 @@ simple tree tests project order = record {
   offset = lit (Int (pos 0));
 }
 
-module _ {X : Type 0} (enc : X → Row) (params : Row) (tests : List Term) (q : X → Bool) (passes : (x : X) → list_all (holds (params ∷ enc x ∷ [])) tests ≡ q x) where
+module _ {X : Type 0} (enc : X → Row) (params : Row) (tests : List Term) (q : X → Bool)
+    (passes : (x : X) → list_all (holds (params ∷ enc x ∷ [])) tests ≡ q x) where
   abbrev each : Row → List Env
   each r = cond (list_all (holds (params ∷ r ∷ [])) tests) ((params ∷ r ∷ []) ∷ []) []
 
   abbrev env_of : X → Env
   env_of x = params ∷ enc x ∷ []
 
-  one_more : (x : X) (xs : List X) (b : Bool) (ys : List Env) → ys ≡ map env_of (filter q xs) → cond b (env_of x ∷ []) [] ++ ys ≡ map env_of (cond b (x ∷ filter q xs) (filter q xs))
+  one_more : (x : X) (xs : List X) (b : Bool) (ys : List Env) → ys ≡ map env_of (filter q xs)
+      → cond b (env_of x ∷ []) [] ++ ys ≡ map env_of (cond b (x ∷ filter q xs) (filter q xs))
   one_more x xs true ys e = ap (λ zs. env_of x ∷ zs) e
   one_more x xs false ys e = e
 
   matched : (xs : List X) → flat_map each (map enc xs) ≡ map env_of (filter q xs)
   matched [] = refl
-  matched (x ∷ xs) = ap (λ b. cond b (env_of x ∷ []) [] ++ flat_map each (map enc xs)) (passes x) ∙ one_more x xs (q x) (flat_map each (map enc xs)) (matched xs)
+  matched (x ∷ xs) = ap (λ b. cond b (env_of x ∷ []) [] ++ flat_map each (map enc xs)) (passes x)
+      ∙ one_more x xs (q x) (flat_map each (map enc xs)) (matched xs)
 
-  pub answered : (tree : ℕ) (project : List Term) (order : List (Term × Key)) (db : Trees) (xs : List X) (rows : List Row) → db tree ≡ map enc xs → IsAnswer (simple tree tests project order) db params rows
+  pub answered : (tree : ℕ) (project : List Term) (order : List (Term × Key)) (db : Trees) (xs : List X)
+      (rows : List Row) → db tree ≡ map enc xs → IsAnswer (simple tree tests project order) db params rows
       → IsPermutation (map (λ x. eval_all project (env_of x)) (filter q xs)) rows
   answered tree project order db xs rows has a =
       let it = simple tree tests project order in
       let staged : a.staged ≡ map env_of (filter q xs) = a.grouped ∙ ap (flat_map each) has ∙ matched xs in
-      let kept : a.kept ≡ map (λ x. output it (env_of x)) (filter q xs) = a.distinct ∙ ap (map (output it)) staged ∙ map_twice _ _ (filter q xs) in
-      let both : map (λ (o : Output). o.1) a.kept ≡ map (λ x. eval_all project (env_of x)) (filter q xs) = ap (map (λ (o : Output). o.1)) kept ∙ map_twice _ _ (filter q xs) in
-      let moved : IsPermutation (map (λ (o : Output). o.1) a.kept) (map (λ (o : Output). o.1) a.ordered) = IsPermutation-map _ _ _ a.same in
-      subst (λ k. IsPermutation k rows) both (subst (IsPermutation (map (λ (o : Output). o.1) a.kept)) (sym a.shown) moved)
+      let kept : a.kept ≡ map (λ x. output it (env_of x)) (filter q xs) = a.distinct ∙ ap (map (output it)) staged
+      ∙ map_twice _ _ (filter q xs) in
+      let both : map (λ (o : Output). o.1) a.kept ≡ map (λ x. eval_all project (env_of x)) (filter q xs) = ap
+      (map (λ (o : Output). o.1)) kept ∙ map_twice _ _ (filter q xs) in
+      let moved : IsPermutation (map (λ (o : Output). o.1) a.kept) (map (λ (o : Output). o.1) a.ordered) =
+      IsPermutation-map _ _ _ a.same in
+      subst (λ k. IsPermutation k rows) both
+      (subst (IsPermutation (map (λ (o : Output). o.1) a.kept)) (sym a.shown) moved)
 
   -- with an ORDER BY that leaves no tie, the rows are those, in order
-  pub in_order : (tree : ℕ) (project : List Term) (order : List (Term × Key)) (db : Trees) (xs : List X) (rows : List Row) → db tree ≡ map enc xs
-      → IsAscending (λ x y. output_cmp (simple tree tests project order) (output (simple tree tests project order) (env_of x)) (output (simple tree tests project order) (env_of y)) ≡ Less) (filter q xs)
-      → IsAnswer (simple tree tests project order) db params rows → rows ≡ map (λ x. eval_all project (env_of x)) (filter q xs)
+  pub in_order : (tree : ℕ) (project : List Term) (order : List (Term × Key)) (db : Trees) (xs : List X)
+      (rows : List Row) → db tree ≡ map enc xs
+      → IsAscending (λ x y. output_cmp (simple tree tests project order)
+      (output (simple tree tests project order) (env_of x)) (output (simple tree tests project order) (env_of y))
+      ≡ Less) (filter q xs)
+      → IsAnswer (simple tree tests project order) db params rows
+      → rows ≡ map (λ x. eval_all project (env_of x)) (filter q xs)
   in_order tree project order db xs rows has rise a =
       let it = simple tree tests project order in
       let staged : a.staged ≡ map env_of (filter q xs) = a.grouped ∙ ap (flat_map each) has ∙ matched xs in
-      let kept : a.kept ≡ map (λ x. output it (env_of x)) (filter q xs) = a.distinct ∙ ap (map (output it)) staged ∙ map_twice _ _ (filter q xs) in
-      let same : IsPermutation (map (λ x. output it (env_of x)) (filter q xs)) a.ordered = subst (λ k. IsPermutation k a.ordered) kept a.same in
-      let ordered = sorted_unique (output_cmp it) (output_cmp_total it) (map (λ x. output it (env_of x)) (filter q xs)) a.ordered (rises_map (λ x y. output_cmp it x y ≡ Less) _ (filter q xs) rise) same a.sorted in
+      let kept : a.kept ≡ map (λ x. output it (env_of x)) (filter q xs) = a.distinct ∙ ap (map (output it)) staged
+      ∙ map_twice _ _ (filter q xs) in
+      let same : IsPermutation (map (λ x. output it (env_of x)) (filter q xs)) a.ordered = subst
+      (λ k. IsPermutation k a.ordered) kept a.same in
+      let ordered = sorted_unique (output_cmp it) (output_cmp_total it) (map (λ x. output it (env_of x)) (filter q xs))
+      a.ordered (rises_map (λ x y. output_cmp it x y ≡ Less) _ (filter q xs) rise) same a.sorted in
       a.shown ∙ ap (map (λ (o : Output). o.1)) ordered ∙ map_twice _ _ (filter q xs)

@@ -1,5 +1,35 @@
 -- What the queries of one number or one token answer.
-use Rattle.std.proofs.Common.{◌≡◌, ℕ, ◌==◌, ◌&&◌, pos, Bool, true, false, List, [], ◌∷◌, map, filter, Option, Some, None, refl, ap, ap₂, ◌∙◌, Less, Equal, inl, inr, length, ◌≤◌, ◌<◌, arith, bytes_eq}
+use Rattle.std.proofs.Common.{
+  ◌≡◌,
+  ℕ,
+  ◌==◌,
+  ◌&&◌,
+  pos,
+  Bool,
+  true,
+  false,
+  List,
+  [],
+  ◌∷◌,
+  map,
+  filter,
+  Option,
+  Some,
+  None,
+  refl,
+  ap,
+  ap₂,
+  ◌∙◌,
+  Less,
+  Equal,
+  inl,
+  inr,
+  length,
+  ◌≤◌,
+  ◌<◌,
+  arith,
+  bytes_eq,
+}
 use Rattle.std.specs.Ordering.{ordering_then, is_eq}
 use Rattle.std.specs.List.{list_all}
 use Rattle.std.proofs.lemmas.Map.Text.{is_eq-slice_cmp}
@@ -14,7 +44,26 @@ use Rattle.sqlite.specs.State.{State, Shown}
 use Rattle.sqlite.proofs.Callers.{reads_as}
 use Rattle.sqlite_value.proofs.OrderLemmas.{value_cmp-Text}
 use Rattle.store_tables.specs.Keyed.{is_number, is_text}
-use Rattle.store_tables.specs.Rows.{Rows, BatchRow, RecordRow, LineRow, ReceiptRow, SlipRow, SlipLineRow, Holds, Keeps, batch_values, record_values, line_values, line_fields, receipt_values, slip_values, slip_line_values, number_or_null, words_or_null}
+use Rattle.store_tables.specs.Rows.{
+  Rows,
+  BatchRow,
+  RecordRow,
+  LineRow,
+  ReceiptRow,
+  SlipRow,
+  SlipLineRow,
+  Holds,
+  Keeps,
+  batch_values,
+  record_values,
+  line_values,
+  line_fields,
+  receipt_values,
+  slip_values,
+  slip_line_values,
+  number_or_null,
+  words_or_null,
+}
 use Rattle.store_tables.specs.Schema.{archive_schema}
 use Rattle.store_tables.specs.Shown.{shown_batch, shown_record, shown_receipt, shown_slip, shown_slip_line}
 use Rattle.store_tables.proofs.Changing.{at_key}
@@ -23,21 +72,64 @@ use Rattle.store_tables.proofs.Finding.{simple, in_order}
 use Rattle.store_tables.proofs.Queries.{ascending_weaker}
 use Rattle.store_tables.proofs.Statements.{truth_of}
 use Rattle.store_tables.proofs.Texts.{with_key, by_key}
-use Rattle.store_tables.proofs.KeyedTexts.{batch_at, batch_at_is, batch_at_plain, batch_at_unlisted, record_at, record_at_is, record_at_plain, record_at_unlisted, lines_at, lines_at_is, lines_at_plain, lines_at_unlisted, lines_naming, lines_naming_is, lines_naming_plain, lines_naming_unlisted, receipts_at, receipts_at_is, receipts_at_plain, receipts_at_unlisted, slip_at, slip_at_is, slip_at_plain, slip_at_unlisted, slip_lines_at, slip_lines_at_is, slip_lines_at_plain, slip_lines_at_unlisted, lines_saying, lines_saying_is, lines_saying_plain, lines_saying_unlisted, lines_saying_of, lines_saying_of_is, lines_saying_of_plain, lines_saying_of_unlisted, with_both}
+use Rattle.store_tables.proofs.KeyedTexts.{
+  batch_at,
+  batch_at_is,
+  batch_at_plain,
+  batch_at_unlisted,
+  record_at,
+  record_at_is,
+  record_at_plain,
+  record_at_unlisted,
+  lines_at,
+  lines_at_is,
+  lines_at_plain,
+  lines_at_unlisted,
+  lines_naming,
+  lines_naming_is,
+  lines_naming_plain,
+  lines_naming_unlisted,
+  receipts_at,
+  receipts_at_is,
+  receipts_at_plain,
+  receipts_at_unlisted,
+  slip_at,
+  slip_at_is,
+  slip_at_plain,
+  slip_at_unlisted,
+  slip_lines_at,
+  slip_lines_at_is,
+  slip_lines_at_plain,
+  slip_lines_at_unlisted,
+  lines_saying,
+  lines_saying_is,
+  lines_saying_plain,
+  lines_saying_unlisted,
+  lines_saying_of,
+  lines_saying_of_is,
+  lines_saying_of_plain,
+  lines_saying_of_unlisted,
+  with_both,
+}
 
 -- the rows of a table that pass the tests, in the order of its key
-module _ {X : Type 0} (enc : X → Row) (key : X → ℕ) (keyed : (x : X) → rowid (enc x) ≡ Int (pos (key x))) (params : Row) (tests : List Term) (q : X → Bool)
+module _ {X : Type 0} (enc : X → Row) (key : X → ℕ) (keyed : (x : X) → rowid (enc x) ≡ Int (pos (key x))) (params : Row)
+    (tests : List Term) (q : X → Bool)
     (passes : (x : X) → list_all (holds (params ∷ enc x ∷ [])) tests ≡ q x) where
-  pub found_in_order : (tree : ℕ) (project : List Term) (db : Trees) (xs : List X) (rows : List Row) → Keeps enc key xs (db tree) → IsAnswer (simple tree tests project by_key) db params rows
+  pub found_in_order : (tree : ℕ) (project : List Term) (db : Trees) (xs : List X) (rows : List Row)
+      → Keeps enc key xs (db tree) → IsAnswer (simple tree tests project by_key) db params rows
       → rows ≡ map (λ x. eval_all project (params ∷ enc x ∷ [])) (filter q xs)
   found_in_order tree project db xs rows was answer =
       let it = simple tree tests project by_key in
-      let rise = ascending_weaker _ (λ (x y : X). output_cmp it (output it (params ∷ enc x ∷ [])) (output it (params ∷ enc y ∷ [])) ≡ Less)
-      (λ x y low. ap (λ o. ordering_then o Equal) (ap₂ value_cmp (keyed x) (keyed y) ∙ int_order (key x) (key y) ∙ less (key x) (key y) low)) (filter q xs) (still_ascends _ q xs was.rise) in
+      let rise = ascending_weaker _ (λ (x y : X). output_cmp it (output it (params ∷ enc x ∷ []))
+      (output it (params ∷ enc y ∷ [])) ≡ Less)
+      (λ x y low. ap (λ o. ordering_then o Equal) (ap₂ value_cmp (keyed x) (keyed y) ∙ int_order (key x) (key y)
+      ∙ less (key x) (key y) low)) (filter q xs) (still_ascends _ q xs was.rise) in
       in_order enc params tests q passes tree project by_key db xs rows was.is rise answer
 
 -- no more than one row has a key
-pub one_at_most : {X : Type 0} (key : X → ℕ) (n : ℕ) (xs : List X) → IsAscending (λ a b. key a < key b) xs → length (filter (λ x. key x == n) xs) ≤ 1
+pub one_at_most : {X : Type 0} (key : X → ℕ) (n : ℕ) (xs : List X) → IsAscending (λ a b. key a < key b) xs
+    → length (filter (λ x. key x == n) xs) ≤ 1
 one_at_most key n xs rise = elim (at_key key n xs rise) [
   | inl none ↦ let e : length (filter (λ x. key x == n) xs) ≡ 0 = ap length none in omega (arith, e)
   | inr one ↦ let e : length (filter (λ x. key x == n) xs) ≡ 1 = ap length one.1 in omega (arith, e)
@@ -48,59 +140,75 @@ one_at_most key n xs rise = elim (at_key key n xs rise) [
 same_text : (s t : List ℕ) → is_eq (value_cmp (Text s) (Text t)) ≡ bytes_eq s t
 same_text s t = ap is_eq (value_cmp-Text s t) ∙ is_eq-slice_cmp s t
 
-batch_passes : (n : ℕ) (x : BatchRow) → list_all (holds ((Int (pos n) ∷ []) ∷ batch_values x ∷ [])) (with_key 0) ≡ (x.no == n)
+batch_passes : (n : ℕ) (x : BatchRow) → list_all (holds ((Int (pos n) ∷ []) ∷ batch_values x ∷ []))
+    (with_key 0) ≡ (x.no == n)
 unfolding binary
 batch_passes n x = ap (λ b. is_true (from_truth (Some b)) && true) (same_int x.no n) ∙ truth_of (x.no == n)
 
-record_passes : (n : ℕ) (x : RecordRow) → list_all (holds ((Int (pos n) ∷ []) ∷ record_values x ∷ [])) (with_key 0) ≡ (x.no == n)
+record_passes : (n : ℕ) (x : RecordRow) → list_all (holds ((Int (pos n) ∷ []) ∷ record_values x ∷ []))
+    (with_key 0) ≡ (x.no == n)
 unfolding binary
 record_passes n x = ap (λ b. is_true (from_truth (Some b)) && true) (same_int x.no n) ∙ truth_of (x.no == n)
 
-line_passes : (n : ℕ) (x : LineRow) → list_all (holds ((Int (pos n) ∷ []) ∷ line_values x ∷ [])) (with_key 2) ≡ (x.no == n)
+line_passes : (n : ℕ) (x : LineRow) → list_all (holds ((Int (pos n) ∷ []) ∷ line_values x ∷ []))
+    (with_key 2) ≡ (x.no == n)
 unfolding binary
 line_passes n x = ap (λ b. is_true (from_truth (Some b)) && true) (same_int x.no n) ∙ truth_of (x.no == n)
 
-receipt_passes : (token : List ℕ) (x : ReceiptRow) → list_all (holds ((Text token ∷ []) ∷ receipt_values x ∷ [])) (with_key 2) ≡ bytes_eq x.token token
+receipt_passes : (token : List ℕ) (x : ReceiptRow) → list_all (holds ((Text token ∷ []) ∷ receipt_values x ∷ []))
+    (with_key 2) ≡ bytes_eq x.token token
 unfolding binary
-receipt_passes token x = ap (λ b. is_true (from_truth (Some b)) && true) (same_text x.token token) ∙ truth_of (bytes_eq x.token token)
+receipt_passes token x = ap (λ b. is_true (from_truth (Some b)) && true) (same_text x.token token)
+    ∙ truth_of (bytes_eq x.token token)
 
-slip_passes : (n : ℕ) (x : SlipRow) → list_all (holds ((Int (pos n) ∷ []) ∷ slip_values x ∷ [])) (with_key 0) ≡ (x.no == n)
+slip_passes : (n : ℕ) (x : SlipRow) → list_all (holds ((Int (pos n) ∷ []) ∷ slip_values x ∷ []))
+    (with_key 0) ≡ (x.no == n)
 unfolding binary
 slip_passes n x = ap (λ b. is_true (from_truth (Some b)) && true) (same_int x.no n) ∙ truth_of (x.no == n)
 
-slip_line_passes : (n : ℕ) (x : SlipLineRow) → list_all (holds ((Int (pos n) ∷ []) ∷ slip_line_values x ∷ [])) (with_key 2) ≡ (x.slip == n)
+slip_line_passes : (n : ℕ) (x : SlipLineRow) → list_all (holds ((Int (pos n) ∷ []) ∷ slip_line_values x ∷ []))
+    (with_key 2) ≡ (x.slip == n)
 unfolding binary
 slip_line_passes n x = ap (λ b. is_true (from_truth (Some b)) && true) (same_int x.slip n) ∙ truth_of (x.slip == n)
 
 -- a line without a number passes no test of numbers, since nothing is equal to NULL
-naming_passes : (n : ℕ) (x : LineRow) → list_all (holds ((Int (pos n) ∷ []) ∷ line_values x ∷ [])) (with_key 7) ≡ is_number n x.line.1.target
+naming_passes : (n : ℕ) (x : LineRow) → list_all (holds ((Int (pos n) ∷ []) ∷ line_values x ∷ [])) (with_key 7)
+    ≡ is_number n x.line.1.target
 unfolding binary
 naming_passes n x = go x.line.1.target
   where
     go : (o : Option ℕ)
-        → list_all (holds ((Int (pos n) ∷ []) ∷ (Int (pos x.id) ∷ Null ∷ Int (pos x.no) ∷ Int (pos x.at) ∷ Int (pos x.line.0) ∷ Text x.line.1.tag ∷ words_or_null x.line.1.text ∷ number_or_null o ∷ []) ∷ [])) (with_key 7)
+        → list_all (holds ((Int (pos n) ∷ [])
+        ∷ (Int (pos x.id) ∷ Null ∷ Int (pos x.no) ∷ Int (pos x.at) ∷ Int (pos x.line.0) ∷ Text x.line.1.tag
+        ∷ words_or_null x.line.1.text ∷ number_or_null o ∷ []) ∷ [])) (with_key 7)
         ≡ is_number n o
     go None = refl
     go (Some m) = ap (λ b. is_true (from_truth (Some b)) && true) (same_int m n) ∙ truth_of (m == n)
 
 -- nor does a line without a text pass a test of texts
-saying_passes : (t : List ℕ) (more : Row) (x : LineRow) → list_all (holds ((Text t ∷ more) ∷ line_values x ∷ [])) (with_key 6) ≡ is_text t x.line.1.text
+saying_passes : (t : List ℕ) (more : Row) (x : LineRow) → list_all (holds ((Text t ∷ more) ∷ line_values x ∷ []))
+    (with_key 6) ≡ is_text t x.line.1.text
 unfolding binary
 saying_passes t more x = go x.line.1.text
   where
     go : (o : Option (List ℕ))
-        → list_all (holds ((Text t ∷ more) ∷ (Int (pos x.id) ∷ Null ∷ Int (pos x.no) ∷ Int (pos x.at) ∷ Int (pos x.line.0) ∷ Text x.line.1.tag ∷ words_or_null o ∷ number_or_null x.line.1.target ∷ []) ∷ [])) (with_key 6)
+        → list_all (holds ((Text t ∷ more) ∷ (Int (pos x.id) ∷ Null ∷ Int (pos x.no) ∷ Int (pos x.at) ∷ Int
+        (pos x.line.0) ∷ Text x.line.1.tag ∷ words_or_null o ∷ number_or_null x.line.1.target ∷ []) ∷ []))
+        (with_key 6)
         ≡ is_text t o
     go None = refl
     go (Some s) = ap (λ b. is_true (from_truth (Some b)) && true) (same_text s t) ∙ truth_of (bytes_eq s t)
 
 -- both tests, of a text and of a number
-both_pass : (t : List ℕ) (n : ℕ) (x : LineRow) → list_all (holds ((Text t ∷ Int (pos n) ∷ []) ∷ line_values x ∷ [])) with_both ≡ (is_text t x.line.1.text && is_number n x.line.1.target)
+both_pass : (t : List ℕ) (n : ℕ) (x : LineRow) → list_all (holds ((Text t ∷ Int (pos n) ∷ []) ∷ line_values x ∷ []))
+    with_both ≡ (is_text t x.line.1.text && is_number n x.line.1.target)
 unfolding binary
 both_pass t n x = go x.line.1.text x.line.1.target
   where
     go : (o : Option (List ℕ)) (q : Option ℕ)
-        → list_all (holds ((Text t ∷ Int (pos n) ∷ []) ∷ (Int (pos x.id) ∷ Null ∷ Int (pos x.no) ∷ Int (pos x.at) ∷ Int (pos x.line.0) ∷ Text x.line.1.tag ∷ words_or_null o ∷ number_or_null q ∷ []) ∷ [])) with_both
+        → list_all (holds ((Text t ∷ Int (pos n) ∷ [])
+        ∷ (Int (pos x.id) ∷ Null ∷ Int (pos x.no) ∷ Int (pos x.at) ∷ Int (pos x.line.0) ∷ Text x.line.1.tag
+        ∷ words_or_null o ∷ number_or_null q ∷ []) ∷ [])) with_both
         ≡ (is_text t o && is_number n q)
     go None q = refl
     go (Some s) None = ap (λ b. is_true (from_truth (Some b)) && false) (same_text s t) ∙ never (bytes_eq s t)
@@ -108,7 +216,8 @@ both_pass t n x = go x.line.1.text x.line.1.target
         never : (b : Bool) → (is_true (from_truth (Some b)) && false) ≡ (b && false)
         never true = refl
         never false = refl
-    go (Some s) (Some m) = ap₂ (λ a b. is_true (from_truth (Some a)) && (is_true (from_truth (Some b)) && true)) (same_text s t) (same_int m n) ∙ two (bytes_eq s t) (m == n)
+    go (Some s) (Some m) = ap₂ (λ a b. is_true (from_truth (Some a)) && (is_true (from_truth (Some b)) && true))
+        (same_text s t) (same_int m n) ∙ two (bytes_eq s t) (m == n)
       where
         two : (a b : Bool) → (is_true (from_truth (Some a)) && (is_true (from_truth (Some b)) && true)) ≡ (a && b)
         two true true = refl
@@ -117,56 +226,98 @@ both_pass t n x = go x.line.1.text x.line.1.target
 
 -- ---- the queries
 
-pub reads_batch : (old new : State) (n : ℕ) (read : List Row) (rows : Rows) → old.now.schema ≡ archive_schema → Holds rows old.now.trees → Shown batch_at (Int (pos n) ∷ []) old new read
+pub reads_batch : (old new : State) (n : ℕ) (read : List Row) (rows : Rows) → old.now.schema ≡ archive_schema
+    → Holds rows old.now.trees → Shown batch_at (Int (pos n) ∷ []) old new read
     → read ≡ map shown_batch (filter (λ (x : BatchRow). x.no == n) rows.batches)
 reads_batch old new n read rows has was h =
-    let reads = reads_as batch_at (Int (pos n) ∷ []) old new archive_schema has _ batch_at_is batch_at_plain batch_at_unlisted read h in
-    found_in_order batch_values (λ (x : BatchRow). x.no) (λ _. refl) (Int (pos n) ∷ []) (with_key 0) (λ (x : BatchRow). x.no == n) (batch_passes n) 1 (col 1 0 ∷ col 1 2 ∷ []) (overlay old.now.trees []) rows.batches read was.batches (reads.answer Null)
+    let reads = reads_as batch_at (Int (pos n) ∷ []) old new archive_schema has _ batch_at_is batch_at_plain
+    batch_at_unlisted read h in
+    found_in_order batch_values (λ (x : BatchRow). x.no) (λ _. refl) (Int (pos n) ∷ []) (with_key 0)
+    (λ (x : BatchRow). x.no == n) (batch_passes n) 1 (col 1 0 ∷ col 1 2 ∷ []) (overlay old.now.trees [])
+    rows.batches read was.batches (reads.answer Null)
 
-pub reads_record : (old new : State) (n : ℕ) (read : List Row) (rows : Rows) → old.now.schema ≡ archive_schema → Holds rows old.now.trees → Shown record_at (Int (pos n) ∷ []) old new read
+pub reads_record : (old new : State) (n : ℕ) (read : List Row) (rows : Rows) → old.now.schema ≡ archive_schema
+    → Holds rows old.now.trees → Shown record_at (Int (pos n) ∷ []) old new read
     → read ≡ map shown_record (filter (λ (x : RecordRow). x.no == n) rows.records)
 reads_record old new n read rows has was h =
-    let reads = reads_as record_at (Int (pos n) ∷ []) old new archive_schema has _ record_at_is record_at_plain record_at_unlisted read h in
-    found_in_order record_values (λ (x : RecordRow). x.no) (λ _. refl) (Int (pos n) ∷ []) (with_key 0) (λ (x : RecordRow). x.no == n) (record_passes n) 2 (col 1 0 ∷ col 1 3 ∷ []) (overlay old.now.trees []) rows.records read was.records (reads.answer Null)
+    let reads = reads_as record_at (Int (pos n) ∷ []) old new archive_schema has _ record_at_is record_at_plain
+    record_at_unlisted read h in
+    found_in_order record_values (λ (x : RecordRow). x.no) (λ _. refl) (Int (pos n) ∷ []) (with_key 0)
+    (λ (x : RecordRow). x.no == n) (record_passes n) 2 (col 1 0 ∷ col 1 3 ∷ []) (overlay old.now.trees [])
+    rows.records read was.records (reads.answer Null)
 
-pub reads_lines_at : (old new : State) (n : ℕ) (read : List Row) (rows : Rows) → old.now.schema ≡ archive_schema → Holds rows old.now.trees → Shown lines_at (Int (pos n) ∷ []) old new read
+pub reads_lines_at : (old new : State) (n : ℕ) (read : List Row) (rows : Rows) → old.now.schema ≡ archive_schema
+    → Holds rows old.now.trees → Shown lines_at (Int (pos n) ∷ []) old new read
     → read ≡ map (λ (l : LineRow). line_fields l.line) (filter (λ (x : LineRow). x.no == n) rows.lines)
 reads_lines_at old new n read rows has was h =
-    let reads = reads_as lines_at (Int (pos n) ∷ []) old new archive_schema has _ lines_at_is lines_at_plain lines_at_unlisted read h in
-    found_in_order line_values (λ (x : LineRow). x.id) (λ _. refl) (Int (pos n) ∷ []) (with_key 2) (λ (x : LineRow). x.no == n) (line_passes n) 3 (col 1 4 ∷ col 1 5 ∷ col 1 6 ∷ col 1 7 ∷ []) (overlay old.now.trees []) rows.lines read was.lines (reads.answer Null)
+    let reads = reads_as lines_at (Int (pos n) ∷ []) old new archive_schema has _ lines_at_is lines_at_plain
+    lines_at_unlisted read h in
+    found_in_order line_values (λ (x : LineRow). x.id) (λ _. refl) (Int (pos n) ∷ []) (with_key 2)
+    (λ (x : LineRow). x.no == n) (line_passes n) 3 (col 1 4 ∷ col 1 5 ∷ col 1 6 ∷ col 1 7 ∷ [])
+    (overlay old.now.trees []) rows.lines read was.lines (reads.answer Null)
 
-pub reads_naming : (old new : State) (n : ℕ) (read : List Row) (rows : Rows) → old.now.schema ≡ archive_schema → Holds rows old.now.trees → Shown lines_naming (Int (pos n) ∷ []) old new read
-    → read ≡ map (λ (l : LineRow). Int (pos l.no) ∷ []) (filter (λ (x : LineRow). is_number n x.line.1.target) rows.lines)
+pub reads_naming : (old new : State) (n : ℕ) (read : List Row) (rows : Rows) → old.now.schema ≡ archive_schema
+    → Holds rows old.now.trees → Shown lines_naming (Int (pos n) ∷ []) old new read
+    → read ≡ map (λ (l : LineRow). Int (pos l.no) ∷ [])
+    (filter (λ (x : LineRow). is_number n x.line.1.target) rows.lines)
 reads_naming old new n read rows has was h =
-    let reads = reads_as lines_naming (Int (pos n) ∷ []) old new archive_schema has _ lines_naming_is lines_naming_plain lines_naming_unlisted read h in
-    found_in_order line_values (λ (x : LineRow). x.id) (λ _. refl) (Int (pos n) ∷ []) (with_key 7) (λ (x : LineRow). is_number n x.line.1.target) (naming_passes n) 3 (col 1 2 ∷ []) (overlay old.now.trees []) rows.lines read was.lines (reads.answer Null)
+    let reads = reads_as lines_naming (Int (pos n) ∷ []) old new archive_schema has _ lines_naming_is lines_naming_plain
+    lines_naming_unlisted read h in
+    found_in_order line_values (λ (x : LineRow). x.id) (λ _. refl) (Int (pos n) ∷ []) (with_key 7)
+    (λ (x : LineRow). is_number n x.line.1.target) (naming_passes n) 3 (col 1 2 ∷ [])
+    (overlay old.now.trees []) rows.lines read was.lines (reads.answer Null)
 
-pub reads_receipts_at : (old new : State) (token : List ℕ) (read : List Row) (rows : Rows) → old.now.schema ≡ archive_schema → Holds rows old.now.trees → Shown receipts_at (Text token ∷ []) old new read
+pub reads_receipts_at : (old new : State) (token : List ℕ) (read : List Row) (rows : Rows)
+    → old.now.schema ≡ archive_schema → Holds rows old.now.trees → Shown receipts_at (Text token ∷ []) old new read
     → read ≡ map shown_receipt (filter (λ (x : ReceiptRow). bytes_eq x.token token) rows.receipts)
 reads_receipts_at old new token read rows has was h =
-    let reads = reads_as receipts_at (Text token ∷ []) old new archive_schema has _ receipts_at_is receipts_at_plain receipts_at_unlisted read h in
-    found_in_order receipt_values (λ (x : ReceiptRow). x.id) (λ _. refl) (Text token ∷ []) (with_key 2) (λ (x : ReceiptRow). bytes_eq x.token token) (receipt_passes token) 4 (col 1 2 ∷ col 1 3 ∷ col 1 4 ∷ col 1 5 ∷ []) (overlay old.now.trees []) rows.receipts read was.receipts (reads.answer Null)
+    let reads = reads_as receipts_at (Text token ∷ []) old new archive_schema has _ receipts_at_is receipts_at_plain
+    receipts_at_unlisted read h in
+    found_in_order receipt_values (λ (x : ReceiptRow). x.id) (λ _. refl) (Text token ∷ []) (with_key 2)
+    (λ (x : ReceiptRow). bytes_eq x.token token) (receipt_passes token) 4
+    (col 1 2 ∷ col 1 3 ∷ col 1 4 ∷ col 1 5 ∷ []) (overlay old.now.trees []) rows.receipts read was.receipts
+    (reads.answer Null)
 
-pub reads_slip : (old new : State) (n : ℕ) (read : List Row) (rows : Rows) → old.now.schema ≡ archive_schema → Holds rows old.now.trees → Shown slip_at (Int (pos n) ∷ []) old new read
+pub reads_slip : (old new : State) (n : ℕ) (read : List Row) (rows : Rows) → old.now.schema ≡ archive_schema
+    → Holds rows old.now.trees → Shown slip_at (Int (pos n) ∷ []) old new read
     → read ≡ map shown_slip (filter (λ (x : SlipRow). x.no == n) rows.slips)
 reads_slip old new n read rows has was h =
-    let reads = reads_as slip_at (Int (pos n) ∷ []) old new archive_schema has _ slip_at_is slip_at_plain slip_at_unlisted read h in
-    found_in_order slip_values (λ (x : SlipRow). x.no) (λ _. refl) (Int (pos n) ∷ []) (with_key 0) (λ (x : SlipRow). x.no == n) (slip_passes n) 5 (col 1 0 ∷ col 1 2 ∷ col 1 3 ∷ col 1 4 ∷ []) (overlay old.now.trees []) rows.slips read was.slips (reads.answer Null)
+    let reads = reads_as slip_at (Int (pos n) ∷ []) old new archive_schema has _ slip_at_is slip_at_plain
+    slip_at_unlisted read h in
+    found_in_order slip_values (λ (x : SlipRow). x.no) (λ _. refl) (Int (pos n) ∷ []) (with_key 0)
+    (λ (x : SlipRow). x.no == n) (slip_passes n) 5 (col 1 0 ∷ col 1 2 ∷ col 1 3 ∷ col 1 4 ∷ [])
+    (overlay old.now.trees []) rows.slips read was.slips (reads.answer Null)
 
-pub reads_slip_lines_at : (old new : State) (n : ℕ) (read : List Row) (rows : Rows) → old.now.schema ≡ archive_schema → Holds rows old.now.trees → Shown slip_lines_at (Int (pos n) ∷ []) old new read
+pub reads_slip_lines_at : (old new : State) (n : ℕ) (read : List Row) (rows : Rows) → old.now.schema ≡ archive_schema
+    → Holds rows old.now.trees → Shown slip_lines_at (Int (pos n) ∷ []) old new read
     → read ≡ map shown_slip_line (filter (λ (x : SlipLineRow). x.slip == n) rows.slip_lines)
 reads_slip_lines_at old new n read rows has was h =
-    let reads = reads_as slip_lines_at (Int (pos n) ∷ []) old new archive_schema has _ slip_lines_at_is slip_lines_at_plain slip_lines_at_unlisted read h in
-    found_in_order slip_line_values (λ (x : SlipLineRow). x.id) (λ _. refl) (Int (pos n) ∷ []) (with_key 2) (λ (x : SlipLineRow). x.slip == n) (slip_line_passes n) 6 (col 1 2 ∷ col 1 3 ∷ col 1 4 ∷ col 1 6 ∷ col 1 7 ∷ col 1 8 ∷ col 1 9 ∷ []) (overlay old.now.trees []) rows.slip_lines read was.slip_lines (reads.answer Null)
+    let reads = reads_as slip_lines_at (Int (pos n) ∷ []) old new archive_schema has _ slip_lines_at_is
+    slip_lines_at_plain slip_lines_at_unlisted read h in
+    found_in_order slip_line_values (λ (x : SlipLineRow). x.id) (λ _. refl) (Int (pos n) ∷ []) (with_key 2)
+    (λ (x : SlipLineRow). x.slip == n) (slip_line_passes n) 6
+    (col 1 2 ∷ col 1 3 ∷ col 1 4 ∷ col 1 6 ∷ col 1 7 ∷ col 1 8 ∷ col 1 9 ∷ []) (overlay old.now.trees [])
+    rows.slip_lines read was.slip_lines (reads.answer Null)
 
-pub reads_saying : (old new : State) (text : List ℕ) (read : List Row) (rows : Rows) → old.now.schema ≡ archive_schema → Holds rows old.now.trees → Shown lines_saying (Text text ∷ []) old new read
-    → read ≡ map (λ (l : LineRow). Int (pos l.no) ∷ []) (filter (λ (x : LineRow). is_text text x.line.1.text) rows.lines)
+pub reads_saying : (old new : State) (text : List ℕ) (read : List Row) (rows : Rows) → old.now.schema ≡ archive_schema
+    → Holds rows old.now.trees → Shown lines_saying (Text text ∷ []) old new read
+    → read ≡ map (λ (l : LineRow). Int (pos l.no) ∷ [])
+    (filter (λ (x : LineRow). is_text text x.line.1.text) rows.lines)
 reads_saying old new text read rows has was h =
-    let reads = reads_as lines_saying (Text text ∷ []) old new archive_schema has _ lines_saying_is lines_saying_plain lines_saying_unlisted read h in
-    found_in_order line_values (λ (x : LineRow). x.id) (λ _. refl) (Text text ∷ []) (with_key 6) (λ (x : LineRow). is_text text x.line.1.text) (saying_passes text []) 3 (col 1 2 ∷ []) (overlay old.now.trees []) rows.lines read was.lines (reads.answer Null)
+    let reads = reads_as lines_saying (Text text ∷ []) old new archive_schema has _ lines_saying_is lines_saying_plain
+    lines_saying_unlisted read h in
+    found_in_order line_values (λ (x : LineRow). x.id) (λ _. refl) (Text text ∷ []) (with_key 6)
+    (λ (x : LineRow). is_text text x.line.1.text) (saying_passes text []) 3 (col 1 2 ∷ [])
+    (overlay old.now.trees []) rows.lines read was.lines (reads.answer Null)
 
-pub reads_saying_of : (old new : State) (text : List ℕ) (n : ℕ) (read : List Row) (rows : Rows) → old.now.schema ≡ archive_schema → Holds rows old.now.trees → Shown lines_saying_of (Text text ∷ Int (pos n) ∷ []) old new read
-    → read ≡ map (λ (l : LineRow). Int (pos l.no) ∷ []) (filter (λ (x : LineRow). is_text text x.line.1.text && is_number n x.line.1.target) rows.lines)
+pub reads_saying_of : (old new : State) (text : List ℕ) (n : ℕ) (read : List Row) (rows : Rows)
+    → old.now.schema ≡ archive_schema → Holds rows old.now.trees → Shown lines_saying_of
+    (Text text ∷ Int (pos n) ∷ []) old new read
+    → read ≡ map (λ (l : LineRow). Int (pos l.no) ∷ [])
+    (filter (λ (x : LineRow). is_text text x.line.1.text && is_number n x.line.1.target) rows.lines)
 reads_saying_of old new text n read rows has was h =
-    let reads = reads_as lines_saying_of (Text text ∷ Int (pos n) ∷ []) old new archive_schema has _ lines_saying_of_is lines_saying_of_plain lines_saying_of_unlisted read h in
-    found_in_order line_values (λ (x : LineRow). x.id) (λ _. refl) (Text text ∷ Int (pos n) ∷ []) with_both (λ (x : LineRow). is_text text x.line.1.text && is_number n x.line.1.target) (both_pass text n) 3 (col 1 2 ∷ []) (overlay old.now.trees []) rows.lines read was.lines (reads.answer Null)
+    let reads = reads_as lines_saying_of (Text text ∷ Int (pos n) ∷ []) old new archive_schema has _ lines_saying_of_is
+    lines_saying_of_plain lines_saying_of_unlisted read h in
+    found_in_order line_values (λ (x : LineRow). x.id) (λ _. refl) (Text text ∷ Int (pos n) ∷ []) with_both
+    (λ (x : LineRow). is_text text x.line.1.text && is_number n x.line.1.target) (both_pass text n) 3 (col 1 2 ∷ [])
+    (overlay old.now.trees []) rows.lines read was.lines (reads.answer Null)

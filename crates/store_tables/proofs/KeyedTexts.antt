@@ -15,7 +15,9 @@ use Rattle.store_tables.specs.Schema.{archive_schema}
 abbrev pub batch_at : List ℕ
 batch_at = codes "SELECT no, is_open FROM batch WHERE no = ?1 ORDER BY no"
 
-pub batch_at_is : command_of (understood archive_schema batch_at) ≡ Select (record { lets = []; body = simple 1 (with_key 0) (col 1 0 ∷ col 1 2 ∷ []) by_key }) (codes "no" ∷ codes "is_open" ∷ [])
+pub batch_at_is : command_of (understood archive_schema batch_at) ≡ Select
+    (record { lets = []; body = simple 1 (with_key 0) (col 1 0 ∷ col 1 2 ∷ []) by_key })
+    (codes "no" ∷ codes "is_open" ∷ [])
 unfolding understood everything
 batch_at_is = refl
 
@@ -30,7 +32,9 @@ batch_at_unlisted = refl
 abbrev pub record_at : List ℕ
 record_at = codes "SELECT no, batch FROM record WHERE no = ?1 ORDER BY no"
 
-pub record_at_is : command_of (understood archive_schema record_at) ≡ Select (record { lets = []; body = simple 2 (with_key 0) (col 1 0 ∷ col 1 3 ∷ []) by_key }) (codes "no" ∷ codes "batch" ∷ [])
+pub record_at_is : command_of (understood archive_schema record_at) ≡ Select
+    (record { lets = []; body = simple 2 (with_key 0) (col 1 0 ∷ col 1 3 ∷ []) by_key })
+    (codes "no" ∷ codes "batch" ∷ [])
 unfolding understood everything
 record_at_is = refl
 
@@ -45,7 +49,9 @@ record_at_unlisted = refl
 abbrev pub lines_at : List ℕ
 lines_at = codes "SELECT depth, tag, text, dst FROM line WHERE no = ?1 ORDER BY id"
 
-pub lines_at_is : command_of (understood archive_schema lines_at) ≡ Select (record { lets = []; body = simple 3 (with_key 2) (col 1 4 ∷ col 1 5 ∷ col 1 6 ∷ col 1 7 ∷ []) by_key }) (codes "depth" ∷ codes "tag" ∷ codes "text" ∷ codes "dst" ∷ [])
+pub lines_at_is : command_of (understood archive_schema lines_at) ≡ Select
+    (record { lets = []; body = simple 3 (with_key 2) (col 1 4 ∷ col 1 5 ∷ col 1 6 ∷ col 1 7 ∷ []) by_key })
+    (codes "depth" ∷ codes "tag" ∷ codes "text" ∷ codes "dst" ∷ [])
 unfolding understood everything
 lines_at_is = refl
 
@@ -60,7 +66,8 @@ lines_at_unlisted = refl
 abbrev pub lines_naming : List ℕ
 lines_naming = codes "SELECT no FROM line WHERE dst = ?1 ORDER BY id"
 
-pub lines_naming_is : command_of (understood archive_schema lines_naming) ≡ Select (record { lets = []; body = simple 3 (with_key 7) (col 1 2 ∷ []) by_key }) (codes "no" ∷ [])
+pub lines_naming_is : command_of (understood archive_schema lines_naming) ≡ Select
+    (record { lets = []; body = simple 3 (with_key 7) (col 1 2 ∷ []) by_key }) (codes "no" ∷ [])
 unfolding understood everything
 lines_naming_is = refl
 
@@ -75,7 +82,9 @@ lines_naming_unlisted = refl
 abbrev pub receipts_at : List ℕ
 receipts_at = codes "SELECT token, digest, first, count FROM receipt WHERE token = ?1 ORDER BY id"
 
-pub receipts_at_is : command_of (understood archive_schema receipts_at) ≡ Select (record { lets = []; body = simple 4 (with_key 2) (col 1 2 ∷ col 1 3 ∷ col 1 4 ∷ col 1 5 ∷ []) by_key }) (codes "token" ∷ codes "digest" ∷ codes "first" ∷ codes "count" ∷ [])
+pub receipts_at_is : command_of (understood archive_schema receipts_at) ≡ Select
+    (record { lets = []; body = simple 4 (with_key 2) (col 1 2 ∷ col 1 3 ∷ col 1 4 ∷ col 1 5 ∷ []) by_key })
+    (codes "token" ∷ codes "digest" ∷ codes "first" ∷ codes "count" ∷ [])
 unfolding understood everything
 receipts_at_is = refl
 
@@ -90,7 +99,9 @@ receipts_at_unlisted = refl
 abbrev pub slip_at : List ℕ
 slip_at = codes "SELECT no, keep, gone, undone FROM slip WHERE no = ?1 ORDER BY no"
 
-pub slip_at_is : command_of (understood archive_schema slip_at) ≡ Select (record { lets = []; body = simple 5 (with_key 0) (col 1 0 ∷ col 1 2 ∷ col 1 3 ∷ col 1 4 ∷ []) by_key }) (codes "no" ∷ codes "keep" ∷ codes "gone" ∷ codes "undone" ∷ [])
+pub slip_at_is : command_of (understood archive_schema slip_at) ≡ Select
+    (record { lets = []; body = simple 5 (with_key 0) (col 1 0 ∷ col 1 2 ∷ col 1 3 ∷ col 1 4 ∷ []) by_key })
+    (codes "no" ∷ codes "keep" ∷ codes "gone" ∷ codes "undone" ∷ [])
 unfolding understood everything
 slip_at_is = refl
 
@@ -105,7 +116,13 @@ slip_at_unlisted = refl
 abbrev pub slip_lines_at : List ℕ
 slip_lines_at = codes "SELECT slip, side, no, depth, tag, text, dst FROM slip_line WHERE slip = ?1 ORDER BY id"
 
-pub slip_lines_at_is : command_of (understood archive_schema slip_lines_at) ≡ Select (record { lets = []; body = simple 6 (with_key 2) (col 1 2 ∷ col 1 3 ∷ col 1 4 ∷ col 1 6 ∷ col 1 7 ∷ col 1 8 ∷ col 1 9 ∷ []) by_key }) (codes "slip" ∷ codes "side" ∷ codes "no" ∷ codes "depth" ∷ codes "tag" ∷ codes "text" ∷ codes "dst" ∷ [])
+pub slip_lines_at_is : command_of (understood archive_schema slip_lines_at) ≡ Select
+    (record {
+      lets = [];
+      body = simple 6 (with_key 2)
+          (col 1 2 ∷ col 1 3 ∷ col 1 4 ∷ col 1 6 ∷ col 1 7 ∷ col 1 8 ∷ col 1 9 ∷ []) by_key;
+    })
+    (codes "slip" ∷ codes "side" ∷ codes "no" ∷ codes "depth" ∷ codes "tag" ∷ codes "text" ∷ codes "dst" ∷ [])
 unfolding understood everything
 slip_lines_at_is = refl
 
@@ -120,7 +137,8 @@ slip_lines_at_unlisted = refl
 abbrev pub lines_saying : List ℕ
 lines_saying = codes "SELECT no FROM line WHERE text = ?1 ORDER BY id"
 
-pub lines_saying_is : command_of (understood archive_schema lines_saying) ≡ Select (record { lets = []; body = simple 3 (with_key 6) (col 1 2 ∷ []) by_key }) (codes "no" ∷ [])
+pub lines_saying_is : command_of (understood archive_schema lines_saying) ≡ Select
+    (record { lets = []; body = simple 3 (with_key 6) (col 1 2 ∷ []) by_key }) (codes "no" ∷ [])
 unfolding understood everything
 lines_saying_is = refl
 
@@ -139,7 +157,8 @@ lines_saying_of = codes "SELECT no FROM line WHERE text = ?1 AND dst = ?2 ORDER 
 abbrev pub with_both : List Term
 with_both = op2 (Compare Eq Binary) (col 1 6) (col 0 0) ∷ op2 (Compare Eq Binary) (col 1 7) (col 0 1) ∷ []
 
-pub lines_saying_of_is : command_of (understood archive_schema lines_saying_of) ≡ Select (record { lets = []; body = simple 3 with_both (col 1 2 ∷ []) by_key }) (codes "no" ∷ [])
+pub lines_saying_of_is : command_of (understood archive_schema lines_saying_of) ≡ Select
+    (record { lets = []; body = simple 3 with_both (col 1 2 ∷ []) by_key }) (codes "no" ∷ [])
 unfolding understood everything
 lines_saying_of_is = refl
 

@@ -1,5 +1,29 @@
 -- Queries prepared one after the other.
-use Rattle.std.proofs.Common.{◌≡◌, inl, inr, ◌≤◌, ℕ, List, [], ◌∷◌, ◌++◌, true, false, Result, Ok, Err, OnOk, IfOk, IsTrue, refl, sym, ap, subst, ◌∙◌, arith}
+use Rattle.std.proofs.Common.{
+  ◌≡◌,
+  inl,
+  inr,
+  ◌≤◌,
+  ℕ,
+  List,
+  [],
+  ◌∷◌,
+  ◌++◌,
+  true,
+  false,
+  Result,
+  Ok,
+  Err,
+  OnOk,
+  IfOk,
+  IsTrue,
+  refl,
+  sym,
+  ap,
+  subst,
+  ◌∙◌,
+  arith,
+}
 use Rattle.std.proofs.lemmas.Bool.{cases_Bool}
 use Rattle.std.specs.List.{AllByRecursion}
 use Rattle.std.specs.Prelude.{⊤}
@@ -8,7 +32,16 @@ use Rattle.sqlite.specs.Effect.{Database}
 use Rattle.sqlite.specs.Listing.{understood}
 use Rattle.sqlite.specs.Order.{Row}
 use Rattle.sqlite.specs.Outline.{Outline}
-use Rattle.sqlite.specs.State.{State, HasCleanDisk, HasCause, IsNoStatement, IsNotRun, IsRolledBack, IsUnchanged, Survives}
+use Rattle.sqlite.specs.State.{
+  State,
+  HasCleanDisk,
+  HasCause,
+  IsNoStatement,
+  IsNotRun,
+  IsRolledBack,
+  IsUnchanged,
+  Survives,
+}
 use Rattle.sqlite.specs.Steps.{Outlines}
 use Rattle.sqlite.specs.Tree.{Trees}
 use Rattle.sqlite.proofs.Callers.{IsPlain, unchanged_then}
@@ -36,16 +69,21 @@ true_false : {A : Type 0} (e : Error) → tells_no_archive e ≡ true → tells_
 true_false e tells none = absurd (let clash = sym tells ∙ none in cc)
 
 -- an error that tells of a missing table or column comes of the text
-names_missing : (old new : State) (sql : List ℕ) (e : Error) → IsNotRun old new sql [] e → tells_no_archive e ≡ true → NamesMissing old.now.schema sql
+names_missing : (old new : State) (sql : List ℕ) (e : Error) → IsNotRun old new sql [] e → tells_no_archive e ≡ true
+    → NamesMissing old.now.schema sql
 unfolding IsNotRun
 names_missing old new sql e (inl (inl why, same)) tells = (why.0, why.1, sym (ap tells_no_archive why.2) ∙ tells)
 names_missing old new sql e (inl (inr (c, is, inl why), same)) tells = true_false e tells (ap tells_no_archive why.1)
-names_missing old new sql e (inl (inr (c, is, inr (inl why)), same)) tells = true_false e tells (ap tells_no_archive why.1)
-names_missing old new sql e (inl (inr (c, is, inr (inr why)), same)) tells = true_false e tells (ap tells_no_archive why.1)
+names_missing old new sql e (inl (inr (c, is, inr (inl why)), same)) tells = true_false e tells
+    (ap tells_no_archive why.1)
+names_missing old new sql e (inl (inr (c, is, inr (inr why)), same)) tells = true_false e tells
+    (ap tells_no_archive why.1)
 names_missing old new sql e (inr failed) tells = true_false e tells (by_store failed.0 e failed.1)
 
-pub prepared : {A : Type 0} (sql : List ℕ) (old new : State) (s : Outline) (result : Result A RefusalKind) (a : A) → result ≡ Ok a
-    → (HasCleanDisk new → IsUnchanged old new) → (HasCleanDisk new → Outlines (understood old.now.schema sql) s) → Survives old new (λ _. ⊥) → PreparesAll (sql ∷ []) old new result
+pub prepared : {A : Type 0} (sql : List ℕ) (old new : State) (s : Outline) (result : Result A RefusalKind)
+    (a : A) → result ≡ Ok a
+    → (HasCleanDisk new → IsUnchanged old new) → (HasCleanDisk new → Outlines (understood old.now.schema sql) s)
+    → Survives old new (λ _. ⊥) → PreparesAll (sql ∷ []) old new result
 prepared sql old new s result a is same shape survives = subst (PreparesAll (sql ∷ []) old new) (sym is) (record {
   same = same;
   told = λ clean. (outlined (understood old.now.schema sql) s (shape clean), tt);
@@ -53,18 +91,23 @@ prepared sql old new s result a is same shape survives = subst (PreparesAll (sql
   survives = survives;
 })
 
-pub not_prepared : {A : Type 0} (sql : List ℕ) (old new : State) (e : Error) (result : Result A RefusalKind) (kind : RefusalKind) → result ≡ Err kind
-    → (HasCleanDisk new → IsNotRun old new sql [] e) → (tells_no_archive e ≡ true → kind ≡ NotAnArchive) → (tells_no_archive e ≡ false → kind ≡ Storage) → Survives old new (λ _. ⊥)
+pub not_prepared : {A : Type 0} (sql : List ℕ) (old new : State) (e : Error) (result : Result A RefusalKind)
+    (kind : RefusalKind) → result ≡ Err kind
+    → (HasCleanDisk new → IsNotRun old new sql [] e) → (tells_no_archive e ≡ true → kind ≡ NotAnArchive)
+    → (tells_no_archive e ≡ false → kind ≡ Storage) → Survives old new (λ _. ⊥)
     → PreparesAll (sql ∷ []) old new result
-not_prepared sql old new e result kind is fails missing other survives = subst (PreparesAll (sql ∷ []) old new) (sym is) (record {
-  same = λ clean. tt;
-  told = λ clean. tt;
-  refused = λ clean. elim (cases_Bool (tells_no_archive e)) [
-    | inl tells ↦ subst (IsRefusedTables (sql ∷ []) old new) (sym (missing tells)) (sql, inl refl, names_missing old new sql e (fails clean) tells)
-    | inr tells ↦ subst (IsRefusedTables (sql ∷ []) old new) (sym (other tells)) (sql, inl refl, (e, fails clean, tells))
-  ];
-  survives = survives;
-})
+not_prepared sql old new e result kind is fails missing other survives = subst (PreparesAll (sql ∷ []) old new)
+    (sym is) (record {
+      same = λ clean. tt;
+      told = λ clean. tt;
+      refused = λ clean. elim (cases_Bool (tells_no_archive e)) [
+        | inl tells ↦ subst (IsRefusedTables (sql ∷ []) old new) (sym (missing tells))
+            (sql, inl refl, names_missing old new sql e (fails clean) tells)
+        | inr tells ↦ subst (IsRefusedTables (sql ∷ []) old new) (sym (other tells))
+            (sql, inl refl, (e, fails clean, tells))
+      ];
+      survives = survives;
+    })
 
 -- ---- the same, seen from a call before that changed nothing
 module _ (old mid new : State) (same : IsUnchanged old mid) (counts : old.faults ≤ mid.faults) where
@@ -74,7 +117,11 @@ module _ (old mid new : State) (same : IsUnchanged old mid) (counts : old.faults
     undone = λ is_open. ((h.undone is_open).0 ∙ same.0.committed_is, (h.undone is_open).1 ∙ same.0.committed_is);
     autocommit = h.autocommit;
     unmarked = h.unmarked;
-    counts = record { changes = h.counts.changes ∙ same.1.changes; last_rowid = h.counts.last_rowid ∙ same.1.last_rowid };
+    counts = record {
+      changes = h.counts.changes ∙ same.1.changes;
+      last_rowid = h.counts.last_rowid
+          ∙ same.1.last_rowid;
+    };
   }
 
   caused : (cause : StoreError) → HasCause mid new ⊥ cause → HasCause old new ⊥ cause
@@ -88,17 +135,20 @@ module _ (old mid new : State) (same : IsUnchanged old mid) (counts : old.faults
   schema_is : mid.now.schema ≡ old.now.schema
   schema_is = ap (λ (d : Database). d.schema) same.0.now_is
 
-  no_statement : (sql : List ℕ) (params : Row) (e : Error) → IsNoStatement mid sql params e → IsNoStatement old sql params e
+  no_statement : (sql : List ℕ) (params : Row) (e : Error) → IsNoStatement mid sql params e
+      → IsNoStatement old sql params e
   no_statement sql params e (inl why) = inl (why.0, sym (ap (λ s. understood s sql) schema_is) ∙ why.1, why.2)
   no_statement sql params e (inr why) = inr (why.0, sym (ap (λ s. understood s sql) schema_is) ∙ why.1, why.2)
 
-  pub not_run_before : (sql : List ℕ) (params : Row) (e : Error) → IsNotRun mid new sql params e → IsNotRun old new sql params e
+  pub not_run_before : (sql : List ℕ) (params : Row) (e : Error) → IsNotRun mid new sql params e
+      → IsNotRun old new sql params e
   unfolding IsNotRun
   not_run_before sql params e (inl h) = inl (no_statement sql params e h.0, unchanged_then old mid new same h.1)
   not_run_before sql params e (inr h) = inr (h.0, h.1, caused h.0 h.2, rolled_back h.3, h.4)
 
   -- a later query is refused as it would be at first
-  refused_before : (queries : List (List ℕ)) (kind : RefusalKind) → IsRefusedTables queries mid new kind → IsRefusedTables queries old new kind
+  refused_before : (queries : List (List ℕ)) (kind : RefusalKind) → IsRefusedTables queries mid new kind
+      → IsRefusedTables queries old new kind
   refused_before queries Storage why = (why.0, why.1, (why.2.0, not_run_before why.0 [] why.2.0 why.2.1, why.2.2))
   refused_before queries NotAnArchive why = (why.0, why.1, subst (λ s. NamesMissing s why.0) schema_is why.2)
   refused_before queries _ why = absurd why
@@ -113,34 +163,51 @@ has_behind : {X : Type 0} (xs ys : List X) (x : X) → Has ys x → Has (xs ++ y
 has_behind [] ys x has = has
 has_behind (y ∷ xs) ys x has = inr (has_behind xs ys x has)
 
-all_both : {X : Type 0} (P : X → Type 0) (xs ys : List X) → AllByRecursion P xs → AllByRecursion P ys → AllByRecursion P (xs ++ ys)
+all_both : {X : Type 0} (P : X → Type 0) (xs ys : List X) → AllByRecursion P xs → AllByRecursion P ys
+    → AllByRecursion P (xs ++ ys)
 all_both P [] ys p q = q
 all_both P (x ∷ xs) ys p q = (p.0, all_both P xs ys p.1 q)
 
-refused_among : (old new : State) (queries more : List (List ℕ)) → ((sql : List ℕ) → Has queries sql → Has more sql) → (kind : RefusalKind) → IsRefusedTables queries old new kind → IsRefusedTables more old new kind
+refused_among : (old new : State) (queries more : List (List ℕ)) → ((sql : List ℕ) → Has queries sql → Has more sql)
+    → (kind : RefusalKind) → IsRefusedTables queries old new kind → IsRefusedTables more old new kind
 refused_among old new queries more within Storage why = (why.0, within why.0 why.1, why.2)
 refused_among old new queries more within NotAnArchive why = (why.0, within why.0 why.1, why.2)
 refused_among old new queries more within _ why = absurd why
 
-survives_both : (old mid new : State) → Survives old mid (λ _. ⊥) → Survives mid new (λ _. ⊥) → Survives old new (λ _. ⊥)
+survives_both : (old mid new : State) → Survives old mid (λ _. ⊥) → Survives mid new (λ _. ⊥)
+    → Survives old new (λ _. ⊥)
 survives_both old mid new p q = record {
   clean = omega (arith, p.clean, q.clean);
   shield = λ shield. q.shield (p.shield shield);
   counts = omega (arith, p.counts, q.counts);
   limit = q.limit ∙ p.limit;
   closes = λ clean was_open. elim (p.closes (omega (arith, q.clean, clean)) was_open) [
-    | inl is_open ↦ elim (q.closes clean is_open) [ inl still ↦ inl still | inr faults ↦ inr (omega (arith, faults, p.counts)) ]
+    | inl is_open ↦ elim (q.closes clean is_open) [
+      | inl still ↦ inl still
+      | inr faults ↦
+          inr (omega (arith, faults, p.counts))
+    ]
     | inr faults ↦ inr (omega (arith, faults, q.counts))
   ];
-  crash = λ clean db leaves. elim (q.crash clean db leaves) [ inl before ↦ p.crash (omega (arith, q.clean, clean)) db before | inr commits ↦ absurd commits ];
+  crash = λ clean db leaves. elim (q.crash clean db leaves) [
+    | inl before ↦
+        p.crash (omega (arith, q.clean, clean)) db before
+    | inr commits ↦ absurd commits
+  ];
 }
 
 -- the queries of two calls
-pub prepared_then : {A B : Type 0} (queries more : List (List ℕ)) {old mid new : State} {a : A} {result : Result B RefusalKind} → PreparesAll queries old mid (Ok a) → PreparesAll more mid new result → PreparesAll (queries ++ more) old new result
+pub prepared_then : {A B : Type 0} (queries more : List (List ℕ)) {old mid new : State} {a : A}
+    {result : Result B RefusalKind} → PreparesAll queries old mid (Ok a) → PreparesAll more mid new result
+    → PreparesAll (queries ++ more) old new result
 prepared_then queries more {old} {mid} {new} {result = result} p q = record {
   same = λ clean. on_ok result (unchanged_then old mid new (p.same (still clean))) (q.same clean);
-  told = λ clean. on_ok result (λ all. all_both (IsUnderstood old.now.schema) queries more (p.told (still clean)) (subst (λ s. AllByRecursion (IsUnderstood s) more) (schema_is old mid new (p.same (still clean)) p.survives.counts) all)) (q.told clean);
-  refused = λ clean. if_err result (λ kind why. refused_among old new more (queries ++ more) (has_behind queries more) kind (refused_before old mid new (p.same (still clean)) p.survives.counts more kind why)) (q.refused clean);
+  told = λ clean. on_ok result (λ all. all_both (IsUnderstood old.now.schema) queries more (p.told (still clean))
+      (subst (λ s. AllByRecursion (IsUnderstood s) more)
+      (schema_is old mid new (p.same (still clean)) p.survives.counts) all)) (q.told clean);
+  refused = λ clean. if_err result (λ kind why. refused_among old new more (queries ++ more)
+      (has_behind queries more) kind
+      (refused_before old mid new (p.same (still clean)) p.survives.counts more kind why)) (q.refused clean);
   survives = survives_both old mid new p.survives q.survives;
 }
   where
@@ -148,23 +215,30 @@ prepared_then queries more {old} {mid} {new} {result = result} p q = record {
     still clean = omega (arith, q.survives.clean, clean)
 
 -- a query that is refused is the last
-pub prepared_lost : {A B : Type 0} (queries more : List (List ℕ)) {old new : State} {kind : RefusalKind} (result : Result B RefusalKind) → result ≡ Err kind → PreparesAll {A = A} queries old new (Err kind) → PreparesAll (queries ++ more) old new result
-prepared_lost queries more {old} {new} {kind} result is p = subst (PreparesAll (queries ++ more) old new) (sym is) (record {
-  same = λ clean. tt;
-  told = λ clean. tt;
-  refused = λ clean. refused_among old new queries (queries ++ more) (has_more queries more) kind (p.refused clean);
-  survives = p.survives;
-})
+pub prepared_lost : {A B : Type 0} (queries more : List (List ℕ)) {old new : State} {kind : RefusalKind}
+    (result : Result B RefusalKind) → result ≡ Err kind → PreparesAll {A = A} queries old new (Err kind)
+    → PreparesAll (queries ++ more) old new result
+prepared_lost queries more {old} {new} {kind} result is p = subst (PreparesAll (queries ++ more) old new)
+    (sym is) (record {
+      same = λ clean. tt;
+      told = λ clean. tt;
+      refused = λ clean. refused_among old new queries (queries ++ more) (has_more queries more) kind (p.refused clean);
+      survives = p.survives;
+    })
 
 -- ---- on settled tables
 not_missing : (sql : List ℕ) → IsPlain (understood archive_schema sql) → ¬ NamesMissing archive_schema sql
 not_missing sql plain why = subst IsPlain why.1 plain
 
-refused_settled : (queries : List (List ℕ)) → AllByRecursion (λ sql. IsPlain (understood archive_schema sql)) queries → (old new : State) → old.now.schema ≡ archive_schema → (kind : RefusalKind) → IsRefusedTables queries old new kind → IsFailure kind
+refused_settled : (queries : List (List ℕ)) → AllByRecursion (λ sql. IsPlain (understood archive_schema sql)) queries
+    → (old new : State) → old.now.schema ≡ archive_schema → (kind : RefusalKind) → IsRefusedTables queries old new kind
+    → IsFailure kind
 refused_settled queries plain old new has Storage why = inr refl
-refused_settled queries plain old new has NotAnArchive why = absurd (not_missing why.0 (all_has queries plain why.0 why.1) (subst (λ s. NamesMissing s why.0) has why.2))
+refused_settled queries plain old new has NotAnArchive why =
+    absurd (not_missing why.0 (all_has queries plain why.0 why.1) (subst (λ s. NamesMissing s why.0) has why.2))
   where
-    all_has : (xs : List (List ℕ)) → AllByRecursion (λ sql. IsPlain (understood archive_schema sql)) xs → (x : List ℕ) → Has xs x → IsPlain (understood archive_schema x)
+    all_has : (xs : List (List ℕ)) → AllByRecursion (λ sql. IsPlain (understood archive_schema sql)) xs → (x : List ℕ)
+        → Has xs x → IsPlain (understood archive_schema x)
     all_has [] all x has = absurd has
     all_has (y ∷ xs) all x (inl is) = subst (λ sql. IsPlain (understood archive_schema sql)) (sym is) all.0
     all_has (y ∷ xs) all x (inr has) = all_has xs all.1 x has
@@ -179,12 +253,20 @@ same_read (Ok a) f h = f h
 same_read (Err e) f h = tt
 
 -- queries that are plain under the archive's schema are refused for a failure alone
-pub looks_prepared : {A : Type 0} (queries : List (List ℕ)) → AllByRecursion (λ sql. IsPlain (understood archive_schema sql)) queries → (old new : State) (result : Result A RefusalKind)
-    → (IsTrue old.is_open → (t : Trees) → old.may_leave t → t ≡ old.committed.trees) → PreparesAll queries old new result → Looks (λ _ _. ⊤) old new result
+pub looks_prepared : {A : Type 0} (queries : List (List ℕ))
+    → AllByRecursion (λ sql. IsPlain (understood archive_schema sql)) queries
+    → (old new : State) (result : Result A RefusalKind)
+    → (IsTrue old.is_open → (t : Trees) → old.may_leave t → t ≡ old.committed.trees)
+    → PreparesAll queries old new result → Looks (λ _ _. ⊤) old new result
 looks_prepared queries plain old new result only p = record {
   read = λ clean. any_read result (λ a rows was. tt);
   same = λ clean. same_read result (λ same rows was. still_settled old new rows same was) (p.same clean);
-  refused = λ clean. if_err result (λ kind why rows was. refused_settled queries plain old new was.schema kind why) (p.refused clean);
-  crash = λ clean rows was t leaves. elim (p.survives.crash clean t leaves) [ inl before ↦ only_committed old rows t was (only was.is_open t before) | inr commits ↦ absurd commits ];
+  refused = λ clean. if_err result (λ kind why rows was. refused_settled queries plain old new was.schema kind why)
+      (p.refused clean);
+  crash = λ clean rows was t leaves. elim (p.survives.crash clean t leaves) [
+    | inl before ↦
+        only_committed old rows t was (only was.is_open t before)
+    | inr commits ↦ absurd commits
+  ];
   clean = λ clean. omega (arith, p.survives.clean, clean);
 }

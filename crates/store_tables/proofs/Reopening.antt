@@ -1,5 +1,23 @@
 -- The trees tell the schema that they list, so an open finds the one that was there.
-use Rattle.std.proofs.Common.{◌≡◌, ℕ, ◌+◌, pos, List, [], ◌∷◌, filter, Ok, Result, refl, sym, ap, ap₂, subst, ◌∙◌, arith}
+use Rattle.std.proofs.Common.{
+  ◌≡◌,
+  ℕ,
+  ◌+◌,
+  pos,
+  List,
+  [],
+  ◌∷◌,
+  filter,
+  Ok,
+  Result,
+  refl,
+  sym,
+  ap,
+  ap₂,
+  subst,
+  ◌∙◌,
+  arith,
+}
 use Rattle.std.specs.List.{AllZip, AllByRecursion}
 use Rattle.sqlite.specs.declared.types.Value.{Value}
 use Rattle.sqlite.specs.declared.types.Value.TheVariants.{Null, Int, Real, Text, Blob}
@@ -12,7 +30,16 @@ use Rattle.sqlite_rules.specs.Lists.{Has}
 use Rattle.std.proofs.Common.{inl, inr, slice_get, Some, None, Option, if◌then◌else◌}
 use Rattle.std.specs.Str.{bytes_eq}
 use Rattle.sqlite_trees.specs.Objects.{catalog_tree}
-use Rattle.sqlite_catalog.specs.Listing.{IsSound, IsDefined, IsTableRow, IsIndexRow, IsViewRow, is_table_row, is_index_row, is_view_row}
+use Rattle.sqlite_catalog.specs.Listing.{
+  IsSound,
+  IsDefined,
+  IsTableRow,
+  IsIndexRow,
+  IsViewRow,
+  is_table_row,
+  is_index_row,
+  is_view_row,
+}
 use Rattle.sqlite.specs.Compile.{table_defined_by}
 use Rattle.store_tables.specs.Schema.{archive_schema, all_tables}
 
@@ -32,7 +59,8 @@ one_table row a b p q =
     let made : p.defined.0 ≡ q.defined.0 = same_ok (sym p.defined.1 ∙ ap table_defined_by sql ∙ q.defined.1) in
     p.defined.2 ∙ ap₂ (λ (m : Table) n. record m { tree = n }) made tree ∙ sym q.defined.2
 
-zipped_once : {X Y : Type 0} (R : X → Y → Type 0) → ((x : X) (y z : Y) → R x y → R x z → y ≡ z) → (xs : List X) (ys zs : List Y) → AllZip R xs ys → AllZip R xs zs → ys ≡ zs
+zipped_once : {X Y : Type 0} (R : X → Y → Type 0) → ((x : X) (y z : Y) → R x y → R x z → y ≡ z)
+    → (xs : List X) (ys zs : List Y) → AllZip R xs ys → AllZip R xs zs → ys ≡ zs
 zipped_once R once [] [] [] p q = refl
 zipped_once R once [] (y ∷ ys) zs p q = absurd p
 zipped_once R once [] [] (z ∷ zs) p q = absurd q
@@ -41,7 +69,8 @@ zipped_once R once (x ∷ xs) (y ∷ ys) [] p q = absurd q
 zipped_once R once (x ∷ xs) (y ∷ ys) (z ∷ zs) p q = ap₂ ◌∷◌ (once x y z p.0 q.0) (zipped_once R once xs ys zs p.1 q.1)
 
 -- where one list is empty, each is
-none_zipped : {X Y Z : Type 0} (R : X → Y → Type 0) (T : X → Z → Type 0) → (xs : List X) (zs : List Z) → AllZip R xs [] → AllZip T xs zs → zs ≡ []
+none_zipped : {X Y Z : Type 0} (R : X → Y → Type 0) (T : X → Z → Type 0) → (xs : List X) (zs : List Z) → AllZip R xs []
+    → AllZip T xs zs → zs ≡ []
 none_zipped R T [] [] p q = refl
 none_zipped R T [] (z ∷ zs) p q = absurd q
 none_zipped R T (x ∷ xs) zs p q = absurd p
@@ -53,7 +82,8 @@ nothing_there : (uniques : List (List ℕ)) (at : ℕ) (key : List ℕ) → uniq
 nothing_there [] at key e h = absurd (cc)
 nothing_there (u ∷ us) at key e h = absurd (cc)
 
-one_defined : (table : Table) (a b : Index) (v : Value) → table.uniques ≡ [] → a.tree ≡ b.tree → IsDefined table a v → IsDefined table b v → a ≡ b
+one_defined : (table : Table) (a b : Index) (v : Value) → table.uniques ≡ [] → a.tree ≡ b.tree → IsDefined table a v
+    → IsDefined table b v → a ≡ b
 one_defined table a b Null none tree p q = absurd (nothing_there table.uniques p.0 p.1 none p.2)
 one_defined table a b (Int n) none tree p q = absurd p
 one_defined table a b (Real x) none tree p q = absurd p
@@ -76,7 +106,10 @@ of_each P (u ∷ us) t all (inr more) = of_each P us t all.1 more
 
 -- of the archive's tables each has a name of its own, and none has a UNIQUE
 plain_tables : AllByRecursion IsPlainTable all_tables
-plain_tables = ((refl, refl), ((refl, refl), ((refl, refl), ((refl, refl), ((refl, refl), ((refl, refl), ((refl, refl), tt)))))))
+plain_tables = (
+  (refl, refl),
+  ((refl, refl), ((refl, refl), ((refl, refl), ((refl, refl), ((refl, refl), ((refl, refl), tt)))))),
+)
 
 no_uniques : (t : Table) → Has archive_schema.tables t → t.uniques ≡ []
 no_uniques t has = (of_each IsPlainTable all_tables t plain_tables has).0
@@ -85,21 +118,28 @@ same_some : (t u : Table) → ◌≡◌ {A = Option Table} (Some t) (Some u) →
 same_some t u e = cc
 
 one_named : (t u : Table) → Has archive_schema.tables t → Has archive_schema.tables u → t.name ≡ u.name → t ≡ u
-one_named t u p q h = same_some t u (sym (of_each IsPlainTable all_tables t plain_tables p).1 ∙ ap (λ n. find_named n all_tables) h ∙ (of_each IsPlainTable all_tables u plain_tables q).1)
+one_named t u p q h = same_some t u (sym (of_each IsPlainTable all_tables t plain_tables p).1
+    ∙ ap (λ n. find_named n all_tables) h ∙ (of_each IsPlainTable all_tables u plain_tables q).1)
 
-one_index : (row : Row) (a b : Index) → IsIndexRow archive_schema.tables row a → IsIndexRow archive_schema.tables row b → a ≡ b
+one_index : (row : Row) (a b : Index) → IsIndexRow archive_schema.tables row a
+    → IsIndexRow archive_schema.tables row b → a ≡ b
 one_index row a b p q =
     let tree = same_id a.tree b.tree (sym p.described.id ∙ q.described.id) in
     let owner = same_text p.table.name q.table.name (sym p.described.owner_is ∙ q.described.owner_is) in
     let table = one_named p.table q.table p.listed q.listed owner in
-    one_defined q.table a b (column row 4) (no_uniques q.table q.listed) tree (subst (λ t. IsDefined t a (column row 4)) table p.defined) q.defined
+    one_defined q.table a b (column row 4) (no_uniques q.table q.listed) tree
+    (subst (λ t. IsDefined t a (column row 4)) table p.defined) q.defined
 
 pub sound_once : (s : Schema) (t : Trees) → IsSound archive_schema t → IsSound s t → s ≡ archive_schema
 sound_once s t p q =
     let ours = p.lists.listed in
     let its = q.lists.listed in
-    let tables = zipped_once IsTableRow one_table (filter is_table_row (t catalog_tree)) s.tables archive_schema.tables its.tables ours.tables in
-    let indexes = zipped_once (IsIndexRow archive_schema.tables) one_index (filter is_index_row (t catalog_tree)) s.indexes archive_schema.indexes
-    (subst (λ ts. AllZip (IsIndexRow ts) (filter is_index_row (t catalog_tree)) s.indexes) tables its.indexes) ours.indexes in
+    let tables = zipped_once IsTableRow one_table (filter is_table_row (t catalog_tree)) s.tables archive_schema.tables
+    its.tables ours.tables in
+    let indexes = zipped_once (IsIndexRow archive_schema.tables) one_index (filter is_index_row (t catalog_tree))
+    s.indexes archive_schema.indexes
+    (subst (λ ts. AllZip (IsIndexRow ts) (filter is_index_row (t catalog_tree)) s.indexes) tables its.indexes)
+    ours.indexes in
     let views = none_zipped IsViewRow IsViewRow (filter is_view_row (t catalog_tree)) s.views ours.views its.views in
-    ap (λ ts. record { tables = ts; indexes = s.indexes; views = s.views }) tables ∙ ap₂ (λ is vs. record { tables = archive_schema.tables; indexes = is; views = vs }) indexes views
+    ap (λ ts. record { tables = ts; indexes = s.indexes; views = s.views }) tables
+    ∙ ap₂ (λ is vs. record { tables = archive_schema.tables; indexes = is; views = vs }) indexes views

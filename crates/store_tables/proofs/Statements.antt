@@ -1,5 +1,34 @@
 -- What the statements make of the rows that the tables hold.
-use Rattle.std.proofs.Common.{◌≡◌, ◌≢◌, ℕ, ◌==◌, ◌&&◌, pos, List, [], ◌∷◌, map, filter, not, Bool, true, false, Ok, Some, None, ◌<◌, ◌++◌, if◌then◌else◌, cond, refl, ap, subst, ◌∙◌, Option, arith}
+use Rattle.std.proofs.Common.{
+  ◌≡◌,
+  ◌≢◌,
+  ℕ,
+  ◌==◌,
+  ◌&&◌,
+  pos,
+  List,
+  [],
+  ◌∷◌,
+  map,
+  filter,
+  not,
+  Bool,
+  true,
+  false,
+  Ok,
+  Some,
+  None,
+  ◌<◌,
+  ◌++◌,
+  if◌then◌else◌,
+  cond,
+  refl,
+  ap,
+  subst,
+  ◌∙◌,
+  Option,
+  arith,
+}
 use Rattle.std.specs.List.{list_all, AllByRecursion, cons_option}
 use Rattle.std.specs.List.Sorted.{IsPermutation}
 use Rattle.std.proofs.lemmas.List.Sorted.{IsPermutation-map}
@@ -30,8 +59,76 @@ use Rattle.sqlite.specs.Listing.{understood}
 use Rattle.stored_lines.specs.Line.{Label}
 use Rattle.receipts.specs.declared.answer.Receipt.{Receipt}
 use Rattle.store_tables.specs.Schema.{archive_schema, meta, batches, records, lines, receipts, slips, slip_lines}
-use Rattle.store_tables.specs.Rows.{Rows, BatchRow, RecordRow, LineRow, ReceiptRow, SlipRow, SlipLineRow, Holds, meta_values, batch_values, line_values, line_fields, record_values, receipt_values, receipt_fields, slip_values, slip_line_values, number_or_null, words_or_null, flag, next_key, bare, with_batch, without_lines, with_record_row, with_line, with_next, without_record_row, with_receipt, with_slip_row, with_slip_line, without_slip_lines}
-use Rattle.store_tables.proofs.Texts.{with_key, insert_meta, insert_meta_is, insert_meta_plain, insert_batch, insert_batch_is, insert_batch_plain, delete_lines, delete_lines_is, delete_lines_plain, delete_slip_lines, delete_slip_lines_is, delete_slip_lines_plain, insert_record, insert_record_is, insert_record_plain, insert_line, insert_line_is, insert_line_plain, delete_record, delete_record_is, delete_record_plain, set_next, set_next_is, set_next_plain, insert_receipt, insert_receipt_is, insert_receipt_plain, insert_slip, insert_slip_is, insert_slip_plain, insert_slip_line, insert_slip_line_is, insert_slip_line_plain}
+use Rattle.store_tables.specs.Rows.{
+  Rows,
+  BatchRow,
+  RecordRow,
+  LineRow,
+  ReceiptRow,
+  SlipRow,
+  SlipLineRow,
+  Holds,
+  meta_values,
+  batch_values,
+  line_values,
+  line_fields,
+  record_values,
+  receipt_values,
+  receipt_fields,
+  slip_values,
+  slip_line_values,
+  number_or_null,
+  words_or_null,
+  flag,
+  next_key,
+  bare,
+  with_batch,
+  without_lines,
+  with_record_row,
+  with_line,
+  with_next,
+  without_record_row,
+  with_receipt,
+  with_slip_row,
+  with_slip_line,
+  without_slip_lines,
+}
+use Rattle.store_tables.proofs.Texts.{
+  with_key,
+  insert_meta,
+  insert_meta_is,
+  insert_meta_plain,
+  insert_batch,
+  insert_batch_is,
+  insert_batch_plain,
+  delete_lines,
+  delete_lines_is,
+  delete_lines_plain,
+  delete_slip_lines,
+  delete_slip_lines_is,
+  delete_slip_lines_plain,
+  insert_record,
+  insert_record_is,
+  insert_record_plain,
+  insert_line,
+  insert_line_is,
+  insert_line_plain,
+  delete_record,
+  delete_record_is,
+  delete_record_plain,
+  set_next,
+  set_next_is,
+  set_next_plain,
+  insert_receipt,
+  insert_receipt_is,
+  insert_receipt_plain,
+  insert_slip,
+  insert_slip_is,
+  insert_slip_plain,
+  insert_slip_line,
+  insert_slip_line_is,
+  insert_slip_line_plain,
+}
 use Rattle.store_tables.proofs.Writing.{inserts, deletes, updates, cast_int, cast_null, Restrict, restricted_step}
 use Rattle.store_tables.proofs.Finding.{simple, answered, map_twice}
 use Rattle.store_tables.proofs.Coded.{same_int, keeps_put, keeps_last, keeps_less, keeps_on, chosen_key}
@@ -42,8 +139,10 @@ pub record Becomes (old new : State) (f : Rows → Rows) : Type 0 where
   pub sound : IsSound archive_schema new.now.trees
   pub holds : (rows : Rows) → Holds rows old.now.trees → Holds (f rows) new.now.trees
 
-pub becomes : {f : Rows → Rows} (old new : State) → IsDatabase new.now → new.now.schema ≡ archive_schema → ((rows : Rows) → Holds rows old.now.trees → Holds (f rows) new.now.trees) → Becomes old new f
-becomes old new sound has holds = record { schema = has; sound = subst (λ s. IsSound s new.now.trees) has sound; holds = holds }
+pub becomes : {f : Rows → Rows} (old new : State) → IsDatabase new.now → new.now.schema ≡ archive_schema
+    → ((rows : Rows) → Holds rows old.now.trees → Holds (f rows) new.now.trees) → Becomes old new f
+becomes old new sound has holds =
+    record { schema = has; sound = subst (λ s. IsSound s new.now.trees) has sound; holds = holds }
 
 pub truth_of : (b : Bool) → (is_true (from_truth (Some b)) && true) ≡ b
 truth_of true = refl
@@ -62,28 +161,41 @@ cast_words (Some t) = refl
 abbrev pub Others : Trees → Trees → ℕ → Type 0
 Others old new at = (t : ℕ) → t < 7 → t ≢ at → new t ≡ old t
 
-pub others_of : (old new : Trees) (edit : Edit) → Applies archive_schema Enforced old edit new → Others old new edit.table.tree
-others_of old new edit a t low off = a.others t off (omega (arith, low), (omega (arith, low), (omega (arith, low), (omega (arith, low), (omega (arith, low), tt)))))
+pub others_of : (old new : Trees) (edit : Edit) → Applies archive_schema Enforced old edit new
+    → Others old new edit.table.tree
+others_of old new edit a t low off =
+    a.others t off (
+      omega (arith, low),
+      (omega (arith, low), (omega (arith, low), (omega (arith, low), (omega (arith, low), tt)))),
+    )
 
 -- ---- rows with a given key
 
-pub inserts_batch : (old new : State) (n : ℕ) (is_open : Bool) (count : ℕ) → old.now.schema ≡ archive_schema → Executes insert_batch (Int (pos n) ∷ Int (pos (flag is_open)) ∷ []) old new (Ok count)
+pub inserts_batch : (old new : State) (n : ℕ) (is_open : Bool) (count : ℕ) → old.now.schema ≡ archive_schema
+    → Executes insert_batch (Int (pos n) ∷ Int (pos (flag is_open)) ∷ []) old new (Ok count)
     → Becomes old new (with_batch n is_open)
 inserts_batch old new n is_open count has h =
     let params = Int (pos n) ∷ Int (pos (flag is_open)) ∷ [] in
     let terms = col 0 0 ∷ lit Null ∷ col 0 1 ∷ [] in
-    let w = runs_as insert_batch params old new archive_schema has (Insert 1 (Values terms 3)) insert_batch_is insert_batch_plain count h in
-    let did = inserts archive_schema batches 1 refl refl old new.now w.tally params (statement_of insert_batch (understood archive_schema insert_batch)) terms 3 has w.changed in
+    let w = runs_as insert_batch params old new archive_schema has (Insert 1 (Values terms 3)) insert_batch_is
+    insert_batch_plain count h in
+    let did = inserts archive_schema batches 1 refl refl old new.now w.tally params
+    (statement_of insert_batch (understood archive_schema insert_batch)) terms 3 has w.changed in
     let db = old.now.trees in
     let now = new.now.trees in
     let edit = edit_of db batches [] Chosen 0 (value_rows params 3 1 terms) in
     let applied = one_step archive_schema Enforced db now edit refl did.1 in
     let same = others_of db now edit applied in
     let item : BatchRow = record { no = n; is_open = is_open } in
-    let row : edited db edit ≡ put_row (batch_values item) (db 1) = rw (cast_int (pos n), cast_int (pos (flag is_open)), cast_null) refl in
+    let row : edited db edit ≡ put_row (batch_values item) (db 1) = rw (
+      cast_int (pos n),
+      cast_int (pos (flag is_open)),
+      cast_null,
+    ) refl in
     becomes old new w.sound did.0 (λ rows was. record {
       meta = same 0 (omega arith) (omega arith) ∙ was.meta;
-      batches = keeps_on _ _ (now 1) (applied.rows ∙ row) (keeps_put batch_values (λ (b : BatchRow). b.no) (λ _. refl) item rows.batches (db 1) was.batches);
+      batches = keeps_on _ _ (now 1) (applied.rows ∙ row)
+          (keeps_put batch_values (λ (b : BatchRow). b.no) (λ _. refl) item rows.batches (db 1) was.batches);
       records = keeps_on _ _ _ (same 2 (omega arith) (omega arith)) was.records;
       lines = keeps_on _ _ _ (same 3 (omega arith) (omega arith)) was.lines;
       receipts = keeps_on _ _ _ (same 4 (omega arith) (omega arith)) was.receipts;
@@ -91,124 +203,188 @@ inserts_batch old new n is_open count has h =
       slip_lines = keeps_on _ _ _ (same 6 (omega arith) (omega arith)) was.slip_lines;
     })
 
-pub inserts_record : (old new : State) (n : ℕ) (kind : List ℕ) (batch : ℕ) (count : ℕ) → old.now.schema ≡ archive_schema → Executes insert_record (Int (pos n) ∷ Text kind ∷ Int (pos batch) ∷ []) old new (Ok count)
+pub inserts_record : (old new : State) (n : ℕ) (kind : List ℕ) (batch : ℕ) (count : ℕ) → old.now.schema ≡ archive_schema
+    → Executes insert_record (Int (pos n) ∷ Text kind ∷ Int (pos batch) ∷ []) old new (Ok count)
     → Becomes old new (with_record_row n kind batch)
 inserts_record old new n kind batch count has h =
     let params = Int (pos n) ∷ Text kind ∷ Int (pos batch) ∷ [] in
     let terms = col 0 0 ∷ lit Null ∷ col 0 1 ∷ col 0 2 ∷ [] in
-    let w = runs_as insert_record params old new archive_schema has (Insert 2 (Values terms 4)) insert_record_is insert_record_plain count h in
-    let did = inserts archive_schema records 2 refl refl old new.now w.tally params (statement_of insert_record (understood archive_schema insert_record)) terms 4 has w.changed in
+    let w = runs_as insert_record params old new archive_schema has (Insert 2 (Values terms 4)) insert_record_is
+    insert_record_plain count h in
+    let did = inserts archive_schema records 2 refl refl old new.now w.tally params
+    (statement_of insert_record (understood archive_schema insert_record)) terms 4 has w.changed in
     let db = old.now.trees in
     let now = new.now.trees in
     let edit = edit_of db records [] Chosen 0 (value_rows params 4 1 terms) in
     let applied = one_step archive_schema Enforced db now edit refl did.1 in
     let same = others_of db now edit applied in
     let item : RecordRow = record { no = n; kind = kind; batch = batch } in
-    let row : edited db edit ≡ put_row (record_values item) (db 2) = rw (cast_int (pos n), cast_int (pos batch), cast_null) refl in
+    let row : edited db edit ≡ put_row (record_values item) (db 2) = rw (
+      cast_int (pos n),
+      cast_int (pos batch),
+      cast_null,
+    ) refl in
     becomes old new w.sound did.0 (λ rows was. record {
       meta = same 0 (omega arith) (omega arith) ∙ was.meta;
       batches = keeps_on _ _ _ (same 1 (omega arith) (omega arith)) was.batches;
-      records = keeps_on _ _ (now 2) (applied.rows ∙ row) (keeps_put record_values (λ (r : RecordRow). r.no) (λ _. refl) item rows.records (db 2) was.records);
+      records = keeps_on _ _ (now 2) (applied.rows ∙ row)
+          (keeps_put record_values (λ (r : RecordRow). r.no) (λ _. refl) item rows.records (db 2) was.records);
       lines = keeps_on _ _ _ (same 3 (omega arith) (omega arith)) was.lines;
       receipts = keeps_on _ _ _ (same 4 (omega arith) (omega arith)) was.receipts;
       slips = keeps_on _ _ _ (same 5 (omega arith) (omega arith)) was.slips;
       slip_lines = keeps_on _ _ _ (same 6 (omega arith) (omega arith)) was.slip_lines;
     })
 
-pub inserts_slip : (old new : State) (n keep gone : ℕ) (is_undone : Bool) (count : ℕ) → old.now.schema ≡ archive_schema → Executes insert_slip (Int (pos n) ∷ Int (pos keep) ∷ Int (pos gone) ∷ Int (pos (flag is_undone)) ∷ []) old new (Ok count)
+pub inserts_slip : (old new : State) (n keep gone : ℕ) (is_undone : Bool) (count : ℕ) → old.now.schema ≡ archive_schema
+    → Executes insert_slip (Int (pos n) ∷ Int (pos keep) ∷ Int (pos gone) ∷ Int (pos (flag is_undone)) ∷ [])
+    old new (Ok count)
     → Becomes old new (with_slip_row n keep gone is_undone)
 inserts_slip old new n keep gone is_undone count has h =
     let params = Int (pos n) ∷ Int (pos keep) ∷ Int (pos gone) ∷ Int (pos (flag is_undone)) ∷ [] in
     let terms = col 0 0 ∷ lit Null ∷ col 0 1 ∷ col 0 2 ∷ col 0 3 ∷ [] in
-    let w = runs_as insert_slip params old new archive_schema has (Insert 5 (Values terms 5)) insert_slip_is insert_slip_plain count h in
-    let did = inserts archive_schema slips 5 refl refl old new.now w.tally params (statement_of insert_slip (understood archive_schema insert_slip)) terms 5 has w.changed in
+    let w = runs_as insert_slip params old new archive_schema has (Insert 5 (Values terms 5)) insert_slip_is
+    insert_slip_plain count h in
+    let did = inserts archive_schema slips 5 refl refl old new.now w.tally params
+    (statement_of insert_slip (understood archive_schema insert_slip)) terms 5 has w.changed in
     let db = old.now.trees in
     let now = new.now.trees in
     let edit = edit_of db slips [] Chosen 0 (value_rows params 5 1 terms) in
     let applied = one_step archive_schema Enforced db now edit refl did.1 in
     let same = others_of db now edit applied in
     let item : SlipRow = record { no = n; keep = keep; gone = gone; is_undone = is_undone } in
-    let row : edited db edit ≡ put_row (slip_values item) (db 5) = rw (cast_int (pos n), cast_int (pos keep), cast_int (pos gone), cast_int (pos (flag is_undone)), cast_null) refl in
+    let row : edited db edit ≡ put_row (slip_values item) (db 5) = rw (
+      cast_int (pos n),
+      cast_int (pos keep),
+      cast_int (pos gone),
+      cast_int (pos (flag is_undone)),
+      cast_null,
+    ) refl in
     becomes old new w.sound did.0 (λ rows was. record {
       meta = same 0 (omega arith) (omega arith) ∙ was.meta;
       batches = keeps_on _ _ _ (same 1 (omega arith) (omega arith)) was.batches;
       records = keeps_on _ _ _ (same 2 (omega arith) (omega arith)) was.records;
       lines = keeps_on _ _ _ (same 3 (omega arith) (omega arith)) was.lines;
       receipts = keeps_on _ _ _ (same 4 (omega arith) (omega arith)) was.receipts;
-      slips = keeps_on _ _ (now 5) (applied.rows ∙ row) (keeps_put slip_values (λ (s : SlipRow). s.no) (λ _. refl) item rows.slips (db 5) was.slips);
+      slips = keeps_on _ _ (now 5) (applied.rows ∙ row)
+          (keeps_put slip_values (λ (s : SlipRow). s.no) (λ _. refl) item rows.slips (db 5) was.slips);
       slip_lines = keeps_on _ _ _ (same 6 (omega arith) (omega arith)) was.slip_lines;
     })
 
 -- ---- rows whose key is chosen
 
 pub inserts_line : (old new : State) (n at : ℕ) (line : ℕ × Label) (count : ℕ) → old.now.schema ≡ archive_schema
-    → Executes insert_line (Int (pos n) ∷ Int (pos at) ∷ line_fields line) old new (Ok count) → Becomes old new (with_line n at line)
+    → Executes insert_line (Int (pos n) ∷ Int (pos at) ∷ line_fields line) old new (Ok count)
+    → Becomes old new (with_line n at line)
 inserts_line old new n at line count has h =
     let params = Int (pos n) ∷ Int (pos at) ∷ line_fields line in
     let terms = lit Null ∷ lit Null ∷ col 0 0 ∷ col 0 1 ∷ col 0 2 ∷ col 0 3 ∷ col 0 4 ∷ col 0 5 ∷ [] in
-    let w = runs_as insert_line params old new archive_schema has (Insert 3 (Values terms 8)) insert_line_is insert_line_plain count h in
-    let did = inserts archive_schema lines 3 refl refl old new.now w.tally params (statement_of insert_line (understood archive_schema insert_line)) terms 8 has w.changed in
+    let w = runs_as insert_line params old new archive_schema has (Insert 3 (Values terms 8)) insert_line_is
+    insert_line_plain count h in
+    let did = inserts archive_schema lines 3 refl refl old new.now w.tally params
+    (statement_of insert_line (understood archive_schema insert_line)) terms 8 has w.changed in
     let db = old.now.trees in
     let now = new.now.trees in
     let edit = edit_of db lines [] Chosen 0 (value_rows params 8 1 terms) in
     let applied = one_step archive_schema Enforced db now edit refl did.1 in
     let same = others_of db now edit applied in
     let fields = Null ∷ Int (pos n) ∷ Int (pos at) ∷ line_fields line in
-    let row : edited db edit ≡ put_row (Int (next_rowid (db 3)) ∷ fields) (db 3) = rw (cast_null, cast_int (pos n), cast_int (pos at), cast_int (pos line.0), cast_words line.1.text, cast_number line.1.target) refl in
+    let row : edited db edit ≡ put_row (Int (next_rowid (db 3)) ∷ fields) (db 3) = rw (
+      cast_null,
+      cast_int (pos n),
+      cast_int (pos at),
+      cast_int (pos line.0),
+      cast_words line.1.text,
+      cast_number line.1.target,
+    ) refl in
     becomes old new w.sound did.0 (λ rows was.
     let item : LineRow = record { id = next_key (λ (l : LineRow). l.id) rows.lines; no = n; at = at; line = line } in
     record {
       meta = same 0 (omega arith) (omega arith) ∙ was.meta;
       batches = keeps_on _ _ _ (same 1 (omega arith) (omega arith)) was.batches;
       records = keeps_on _ _ _ (same 2 (omega arith) (omega arith)) was.records;
-      lines = keeps_on _ _ (now 3) (applied.rows ∙ row ∙ ap (λ i. put_row (Int i ∷ fields) (db 3)) (chosen_key line_values (λ (l : LineRow). l.id) (λ _. refl) rows.lines (db 3) was.lines.is)) (keeps_last line_values (λ (l : LineRow). l.id) (λ _. refl) item rows.lines (db 3) refl was.lines);
+      lines = keeps_on _ _ (now 3) (applied.rows ∙ row ∙ ap (λ i. put_row (Int i ∷ fields) (db 3))
+          (chosen_key line_values (λ (l : LineRow). l.id) (λ _. refl) rows.lines (db 3) was.lines.is))
+          (keeps_last line_values (λ (l : LineRow). l.id) (λ _. refl) item rows.lines (db 3) refl was.lines);
       receipts = keeps_on _ _ _ (same 4 (omega arith) (omega arith)) was.receipts;
       slips = keeps_on _ _ _ (same 5 (omega arith) (omega arith)) was.slips;
       slip_lines = keeps_on _ _ _ (same 6 (omega arith) (omega arith)) was.slip_lines;
     })
 
-pub inserts_receipt : (old new : State) (token : List ℕ) (receipt : Receipt) (count : ℕ) → old.now.schema ≡ archive_schema
-    → Executes insert_receipt (Text token ∷ receipt_fields receipt) old new (Ok count) → Becomes old new (with_receipt token receipt)
+pub inserts_receipt : (old new : State) (token : List ℕ) (receipt : Receipt) (count : ℕ)
+    → old.now.schema ≡ archive_schema
+    → Executes insert_receipt (Text token ∷ receipt_fields receipt) old new (Ok count)
+    → Becomes old new (with_receipt token receipt)
 inserts_receipt old new token receipt count has h =
     let params = Text token ∷ receipt_fields receipt in
     let terms = lit Null ∷ lit Null ∷ col 0 0 ∷ col 0 1 ∷ col 0 2 ∷ col 0 3 ∷ [] in
-    let w = runs_as insert_receipt params old new archive_schema has (Insert 4 (Values terms 6)) insert_receipt_is insert_receipt_plain count h in
-    let did = inserts archive_schema receipts 4 refl refl old new.now w.tally params (statement_of insert_receipt (understood archive_schema insert_receipt)) terms 6 has w.changed in
+    let w = runs_as insert_receipt params old new archive_schema has (Insert 4 (Values terms 6)) insert_receipt_is
+    insert_receipt_plain count h in
+    let did = inserts archive_schema receipts 4 refl refl old new.now w.tally params
+    (statement_of insert_receipt (understood archive_schema insert_receipt)) terms 6 has w.changed in
     let db = old.now.trees in
     let now = new.now.trees in
     let edit = edit_of db receipts [] Chosen 0 (value_rows params 6 1 terms) in
     let applied = one_step archive_schema Enforced db now edit refl did.1 in
     let same = others_of db now edit applied in
     let fields = Null ∷ Text token ∷ receipt_fields receipt in
-    let row : edited db edit ≡ put_row (Int (next_rowid (db 4)) ∷ fields) (db 4) = rw (cast_null, cast_int (pos receipt.answer.first), cast_int (pos receipt.answer.count)) refl in
+    let row : edited db edit ≡ put_row (Int (next_rowid (db 4)) ∷ fields) (db 4) = rw
+    (cast_null, cast_int (pos receipt.answer.first), cast_int (pos receipt.answer.count)) refl in
     becomes old new w.sound did.0 (λ rows was.
-    let item : ReceiptRow = record { id = next_key (λ (r : ReceiptRow). r.id) rows.receipts; token = token; receipt = receipt } in
+    let item : ReceiptRow = record {
+      id = next_key (λ (r : ReceiptRow). r.id) rows.receipts;
+      token = token;
+      receipt = receipt;
+    } in
     record {
       meta = same 0 (omega arith) (omega arith) ∙ was.meta;
       batches = keeps_on _ _ _ (same 1 (omega arith) (omega arith)) was.batches;
       records = keeps_on _ _ _ (same 2 (omega arith) (omega arith)) was.records;
       lines = keeps_on _ _ _ (same 3 (omega arith) (omega arith)) was.lines;
-      receipts = keeps_on _ _ (now 4) (applied.rows ∙ row ∙ ap (λ i. put_row (Int i ∷ fields) (db 4)) (chosen_key receipt_values (λ (r : ReceiptRow). r.id) (λ _. refl) rows.receipts (db 4) was.receipts.is)) (keeps_last receipt_values (λ (r : ReceiptRow). r.id) (λ _. refl) item rows.receipts (db 4) refl was.receipts);
+      receipts = keeps_on _ _ (now 4) (applied.rows ∙ row ∙ ap (λ i. put_row (Int i ∷ fields) (db 4))
+          (chosen_key receipt_values (λ (r : ReceiptRow). r.id) (λ _. refl) rows.receipts (db 4) was.receipts.is))
+          (keeps_last receipt_values (λ (r : ReceiptRow). r.id) (λ _. refl) item rows.receipts
+          (db 4) refl was.receipts);
       slips = keeps_on _ _ _ (same 5 (omega arith) (omega arith)) was.slips;
       slip_lines = keeps_on _ _ _ (same 6 (omega arith) (omega arith)) was.slip_lines;
     })
 
-pub inserts_slip_line : (old new : State) (slip : ℕ) (is_new : Bool) (n at : ℕ) (line : ℕ × Label) (count : ℕ) → old.now.schema ≡ archive_schema
-    → Executes insert_slip_line (Int (pos slip) ∷ Int (pos (flag is_new)) ∷ Int (pos n) ∷ Int (pos at) ∷ line_fields line) old new (Ok count) → Becomes old new (with_slip_line slip is_new n at line)
+pub inserts_slip_line : (old new : State) (slip : ℕ) (is_new : Bool) (n at : ℕ) (line : ℕ × Label) (count : ℕ)
+    → old.now.schema ≡ archive_schema
+    → Executes insert_slip_line (Int (pos slip) ∷ Int (pos (flag is_new)) ∷ Int (pos n) ∷ Int (pos at)
+    ∷ line_fields line) old new (Ok count) → Becomes old new (with_slip_line slip is_new n at line)
 inserts_slip_line old new slip is_new n at line count has h =
     let params = Int (pos slip) ∷ Int (pos (flag is_new)) ∷ Int (pos n) ∷ Int (pos at) ∷ line_fields line in
-    let terms = lit Null ∷ lit Null ∷ col 0 0 ∷ col 0 1 ∷ col 0 2 ∷ col 0 3 ∷ col 0 4 ∷ col 0 5 ∷ col 0 6 ∷ col 0 7 ∷ [] in
-    let w = runs_as insert_slip_line params old new archive_schema has (Insert 6 (Values terms 10)) insert_slip_line_is insert_slip_line_plain count h in
-    let did = inserts archive_schema slip_lines 6 refl refl old new.now w.tally params (statement_of insert_slip_line (understood archive_schema insert_slip_line)) terms 10 has w.changed in
+    let terms = lit Null ∷ lit Null ∷ col 0 0 ∷ col 0 1 ∷ col 0 2 ∷ col 0 3 ∷ col 0 4 ∷ col 0 5 ∷ col 0 6
+    ∷ col 0 7 ∷ [] in
+    let w = runs_as insert_slip_line params old new archive_schema has (Insert 6 (Values terms 10)) insert_slip_line_is
+    insert_slip_line_plain count h in
+    let did = inserts archive_schema slip_lines 6 refl refl old new.now w.tally params
+    (statement_of insert_slip_line (understood archive_schema insert_slip_line)) terms 10 has w.changed in
     let db = old.now.trees in
     let now = new.now.trees in
     let edit = edit_of db slip_lines [] Chosen 0 (value_rows params 10 1 terms) in
     let applied = one_step archive_schema Enforced db now edit refl did.1 in
     let same = others_of db now edit applied in
     let fields = Null ∷ Int (pos slip) ∷ Int (pos (flag is_new)) ∷ Int (pos n) ∷ Int (pos at) ∷ line_fields line in
-    let row : edited db edit ≡ put_row (Int (next_rowid (db 6)) ∷ fields) (db 6) = rw (cast_null, cast_int (pos slip), cast_int (pos (flag is_new)), cast_int (pos n), cast_int (pos at), cast_int (pos line.0), cast_words line.1.text, cast_number line.1.target) refl in
+    let row : edited db edit ≡ put_row (Int (next_rowid (db 6)) ∷ fields) (db 6) = rw (
+      cast_null,
+      cast_int (pos slip),
+      cast_int (pos (flag is_new)),
+      cast_int (pos n),
+      cast_int (pos at),
+      cast_int (pos line.0),
+      cast_words line.1.text,
+      cast_number line.1.target,
+    ) refl in
     becomes old new w.sound did.0 (λ rows was.
-    let item : SlipLineRow = record { id = next_key (λ (s : SlipLineRow). s.id) rows.slip_lines; slip = slip; is_new = is_new; no = n; at = at; line = line } in
+    let item : SlipLineRow = record {
+      id = next_key (λ (s : SlipLineRow). s.id) rows.slip_lines;
+      slip = slip;
+      is_new = is_new;
+      no = n;
+      at = at;
+      line = line;
+    } in
     record {
       meta = same 0 (omega arith) (omega arith) ∙ was.meta;
       batches = keeps_on _ _ _ (same 1 (omega arith) (omega arith)) was.batches;
@@ -216,7 +392,10 @@ inserts_slip_line old new slip is_new n at line count has h =
       lines = keeps_on _ _ _ (same 3 (omega arith) (omega arith)) was.lines;
       receipts = keeps_on _ _ _ (same 4 (omega arith) (omega arith)) was.receipts;
       slips = keeps_on _ _ _ (same 5 (omega arith) (omega arith)) was.slips;
-      slip_lines = keeps_on _ _ (now 6) (applied.rows ∙ row ∙ ap (λ i. put_row (Int i ∷ fields) (db 6)) (chosen_key slip_line_values (λ (s : SlipLineRow). s.id) (λ _. refl) rows.slip_lines (db 6) was.slip_lines.is)) (keeps_last slip_line_values (λ (s : SlipLineRow). s.id) (λ _. refl) item rows.slip_lines (db 6) refl was.slip_lines);
+      slip_lines = keeps_on _ _ (now 6) (applied.rows ∙ row ∙ ap (λ i. put_row (Int i ∷ fields) (db 6))
+          (chosen_key slip_line_values (λ (s : SlipLineRow). s.id) (λ _. refl) rows.slip_lines
+          (db 6) was.slip_lines.is)) (keeps_last slip_line_values (λ (s : SlipLineRow). s.id)
+          (λ _. refl) item rows.slip_lines (db 6) refl was.slip_lines);
     })
 
 -- ---- DELETE
@@ -229,12 +408,15 @@ no_work_3 : (olds : List Row) → works archive_schema Enforced 0 3 olds [] ≡ 
 unfolding same_name joined
 no_work_3 olds = refl
 
-pub deletes_lines : (old new : State) (n count : ℕ) → old.now.schema ≡ archive_schema → Executes delete_lines (Int (pos n) ∷ []) old new (Ok count) → Becomes old new (without_lines n)
+pub deletes_lines : (old new : State) (n count : ℕ) → old.now.schema ≡ archive_schema
+    → Executes delete_lines (Int (pos n) ∷ []) old new (Ok count) → Becomes old new (without_lines n)
 deletes_lines old new n count has h =
     let params = Int (pos n) ∷ [] in
     let q : Program = record { lets = []; body = simple 3 (with_key 2) (col 1 0 ∷ []) [] } in
-    let w = runs_as delete_lines params old new archive_schema has (Delete 3 q) delete_lines_is delete_lines_plain count h in
-    let did = deletes archive_schema lines 3 refl refl old new.now w.tally params (statement_of delete_lines (understood archive_schema delete_lines)) q has w.changed in
+    let w = runs_as delete_lines params old new archive_schema has (Delete 3 q) delete_lines_is
+    delete_lines_plain count h in
+    let did = deletes archive_schema lines 3 refl refl old new.now w.tally params
+    (statement_of delete_lines (understood archive_schema delete_lines)) q has w.changed in
     let found = did.1 in
     let db = old.now.trees in
     let now = new.now.trees in
@@ -242,20 +424,26 @@ deletes_lines old new n count has h =
     let applied = one_step archive_schema Enforced db now edit (no_work_3 (taken_by db edit)) did.3 in
     let same = others_of db now edit applied in
     becomes old new w.sound did.0 (λ rows was.
-    let all = answered line_values params (with_key 2) (λ x. x.no == n) (passes_3 n) 3 (col 1 0 ∷ []) [] (overlay db []) rows.lines found was.lines.is (did.2.answer Null) in
-    let ids : IsPermutation (map (λ x. pos ((λ (l : LineRow). l.id) x)) (filter (λ (x : LineRow). x.no == n) rows.lines)) (ids_of found) =
-    subst (λ k. IsPermutation k (ids_of found)) (map_twice _ _ (filter (λ (x : LineRow). x.no == n) rows.lines)) (IsPermutation-map (λ r. id_in (rowid r)) _ _ all) in
+    let all = answered line_values params (with_key 2) (λ x. x.no == n) (passes_3 n) 3 (col 1 0 ∷ []) []
+    (overlay db []) rows.lines found was.lines.is (did.2.answer Null) in
+    let ids : IsPermutation
+    (map (λ x. pos ((λ (l : LineRow). l.id) x)) (filter (λ (x : LineRow). x.no == n) rows.lines)) (ids_of found) =
+    subst (λ k. IsPermutation k (ids_of found)) (map_twice _ _ (filter (λ (x : LineRow). x.no == n) rows.lines))
+    (IsPermutation-map (λ r. id_in (rowid r)) _ _ all) in
     record {
       meta = same 0 (omega arith) (omega arith) ∙ was.meta;
       batches = keeps_on _ _ _ (same 1 (omega arith) (omega arith)) was.batches;
       records = keeps_on _ _ _ (same 2 (omega arith) (omega arith)) was.records;
-      lines = keeps_on _ _ (now 3) applied.rows (keeps_less line_values (λ (l : LineRow). l.id) (λ _. refl) (λ x. x.no == n) rows.lines (db 3) (ids_of found) ids was.lines);
+      lines = keeps_on _ _ (now 3) applied.rows
+          (keeps_less line_values (λ (l : LineRow). l.id) (λ _. refl) (λ x. x.no == n) rows.lines (db 3)
+          (ids_of found) ids was.lines);
       receipts = keeps_on _ _ _ (same 4 (omega arith) (omega arith)) was.receipts;
       slips = keeps_on _ _ _ (same 5 (omega arith) (omega arith)) was.slips;
       slip_lines = keeps_on _ _ _ (same 6 (omega arith) (omega arith)) was.slip_lines;
     })
 
-passes_6 : (n : ℕ) (x : SlipLineRow) → list_all (holds ((Int (pos n) ∷ []) ∷ slip_line_values x ∷ [])) (with_key 2) ≡ (x.slip == n)
+passes_6 : (n : ℕ) (x : SlipLineRow) → list_all (holds ((Int (pos n) ∷ []) ∷ slip_line_values x ∷ []))
+    (with_key 2) ≡ (x.slip == n)
 unfolding binary
 passes_6 n x = ap (λ b. is_true (from_truth (Some b)) && true) (same_int x.slip n) ∙ truth_of (x.slip == n)
 
@@ -263,12 +451,15 @@ no_work_6 : (olds : List Row) → works archive_schema Enforced 0 6 olds [] ≡ 
 unfolding same_name joined
 no_work_6 olds = refl
 
-pub deletes_slip_lines : (old new : State) (n count : ℕ) → old.now.schema ≡ archive_schema → Executes delete_slip_lines (Int (pos n) ∷ []) old new (Ok count) → Becomes old new (without_slip_lines n)
+pub deletes_slip_lines : (old new : State) (n count : ℕ) → old.now.schema ≡ archive_schema
+    → Executes delete_slip_lines (Int (pos n) ∷ []) old new (Ok count) → Becomes old new (without_slip_lines n)
 deletes_slip_lines old new n count has h =
     let params = Int (pos n) ∷ [] in
     let q : Program = record { lets = []; body = simple 6 (with_key 2) (col 1 0 ∷ []) [] } in
-    let w = runs_as delete_slip_lines params old new archive_schema has (Delete 6 q) delete_slip_lines_is delete_slip_lines_plain count h in
-    let did = deletes archive_schema slip_lines 6 refl refl old new.now w.tally params (statement_of delete_slip_lines (understood archive_schema delete_slip_lines)) q has w.changed in
+    let w = runs_as delete_slip_lines params old new archive_schema has (Delete 6 q) delete_slip_lines_is
+    delete_slip_lines_plain count h in
+    let did = deletes archive_schema slip_lines 6 refl refl old new.now w.tally params
+    (statement_of delete_slip_lines (understood archive_schema delete_slip_lines)) q has w.changed in
     let found = did.1 in
     let db = old.now.trees in
     let now = new.now.trees in
@@ -276,9 +467,14 @@ deletes_slip_lines old new n count has h =
     let applied = one_step archive_schema Enforced db now edit (no_work_6 (taken_by db edit)) did.3 in
     let same = others_of db now edit applied in
     becomes old new w.sound did.0 (λ rows was.
-    let all = answered slip_line_values params (with_key 2) (λ x. x.slip == n) (passes_6 n) 6 (col 1 0 ∷ []) [] (overlay db []) rows.slip_lines found was.slip_lines.is (did.2.answer Null) in
-    let ids : IsPermutation (map (λ x. pos ((λ (s : SlipLineRow). s.id) x)) (filter (λ (x : SlipLineRow). x.slip == n) rows.slip_lines)) (ids_of found) =
-    subst (λ k. IsPermutation k (ids_of found)) (map_twice _ _ (filter (λ (x : SlipLineRow). x.slip == n) rows.slip_lines)) (IsPermutation-map (λ r. id_in (rowid r)) _ _ all) in
+    let all = answered slip_line_values params (with_key 2) (λ x. x.slip == n) (passes_6 n) 6 (col 1 0 ∷ []) []
+    (overlay db []) rows.slip_lines found was.slip_lines.is (did.2.answer Null) in
+    let ids : IsPermutation
+    (map (λ x. pos ((λ (s : SlipLineRow). s.id) x)) (filter (λ (x : SlipLineRow). x.slip == n) rows.slip_lines))
+    (ids_of found) =
+    subst (λ k. IsPermutation k (ids_of found))
+    (map_twice _ _ (filter (λ (x : SlipLineRow). x.slip == n) rows.slip_lines))
+    (IsPermutation-map (λ r. id_in (rowid r)) _ _ all) in
     record {
       meta = same 0 (omega arith) (omega arith) ∙ was.meta;
       batches = keeps_on _ _ _ (same 1 (omega arith) (omega arith)) was.batches;
@@ -286,14 +482,18 @@ deletes_slip_lines old new n count has h =
       lines = keeps_on _ _ _ (same 3 (omega arith) (omega arith)) was.lines;
       receipts = keeps_on _ _ _ (same 4 (omega arith) (omega arith)) was.receipts;
       slips = keeps_on _ _ _ (same 5 (omega arith) (omega arith)) was.slips;
-      slip_lines = keeps_on _ _ (now 6) applied.rows (keeps_less slip_line_values (λ (s : SlipLineRow). s.id) (λ _. refl) (λ x. x.slip == n) rows.slip_lines (db 6) (ids_of found) ids was.slip_lines);
+      slip_lines = keeps_on _ _ (now 6) applied.rows
+          (keeps_less slip_line_values (λ (s : SlipLineRow). s.id) (λ _. refl) (λ x. x.slip == n) rows.slip_lines (db 6)
+          (ids_of found) ids was.slip_lines);
     })
 
-passes_2 : (n : ℕ) (x : RecordRow) → list_all (holds ((Int (pos n) ∷ []) ∷ record_values x ∷ [])) (with_key 0) ≡ (x.no == n)
+passes_2 : (n : ℕ) (x : RecordRow) → list_all (holds ((Int (pos n) ∷ []) ∷ record_values x ∷ []))
+    (with_key 0) ≡ (x.no == n)
 unfolding binary
 passes_2 n x = ap (λ b. is_true (from_truth (Some b)) && true) (same_int x.no n) ∙ truth_of (x.no == n)
 
-two_refuse : (b : Bool) (v w : Work) → Restrict v → Restrict w → AllByRecursion Restrict (cons_option (if b then Some v else None) (cons_option (if b then Some w else None) []) ++ [])
+two_refuse : (b : Bool) (v w : Work) → Restrict v → Restrict w → AllByRecursion Restrict
+    (cons_option (if b then Some v else None) (cons_option (if b then Some w else None) []) ++ [])
 two_refuse true v w p q = (p, (q, tt))
 two_refuse false v w p q = tt
 
@@ -302,7 +502,8 @@ pub only_restricted : (olds : List Row) → AllByRecursion Restrict (works archi
 unfolding same_name joined
 only_restricted olds = two_refuse _ _ _ refl refl
 
-one_refuses : (b : Bool) (v : Work) → Restrict v → AllByRecursion Restrict (cons_option (if b then Some v else None) [] ++ [])
+one_refuses : (b : Bool) (v : Work) → Restrict v → AllByRecursion Restrict
+    (cons_option (if b then Some v else None) [] ++ [])
 one_refuses true v p = (p, tt)
 one_refuses false v p = tt
 
@@ -310,12 +511,15 @@ pub only_restricted_slips : (olds : List Row) → AllByRecursion Restrict (works
 unfolding same_name joined
 only_restricted_slips olds = one_refuses _ _ refl
 
-pub deletes_record : (old new : State) (n count : ℕ) → old.now.schema ≡ archive_schema → Executes delete_record (Int (pos n) ∷ []) old new (Ok count) → Becomes old new (without_record_row n)
+pub deletes_record : (old new : State) (n count : ℕ) → old.now.schema ≡ archive_schema
+    → Executes delete_record (Int (pos n) ∷ []) old new (Ok count) → Becomes old new (without_record_row n)
 deletes_record old new n count has h =
     let params = Int (pos n) ∷ [] in
     let q : Program = record { lets = []; body = simple 2 (with_key 0) (col 1 0 ∷ []) [] } in
-    let w = runs_as delete_record params old new archive_schema has (Delete 2 q) delete_record_is delete_record_plain count h in
-    let did = deletes archive_schema records 2 refl refl old new.now w.tally params (statement_of delete_record (understood archive_schema delete_record)) q has w.changed in
+    let w = runs_as delete_record params old new archive_schema has (Delete 2 q) delete_record_is
+    delete_record_plain count h in
+    let did = deletes archive_schema records 2 refl refl old new.now w.tally params
+    (statement_of delete_record (understood archive_schema delete_record)) q has w.changed in
     let found = did.1 in
     let db = old.now.trees in
     let now = new.now.trees in
@@ -323,13 +527,19 @@ deletes_record old new n count has h =
     let applied = restricted_step archive_schema Enforced db now edit (only_restricted (taken_by db edit)) did.3 in
     let same = others_of db now edit applied in
     becomes old new w.sound did.0 (λ rows was.
-    let all = answered record_values params (with_key 0) (λ x. x.no == n) (passes_2 n) 2 (col 1 0 ∷ []) [] (overlay db []) rows.records found was.records.is (did.2.answer Null) in
-    let ids : IsPermutation (map (λ x. pos ((λ (r : RecordRow). r.no) x)) (filter (λ (x : RecordRow). x.no == n) rows.records)) (ids_of found) =
-    subst (λ k. IsPermutation k (ids_of found)) (map_twice _ _ (filter (λ (x : RecordRow). x.no == n) rows.records)) (IsPermutation-map (λ r. id_in (rowid r)) _ _ all) in
+    let all = answered record_values params (with_key 0) (λ x. x.no == n) (passes_2 n) 2 (col 1 0 ∷ []) []
+    (overlay db []) rows.records found was.records.is (did.2.answer Null) in
+    let ids : IsPermutation
+    (map (λ x. pos ((λ (r : RecordRow). r.no) x)) (filter (λ (x : RecordRow). x.no == n) rows.records))
+    (ids_of found) =
+    subst (λ k. IsPermutation k (ids_of found)) (map_twice _ _ (filter (λ (x : RecordRow). x.no == n) rows.records))
+    (IsPermutation-map (λ r. id_in (rowid r)) _ _ all) in
     record {
       meta = same 0 (omega arith) (omega arith) ∙ was.meta;
       batches = keeps_on _ _ _ (same 1 (omega arith) (omega arith)) was.batches;
-      records = keeps_on _ _ (now 2) applied.rows (keeps_less record_values (λ (r : RecordRow). r.no) (λ _. refl) (λ x. x.no == n) rows.records (db 2) (ids_of found) ids was.records);
+      records = keeps_on _ _ (now 2) applied.rows
+          (keeps_less record_values (λ (r : RecordRow). r.no) (λ _. refl) (λ x. x.no == n) rows.records (db 2)
+          (ids_of found) ids was.records);
       lines = keeps_on _ _ _ (same 3 (omega arith) (omega arith)) was.lines;
       receipts = keeps_on _ _ _ (same 4 (omega arith) (omega arith)) was.receipts;
       slips = keeps_on _ _ _ (same 5 (omega arith) (omega arith)) was.slips;
@@ -341,26 +551,34 @@ deletes_record old new n count has h =
 only_one : (c : Rows) → without_all (meta_values c ∷ []) (pos 1 ∷ []) ≡ []
 only_one c = ap (λ b. cond (not b) (meta_values c ∷ []) []) (same_int 1 1)
 
-pub sets_next : (old new : State) (n count : ℕ) → old.now.schema ≡ archive_schema → Executes set_next (Int (pos n) ∷ []) old new (Ok count) → Becomes old new (with_next n)
+pub sets_next : (old new : State) (n count : ℕ) → old.now.schema ≡ archive_schema
+    → Executes set_next (Int (pos n) ∷ []) old new (Ok count) → Becomes old new (with_next n)
 sets_next old new n count has h =
     let params = Int (pos n) ∷ [] in
     let project = col 1 0 ∷ col 1 0 ∷ lit Null ∷ col 1 2 ∷ col 0 0 ∷ col 1 4 ∷ [] in
     let q : Program = record { lets = []; body = simple 0 [] project [] } in
     let w = runs_as set_next params old new archive_schema has (Update 0 q) set_next_is set_next_plain count h in
-    let did = updates archive_schema meta 0 refl refl old new.now w.tally params (statement_of set_next (understood archive_schema set_next)) q has w.changed in
+    let did = updates archive_schema meta 0 refl refl old new.now w.tally params
+    (statement_of set_next (understood archive_schema set_next)) q has w.changed in
     let rows = did.1 in
     let db = old.now.trees in
     let now = new.now.trees in
     becomes old new w.sound did.0 (λ c was.
-    let found : IsPermutation ((Int (pos 1) ∷ Int (pos 1) ∷ Null ∷ Int (pos 1) ∷ Int (pos n) ∷ Text c.society ∷ []) ∷ []) rows =
-    answered meta_values params [] (λ _. true) (λ _. refl) 0 project [] (overlay db []) (c ∷ []) rows was.meta (did.2.answer Null) in
+    let found : IsPermutation
+    ((Int (pos 1) ∷ Int (pos 1) ∷ Null ∷ Int (pos 1) ∷ Int (pos n) ∷ Text c.society ∷ []) ∷ []) rows =
+    answered meta_values params [] (λ _. true) (λ _. refl) 0 project [] (overlay db []) (c ∷ []) rows was.meta
+    (did.2.answer Null) in
     let one = one_permutation _ rows found in
-    let edit = edit_of db meta (pos 1 ∷ []) Given 1 ((Int (pos 1) ∷ Int (pos 1) ∷ Null ∷ Int (pos 1) ∷ Int (pos n) ∷ Text c.society ∷ []) ∷ []) in
-    let applied = one_step archive_schema Enforced db now edit refl (subst (λ rs. Writes archive_schema Enforced db (edit_of db meta (ids_of rs) Given 1 rs) (Ok now)) one did.3) in
+    let edit = edit_of db meta (pos 1 ∷ []) Given 1
+    ((Int (pos 1) ∷ Int (pos 1) ∷ Null ∷ Int (pos 1) ∷ Int (pos n) ∷ Text c.society ∷ []) ∷ []) in
+    let applied = one_step archive_schema Enforced db now edit refl
+    (subst (λ rs. Writes archive_schema Enforced db (edit_of db meta (ids_of rs) Given 1 rs) (Ok now)) one did.3) in
     let same = others_of db now edit applied in
-    let row : edited db edit ≡ put_row (meta_values (with_next n c)) (without_all (db 0) (pos 1 ∷ [])) = rw (cast_null, cast_int (pos 1), cast_int (pos n)) refl in
+    let row : edited db edit ≡ put_row (meta_values (with_next n c)) (without_all (db 0) (pos 1 ∷ [])) = rw
+    (cast_null, cast_int (pos 1), cast_int (pos n)) refl in
     record {
-      meta = applied.rows ∙ row ∙ ap (λ rs. put_row (meta_values (with_next n c)) (without_all rs (pos 1 ∷ []))) was.meta ∙ ap (put_row (meta_values (with_next n c))) (only_one c);
+      meta = applied.rows ∙ row ∙ ap (λ rs. put_row (meta_values (with_next n c)) (without_all rs (pos 1 ∷ [])))
+          was.meta ∙ ap (put_row (meta_values (with_next n c))) (only_one c);
       batches = keeps_on _ _ _ (same 1 (omega arith) (omega arith)) was.batches;
       records = keeps_on _ _ _ (same 2 (omega arith) (omega arith)) was.records;
       lines = keeps_on _ _ _ (same 3 (omega arith) (omega arith)) was.lines;
@@ -371,13 +589,16 @@ sets_next old new n count has h =
 
 -- ---- the first row, in a store whose tables have none
 
-pub inserts_meta : (old new : State) (society : List ℕ) (count : ℕ) → old.now.schema ≡ archive_schema → ((t : ℕ) → t < 7 → old.now.trees t ≡ []) → Executes insert_meta (Text society ∷ []) old new (Ok count)
+pub inserts_meta : (old new : State) (society : List ℕ) (count : ℕ) → old.now.schema ≡ archive_schema
+    → ((t : ℕ) → t < 7 → old.now.trees t ≡ []) → Executes insert_meta (Text society ∷ []) old new (Ok count)
     → (new.now.schema ≡ archive_schema) × IsSound archive_schema new.now.trees × Holds (bare society) new.now.trees
 inserts_meta old new society count has empty h =
     let params = Text society ∷ [] in
     let terms = lit (Int (pos 1)) ∷ lit Null ∷ lit (Int (pos 1)) ∷ lit (Int (pos 1)) ∷ col 0 0 ∷ [] in
-    let w = runs_as insert_meta params old new archive_schema has (Insert 0 (Values terms 5)) insert_meta_is insert_meta_plain count h in
-    let did = inserts archive_schema meta 0 refl refl old new.now w.tally params (statement_of insert_meta (understood archive_schema insert_meta)) terms 5 has w.changed in
+    let w = runs_as insert_meta params old new archive_schema has (Insert 0 (Values terms 5)) insert_meta_is
+    insert_meta_plain count h in
+    let did = inserts archive_schema meta 0 refl refl old new.now w.tally params
+    (statement_of insert_meta (understood archive_schema insert_meta)) terms 5 has w.changed in
     let db = old.now.trees in
     let now = new.now.trees in
     let edit = edit_of db meta [] Chosen 0 (value_rows params 5 1 terms) in

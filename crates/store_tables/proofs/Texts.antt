@@ -14,7 +14,21 @@ use Rattle.sqlite_tied.specs.Compute.{everything}
 use Rattle.sqlite.specs.Listing.{understood, reads_listing}
 use Rattle.sqlite.proofs.Callers.{IsPlain, command_of}
 use Rattle.store_tables.proofs.Finding.{simple}
-use Rattle.store_tables.specs.Schema.{meta, batches, records, lines, receipts, slips, slip_lines, line_by_record, line_by_target, receipt_by_token, slip_line_by_slip, line_by_text, archive_schema}
+use Rattle.store_tables.specs.Schema.{
+  meta,
+  batches,
+  records,
+  lines,
+  receipts,
+  slips,
+  slip_lines,
+  line_by_record,
+  line_by_target,
+  receipt_by_token,
+  slip_line_by_slip,
+  line_by_text,
+  archive_schema,
+}
 
 abbrev pub create_meta : List ℕ
 create_meta = codes "CREATE TABLE meta (one INTEGER PRIMARY KEY, version INTEGER NOT NULL, next INTEGER NOT NULL, society TEXT NOT NULL) STRICT"
@@ -23,19 +37,22 @@ abbrev pub create_batch : List ℕ
 create_batch = codes "CREATE TABLE batch (no INTEGER PRIMARY KEY, is_open INTEGER NOT NULL) STRICT"
 
 abbrev pub create_record : List ℕ
-create_record = codes "CREATE TABLE record (no INTEGER PRIMARY KEY, kind TEXT NOT NULL, batch INTEGER NOT NULL REFERENCES batch (no) ON DELETE RESTRICT) STRICT"
+create_record = codes
+    "CREATE TABLE record (no INTEGER PRIMARY KEY, kind TEXT NOT NULL, batch INTEGER NOT NULL REFERENCES batch (no) ON DELETE RESTRICT) STRICT"
 
 abbrev pub create_line : List ℕ
 create_line = codes "CREATE TABLE line (id INTEGER PRIMARY KEY, no INTEGER NOT NULL REFERENCES record (no) ON DELETE RESTRICT, pos INTEGER NOT NULL, depth INTEGER NOT NULL, tag TEXT NOT NULL, text TEXT, dst INTEGER REFERENCES record (no) ON DELETE RESTRICT) STRICT"
 
 abbrev pub create_receipt : List ℕ
-create_receipt = codes "CREATE TABLE receipt (id INTEGER PRIMARY KEY, token TEXT NOT NULL, digest BLOB NOT NULL, first INTEGER NOT NULL, count INTEGER NOT NULL) STRICT"
+create_receipt = codes
+    "CREATE TABLE receipt (id INTEGER PRIMARY KEY, token TEXT NOT NULL, digest BLOB NOT NULL, first INTEGER NOT NULL, count INTEGER NOT NULL) STRICT"
 
 abbrev pub create_slip : List ℕ
 create_slip = codes "CREATE TABLE slip (no INTEGER PRIMARY KEY, keep INTEGER NOT NULL, gone INTEGER NOT NULL, undone INTEGER NOT NULL) STRICT"
 
 abbrev pub create_slip_line : List ℕ
-create_slip_line = codes "CREATE TABLE slip_line (id INTEGER PRIMARY KEY, slip INTEGER NOT NULL REFERENCES slip (no) ON DELETE RESTRICT, side INTEGER NOT NULL, no INTEGER NOT NULL, pos INTEGER NOT NULL, depth INTEGER NOT NULL, tag TEXT NOT NULL, text TEXT, dst INTEGER) STRICT"
+create_slip_line = codes
+    "CREATE TABLE slip_line (id INTEGER PRIMARY KEY, slip INTEGER NOT NULL REFERENCES slip (no) ON DELETE RESTRICT, side INTEGER NOT NULL, no INTEGER NOT NULL, pos INTEGER NOT NULL, depth INTEGER NOT NULL, tag TEXT NOT NULL, text TEXT, dst INTEGER) STRICT"
 
 abbrev pub create_line_by_record : List ℕ
 create_line_by_record = codes "CREATE INDEX line_by_record ON line (no)"
@@ -88,11 +105,13 @@ pub line_by_target_is : (index_defined_by lines create_line_by_target ≡ Ok (re
 unfolding understood everything
 line_by_target_is = refl
 
-pub receipt_by_token_is : (index_defined_by receipts create_receipt_by_token ≡ Ok (record receipt_by_token { tree = 0 }))
+pub receipt_by_token_is : (index_defined_by receipts create_receipt_by_token ≡ Ok
+    (record receipt_by_token { tree = 0 }))
 unfolding understood everything
 receipt_by_token_is = refl
 
-pub slip_line_by_slip_is : (index_defined_by slip_lines create_slip_line_by_slip ≡ Ok (record slip_line_by_slip { tree = 0 }))
+pub slip_line_by_slip_is : (index_defined_by slip_lines create_slip_line_by_slip ≡ Ok
+    (record slip_line_by_slip { tree = 0 }))
 unfolding understood everything
 slip_line_by_slip_is = refl
 
@@ -145,7 +164,8 @@ with_key place = op2 (Compare Eq Binary) (col 1 place) (col 0 0) ∷ []
 abbrev pub by_key : List (Term × Key)
 by_key = (col 1 0, ascending Binary) ∷ []
 
-pub insert_meta_is : command_of (understood archive_schema insert_meta) ≡ Insert 0 (Values (lit (Int (pos 1)) ∷ lit Null ∷ lit (Int (pos 1)) ∷ lit (Int (pos 1)) ∷ col 0 0 ∷ []) 5)
+pub insert_meta_is : command_of (understood archive_schema insert_meta) ≡ Insert 0
+    (Values (lit (Int (pos 1)) ∷ lit Null ∷ lit (Int (pos 1)) ∷ lit (Int (pos 1)) ∷ col 0 0 ∷ []) 5)
 unfolding understood everything
 insert_meta_is = refl
 
@@ -153,7 +173,8 @@ pub insert_meta_plain : IsPlain (understood archive_schema insert_meta)
 unfolding understood everything
 insert_meta_plain = (refl, refl)
 
-pub insert_batch_is : command_of (understood archive_schema insert_batch) ≡ Insert 1 (Values (col 0 0 ∷ lit Null ∷ col 0 1 ∷ []) 3)
+pub insert_batch_is : command_of (understood archive_schema insert_batch) ≡ Insert 1
+    (Values (col 0 0 ∷ lit Null ∷ col 0 1 ∷ []) 3)
 unfolding understood everything
 insert_batch_is = refl
 
@@ -161,7 +182,8 @@ pub insert_batch_plain : IsPlain (understood archive_schema insert_batch)
 unfolding understood everything
 insert_batch_plain = (refl, refl)
 
-pub insert_record_is : command_of (understood archive_schema insert_record) ≡ Insert 2 (Values (col 0 0 ∷ lit Null ∷ col 0 1 ∷ col 0 2 ∷ []) 4)
+pub insert_record_is : command_of (understood archive_schema insert_record) ≡ Insert 2
+    (Values (col 0 0 ∷ lit Null ∷ col 0 1 ∷ col 0 2 ∷ []) 4)
 unfolding understood everything
 insert_record_is = refl
 
@@ -169,7 +191,8 @@ pub insert_record_plain : IsPlain (understood archive_schema insert_record)
 unfolding understood everything
 insert_record_plain = (refl, refl)
 
-pub delete_record_is : command_of (understood archive_schema delete_record) ≡ Delete 2 (record { lets = []; body = simple 2 (with_key 0) (col 1 0 ∷ []) [] })
+pub delete_record_is : command_of (understood archive_schema delete_record) ≡ Delete 2
+    (record { lets = []; body = simple 2 (with_key 0) (col 1 0 ∷ []) [] })
 unfolding understood everything
 delete_record_is = refl
 
@@ -177,7 +200,8 @@ pub delete_record_plain : IsPlain (understood archive_schema delete_record)
 unfolding understood everything
 delete_record_plain = (refl, refl)
 
-pub insert_line_is : command_of (understood archive_schema insert_line) ≡ Insert 3 (Values (lit Null ∷ lit Null ∷ col 0 0 ∷ col 0 1 ∷ col 0 2 ∷ col 0 3 ∷ col 0 4 ∷ col 0 5 ∷ []) 8)
+pub insert_line_is : command_of (understood archive_schema insert_line) ≡ Insert 3
+    (Values (lit Null ∷ lit Null ∷ col 0 0 ∷ col 0 1 ∷ col 0 2 ∷ col 0 3 ∷ col 0 4 ∷ col 0 5 ∷ []) 8)
 unfolding understood everything
 insert_line_is = refl
 
@@ -185,7 +209,8 @@ pub insert_line_plain : IsPlain (understood archive_schema insert_line)
 unfolding understood everything
 insert_line_plain = (refl, refl)
 
-pub delete_lines_is : command_of (understood archive_schema delete_lines) ≡ Delete 3 (record { lets = []; body = simple 3 (with_key 2) (col 1 0 ∷ []) [] })
+pub delete_lines_is : command_of (understood archive_schema delete_lines) ≡ Delete 3
+    (record { lets = []; body = simple 3 (with_key 2) (col 1 0 ∷ []) [] })
 unfolding understood everything
 delete_lines_is = refl
 
@@ -193,7 +218,8 @@ pub delete_lines_plain : IsPlain (understood archive_schema delete_lines)
 unfolding understood everything
 delete_lines_plain = (refl, refl)
 
-pub set_next_is : command_of (understood archive_schema set_next) ≡ Update 0 (record { lets = []; body = simple 0 [] (col 1 0 ∷ col 1 0 ∷ lit Null ∷ col 1 2 ∷ col 0 0 ∷ col 1 4 ∷ []) [] })
+pub set_next_is : command_of (understood archive_schema set_next) ≡ Update 0
+    (record { lets = []; body = simple 0 [] (col 1 0 ∷ col 1 0 ∷ lit Null ∷ col 1 2 ∷ col 0 0 ∷ col 1 4 ∷ []) [] })
 unfolding understood everything
 set_next_is = refl
 
@@ -201,7 +227,8 @@ pub set_next_plain : IsPlain (understood archive_schema set_next)
 unfolding understood everything
 set_next_plain = (refl, refl)
 
-pub insert_receipt_is : command_of (understood archive_schema insert_receipt) ≡ Insert 4 (Values (lit Null ∷ lit Null ∷ col 0 0 ∷ col 0 1 ∷ col 0 2 ∷ col 0 3 ∷ []) 6)
+pub insert_receipt_is : command_of (understood archive_schema insert_receipt) ≡ Insert 4
+    (Values (lit Null ∷ lit Null ∷ col 0 0 ∷ col 0 1 ∷ col 0 2 ∷ col 0 3 ∷ []) 6)
 unfolding understood everything
 insert_receipt_is = refl
 
@@ -209,7 +236,9 @@ pub insert_receipt_plain : IsPlain (understood archive_schema insert_receipt)
 unfolding understood everything
 insert_receipt_plain = (refl, refl)
 
-pub select_meta_is : command_of (understood archive_schema select_meta) ≡ Select (record { lets = []; body = simple 0 [] (col 1 2 ∷ col 1 3 ∷ col 1 4 ∷ []) [] }) (codes "version" ∷ codes "next" ∷ codes "society" ∷ [])
+pub select_meta_is : command_of (understood archive_schema select_meta) ≡ Select
+    (record { lets = []; body = simple 0 [] (col 1 2 ∷ col 1 3 ∷ col 1 4 ∷ []) [] })
+    (codes "version" ∷ codes "next" ∷ codes "society" ∷ [])
 unfolding understood everything
 select_meta_is = refl
 
@@ -221,7 +250,8 @@ pub select_meta_unlisted : reads_listing archive_schema select_meta ≡ false
 unfolding understood everything
 select_meta_unlisted = refl
 
-pub select_batches_is : command_of (understood archive_schema select_batches) ≡ Select (record { lets = []; body = simple 1 [] (col 1 0 ∷ col 1 2 ∷ []) by_key }) (codes "no" ∷ codes "is_open" ∷ [])
+pub select_batches_is : command_of (understood archive_schema select_batches) ≡ Select
+    (record { lets = []; body = simple 1 [] (col 1 0 ∷ col 1 2 ∷ []) by_key }) (codes "no" ∷ codes "is_open" ∷ [])
 unfolding understood everything
 select_batches_is = refl
 
@@ -233,7 +263,8 @@ pub select_batches_unlisted : reads_listing archive_schema select_batches ≡ fa
 unfolding understood everything
 select_batches_unlisted = refl
 
-pub select_records_is : command_of (understood archive_schema select_records) ≡ Select (record { lets = []; body = simple 2 [] (col 1 0 ∷ col 1 3 ∷ []) by_key }) (codes "no" ∷ codes "batch" ∷ [])
+pub select_records_is : command_of (understood archive_schema select_records) ≡ Select
+    (record { lets = []; body = simple 2 [] (col 1 0 ∷ col 1 3 ∷ []) by_key }) (codes "no" ∷ codes "batch" ∷ [])
 unfolding understood everything
 select_records_is = refl
 
@@ -245,7 +276,9 @@ pub select_records_unlisted : reads_listing archive_schema select_records ≡ fa
 unfolding understood everything
 select_records_unlisted = refl
 
-pub select_lines_is : command_of (understood archive_schema select_lines) ≡ Select (record { lets = []; body = simple 3 [] (col 1 2 ∷ col 1 4 ∷ col 1 5 ∷ col 1 6 ∷ col 1 7 ∷ []) by_key }) (codes "no" ∷ codes "depth" ∷ codes "tag" ∷ codes "text" ∷ codes "dst" ∷ [])
+pub select_lines_is : command_of (understood archive_schema select_lines) ≡ Select
+    (record { lets = []; body = simple 3 [] (col 1 2 ∷ col 1 4 ∷ col 1 5 ∷ col 1 6 ∷ col 1 7 ∷ []) by_key })
+    (codes "no" ∷ codes "depth" ∷ codes "tag" ∷ codes "text" ∷ codes "dst" ∷ [])
 unfolding understood everything
 select_lines_is = refl
 
@@ -257,7 +290,9 @@ pub select_lines_unlisted : reads_listing archive_schema select_lines ≡ false
 unfolding understood everything
 select_lines_unlisted = refl
 
-pub select_receipts_is : command_of (understood archive_schema select_receipts) ≡ Select (record { lets = []; body = simple 4 [] (col 1 2 ∷ col 1 3 ∷ col 1 4 ∷ col 1 5 ∷ []) by_key }) (codes "token" ∷ codes "digest" ∷ codes "first" ∷ codes "count" ∷ [])
+pub select_receipts_is : command_of (understood archive_schema select_receipts) ≡ Select
+    (record { lets = []; body = simple 4 [] (col 1 2 ∷ col 1 3 ∷ col 1 4 ∷ col 1 5 ∷ []) by_key })
+    (codes "token" ∷ codes "digest" ∷ codes "first" ∷ codes "count" ∷ [])
 unfolding understood everything
 select_receipts_is = refl
 
@@ -272,7 +307,8 @@ select_receipts_unlisted = refl
 abbrev pub update_record : List ℕ
 update_record = codes "UPDATE record SET kind = ?2, batch = ?3 WHERE no = ?1"
 
-pub update_record_is : command_of (understood archive_schema update_record) ≡ Update 2 (record { lets = []; body = simple 2 (with_key 0) (col 1 0 ∷ col 1 0 ∷ lit Null ∷ col 0 1 ∷ col 0 2 ∷ []) [] })
+pub update_record_is : command_of (understood archive_schema update_record) ≡ Update 2
+    (record { lets = []; body = simple 2 (with_key 0) (col 1 0 ∷ col 1 0 ∷ lit Null ∷ col 0 1 ∷ col 0 2 ∷ []) [] })
 unfolding understood everything
 update_record_is = refl
 
@@ -283,7 +319,8 @@ update_record_plain = (refl, refl)
 abbrev pub insert_slip : List ℕ
 insert_slip = codes "INSERT INTO slip (no, keep, gone, undone) VALUES (?1, ?2, ?3, ?4)"
 
-pub insert_slip_is : command_of (understood archive_schema insert_slip) ≡ Insert 5 (Values (col 0 0 ∷ lit Null ∷ col 0 1 ∷ col 0 2 ∷ col 0 3 ∷ []) 5)
+pub insert_slip_is : command_of (understood archive_schema insert_slip) ≡ Insert 5
+    (Values (col 0 0 ∷ lit Null ∷ col 0 1 ∷ col 0 2 ∷ col 0 3 ∷ []) 5)
 unfolding understood everything
 insert_slip_is = refl
 
@@ -294,7 +331,12 @@ insert_slip_plain = (refl, refl)
 abbrev pub undo_slip : List ℕ
 undo_slip = codes "UPDATE slip SET undone = 1 WHERE no = ?1"
 
-pub undo_slip_is : command_of (understood archive_schema undo_slip) ≡ Update 5 (record { lets = []; body = simple 5 (with_key 0) (col 1 0 ∷ col 1 0 ∷ lit Null ∷ col 1 2 ∷ col 1 3 ∷ lit (Int (pos 1)) ∷ []) [] })
+pub undo_slip_is : command_of (understood archive_schema undo_slip) ≡ Update 5
+    (record {
+      lets = [];
+      body = simple 5 (with_key 0)
+          (col 1 0 ∷ col 1 0 ∷ lit Null ∷ col 1 2 ∷ col 1 3 ∷ lit (Int (pos 1)) ∷ []) [];
+    })
 unfolding understood everything
 undo_slip_is = refl
 
@@ -303,9 +345,12 @@ unfolding understood everything
 undo_slip_plain = (refl, refl)
 
 abbrev pub insert_slip_line : List ℕ
-insert_slip_line = codes "INSERT INTO slip_line (slip, side, no, pos, depth, tag, text, dst) VALUES (?1, ?2, ?3, ?4, ?5, ?6, ?7, ?8)"
+insert_slip_line = codes
+    "INSERT INTO slip_line (slip, side, no, pos, depth, tag, text, dst) VALUES (?1, ?2, ?3, ?4, ?5, ?6, ?7, ?8)"
 
-pub insert_slip_line_is : command_of (understood archive_schema insert_slip_line) ≡ Insert 6 (Values (lit Null ∷ lit Null ∷ col 0 0 ∷ col 0 1 ∷ col 0 2 ∷ col 0 3 ∷ col 0 4 ∷ col 0 5 ∷ col 0 6 ∷ col 0 7 ∷ []) 10)
+pub insert_slip_line_is : command_of (understood archive_schema insert_slip_line) ≡ Insert 6
+    (Values (lit Null ∷ lit Null ∷ col 0 0 ∷ col 0 1 ∷ col 0 2 ∷ col 0 3 ∷ col 0 4 ∷ col 0 5 ∷ col 0 6 ∷ col 0 7 ∷ [])
+    10)
 unfolding understood everything
 insert_slip_line_is = refl
 
@@ -316,7 +361,8 @@ insert_slip_line_plain = (refl, refl)
 abbrev pub delete_slip_lines : List ℕ
 delete_slip_lines = codes "DELETE FROM slip_line WHERE slip = ?1"
 
-pub delete_slip_lines_is : command_of (understood archive_schema delete_slip_lines) ≡ Delete 6 (record { lets = []; body = simple 6 (with_key 2) (col 1 0 ∷ []) [] })
+pub delete_slip_lines_is : command_of (understood archive_schema delete_slip_lines) ≡ Delete 6
+    (record { lets = []; body = simple 6 (with_key 2) (col 1 0 ∷ []) [] })
 unfolding understood everything
 delete_slip_lines_is = refl
 
@@ -327,7 +373,9 @@ delete_slip_lines_plain = (refl, refl)
 abbrev pub select_slips : List ℕ
 select_slips = codes "SELECT no, keep, gone, undone FROM slip ORDER BY no"
 
-pub select_slips_is : command_of (understood archive_schema select_slips) ≡ Select (record { lets = []; body = simple 5 [] (col 1 0 ∷ col 1 2 ∷ col 1 3 ∷ col 1 4 ∷ []) by_key }) (codes "no" ∷ codes "keep" ∷ codes "gone" ∷ codes "undone" ∷ [])
+pub select_slips_is : command_of (understood archive_schema select_slips) ≡ Select
+    (record { lets = []; body = simple 5 [] (col 1 0 ∷ col 1 2 ∷ col 1 3 ∷ col 1 4 ∷ []) by_key })
+    (codes "no" ∷ codes "keep" ∷ codes "gone" ∷ codes "undone" ∷ [])
 unfolding understood everything
 select_slips_is = refl
 
@@ -342,7 +390,12 @@ select_slips_unlisted = refl
 abbrev pub select_slip_lines : List ℕ
 select_slip_lines = codes "SELECT slip, side, no, depth, tag, text, dst FROM slip_line ORDER BY id"
 
-pub select_slip_lines_is : command_of (understood archive_schema select_slip_lines) ≡ Select (record { lets = []; body = simple 6 [] (col 1 2 ∷ col 1 3 ∷ col 1 4 ∷ col 1 6 ∷ col 1 7 ∷ col 1 8 ∷ col 1 9 ∷ []) by_key }) (codes "slip" ∷ codes "side" ∷ codes "no" ∷ codes "depth" ∷ codes "tag" ∷ codes "text" ∷ codes "dst" ∷ [])
+pub select_slip_lines_is : command_of (understood archive_schema select_slip_lines) ≡ Select
+    (record {
+      lets = [];
+      body = simple 6 [] (col 1 2 ∷ col 1 3 ∷ col 1 4 ∷ col 1 6 ∷ col 1 7 ∷ col 1 8 ∷ col 1 9 ∷ [])
+          by_key;
+    }) (codes "slip" ∷ codes "side" ∷ codes "no" ∷ codes "depth" ∷ codes "tag" ∷ codes "text" ∷ codes "dst" ∷ [])
 unfolding understood everything
 select_slip_lines_is = refl
 

@@ -44,7 +44,8 @@ lines_saying text rows = map (λ (l : LineRow). l.no) (filter (λ (l : LineRow).
 
 -- the same of those that name a number too
 abbrev pub lines_saying_of : List ℕ → ℕ → Rows → List ℕ
-lines_saying_of text n rows = map (λ (l : LineRow). l.no) (filter (λ (l : LineRow). is_text text l.line.1.text && is_number n l.line.1.target) rows.lines)
+lines_saying_of text n rows = map (λ (l : LineRow). l.no)
+    (filter (λ (l : LineRow). is_text text l.line.1.text && is_number n l.line.1.target) rows.lines)
 
 -- the numbers of the records of all lines that name a number
 abbrev pub lines_naming : ℕ → Rows → List ℕ

@@ -58,5 +58,6 @@ abbrev pub IsRefusedStore : State → State → RefusalKind → Type 0
 IsRefusedStore old new OutOfMemory = ⊤
 IsRefusedStore old new Storage = FailsLacking false old new
 IsRefusedStore old new NewerSchema = IsLater (λ version. ShowsVersion version old new)
-IsRefusedStore old new NotAnArchive = FailsLacking true old new ⊎ ((rows : List Row) × Shown meta_query [] old new rows × HasNoVersion rows)
+IsRefusedStore old new NotAnArchive = FailsLacking true old new
+    ⊎ ((rows : List Row) × Shown meta_query [] old new rows × HasNoVersion rows)
 IsRefusedStore old new _ = ⊥

@@ -14,11 +14,14 @@ use Rattle.store_tables.specs.Looking.{meta_query}
 use Rattle.store_tables.specs.Telling.{lacks, tells_no_archive}
 
 abbrev pub record_queries : List (List ℕ)
-record_queries = codes "SELECT no, is_open FROM batch ORDER BY no" ∷ codes "SELECT no, batch FROM record ORDER BY no" ∷ codes "SELECT no, depth, tag, text, dst FROM line ORDER BY id" ∷ []
+record_queries = codes "SELECT no, is_open FROM batch ORDER BY no" ∷ codes "SELECT no, batch FROM record ORDER BY no"
+    ∷ codes "SELECT no, depth, tag, text, dst FROM line ORDER BY id" ∷ []
 
 abbrev pub history_queries : List (List ℕ)
 history_queries =
-    codes "SELECT token, digest, first, count FROM receipt ORDER BY id" ∷ codes "SELECT no, keep, gone, undone FROM slip ORDER BY no" ∷ codes "SELECT slip, side, no, depth, tag, text, dst FROM slip_line ORDER BY id" ∷ []
+    codes "SELECT token, digest, first, count FROM receipt ORDER BY id"
+    ∷ codes "SELECT no, keep, gone, undone FROM slip ORDER BY no"
+    ∷ codes "SELECT slip, side, no, depth, tag, text, dst FROM slip_line ORDER BY id" ∷ []
 
 -- the queries that read the tables
 abbrev pub all_queries : List (List ℕ)
@@ -43,7 +46,8 @@ IsRefusedTables queries old new NotAnArchive = (sql : List ℕ) × Has queries s
 IsRefusedTables queries old new _ = ⊥
 
 -- each query is understood, or the tables are refused; nothing is changed
-pub record PreparesAll {A : Type 0} (queries : List (List ℕ)) (old new : State) (result : Result A RefusalKind) : Type 0 where
+pub record PreparesAll {A : Type 0} (queries : List (List ℕ)) (old new : State)
+    (result : Result A RefusalKind) : Type 0 where
   pub same : HasCleanDisk new → OnOk result (IsUnchanged old new)
   pub told : HasCleanDisk new → OnOk result (AllByRecursion (IsUnderstood old.now.schema) queries)
   pub refused : HasCleanDisk new → IfErr result (IsRefusedTables queries old new)

@@ -1,4 +1,5 @@
--- What the queries show of the rows: all but the keys that say nothing, the kinds, and the places of lines, which are in order.
+-- What the queries show of the rows: all but the keys that say nothing, the kinds, and the places of lines, which are
+-- in order.
 use Rattle.std.specs.Prelude.{ℕ, Bool, List, map, length, ◌≡◌, ◌<◌, ◌^◌, IfSome}
 use Rattle.std.specs.List.{AllByRecursion}
 use Rattle.stored_lines.specs.Line.{Label}

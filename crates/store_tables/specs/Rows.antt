@@ -1,5 +1,27 @@
 -- What the tables of an archive hold, as plain lists: one record for each row. The tables are those of our own schema.
-use Rattle.std.specs.Prelude.{◌<◌, ◌==◌, ◌+◌, not, true, false, Bool, [], ◌∷◌, ◌++◌, ◌≡◌, map, filter, fold, cond, Some, None, Option, List, ℕ, pos}
+use Rattle.std.specs.Prelude.{
+  ◌<◌,
+  ◌==◌,
+  ◌+◌,
+  not,
+  true,
+  false,
+  Bool,
+  [],
+  ◌∷◌,
+  ◌++◌,
+  ◌≡◌,
+  map,
+  filter,
+  fold,
+  cond,
+  Some,
+  None,
+  Option,
+  List,
+  ℕ,
+  pos,
+}
 use Rattle.std.specs.Ordering.{match_ordering, nat_cmp}
 use Rattle.sqlite.specs.declared.types.Value.{Value}
 use Rattle.sqlite.specs.declared.types.Value.TheVariants.{Null, Int, Text as Words, Blob}
@@ -95,7 +117,8 @@ abbrev pub slip_values : SlipRow → Row
 slip_values s = Int (pos s.no) ∷ Null ∷ Int (pos s.keep) ∷ Int (pos s.gone) ∷ Int (pos (flag s.is_undone)) ∷ []
 
 abbrev pub slip_line_values : SlipLineRow → Row
-slip_line_values s = Int (pos s.id) ∷ Null ∷ Int (pos s.slip) ∷ Int (pos (flag s.is_new)) ∷ Int (pos s.no) ∷ Int (pos s.at) ∷ line_fields s.line
+slip_line_values s = Int (pos s.id) ∷ Null ∷ Int (pos s.slip) ∷ Int (pos (flag s.is_new)) ∷ Int (pos s.no) ∷ Int
+    (pos s.at) ∷ line_fields s.line
 
 -- ---- that trees hold the rows
 -- the rows of a tree are those of the items, whose keys ascend
@@ -126,29 +149,57 @@ abbrev pub with_next : ℕ → Rows → Rows
 with_next n rows = record rows { next = n }
 
 abbrev pub with_batch : ℕ → Bool → Rows → Rows
-with_batch n is_open rows = record rows { batches = put_by (λ (b : BatchRow). b.no) (record { no = n; is_open = is_open }) rows.batches }
+with_batch n is_open rows =
+    record rows { batches = put_by (λ (b : BatchRow). b.no) (record { no = n; is_open = is_open }) rows.batches }
 
 abbrev pub with_record_row : ℕ → List ℕ → ℕ → Rows → Rows
-with_record_row n kind batch rows = record rows { records = put_by (λ (r : RecordRow). r.no) (record { no = n; kind = kind; batch = batch }) rows.records }
+with_record_row n kind batch rows =
+    record rows {
+      records = put_by (λ (r : RecordRow). r.no)
+          (record { no = n; kind = kind; batch = batch }) rows.records;
+    }
 
 -- the row of a number in `record`, changed, where it is there
 abbrev pub record_at : ℕ → List ℕ → ℕ → Rows → Rows
-record_at n kind batch rows = record rows { records = map (λ (r : RecordRow). cond (r.no == n) (record r { kind = kind; batch = batch }) r) rows.records }
+record_at n kind batch rows =
+    record rows {
+      records = map (λ (r : RecordRow). cond (r.no == n) (record r { kind = kind; batch = batch }) r)
+          rows.records;
+    }
 
 abbrev pub without_record_row : ℕ → Rows → Rows
 without_record_row n rows = record rows { records = filter (λ (r : RecordRow). not (r.no == n)) rows.records }
 
 abbrev pub with_line : ℕ → ℕ → ℕ × Label → Rows → Rows
-with_line n at line rows = record rows { lines = rows.lines ++ record { id = next_key (λ (l : LineRow). l.id) rows.lines; no = n; at = at; line = line } ∷ [] }
+with_line n at line rows =
+    record rows {
+      lines = rows.lines ++ record {
+        id = next_key (λ (l : LineRow). l.id) rows.lines;
+        no = n;
+        at = at;
+        line = line;
+      } ∷ [];
+    }
 
 abbrev pub without_lines : ℕ → Rows → Rows
 without_lines n rows = record rows { lines = filter (λ (l : LineRow). not (l.no == n)) rows.lines }
 
 abbrev pub with_receipt : List ℕ → Receipt → Rows → Rows
-with_receipt token receipt rows = record rows { receipts = rows.receipts ++ record { id = next_key (λ (r : ReceiptRow). r.id) rows.receipts; token = token; receipt = receipt } ∷ [] }
+with_receipt token receipt rows =
+    record rows {
+      receipts = rows.receipts ++ record {
+        id = next_key (λ (r : ReceiptRow). r.id) rows.receipts;
+        token = token;
+        receipt = receipt;
+      } ∷ [];
+    }
 
 abbrev pub with_slip_row : ℕ → ℕ → ℕ → Bool → Rows → Rows
-with_slip_row n keep gone is_undone rows = record rows { slips = put_by (λ (s : SlipRow). s.no) (record { no = n; keep = keep; gone = gone; is_undone = is_undone }) rows.slips }
+with_slip_row n keep gone is_undone rows =
+    record rows {
+      slips = put_by (λ (s : SlipRow). s.no)
+          (record { no = n; keep = keep; gone = gone; is_undone = is_undone }) rows.slips;
+    }
 
 -- the slip of a number is undone, where there is one
 abbrev pub undone_at : ℕ → SlipRow → SlipRow
@@ -160,7 +211,14 @@ with_undone n rows = record rows { slips = map (undone_at n) rows.slips }
 abbrev pub with_slip_line : ℕ → Bool → ℕ → ℕ → ℕ × Label → Rows → Rows
 with_slip_line slip is_new n at line rows = record rows {
   slip_lines = rows.slip_lines
-      ++ record { id = next_key (λ (s : SlipLineRow). s.id) rows.slip_lines; slip = slip; is_new = is_new; no = n; at = at; line = line } ∷ [];
+      ++ record {
+        id = next_key (λ (s : SlipLineRow). s.id) rows.slip_lines;
+        slip = slip;
+        is_new = is_new;
+        no = n;
+        at = at;
+        line = line;
+      } ∷ [];
 }
 
 abbrev pub without_slip_lines : ℕ → Rows → Rows
@@ -178,11 +236,21 @@ with_changed_lines n ls rows = with_lines n 0 ls (without_lines n rows)
 -- lines of one side of a number in a slip, from a place on
 abbrev pub with_slip_lines : ℕ → Bool → ℕ → ℕ → List (ℕ × Label) → Rows → Rows
 with_slip_lines slip is_new n at [] rows = rows
-with_slip_lines slip is_new n at (l ∷ ls) rows = with_slip_lines slip is_new n (at + 1) ls (with_slip_line slip is_new n at l rows)
+with_slip_lines slip is_new n at (l ∷ ls) rows = with_slip_lines slip is_new n (at + 1) ls
+    (with_slip_line slip is_new n at l rows)
 
 -- what a new archive holds: its meta row alone, and then batch 0, which is closed
 abbrev pub bare : List ℕ → Rows
-bare society = record { next = 1; society = society; batches = []; records = []; lines = []; receipts = []; slips = []; slip_lines = [] }
+bare society = record {
+  next = 1;
+  society = society;
+  batches = [];
+  records = [];
+  lines = [];
+  receipts = [];
+  slips = [];
+  slip_lines = [];
+}
 
 abbrev pub nothing_yet : List ℕ → Rows
 nothing_yet society = with_batch 0 false (bare society)

@@ -1,5 +1,5 @@
--- The tables of an archive, schema 1, and the schemas that come before it while they are made. Our own; the numbers of trees are those
--- that SQLite gives, one to each CREATE, from 0.
+-- The tables of an archive, schema 1, and the schemas that come before it while they are made. Our own; the numbers of
+-- trees are those that SQLite gives, one to each CREATE, from 0.
 use Rattle.sqlite.specs.Collation.TheVariants.{Binary}
 use Rattle.std.specs.Prelude.{true, false, Bool, [], ◌∷◌, Some, codes, List, ℕ}
 use Rattle.sqlite.specs.declared.types.Value.TheVariants.{Null}
@@ -13,7 +13,14 @@ use Rattle.sqlite_schema.specs.declared.schema.Reference.{Reference}
 use Rattle.sqlite_schema.specs.declared.schema.Action.TheVariants.{NoAction, Restrict}
 
 abbrev pub a_column : List ℕ → Kind → Bool → Column
-a_column name kind not_null = record { name = name; kind = kind; is_strict = true; not_null = not_null; default = Null; collation = Binary }
+a_column name kind not_null = record {
+  name = name;
+  kind = kind;
+  is_strict = true;
+  not_null = not_null;
+  default = Null;
+  collation = Binary;
+}
 
 abbrev pub number : List ℕ → Column
 number name = a_column name Integer true
@@ -37,35 +44,57 @@ a_table name tree key columns references = record {
 
 -- a column that refers to a table's number, deletion restricted
 abbrev pub to_number_of : List ℕ → ℕ → Reference
-to_number_of parent place = record { columns = place ∷ []; parent = parent; parent_columns = codes "no" ∷ []; on_delete = Restrict; on_update = NoAction; is_deferred = false }
+to_number_of parent place = record {
+  columns = place ∷ [];
+  parent = parent;
+  parent_columns = codes "no" ∷ [];
+  on_delete = Restrict;
+  on_update = NoAction;
+  is_deferred = false;
+}
 
 -- a plain index on one column
 abbrev pub an_index : List ℕ → ℕ → ℕ → ℕ → Index
-an_index name tree table place = record { name = name; tree = tree; table = table; columns = place ∷ []; order = record { digits = 0 }; is_unique = false }
+an_index name tree table place = record {
+  name = name;
+  tree = tree;
+  table = table;
+  columns = place ∷ [];
+  order = record { digits = 0 };
+  is_unique = false;
+}
 
 abbrev pub meta : Table
-meta = a_table (codes "meta") 0 (codes "one") (number (codes "version") ∷ number (codes "next") ∷ a_column (codes "society") Text true ∷ []) []
+meta = a_table (codes "meta") 0 (codes "one")
+    (number (codes "version") ∷ number (codes "next") ∷ a_column (codes "society") Text true ∷ []) []
 
 abbrev pub batches : Table
 batches = a_table (codes "batch") 1 (codes "no") (number (codes "is_open") ∷ []) []
 
 abbrev pub records : Table
-records = a_table (codes "record") 2 (codes "no") (a_column (codes "kind") Text true ∷ number (codes "batch") ∷ []) (to_number_of (codes "batch") 3 ∷ [])
+records = a_table (codes "record") 2 (codes "no") (a_column (codes "kind") Text true ∷ number (codes "batch") ∷ [])
+    (to_number_of (codes "batch") 3 ∷ [])
 
 abbrev pub line_columns : List Column
-line_columns = number (codes "no") ∷ number (codes "pos") ∷ number (codes "depth") ∷ a_column (codes "tag") Text true ∷ a_column (codes "text") Text false ∷ a_column (codes "dst") Integer false ∷ []
+line_columns = number (codes "no") ∷ number (codes "pos") ∷ number (codes "depth") ∷ a_column (codes "tag") Text true
+    ∷ a_column (codes "text") Text false ∷ a_column (codes "dst") Integer false ∷ []
 
 abbrev pub lines : Table
-lines = a_table (codes "line") 3 (codes "id") line_columns (to_number_of (codes "record") 2 ∷ to_number_of (codes "record") 7 ∷ [])
+lines = a_table (codes "line") 3 (codes "id") line_columns
+    (to_number_of (codes "record") 2 ∷ to_number_of (codes "record") 7 ∷ [])
 
 abbrev pub receipts : Table
-receipts = a_table (codes "receipt") 4 (codes "id") (a_column (codes "token") Text true ∷ a_column (codes "digest") Blob true ∷ number (codes "first") ∷ number (codes "count") ∷ []) []
+receipts = a_table (codes "receipt") 4 (codes "id")
+    (a_column (codes "token") Text true ∷ a_column (codes "digest") Blob true ∷ number (codes "first") ∷ number
+    (codes "count") ∷ []) []
 
 abbrev pub slips : Table
-slips = a_table (codes "slip") 5 (codes "no") (number (codes "keep") ∷ number (codes "gone") ∷ number (codes "undone") ∷ []) []
+slips = a_table (codes "slip") 5 (codes "no")
+    (number (codes "keep") ∷ number (codes "gone") ∷ number (codes "undone") ∷ []) []
 
 abbrev pub slip_lines : Table
-slip_lines = a_table (codes "slip_line") 6 (codes "id") (number (codes "slip") ∷ number (codes "side") ∷ line_columns) (to_number_of (codes "slip") 2 ∷ [])
+slip_lines = a_table (codes "slip_line") 6 (codes "id") (number (codes "slip") ∷ number (codes "side") ∷ line_columns)
+    (to_number_of (codes "slip") 2 ∷ [])
 
 abbrev pub line_by_record : Index
 line_by_record = an_index (codes "line_by_record") 7 3 2
@@ -81,13 +110,25 @@ slip_line_by_slip = an_index (codes "slip_line_by_slip") 10 6 2
 
 -- on two columns: the lines with a text, and of these the ones that name a number
 abbrev pub line_by_text : Index
-line_by_text = record { name = codes "line_by_text"; tree = 11; table = 3; columns = 6 ∷ 7 ∷ []; order = record { digits = 0 }; is_unique = false }
+line_by_text = record {
+  name = codes "line_by_text";
+  tree = 11;
+  table = 3;
+  columns = 6 ∷ 7 ∷ [];
+  order = record { digits = 0 };
+  is_unique = false;
+}
 
 abbrev pub all_tables : List Table
 all_tables = meta ∷ batches ∷ records ∷ lines ∷ receipts ∷ slips ∷ slip_lines ∷ []
 
 abbrev pub archive_schema : Schema
-archive_schema = record { tables = all_tables; indexes = line_by_record ∷ line_by_target ∷ receipt_by_token ∷ slip_line_by_slip ∷ line_by_text ∷ []; views = [] }
+archive_schema = record {
+  tables = all_tables;
+  indexes = line_by_record ∷ line_by_target ∷ receipt_by_token
+      ∷ slip_line_by_slip ∷ line_by_text ∷ [];
+  views = [];
+}
 
 abbrev pub no_schema : Schema
 no_schema = record { tables = []; indexes = []; views = [] }
@@ -113,7 +154,11 @@ abbrev pub schema_6 : Schema
 schema_6 = record { tables = meta ∷ batches ∷ records ∷ lines ∷ receipts ∷ slips ∷ []; indexes = []; views = [] }
 
 abbrev pub schema_7 : Schema
-schema_7 = record { tables = meta ∷ batches ∷ records ∷ lines ∷ receipts ∷ slips ∷ slip_lines ∷ []; indexes = []; views = [] }
+schema_7 = record {
+  tables = meta ∷ batches ∷ records ∷ lines ∷ receipts ∷ slips ∷ slip_lines ∷ [];
+  indexes = [];
+  views = [];
+}
 
 abbrev pub schema_8 : Schema
 schema_8 = record { tables = all_tables; indexes = line_by_record ∷ []; views = [] }
@@ -122,7 +167,17 @@ abbrev pub schema_9 : Schema
 schema_9 = record { tables = all_tables; indexes = line_by_record ∷ line_by_target ∷ []; views = [] }
 
 abbrev pub schema_10 : Schema
-schema_10 = record { tables = all_tables; indexes = line_by_record ∷ line_by_target ∷ receipt_by_token ∷ []; views = [] }
+schema_10 = record {
+  tables = all_tables;
+  indexes = line_by_record ∷ line_by_target ∷ receipt_by_token
+      ∷ [];
+  views = [];
+}
 
 abbrev pub schema_11 : Schema
-schema_11 = record { tables = all_tables; indexes = line_by_record ∷ line_by_target ∷ receipt_by_token ∷ slip_line_by_slip ∷ []; views = [] }
+schema_11 = record {
+  tables = all_tables;
+  indexes = line_by_record ∷ line_by_target ∷ receipt_by_token
+      ∷ slip_line_by_slip ∷ [];
+  views = [];
+}

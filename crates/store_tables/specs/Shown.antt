@@ -2,7 +2,18 @@
 use Rattle.std.specs.Prelude.{[], ◌∷◌, pos}
 use Rattle.sqlite.specs.declared.types.Value.TheVariants.{Int, Text as Words}
 use Rattle.sqlite.specs.Order.{Row}
-use Rattle.store_tables.specs.Rows.{Rows, BatchRow, RecordRow, LineRow, ReceiptRow, SlipRow, SlipLineRow, flag, line_fields, receipt_fields}
+use Rattle.store_tables.specs.Rows.{
+  Rows,
+  BatchRow,
+  RecordRow,
+  LineRow,
+  ReceiptRow,
+  SlipRow,
+  SlipLineRow,
+  flag,
+  line_fields,
+  receipt_fields,
+}
 
 abbrev pub shown_meta : Rows → Row
 shown_meta rows = Int (pos 1) ∷ Int (pos rows.next) ∷ Words rows.society ∷ []

@@ -20,7 +20,8 @@ pub fn is_blank<S: Alter>(conn: &Connection<S>) -> bool
 /// Whether the connection still answers after a call on it was refused. What was begun and not committed is taken back.
 pub fn still_answers<S: Alter>(conn: &mut Connection<S>) -> bool
     requires autocommit { conn.old.in_transaction ≡ false }
-    ensures settled { HasCleanDisk (state S.Store conn.new) → IsTrue result → (rows : Rows) → LeavesOnly (state S.Store conn.old) rows → Settled (state S.Store conn.new) rows }
+    ensures settled { HasCleanDisk (state S.Store conn.new) → IsTrue result → (rows : Rows)
+        → LeavesOnly (state S.Store conn.old) rows → Settled (state S.Store conn.new) rows }
     ensures survives { Survives (state S.Store conn.old) (state S.Store conn.new) (λ _. ⊥) }
     ensures ended { conn.new.in_transaction ≡ false }
 {
@@ -31,7 +32,8 @@ pub fn still_answers<S: Alter>(conn: &mut Connection<S>) -> bool
 /// Takes back what was begun and not committed.
 fn take_back<S: Alter>(conn: &mut Connection<S>)
     requires autocommit { conn.old.in_transaction ≡ false }
-    ensures undone { HasCleanDisk (state S.Store conn.new) → IsRolledBack (state S.Store conn.old) (state S.Store conn.new) }
+    ensures undone { HasCleanDisk (state S.Store conn.new) → IsRolledBack (state S.Store conn.old)
+        (state S.Store conn.new) }
     ensures survives { Survives (state S.Store conn.old) (state S.Store conn.new) (λ _. ⊥) }
     ensures ended { conn.new.in_transaction ≡ false }
 {
@@ -41,7 +43,8 @@ fn take_back<S: Alter>(conn: &mut Connection<S>)
 /// Whether a query can be prepared, which changes nothing. It names no table, since the store may have none of ours.
 fn is_open<S: Alter>(conn: &mut Connection<S>) -> bool
     requires autocommit { conn.old.in_transaction ≡ false }
-    ensures same { HasCleanDisk (state S.Store conn.new) → IsTrue result → IsUnchanged (state S.Store conn.old) (state S.Store conn.new) }
+    ensures same { HasCleanDisk (state S.Store conn.new) → IsTrue result → IsUnchanged (state S.Store conn.old)
+        (state S.Store conn.new) }
     ensures live { IsLive (state S.Store conn.new) }
     ensures survives { Survives (state S.Store conn.old) (state S.Store conn.new) (λ _. ⊥) }
     ensures ended { conn.new.in_transaction ≡ false }

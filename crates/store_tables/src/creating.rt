@@ -20,7 +20,8 @@ use sqlite::{Alter, Connection, Error, Transaction, params};
 /// A table, by the text of its CREATE.
 fn create_table<S: Alter>(tx: &mut Transaction<'_, S>, text: &str) -> Result<(), Error>
     ensures same_reference { tx.new.conn.ghost_name ≡ tx.old.conn.ghost_name }
-    ensures ok { HasCleanDisk (state S.Store tx.new.conn.now) → OnOk result ((schema : Schema) (table : Table) → IsCreate schema text.now table
+    ensures ok { HasCleanDisk (state S.Store tx.new.conn.now)
+        → OnOk result ((schema : Schema) (table : Table) → IsCreate schema text.now table
         → Builds (state S.Store tx.old.conn.now) (state S.Store tx.new.conn.now) schema (created schema table)) }
     ensures survives { Survives (state S.Store tx.old.conn.now) (state S.Store tx.new.conn.now) (λ _. ⊥) }
 {
@@ -31,7 +32,9 @@ fn create_table<S: Alter>(tx: &mut Transaction<'_, S>, text: &str) -> Result<(),
 /// An index, by the text of its CREATE.
 fn create_index<S: Alter>(tx: &mut Transaction<'_, S>, text: &str) -> Result<(), Error>
     ensures same_reference { tx.new.conn.ghost_name ≡ tx.old.conn.ghost_name }
-    ensures ok { HasCleanDisk (state S.Store tx.new.conn.now) → OnOk result ((schema : Schema) (at : ℕ) (table : Table) (index : Index) → IsCreateIndex schema text.now at table index
+    ensures ok { HasCleanDisk (state S.Store tx.new.conn.now)
+        → OnOk result ((schema : Schema) (at : ℕ) (table : Table) (index : Index)
+        → IsCreateIndex schema text.now at table index
         → Builds (state S.Store tx.old.conn.now) (state S.Store tx.new.conn.now) schema (indexed schema table index)) }
     ensures survives { Survives (state S.Store tx.old.conn.now) (state S.Store tx.new.conn.now) (λ _. ⊥) }
 {
@@ -41,7 +44,8 @@ fn create_index<S: Alter>(tx: &mut Transaction<'_, S>, text: &str) -> Result<(),
 
 fn create_records<S: Alter>(tx: &mut Transaction<'_, S>) -> Result<(), Error>
     ensures same_reference { tx.new.conn.ghost_name ≡ tx.old.conn.ghost_name }
-    ensures ok { HasCleanDisk (state S.Store tx.new.conn.now) → OnOk result (Builds (state S.Store tx.old.conn.now) (state S.Store tx.new.conn.now) no_schema schema_4) }
+    ensures ok { HasCleanDisk (state S.Store tx.new.conn.now)
+        → OnOk result (Builds (state S.Store tx.old.conn.now) (state S.Store tx.new.conn.now) no_schema schema_4) }
     ensures survives { Survives (state S.Store tx.old.conn.now) (state S.Store tx.new.conn.now) (λ _. ⊥) }
 {
     create_table(
@@ -64,7 +68,8 @@ fn create_records<S: Alter>(tx: &mut Transaction<'_, S>) -> Result<(), Error>
 
 fn create_receipts<S: Alter>(tx: &mut Transaction<'_, S>) -> Result<(), Error>
     ensures same_reference { tx.new.conn.ghost_name ≡ tx.old.conn.ghost_name }
-    ensures ok { HasCleanDisk (state S.Store tx.new.conn.now) → OnOk result (Builds (state S.Store tx.old.conn.now) (state S.Store tx.new.conn.now) schema_4 schema_7) }
+    ensures ok { HasCleanDisk (state S.Store tx.new.conn.now)
+        → OnOk result (Builds (state S.Store tx.old.conn.now) (state S.Store tx.new.conn.now) schema_4 schema_7) }
     ensures survives { Survives (state S.Store tx.old.conn.now) (state S.Store tx.new.conn.now) (λ _. ⊥) }
 {
     create_table(
@@ -83,7 +88,8 @@ fn create_receipts<S: Alter>(tx: &mut Transaction<'_, S>) -> Result<(), Error>
 
 fn create_indexes<S: Alter>(tx: &mut Transaction<'_, S>) -> Result<(), Error>
     ensures same_reference { tx.new.conn.ghost_name ≡ tx.old.conn.ghost_name }
-    ensures ok { HasCleanDisk (state S.Store tx.new.conn.now) → OnOk result (Builds (state S.Store tx.old.conn.now) (state S.Store tx.new.conn.now) schema_7 archive_schema) }
+    ensures ok { HasCleanDisk (state S.Store tx.new.conn.now)
+        → OnOk result (Builds (state S.Store tx.old.conn.now) (state S.Store tx.new.conn.now) schema_7 archive_schema) }
     ensures survives { Survives (state S.Store tx.old.conn.now) (state S.Store tx.new.conn.now) (λ _. ⊥) }
 {
     create_index(tx, "CREATE INDEX line_by_record ON line (no)")?;
@@ -95,8 +101,10 @@ fn create_indexes<S: Alter>(tx: &mut Transaction<'_, S>) -> Result<(), Error>
 
 fn insert_meta<S: Alter>(tx: &mut Transaction<'_, S>, society: &Text) -> Result<(), Error>
     ensures same_reference { tx.new.conn.ghost_name ≡ tx.old.conn.ghost_name }
-    ensures ok { HasCleanDisk (state S.Store tx.new.conn.now) → OnOk result (Built (state S.Store tx.old.conn.now) archive_schema
-        → Inside (state S.Store tx.new.conn.now) (bare society.now) × ((state S.Store tx.new.conn.now).committed ≡ (state S.Store tx.old.conn.now).committed)) }
+    ensures ok { HasCleanDisk (state S.Store tx.new.conn.now)
+        → OnOk result (Built (state S.Store tx.old.conn.now) archive_schema
+        → Inside (state S.Store tx.new.conn.now) (bare society.now)
+        × ((state S.Store tx.new.conn.now).committed ≡ (state S.Store tx.old.conn.now).committed)) }
     ensures survives { Survives (state S.Store tx.old.conn.now) (state S.Store tx.new.conn.now) (λ _. ⊥) }
 {
     tx.execute(
@@ -109,8 +117,10 @@ fn insert_meta<S: Alter>(tx: &mut Transaction<'_, S>, society: &Text) -> Result<
 /// The indexes, and what a new archive holds.
 fn fill<S: Alter>(tx: &mut Transaction<'_, S>, society: &Text) -> Result<(), Error>
     ensures same_reference { tx.new.conn.ghost_name ≡ tx.old.conn.ghost_name }
-    ensures ok { HasCleanDisk (state S.Store tx.new.conn.now) → OnOk result (Built (state S.Store tx.old.conn.now) schema_7
-        → Inside (state S.Store tx.new.conn.now) (nothing_yet society.now) × ((state S.Store tx.new.conn.now).committed ≡ (state S.Store tx.old.conn.now).committed)) }
+    ensures ok { HasCleanDisk (state S.Store tx.new.conn.now)
+        → OnOk result (Built (state S.Store tx.old.conn.now) schema_7
+        → Inside (state S.Store tx.new.conn.now) (nothing_yet society.now)
+        × ((state S.Store tx.new.conn.now).committed ≡ (state S.Store tx.old.conn.now).committed)) }
     ensures survives { Survives (state S.Store tx.old.conn.now) (state S.Store tx.new.conn.now) (λ _. ⊥) }
 {
     create_indexes(tx)?;
@@ -121,8 +131,10 @@ fn fill<S: Alter>(tx: &mut Transaction<'_, S>, society: &Text) -> Result<(), Err
 /// All tables and indexes, and what a new archive holds.
 fn build<S: Alter>(tx: &mut Transaction<'_, S>, society: &Text) -> Result<(), Error>
     ensures same_reference { tx.new.conn.ghost_name ≡ tx.old.conn.ghost_name }
-    ensures ok { HasCleanDisk (state S.Store tx.new.conn.now) → OnOk result (Built (state S.Store tx.old.conn.now) no_schema
-        → Inside (state S.Store tx.new.conn.now) (nothing_yet society.now) × ((state S.Store tx.new.conn.now).committed ≡ (state S.Store tx.old.conn.now).committed)) }
+    ensures ok { HasCleanDisk (state S.Store tx.new.conn.now)
+        → OnOk result (Built (state S.Store tx.old.conn.now) no_schema
+        → Inside (state S.Store tx.new.conn.now) (nothing_yet society.now)
+        × ((state S.Store tx.new.conn.now).committed ≡ (state S.Store tx.old.conn.now).committed)) }
     ensures survives { Survives (state S.Store tx.old.conn.now) (state S.Store tx.new.conn.now) (λ _. ⊥) }
 {
     create_records(tx)?;
@@ -134,7 +146,8 @@ fn build<S: Alter>(tx: &mut Transaction<'_, S>, society: &Text) -> Result<(), Er
 pub fn create<S: Alter>(conn: &mut Connection<S>, society: &Text) -> Result<(), Error>
     requires autocommit { conn.old.in_transaction ≡ false }
     ensures done { HasCleanDisk (state S.Store conn.new)
-        → OnOk result (SettledBlank (state S.Store conn.old) → Settled (state S.Store conn.new) (nothing_yet society.now)) }
+        → OnOk result (SettledBlank (state S.Store conn.old) → Settled (state S.Store conn.new)
+        (nothing_yet society.now)) }
     ensures crash { HasCleanDisk (state S.Store conn.new) → SettledBlank (state S.Store conn.old)
         → (t : Trees) → (state S.Store conn.new).may_leave t → IsBlank t ⊎ Good (nothing_yet society.now) t }
     ensures clean { HasCleanDisk (state S.Store conn.new) → HasCleanDisk (state S.Store conn.old) }

@@ -3,7 +3,17 @@
 ghost use Rattle.std.specs.Prelude.{◌≡◌, ◌≤◌, false, List, length, IfOk, IfErr};
 ghost use Rattle.sqlite.specs.Held.{state};
 ghost use Rattle.store_tables.specs.Conversion.{FailsUnless};
-ghost use Rattle.store_tables.specs.Keyed.{IsOnly, batches_at, records_at, receipts_at, slips_at, slip_lines_at, lines_naming, lines_saying, lines_saying_of};
+ghost use Rattle.store_tables.specs.Keyed.{
+  IsOnly,
+  batches_at,
+  records_at,
+  receipts_at,
+  slips_at,
+  slip_lines_at,
+  lines_naming,
+  lines_saying,
+  lines_saying_of,
+};
 ghost use Rattle.store_tables.specs.Looking.{Looks};
 ghost use Rattle.store_tables.specs.Rows.{lines_of};
 
@@ -52,7 +62,8 @@ pub fn batch_at<S: Alter>(
     number: u32,
 ) -> Result<Option<BatchRow>, RefusalKind>
     requires autocommit { conn.old.in_transaction ≡ false }
-    ensures looks { Looks (λ rows found. IsOnly (batches_at number rows) found) (state S.Store conn.old) (state S.Store conn.new) result }
+    ensures looks { Looks (λ rows found. IsOnly (batches_at number rows) found) (state S.Store conn.old)
+        (state S.Store conn.new) result }
     ensures ended { conn.new.in_transaction ≡ false }
 {
     at_most_one(batches_at(alloc, conn, number)?)
@@ -65,7 +76,8 @@ pub fn record_at<S: Alter>(
     number: u32,
 ) -> Result<Option<RecordRow>, RefusalKind>
     requires autocommit { conn.old.in_transaction ≡ false }
-    ensures looks { Looks (λ rows found. IsOnly (records_at number rows) found) (state S.Store conn.old) (state S.Store conn.new) result }
+    ensures looks { Looks (λ rows found. IsOnly (records_at number rows) found) (state S.Store conn.old)
+        (state S.Store conn.new) result }
     ensures ended { conn.new.in_transaction ≡ false }
 {
     at_most_one(records_at(alloc, conn, number)?)
@@ -78,7 +90,8 @@ pub fn lines_at<S: Alter>(
     number: u32,
 ) -> Result<Vec<StoredLine>, RefusalKind>
     requires autocommit { conn.old.in_transaction ≡ false }
-    ensures looks { Looks (λ rows items. items.items ≡ lines_of number rows) (state S.Store conn.old) (state S.Store conn.new) result }
+    ensures looks { Looks (λ rows items. items.items ≡ lines_of number rows) (state S.Store conn.old)
+        (state S.Store conn.new) result }
     ensures ended { conn.new.in_transaction ≡ false }
 {
     read_all(alloc, conn, LINES_AT, params![number])
@@ -91,7 +104,8 @@ pub fn lines_naming<S: Alter>(
     number: u32,
 ) -> Result<Vec<u32>, RefusalKind>
     requires autocommit { conn.old.in_transaction ≡ false }
-    ensures looks { Looks (λ rows items. items.items ≡ lines_naming number rows) (state S.Store conn.old) (state S.Store conn.new) result }
+    ensures looks { Looks (λ rows items. items.items ≡ lines_naming number rows) (state S.Store conn.old)
+        (state S.Store conn.new) result }
     ensures ended { conn.new.in_transaction ≡ false }
 {
     read_all(alloc, conn, LINES_NAMING, params![number])
@@ -104,7 +118,8 @@ pub fn lines_saying<S: Alter>(
     text: &str,
 ) -> Result<Vec<u32>, RefusalKind>
     requires autocommit { conn.old.in_transaction ≡ false }
-    ensures looks { Looks (λ rows items. items.items ≡ lines_saying text.now rows) (state S.Store conn.old) (state S.Store conn.new) result }
+    ensures looks { Looks (λ rows items. items.items ≡ lines_saying text.now rows) (state S.Store conn.old)
+        (state S.Store conn.new) result }
     ensures ended { conn.new.in_transaction ≡ false }
 {
     read_all(alloc, conn, LINES_SAYING, params![text])
@@ -118,7 +133,8 @@ pub fn lines_saying_of<S: Alter>(
     number: u32,
 ) -> Result<Vec<u32>, RefusalKind>
     requires autocommit { conn.old.in_transaction ≡ false }
-    ensures looks { Looks (λ rows items. items.items ≡ lines_saying_of text.now number rows) (state S.Store conn.old) (state S.Store conn.new) result }
+    ensures looks { Looks (λ rows items. items.items ≡ lines_saying_of text.now number rows) (state S.Store conn.old)
+        (state S.Store conn.new) result }
     ensures ended { conn.new.in_transaction ≡ false }
 {
     read_all(alloc, conn, LINES_SAYING_OF, params![text, number])
@@ -131,7 +147,8 @@ pub fn receipts_at<S: Alter>(
     token: &Token,
 ) -> Result<Vec<ReceiptRow>, RefusalKind>
     requires autocommit { conn.old.in_transaction ≡ false }
-    ensures looks { Looks (λ rows items. items.items ≡ receipts_at token.now rows) (state S.Store conn.old) (state S.Store conn.new) result }
+    ensures looks { Looks (λ rows items. items.items ≡ receipts_at token.now rows) (state S.Store conn.old)
+        (state S.Store conn.new) result }
     ensures ended { conn.new.in_transaction ≡ false }
 {
     read_all(alloc, conn, RECEIPTS_AT, params![token.as_str()])
@@ -144,7 +161,8 @@ pub fn slip_at<S: Alter>(
     number: u32,
 ) -> Result<Option<SlipRow>, RefusalKind>
     requires autocommit { conn.old.in_transaction ≡ false }
-    ensures looks { Looks (λ rows found. IsOnly (slips_at number rows) found) (state S.Store conn.old) (state S.Store conn.new) result }
+    ensures looks { Looks (λ rows found. IsOnly (slips_at number rows) found) (state S.Store conn.old)
+        (state S.Store conn.new) result }
     ensures ended { conn.new.in_transaction ≡ false }
 {
     at_most_one(slips_at(alloc, conn, number)?)
@@ -157,7 +175,8 @@ pub fn slip_lines_at<S: Alter>(
     slip: u32,
 ) -> Result<Vec<SlipLineRow>, RefusalKind>
     requires autocommit { conn.old.in_transaction ≡ false }
-    ensures looks { Looks (λ rows items. items.items ≡ slip_lines_at slip rows) (state S.Store conn.old) (state S.Store conn.new) result }
+    ensures looks { Looks (λ rows items. items.items ≡ slip_lines_at slip rows) (state S.Store conn.old)
+        (state S.Store conn.new) result }
     ensures ended { conn.new.in_transaction ≡ false }
 {
     read_all(alloc, conn, SLIP_LINES_AT, params![slip])
@@ -169,7 +188,8 @@ fn batches_at<S: Alter>(
     number: u32,
 ) -> Result<Vec<BatchRow>, RefusalKind>
     requires autocommit { conn.old.in_transaction ≡ false }
-    ensures looks { Looks (λ rows items. (items.items ≡ batches_at number rows) × (length items.items ≤ 1)) (state S.Store conn.old) (state S.Store conn.new) result }
+    ensures looks { Looks (λ rows items. (items.items ≡ batches_at number rows) × (length items.items ≤ 1))
+        (state S.Store conn.old) (state S.Store conn.new) result }
     ensures ended { conn.new.in_transaction ≡ false }
 {
     read_all(alloc, conn, BATCH_AT, params![number])
@@ -181,7 +201,8 @@ fn records_at<S: Alter>(
     number: u32,
 ) -> Result<Vec<RecordRow>, RefusalKind>
     requires autocommit { conn.old.in_transaction ≡ false }
-    ensures looks { Looks (λ rows items. (items.items ≡ records_at number rows) × (length items.items ≤ 1)) (state S.Store conn.old) (state S.Store conn.new) result }
+    ensures looks { Looks (λ rows items. (items.items ≡ records_at number rows) × (length items.items ≤ 1))
+        (state S.Store conn.old) (state S.Store conn.new) result }
     ensures ended { conn.new.in_transaction ≡ false }
 {
     read_all(alloc, conn, RECORD_AT, params![number])
@@ -193,7 +214,8 @@ fn slips_at<S: Alter>(
     number: u32,
 ) -> Result<Vec<SlipRow>, RefusalKind>
     requires autocommit { conn.old.in_transaction ≡ false }
-    ensures looks { Looks (λ rows items. (items.items ≡ slips_at number rows) × (length items.items ≤ 1)) (state S.Store conn.old) (state S.Store conn.new) result }
+    ensures looks { Looks (λ rows items. (items.items ≡ slips_at number rows) × (length items.items ≤ 1))
+        (state S.Store conn.old) (state S.Store conn.new) result }
     ensures ended { conn.new.in_transaction ≡ false }
 {
     read_all(alloc, conn, SLIP_AT, params![number])

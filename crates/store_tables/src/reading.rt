@@ -80,7 +80,8 @@ pub(crate) fn read_meta<S: Alter>(
     conn: &mut Connection<S>,
 ) -> Result<Meta, RefusalKind>
     requires autocommit { conn.old.in_transaction ≡ false }
-    ensures looks { Looks (λ rows meta. meta ≡ read_meta rows) (state S.Store conn.old) (state S.Store conn.new) result }
+    ensures looks { Looks (λ rows meta. meta ≡ read_meta rows) (state S.Store conn.old)
+        (state S.Store conn.new) result }
     ensures ended { conn.new.in_transaction ≡ false }
 {
     only(read_meta_rows(alloc, conn)?)
@@ -92,7 +93,8 @@ fn read_records_by_batch<S: Alter>(
     conn: &mut Connection<S>,
 ) -> Result<(Vec<BatchRow>, Vec<RecordRow>, Vec<LineRow>), RefusalKind>
     requires autocommit { conn.old.in_transaction ≡ false }
-    ensures looks { Looks (λ rows all. (all.0.items ≡ rows.batches) × (all.1.items ≡ map read_record rows.records) × (all.2.items ≡ map read_line rows.lines))
+    ensures looks { Looks (λ rows all. (all.0.items ≡ rows.batches) × (all.1.items ≡ map read_record rows.records)
+        × (all.2.items ≡ map read_line rows.lines))
         (state S.Store conn.old) (state S.Store conn.new) result }
     ensures ended { conn.new.in_transaction ≡ false }
 {
@@ -108,7 +110,8 @@ fn read_history<S: Alter>(
     conn: &mut Connection<S>,
 ) -> Result<(Vec<ReceiptRow>, Vec<SlipRow>, Vec<SlipLineRow>), RefusalKind>
     requires autocommit { conn.old.in_transaction ≡ false }
-    ensures looks { Looks (λ rows all. (all.0.items ≡ map read_receipt rows.receipts) × (all.1.items ≡ rows.slips) × (all.2.items ≡ map read_slip_line rows.slip_lines))
+    ensures looks { Looks (λ rows all. (all.0.items ≡ map read_receipt rows.receipts) × (all.1.items ≡ rows.slips)
+        × (all.2.items ≡ map read_slip_line rows.slip_lines))
         (state S.Store conn.old) (state S.Store conn.new) result }
     ensures ended { conn.new.in_transaction ≡ false }
 {
@@ -123,7 +126,8 @@ fn read_meta_rows<S: Alter>(
     conn: &mut Connection<S>,
 ) -> Result<Vec<Meta>, RefusalKind>
     requires autocommit { conn.old.in_transaction ≡ false }
-    ensures looks { Looks (λ rows items. items.items ≡ read_meta rows ∷ []) (state S.Store conn.old) (state S.Store conn.new) result }
+    ensures looks { Looks (λ rows items. items.items ≡ read_meta rows ∷ []) (state S.Store conn.old)
+        (state S.Store conn.new) result }
     ensures ended { conn.new.in_transaction ≡ false }
 {
     read_all(alloc, conn, SELECT_META, &[])
@@ -134,7 +138,8 @@ fn read_batches<S: Alter>(
     conn: &mut Connection<S>,
 ) -> Result<Vec<BatchRow>, RefusalKind>
     requires autocommit { conn.old.in_transaction ≡ false }
-    ensures looks { Looks (λ rows items. items.items ≡ rows.batches) (state S.Store conn.old) (state S.Store conn.new) result }
+    ensures looks { Looks (λ rows items. items.items ≡ rows.batches) (state S.Store conn.old)
+        (state S.Store conn.new) result }
     ensures ended { conn.new.in_transaction ≡ false }
 {
     read_all(alloc, conn, SELECT_BATCHES, &[])
@@ -145,7 +150,8 @@ fn read_records<S: Alter>(
     conn: &mut Connection<S>,
 ) -> Result<Vec<RecordRow>, RefusalKind>
     requires autocommit { conn.old.in_transaction ≡ false }
-    ensures looks { Looks (λ rows items. items.items ≡ map read_record rows.records) (state S.Store conn.old) (state S.Store conn.new) result }
+    ensures looks { Looks (λ rows items. items.items ≡ map read_record rows.records) (state S.Store conn.old)
+        (state S.Store conn.new) result }
     ensures ended { conn.new.in_transaction ≡ false }
 {
     read_all(alloc, conn, SELECT_RECORDS, &[])
@@ -156,7 +162,8 @@ fn read_lines<S: Alter>(
     conn: &mut Connection<S>,
 ) -> Result<Vec<LineRow>, RefusalKind>
     requires autocommit { conn.old.in_transaction ≡ false }
-    ensures looks { Looks (λ rows items. items.items ≡ map read_line rows.lines) (state S.Store conn.old) (state S.Store conn.new) result }
+    ensures looks { Looks (λ rows items. items.items ≡ map read_line rows.lines) (state S.Store conn.old)
+        (state S.Store conn.new) result }
     ensures ended { conn.new.in_transaction ≡ false }
 {
     read_all(alloc, conn, SELECT_LINES, &[])
@@ -167,7 +174,8 @@ fn read_receipts<S: Alter>(
     conn: &mut Connection<S>,
 ) -> Result<Vec<ReceiptRow>, RefusalKind>
     requires autocommit { conn.old.in_transaction ≡ false }
-    ensures looks { Looks (λ rows items. items.items ≡ map read_receipt rows.receipts) (state S.Store conn.old) (state S.Store conn.new) result }
+    ensures looks { Looks (λ rows items. items.items ≡ map read_receipt rows.receipts) (state S.Store conn.old)
+        (state S.Store conn.new) result }
     ensures ended { conn.new.in_transaction ≡ false }
 {
     read_all(alloc, conn, SELECT_RECEIPTS, &[])
@@ -178,7 +186,8 @@ fn read_slips<S: Alter>(
     conn: &mut Connection<S>,
 ) -> Result<Vec<SlipRow>, RefusalKind>
     requires autocommit { conn.old.in_transaction ≡ false }
-    ensures looks { Looks (λ rows items. items.items ≡ rows.slips) (state S.Store conn.old) (state S.Store conn.new) result }
+    ensures looks { Looks (λ rows items. items.items ≡ rows.slips) (state S.Store conn.old)
+        (state S.Store conn.new) result }
     ensures ended { conn.new.in_transaction ≡ false }
 {
     read_all(alloc, conn, SELECT_SLIPS, &[])
@@ -189,7 +198,8 @@ fn read_slip_lines<S: Alter>(
     conn: &mut Connection<S>,
 ) -> Result<Vec<SlipLineRow>, RefusalKind>
     requires autocommit { conn.old.in_transaction ≡ false }
-    ensures looks { Looks (λ rows items. items.items ≡ map read_slip_line rows.slip_lines) (state S.Store conn.old) (state S.Store conn.new) result }
+    ensures looks { Looks (λ rows items. items.items ≡ map read_slip_line rows.slip_lines) (state S.Store conn.old)
+        (state S.Store conn.new) result }
     ensures ended { conn.new.in_transaction ≡ false }
 {
     read_all(alloc, conn, SELECT_SLIP_LINES, &[])
@@ -205,11 +215,16 @@ pub(crate) fn read_all<T: FromRow, S: Alter>(
     requires autocommit { conn.old.in_transaction ≡ false }
     requires plain { IsPlain (understood archive_schema sql.now) }
     ensures read { HasCleanDisk (state S.Store conn.new) → IfOk result (λ items.
-        (shown : List (List Value)) × Shown sql.now (bound params.now) (state S.Store conn.old) (state S.Store conn.new) shown × EachWith T.reads_as shown items.items) }
+        (shown : List (List Value)) × Shown sql.now (bound params.now) (state S.Store conn.old)
+        (state S.Store conn.new) shown × EachWith T.reads_as shown items.items) }
     ensures refused { HasCleanDisk (state S.Store conn.new) → IfErr result (λ kind. IsFailure kind ⊎
-        ((shown : List (List Value)) × Shown sql.now (bound params.now) (state S.Store conn.old) (state S.Store conn.new) shown × ¬ (AllByRecursion T.is_readable shown))) }
-    ensures same { HasCleanDisk (state S.Store conn.new) → IfOk result (λ _. (rows : Rows) → Settled (state S.Store conn.old) rows → Settled (state S.Store conn.new) rows) }
-    ensures crash { HasCleanDisk (state S.Store conn.new) → (rows : Rows) → Settled (state S.Store conn.old) rows → LeavesOnly (state S.Store conn.new) rows }
+        ((shown : List (List Value)) × Shown sql.now (bound params.now) (state S.Store conn.old)
+        (state S.Store conn.new) shown × ¬ (AllByRecursion T.is_readable shown))) }
+    ensures same { HasCleanDisk (state S.Store conn.new)
+        → IfOk result (λ _. (rows : Rows) → Settled (state S.Store conn.old) rows
+        → Settled (state S.Store conn.new) rows) }
+    ensures crash { HasCleanDisk (state S.Store conn.new) → (rows : Rows) → Settled (state S.Store conn.old) rows
+        → LeavesOnly (state S.Store conn.new) rows }
     ensures clean { HasCleanDisk (state S.Store conn.new) → HasCleanDisk (state S.Store conn.old) }
     ensures ended { conn.new.in_transaction ≡ false }
 {
@@ -227,11 +242,19 @@ pub(crate) fn ask<S: Alter>(
 ) -> Result<Vec<Row>, Error>
     requires autocommit { conn.old.in_transaction ≡ false }
     requires plain { IsPlain (understood archive_schema sql.now) }
-    ensures shown { HasCleanDisk (state S.Store conn.new) → IfOk result (λ rows. Shown sql.now (bound params.now) (state S.Store conn.old) (state S.Store conn.new) rows.items) }
-    ensures same { HasCleanDisk (state S.Store conn.new) → IfOk result (λ _. (rows : Rows) → Settled (state S.Store conn.old) rows → Settled (state S.Store conn.new) rows) }
-    ensures failed { HasCleanDisk (state S.Store conn.new) → IfErr result (λ e. FailsToQuery sql.now (bound params.now) (state S.Store conn.old) (state S.Store conn.new) e) }
-    ensures known { HasCleanDisk (state S.Store conn.new) → IfErr result (λ e. (rows : Rows) → Settled (state S.Store conn.old) rows → tells_no_archive e ≡ false) }
-    ensures crash { HasCleanDisk (state S.Store conn.new) → (rows : Rows) → Settled (state S.Store conn.old) rows → LeavesOnly (state S.Store conn.new) rows }
+    ensures shown { HasCleanDisk (state S.Store conn.new)
+        → IfOk result (λ rows. Shown sql.now (bound params.now) (state S.Store conn.old)
+        (state S.Store conn.new) rows.items) }
+    ensures same { HasCleanDisk (state S.Store conn.new)
+        → IfOk result (λ _. (rows : Rows) → Settled (state S.Store conn.old) rows
+        → Settled (state S.Store conn.new) rows) }
+    ensures failed { HasCleanDisk (state S.Store conn.new)
+        → IfErr result (λ e. FailsToQuery sql.now (bound params.now) (state S.Store conn.old)
+        (state S.Store conn.new) e) }
+    ensures known { HasCleanDisk (state S.Store conn.new)
+        → IfErr result (λ e. (rows : Rows) → Settled (state S.Store conn.old) rows → tells_no_archive e ≡ false) }
+    ensures crash { HasCleanDisk (state S.Store conn.new) → (rows : Rows) → Settled (state S.Store conn.old) rows
+        → LeavesOnly (state S.Store conn.new) rows }
     ensures clean { HasCleanDisk (state S.Store conn.new) → HasCleanDisk (state S.Store conn.old) }
     ensures ended { conn.new.in_transaction ≡ false }
 {

@@ -18,7 +18,8 @@ pub fn put_record<S: Alter>(
 ) -> Result<(), Error>
     ensures same_reference { tx.new.conn.ghost_name ≡ tx.old.conn.ghost_name }
     ensures ok { HasCleanDisk (state S.Store tx.new.conn.now)
-        → OnOk result (Follows (state S.Store tx.old.conn.now) (state S.Store tx.new.conn.now) (with_record_row number kind.now batch)) }
+        → OnOk result (Follows (state S.Store tx.old.conn.now) (state S.Store tx.new.conn.now)
+        (with_record_row number kind.now batch)) }
     ensures survives { Survives (state S.Store tx.old.conn.now) (state S.Store tx.new.conn.now) (λ _. ⊥) }
 {
     let changed = update_record(tx, number, kind, batch)?;
@@ -37,7 +38,8 @@ fn update_record<S: Alter>(
 ) -> Result<usize, Error>
     ensures same_reference { tx.new.conn.ghost_name ≡ tx.old.conn.ghost_name }
     ensures ok { HasCleanDisk (state S.Store tx.new.conn.now)
-        → OnOk result (Follows (state S.Store tx.old.conn.now) (state S.Store tx.new.conn.now) (record_at number kind.now batch)) }
+        → OnOk result (Follows (state S.Store tx.old.conn.now) (state S.Store tx.new.conn.now)
+        (record_at number kind.now batch)) }
     ensures counts { HasCleanDisk (state S.Store tx.new.conn.now)
         → IfOk result (λ count. (rows : Rows) → Inside (state S.Store tx.old.conn.now) rows
         → count ≡ length (filter (λ (r : RecordRow). r.no == number) rows.records)) }

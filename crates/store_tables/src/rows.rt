@@ -6,7 +6,19 @@ ghost use Rattle.sqlite.specs.Held.{state};
 ghost use Rattle.record_text.specs.Text.{IsText};
 ghost use Rattle.store_tables.specs.Calls.{Follows};
 ghost use Rattle.store_tables.specs.Reading.{IsU32};
-ghost use Rattle.store_tables.specs.Rows.{flag, with_next, with_batch, with_record_row, without_record_row, with_line, without_lines, with_receipt, with_slip_row, with_slip_line, without_slip_lines};
+ghost use Rattle.store_tables.specs.Rows.{
+  flag,
+  with_next,
+  with_batch,
+  with_record_row,
+  without_record_row,
+  with_line,
+  without_lines,
+  with_receipt,
+  with_slip_row,
+  with_slip_line,
+  without_slip_lines,
+};
 
 use receipts::{Receipt, Token};
 use record_text::Text;
@@ -21,7 +33,8 @@ pub fn insert_batch<S: Alter>(
 ) -> Result<(), Error>
     ensures same_reference { tx.new.conn.ghost_name ≡ tx.old.conn.ghost_name }
     ensures ok { HasCleanDisk (state S.Store tx.new.conn.now)
-        → OnOk result (Follows (state S.Store tx.old.conn.now) (state S.Store tx.new.conn.now) (with_batch number is_open)) }
+        → OnOk result (Follows (state S.Store tx.old.conn.now) (state S.Store tx.new.conn.now)
+        (with_batch number is_open)) }
     ensures survives { Survives (state S.Store tx.old.conn.now) (state S.Store tx.new.conn.now) (λ _. ⊥) }
 {
     let flag = flag(is_open);
@@ -63,7 +76,8 @@ pub(crate) fn insert_record<S: Alter>(
 ) -> Result<(), Error>
     ensures same_reference { tx.new.conn.ghost_name ≡ tx.old.conn.ghost_name }
     ensures ok { HasCleanDisk (state S.Store tx.new.conn.now)
-        → OnOk result (Follows (state S.Store tx.old.conn.now) (state S.Store tx.new.conn.now) (with_record_row number kind.now batch)) }
+        → OnOk result (Follows (state S.Store tx.old.conn.now) (state S.Store tx.new.conn.now)
+        (with_record_row number kind.now batch)) }
     ensures survives { Survives (state S.Store tx.old.conn.now) (state S.Store tx.new.conn.now) (λ _. ⊥) }
 {
     tx.execute(
@@ -77,7 +91,8 @@ pub(crate) fn insert_record<S: Alter>(
 pub fn delete_record<S: Alter>(tx: &mut Transaction<'_, S>, number: u32) -> Result<(), Error>
     ensures same_reference { tx.new.conn.ghost_name ≡ tx.old.conn.ghost_name }
     ensures ok { HasCleanDisk (state S.Store tx.new.conn.now)
-        → OnOk result (Follows (state S.Store tx.old.conn.now) (state S.Store tx.new.conn.now) (without_record_row number)) }
+        → OnOk result (Follows (state S.Store tx.old.conn.now) (state S.Store tx.new.conn.now)
+        (without_record_row number)) }
     ensures survives { Survives (state S.Store tx.old.conn.now) (state S.Store tx.new.conn.now) (λ _. ⊥) }
 {
     tx.execute("DELETE FROM record WHERE no = ?1", params![number])?;
@@ -93,7 +108,8 @@ pub(crate) fn insert_line<S: Alter>(
 ) -> Result<(), Error>
     ensures same_reference { tx.new.conn.ghost_name ≡ tx.old.conn.ghost_name }
     ensures ok { HasCleanDisk (state S.Store tx.new.conn.now)
-        → OnOk result (Follows (state S.Store tx.old.conn.now) (state S.Store tx.new.conn.now) (with_line number at line.now)) }
+        → OnOk result (Follows (state S.Store tx.old.conn.now) (state S.Store tx.new.conn.now)
+        (with_line number at line.now)) }
     ensures survives { Survives (state S.Store tx.old.conn.now) (state S.Store tx.new.conn.now) (λ _. ⊥) }
 {
     let (depth, tag, text, target) = (
@@ -150,7 +166,8 @@ pub fn insert_receipt<S: Alter>(
 ) -> Result<(), Error>
     ensures same_reference { tx.new.conn.ghost_name ≡ tx.old.conn.ghost_name }
     ensures ok { HasCleanDisk (state S.Store tx.new.conn.now)
-        → OnOk result (Follows (state S.Store tx.old.conn.now) (state S.Store tx.new.conn.now) (with_receipt token.now receipt.now)) }
+        → OnOk result (Follows (state S.Store tx.old.conn.now) (state S.Store tx.new.conn.now)
+        (with_receipt token.now receipt.now)) }
     ensures survives { Survives (state S.Store tx.old.conn.now) (state S.Store tx.new.conn.now) (λ _. ⊥) }
 {
     let (words, digest) = (token.as_str(), receipt.digest.as_slice());
@@ -172,7 +189,8 @@ pub fn insert_slip<S: Alter>(
 ) -> Result<(), Error>
     ensures same_reference { tx.new.conn.ghost_name ≡ tx.old.conn.ghost_name }
     ensures ok { HasCleanDisk (state S.Store tx.new.conn.now)
-        → OnOk result (Follows (state S.Store tx.old.conn.now) (state S.Store tx.new.conn.now) (with_slip_row number keep gone is_undone)) }
+        → OnOk result (Follows (state S.Store tx.old.conn.now) (state S.Store tx.new.conn.now)
+        (with_slip_row number keep gone is_undone)) }
     ensures survives { Survives (state S.Store tx.old.conn.now) (state S.Store tx.new.conn.now) (λ _. ⊥) }
 {
     let undone = flag(is_undone);
@@ -194,7 +212,8 @@ pub(crate) fn insert_slip_line<S: Alter>(
 ) -> Result<(), Error>
     ensures same_reference { tx.new.conn.ghost_name ≡ tx.old.conn.ghost_name }
     ensures ok { HasCleanDisk (state S.Store tx.new.conn.now)
-        → OnOk result (Follows (state S.Store tx.old.conn.now) (state S.Store tx.new.conn.now) (with_slip_line slip is_new number at line.now)) }
+        → OnOk result (Follows (state S.Store tx.old.conn.now) (state S.Store tx.new.conn.now)
+        (with_slip_line slip is_new number at line.now)) }
     ensures survives { Survives (state S.Store tx.old.conn.now) (state S.Store tx.new.conn.now) (λ _. ⊥) }
 {
     let side = flag(is_new);
@@ -215,7 +234,8 @@ pub(crate) fn insert_slip_line<S: Alter>(
 pub fn delete_slip_lines<S: Alter>(tx: &mut Transaction<'_, S>, slip: u32) -> Result<(), Error>
     ensures same_reference { tx.new.conn.ghost_name ≡ tx.old.conn.ghost_name }
     ensures ok { HasCleanDisk (state S.Store tx.new.conn.now)
-        → OnOk result (Follows (state S.Store tx.old.conn.now) (state S.Store tx.new.conn.now) (without_slip_lines slip)) }
+        → OnOk result (Follows (state S.Store tx.old.conn.now) (state S.Store tx.new.conn.now)
+        (without_slip_lines slip)) }
     ensures survives { Survives (state S.Store tx.old.conn.now) (state S.Store tx.new.conn.now) (λ _. ⊥) }
 {
     tx.execute("DELETE FROM slip_line WHERE slip = ?1", params![slip])?;

@@ -127,5 +127,13 @@ impl Model for StoredRows {
 
     ghost Value = { reading.ReadRows };
 
-    ghost view = { λ a. record { next = a.next; batches = a.batches.items; records = a.records.items; lines = a.lines.items; receipts = a.receipts.items; slips = a.slips.items; slip_lines = a.slip_lines.items } };
+    ghost view = { λ a. record {
+      next = a.next;
+      batches = a.batches.items;
+      records = a.records.items;
+      lines = a.lines.items;
+      receipts = a.receipts.items;
+      slips = a.slips.items;
+      slip_lines = a.slip_lines.items;
+    } };
 }

@@ -1,17 +1,58 @@
 //! Rows that a query shows, as values of the program's types.
 
-ghost use Rattle.std.specs.Prelude.{◌≡◌, [], ◌∷◌, ◌++◌, OnOk, ℕ, pos, ◌+◌, ◌<◌, List, length, IfOk, IfErr, IfSome, Option};
+ghost use Rattle.std.specs.Prelude.{
+  ◌≡◌,
+  [],
+  ◌∷◌,
+  ◌++◌,
+  OnOk,
+  ℕ,
+  pos,
+  ◌+◌,
+  ◌<◌,
+  List,
+  length,
+  IfOk,
+  IfErr,
+  IfSome,
+  Option,
+};
 ghost use Rattle.std.specs.List.{AllByRecursion};
 ghost use Rattle.sqlite.specs.declared.types.Value.{Value};
 ghost use Rattle.sqlite.specs.declared.types.Value.TheVariants.{Int, Text as Words, Blob};
 ghost use Rattle.sqlite.specs.Order.{column};
 ghost use Rattle.record_text.specs.Text.{IsTag, IsText};
 ghost use Rattle.receipts.specs.Tokens.{IsToken};
-ghost use Rattle.store_tables.specs.Conversion.{FailsUnless, read_meta, IsReadBy, ShowsTyped, EachWith, IsLineAt, HasLineAt};
-ghost use Rattle.store_tables.specs.Reading.{IsU32, IsTypedLine, IsTypedReceipt, IsTypedSlip, read_record, read_line, read_receipt, read_slip_line};
+ghost use Rattle.store_tables.specs.Conversion.{
+  FailsUnless,
+  read_meta,
+  IsReadBy,
+  ShowsTyped,
+  EachWith,
+  IsLineAt,
+  HasLineAt,
+};
+ghost use Rattle.store_tables.specs.Reading.{
+  IsU32,
+  IsTypedLine,
+  IsTypedReceipt,
+  IsTypedSlip,
+  read_record,
+  read_line,
+  read_receipt,
+  read_slip_line,
+};
 ghost use Rattle.store_tables.specs.Rows as rows;
 ghost use Rattle.store_tables.specs.Rows.{line_fields, words_or_null};
-ghost use Rattle.store_tables.specs.Shown.{shown_meta, shown_batch, shown_record, shown_line, shown_receipt, shown_slip, shown_slip_line};
+ghost use Rattle.store_tables.specs.Shown.{
+  shown_meta,
+  shown_batch,
+  shown_record,
+  shown_line,
+  shown_receipt,
+  shown_slip,
+  shown_slip_line,
+};
 
 use crate::stored::{BatchRow, LineRow, ReceiptRow, RecordRow, SlipLineRow, SlipRow};
 use receipts::{Answer, Receipt, Token};
@@ -81,7 +122,8 @@ fn value<T: FromSql>(row: &Row, at: usize) -> Result<T, RefusalKind>
 /// The text of a column.
 pub(crate) fn text_at(row: &Row, at: usize) -> Result<Text, RefusalKind>
     ensures ok { IfOk result (λ t. column row.now at ≡ Words t) }
-    ensures err { IfErr result (FailsUnless ((at < length row.now) × (t : List ℕ) × (column row.now at ≡ Words t) × IsText t)) }
+    ensures err { IfErr result
+        (FailsUnless ((at < length row.now) × (t : List ℕ) × (column row.now at ≡ Words t) × IsText t)) }
 {
     let string: String = value(row, at)?;
     match Text::try_new(string) {
@@ -93,7 +135,9 @@ pub(crate) fn text_at(row: &Row, at: usize) -> Result<Text, RefusalKind>
 /// The text of a column, where it has one.
 fn text_if_any(row: &Row, at: usize) -> Result<Option<Text>, RefusalKind>
     ensures ok { IfOk result (λ t. column row.now at ≡ words_or_null t) }
-    ensures err { IfErr result (FailsUnless ((at < length row.now) × (t : Option (List ℕ)) × (column row.now at ≡ words_or_null t) × IfSome t IsText)) }
+    ensures err { IfErr result
+        (FailsUnless ((at < length row.now) × (t : Option (List ℕ)) × (column row.now at ≡ words_or_null t)
+        × IfSome t IsText)) }
 {
     let string: Option<String> = value(row, at)?;
     let Some(string) = string else {
@@ -109,7 +153,8 @@ fn text_if_any(row: &Row, at: usize) -> Result<Option<Text>, RefusalKind>
 #[tactic(auto, using(crate::proofs::ReadingRows::tag_utf8))]
 fn tag_at(row: &Row, at: usize) -> Result<Tag, RefusalKind>
     ensures ok { IfOk result (λ t. column row.now at ≡ Words t) }
-    ensures err { IfErr result (FailsUnless ((at < length row.now) × (t : List ℕ) × (column row.now at ≡ Words t) × IsTag t)) }
+    ensures err { IfErr result
+        (FailsUnless ((at < length row.now) × (t : List ℕ) × (column row.now at ≡ Words t) × IsTag t)) }
 {
     let string: String = value(row, at)?;
     match Tag::try_new(string) {
@@ -122,7 +167,8 @@ fn tag_at(row: &Row, at: usize) -> Result<Tag, RefusalKind>
 #[tactic(auto, using(crate::proofs::ReadingRows::token_utf8))]
 fn token_at(row: &Row, at: usize) -> Result<Token, RefusalKind>
     ensures ok { IfOk result (λ t. column row.now at ≡ Words t) }
-    ensures err { IfErr result (FailsUnless ((at < length row.now) × (t : List ℕ) × (column row.now at ≡ Words t) × IsToken t)) }
+    ensures err { IfErr result
+        (FailsUnless ((at < length row.now) × (t : List ℕ) × (column row.now at ≡ Words t) × IsToken t)) }
 {
     let string: String = value(row, at)?;
     match Token::try_new(string) {
@@ -134,7 +180,8 @@ fn token_at(row: &Row, at: usize) -> Result<Token, RefusalKind>
 /// The digest of a column.
 fn digest_at(row: &Row, at: usize) -> Result<[u8; 32], RefusalKind>
     ensures ok { IfOk result (λ d. column row.now at ≡ Blob d) }
-    ensures err { IfErr result (FailsUnless ((at < length row.now) × (d : List ℕ) × (column row.now at ≡ Blob d) × (length d ≡ 32))) }
+    ensures err { IfErr result
+        (FailsUnless ((at < length row.now) × (d : List ℕ) × (column row.now at ≡ Blob d) × (length d ≡ 32))) }
 {
     let bytes: Vec<u8> = value(row, at)?;
     match <[u8; 32]>::try_from(bytes) {
@@ -199,7 +246,8 @@ impl FromRow for LineRow {
 impl FromRow for StoredLine {
     ghost reads_as = { IsReadBy (λ (l : rows.LineRow). line_fields l.line) (λ (l : rows.LineRow). l.line) };
 
-    ghost is_readable = { ShowsTyped (λ (l : rows.LineRow). line_fields l.line) (λ (l : rows.LineRow). IsTypedLine l.line) };
+    ghost is_readable = { ShowsTyped (λ (l : rows.LineRow). line_fields l.line)
+        (λ (l : rows.LineRow). IsTypedLine l.line) };
 
     fn from_row(row: &Row) -> Result<StoredLine, RefusalKind> {
         line_at(row, 0)
@@ -219,7 +267,8 @@ impl FromRow for u32 {
 impl FromRow for ReceiptRow {
     ghost reads_as = { IsReadBy shown_receipt read_receipt };
 
-    ghost is_readable = { ShowsTyped shown_receipt (λ (r : rows.ReceiptRow). IsToken r.token × IsTypedReceipt r.receipt) };
+    ghost is_readable = { ShowsTyped shown_receipt (λ (r : rows.ReceiptRow). IsToken r.token
+        × IsTypedReceipt r.receipt) };
 
     fn from_row(row: &Row) -> Result<ReceiptRow, RefusalKind> {
         let token = token_at(row, 0)?;
@@ -251,7 +300,8 @@ impl FromRow for SlipRow {
 impl FromRow for SlipLineRow {
     ghost reads_as = { IsReadBy shown_slip_line read_slip_line };
 
-    ghost is_readable = { ShowsTyped shown_slip_line (λ (s : rows.SlipLineRow). IsU32 s.slip × IsU32 s.no × IsTypedLine s.line) };
+    ghost is_readable = { ShowsTyped shown_slip_line (λ (s : rows.SlipLineRow). IsU32 s.slip × IsU32 s.no
+        × IsTypedLine s.line) };
 
     fn from_row(row: &Row) -> Result<SlipLineRow, RefusalKind> {
         Ok(SlipLineRow {

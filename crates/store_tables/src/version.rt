@@ -27,9 +27,13 @@ const VERSION: u64 = 1;
 pub fn check_version<S: Alter>(conn: &mut Connection<S>) -> Result<(), RefusalKind>
     requires autocommit { conn.old.in_transaction ≡ false }
     ensures looks { Looks (λ _ _. ⊤) (state S.Store conn.old) (state S.Store conn.new) result }
-    ensures version { HasCleanDisk (state S.Store conn.new) → OnOk result (ShowsVersion 1 (state S.Store conn.old) (state S.Store conn.new)) }
-    ensures newer { HasCleanDisk (state S.Store conn.new) → IfErr result (λ kind. kind ≡ refusal.NewerSchema → IsLater (λ v. ShowsVersion v (state S.Store conn.old) (state S.Store conn.new))) }
-    ensures told { HasCleanDisk (state S.Store conn.new) → IfErr result (IsRefusedStore (state S.Store conn.old) (state S.Store conn.new)) }
+    ensures version { HasCleanDisk (state S.Store conn.new)
+        → OnOk result (ShowsVersion 1 (state S.Store conn.old) (state S.Store conn.new)) }
+    ensures newer { HasCleanDisk (state S.Store conn.new)
+        → IfErr result (λ kind. kind ≡ refusal.NewerSchema
+        → IsLater (λ v. ShowsVersion v (state S.Store conn.old) (state S.Store conn.new))) }
+    ensures told { HasCleanDisk (state S.Store conn.new)
+        → IfErr result (IsRefusedStore (state S.Store conn.old) (state S.Store conn.new)) }
     ensures ended { conn.new.in_transaction ≡ false }
 {
     match ask(conn, SELECT_META, &[]) {

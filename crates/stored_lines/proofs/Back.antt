@@ -28,4 +28,5 @@ module _ {A : Type 0} where
   sole-tree t = ap sole (grown_tree t)
 
   pub flat_one : (t u : Tree A) → flat 0 t ≡ flat 0 u → t ≡ u
-  flat_one t u e = let same : Some t ≡ Some u = sym (sole-tree t) ∙ ap (λ (x : List (ℕ × A)). sole (grown x)) e ∙ sole-tree u in cc
+  flat_one t u e = let same : Some t ≡ Some u = sym (sole-tree t) ∙ ap (λ (x : List (ℕ × A)). sole (grown x)) e
+      ∙ sole-tree u in cc

@@ -1,5 +1,5 @@
--- How deep lines are nested. The levels of a file go from 0 to 99 (GEDCOM 5.5.1, chapter 1, "level"), and a carried line stands
--- below one of level 0.
+-- How deep lines are nested. The levels of a file go from 0 to 99 (GEDCOM 5.5.1, chapter 1, "level"), and a carried
+-- line stands below one of level 0.
 use Rattle.std.specs.Prelude.{ℕ, ◌+◌, ◌≤◌, max, List}
 use Rattle.stored_lines.specs.Tree.{Tree, Forest, node, none, more, forest_of}
 

@@ -25,7 +25,8 @@ label_for tag (value.Ref n) = record { tag = tag; text = None; target = Some n }
 abbrev pub label_of : Line → Label
 label_of l = label_for l.tag l.value
 
--- a carried line from a stored one: of a line that has a text and a number the text, of one that has neither an empty text
+-- a carried line from a stored one: of a line that has a text and a number the text, of one that has neither an empty
+-- text
 abbrev pub value_for : Option (List ℕ) → Option ℕ → Value
 value_for (Some t) n = value.Text t
 value_for None (Some n) = value.Ref n
@@ -51,10 +52,12 @@ abbrev pub value_code : Coded Value
 value_code = code_by (List ℕ ⊎ ℕ) (coded⊎ (coded_list coded_ℕ) coded_ℕ) value_in value_from value_back
 
 abbrev pub line_code : Coded Line
-line_code = code_by (List ℕ × Value) (coded× (coded_list coded_ℕ) value_code) (λ l. (l.tag, l.value)) (λ t. record { tag = t.0; value = t.1 }) (λ _. refl)
+line_code = code_by (List ℕ × Value) (coded× (coded_list coded_ℕ) value_code) (λ l. (l.tag, l.value))
+    (λ t. record { tag = t.0; value = t.1 }) (λ _. refl)
 
 abbrev pub label_code : Coded Label
-label_code = code_by (List ℕ × (Option (List ℕ) × Option ℕ)) (coded× (coded_list coded_ℕ) (coded× (coded_option (coded_list coded_ℕ)) (coded_option coded_ℕ)))
+label_code = code_by (List ℕ × (Option (List ℕ) × Option ℕ))
+    (coded× (coded_list coded_ℕ) (coded× (coded_option (coded_list coded_ℕ)) (coded_option coded_ℕ)))
     (λ l. (l.tag, (l.text, l.target))) (λ t. record { tag = t.0; text = t.1.0; target = t.1.1 }) (λ _. refl)
 
 -- carried lines: trees side by side

@@ -10,8 +10,10 @@ use Rattle.batch_reading.specs.Batches.{ReadsBatch}
 use Rattle.tables.specs.Applying.{Steps}
 use Rattle.tables.specs.Entering.{Enters, batch_request}
 
-module _ {S : Type 0} (g : Ghosts S) (token : List ℕ) (source : ℕ) (input : Option (List ℕ)) (old new : Archive S g) (rows : List EntryRow) (read : ReadsBatch input rows) where
-  pub entered_ok : (o : Outcome) → Steps g (Ok (batch_request token source rows, o)) old new → IfOk o (λ answer. Enters g token source input old (Ok answer) new)
+module _ {S : Type 0} (g : Ghosts S) (token : List ℕ) (source : ℕ) (input : Option (List ℕ)) (old new : Archive S g)
+    (rows : List EntryRow) (read : ReadsBatch input rows) where
+  pub entered_ok : (o : Outcome) → Steps g (Ok (batch_request token source rows, o)) old new
+      → IfOk o (λ answer. Enters g token source input old (Ok answer) new)
   entered_ok (Ok answer) did = (rows, read, did)
   entered_ok (Err e) did = tt
 

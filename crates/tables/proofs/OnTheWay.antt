@@ -1,5 +1,31 @@
 -- What is kept while rows are applied one after the other, and what follows of it where a call ends.
-use Rattle.std.proofs.Common.{◌≡◌, ◌∙◌, ◌⊎◌, ◌+◌, ◌++◌, ◌∷◌, ℕ, true, false, List, [], Option, None, Ok, Err, MatchBool, inl, inr, refl, ap, sym, subst, arith, length, length-append}
+use Rattle.std.proofs.Common.{
+  ◌≡◌,
+  ◌∙◌,
+  ◌⊎◌,
+  ◌+◌,
+  ◌++◌,
+  ◌∷◌,
+  ℕ,
+  true,
+  false,
+  List,
+  [],
+  Option,
+  None,
+  Ok,
+  Err,
+  MatchBool,
+  inl,
+  inr,
+  refl,
+  ap,
+  sym,
+  subst,
+  arith,
+  length,
+  length-append,
+}
 use Rattle.std.specs.Io.KnownBytes.{Appends}
 use Rattle.std.proofs.KnownBytes.{Appends-nil, Appends-trans}
 use Rattle.std.proofs.lemmas.Bool.{false≢true}
@@ -19,7 +45,19 @@ use Rattle.record_text.specs.declared.refusal.RefusalKind.TheVariants.{OutOfMemo
 use Rattle.store.specs.Histories.{in_doubt, is_storage}
 use Rattle.store.specs.declared.archive.Archive.{Archive}
 use Rattle.tables.specs.Answers.{Served, answer_text}
-use Rattle.tables.specs.Applying.{Applied, AreServed, Ended, Ends, IsServed, PerformsAll, Steps, WritesPart, answers, calls_of, is_in_doubt}
+use Rattle.tables.specs.Applying.{
+  Applied,
+  AreServed,
+  Ended,
+  Ends,
+  IsServed,
+  PerformsAll,
+  Steps,
+  WritesPart,
+  answers,
+  calls_of,
+  is_in_doubt,
+}
 use Rattle.batch_reading.specs.Input.{AreRows, Row}
 use Rattle.batch_reading.proofs.Taking.{Took, took_first, took_none}
 use Rattle.tables.proofs.Outcomes.{by_bool}
@@ -29,7 +67,9 @@ use Rattle.tables.proofs.Served.{answers_doubted, answers_sure, certain_more, ke
 all_written : (a b : Option (List ℕ)) (text : List ℕ) → Appends a b text → AppendsBeginning a b text
 all_written a b text h = (length text, omega arith, rw (take_all (length text) text (omega arith)) h)
 
-part_written : (a b c : Option (List ℕ)) (served : List Served) (s : Served) → is_in_doubt s ≡ false → Appends a b (answers served) → AppendsBeginning b c (answer_text s) → AppendsBeginning a c (answers (served ++ s ∷ []))
+part_written : (a b c : Option (List ℕ)) (served : List Served) (s : Served) → is_in_doubt s ≡ false
+    → Appends a b (answers served) → AppendsBeginning b c (answer_text s) → AppendsBeginning a c
+    (answers (served ++ s ∷ []))
 part_written a b c served s sure h p = (
   length (answers served) + p.0,
   rw (answers_sure served s sure, length-append) (omega (arith, p.1)),
@@ -42,14 +82,16 @@ not_storage kind (inr e) = ap is_storage e
 
 -- ---- rows applied so far
 -- no request
-pub performs_none : (s : DiskState) → ((rows : Rows) → Settled s rows → LeavesOnly s rows) → HasCleanDisk s → Performs s [] s
+pub performs_none : (s : DiskState) → ((rows : Rows) → Settled s rows → LeavesOnly s rows) → HasCleanDisk s
+    → Performs s [] s
 performs_none s leaves clean = record {
   done = λ none society c has. (c, refl, has);
   crash = λ society c has t l. (c, refl, (has.0, leaves has.0 has.1 t l, has.2));
   clean = clean;
 }
 
-pub record OnTheWay {S : Type 0} (g : Ghosts S) (known left : Option (List ℕ)) (at : State) (before after : Option (List ℕ)) (old new : Archive S g) : Type 0 where
+pub record OnTheWay {S : Type 0} (g : Ghosts S) (known left : Option (List ℕ)) (at : State)
+    (before after : Option (List ℕ)) (old new : Archive S g) : Type 0 where
   pub rows : List Row
   pub served : List Served
   pub took : Took known rows at left
@@ -59,13 +101,26 @@ pub record OnTheWay {S : Type 0} (g : Ghosts S) (known left : Option (List ℕ))
   pub performed : PerformsAll g old (calls_of served) new
   pub written : Appends before after (answers served)
 
-pub at_start : {S : Type 0} (g : Ghosts S) (known out : Option (List ℕ)) (archive : Archive S g) → PerformsAll g archive [] archive → OnTheWay g known known st.StartRecord out out archive archive
+pub at_start : {S : Type 0} (g : Ghosts S) (known out : Option (List ℕ)) (archive : Archive S g)
+    → PerformsAll g archive [] archive → OnTheWay g known known st.StartRecord out out archive archive
 at_start g known out archive none =
-    record { rows = []; served = []; took = took_none known; each = tt; certain = refl; kept = λ was. was; performed = none; written = Appends-nil out }
+    record {
+      rows = [];
+      served = [];
+      took = took_none known;
+      each = tt;
+      certain = refl;
+      kept = λ was. was;
+      performed = none;
+      written = Appends-nil out;
+    }
 
-module _ {S : Type 0} (g : Ghosts S) (known left : Option (List ℕ)) (at : State) (before after : Option (List ℕ)) (old now : Archive S g) (w : OnTheWay g known left at before after old now) where
+module _ {S : Type 0} (g : Ghosts S) (known left : Option (List ℕ)) (at : State) (before after : Option (List ℕ))
+    (old now : Archive S g) (w : OnTheWay g known left at before after old now) where
   -- a row more, which was answered
-  pub one_more : (row : Row) (next : Archive S g) (rest out : Option (List ℕ)) (s : Served) (to : State) → Took known (w.rows ++ row ∷ []) to rest → IsServed row s → Steps g s now next → is_in_doubt s ≡ false → Appends after out (answer_text s)
+  pub one_more : (row : Row) (next : Archive S g) (rest out : Option (List ℕ)) (s : Served) (to : State)
+      → Took known (w.rows ++ row ∷ []) to rest → IsServed row s → Steps g s now next → is_in_doubt s ≡ false
+      → Appends after out (answer_text s)
       → OnTheWay g known rest to before out old next
   one_more row next rest out s to took is steps sure wrote = record {
     rows = w.rows ++ row ∷ [];
@@ -75,22 +130,34 @@ module _ {S : Type 0} (g : Ghosts S) (known left : Option (List ℕ)) (at : Stat
     certain = certain_more w.served s w.certain sure;
     kept = kept_more g old now next w.served s steps sure w.kept;
     performed = performed_more g old now next w.served s w.certain w.kept w.performed steps;
-    written = subst (Appends before out) (sym (answers_sure w.served s sure)) (Appends-trans before after out _ _ w.written wrote);
+    written = subst (Appends before out) (sym (answers_sure w.served s sure))
+        (Appends-trans before after out _ _ w.written wrote);
   }
 
   pub all_applied : AreRows known w.rows → Applied g known before after old now
-  all_applied all = record { rows = w.rows; served = w.served; all = all; each = w.each; certain = w.certain; kept = w.kept; performed = w.performed; written = w.written }
+  all_applied all = record {
+    rows = w.rows;
+    served = w.served;
+    all = all;
+    each = w.each;
+    certain = w.certain;
+    kept = w.kept;
+    performed = w.performed;
+    written = w.written;
+  }
 
   ends_unread : (kind : RefusalKind) → (kind ≡ OutOfMemory) ⊎ (kind ≡ ReadFailed) → Ends kind w.served before after
   ends_unread kind (inl e) = inr (w.certain, inr (inl e, all_written before after _ w.written))
   ends_unread kind (inr e) = inr (w.certain, inl (e, w.written))
 
-  lost_unread : (kind : RefusalKind) → (kind ≡ OutOfMemory) ⊎ (kind ≡ ReadFailed) → old.is_lost ≡ false → now.is_lost ≡ is_storage kind
+  lost_unread : (kind : RefusalKind) → (kind ≡ OutOfMemory) ⊎ (kind ≡ ReadFailed) → old.is_lost ≡ false
+      → now.is_lost ≡ is_storage kind
   lost_unread kind (inl e) was = w.kept was ∙ sym (ap is_storage e)
   lost_unread kind (inr e) was = w.kept was ∙ sym (ap is_storage e)
 
   -- no row more was read
-  pub ended_unread : (kind : RefusalKind) → (kind ≡ OutOfMemory) ⊎ (kind ≡ ReadFailed) → Ended g kind known before after old now
+  pub ended_unread : (kind : RefusalKind) → (kind ≡ OutOfMemory) ⊎ (kind ≡ ReadFailed)
+      → Ended g kind known before after old now
   ended_unread kind why = record {
     rows = w.rows;
     served = w.served;
@@ -102,35 +169,48 @@ module _ {S : Type 0} (g : Ghosts S) (known left : Option (List ℕ)) (at : Stat
   }
 
   -- nothing was done of the row that was read
-  pub ended_same : (kind : RefusalKind) (next : Archive S g) (out : Option (List ℕ)) → kind ≡ OutOfMemory → next ≡ now → out ≡ after → Ended g kind known before out old next
+  pub ended_same : (kind : RefusalKind) (next : Archive S g) (out : Option (List ℕ)) → kind ≡ OutOfMemory → next ≡ now
+      → out ≡ after → Ended g kind known before out old next
   ended_same kind next out why same kept =
       subst (λ (a : Archive S g). Ended g kind known before out old a) (sym same)
       (subst (λ (o : Option (List ℕ)). Ended g kind known before o old now) (sym kept) (ended_unread kind (inl why)))
 
-  ends_doubted : (kind : RefusalKind) (s : Served) → is_in_doubt s ≡ true → kind ≡ Storage → Ends kind (w.served ++ s ∷ []) before after
+  ends_doubted : (kind : RefusalKind) (s : Served) → is_in_doubt s ≡ true → kind ≡ Storage
+      → Ends kind (w.served ++ s ∷ []) before after
   ends_doubted kind (Ok done) doubted e =
-      inl (e, (w.served, done, refl, w.certain, doubted), subst (Appends before after) (sym (answers_doubted w.served (Ok done) doubted)) w.written)
+      inl (
+        e,
+        (w.served, done, refl, w.certain, doubted),
+        subst (Appends before after) (sym (answers_doubted w.served (Ok done) doubted)) w.written,
+      )
   ends_doubted kind (Err bad) doubted e = absurd (false≢true doubted)
 
-  ends_row : (kind : RefusalKind) (s : Served) (out : Option (List ℕ)) → MatchBool (is_in_doubt s) ((kind ≡ Storage) × (out ≡ after)) (WritesPart kind after out (answer_text s))
+  ends_row : (kind : RefusalKind) (s : Served) (out : Option (List ℕ)) → MatchBool (is_in_doubt s)
+      ((kind ≡ Storage) × (out ≡ after)) (WritesPart kind after out (answer_text s))
       → Ends kind (w.served ++ s ∷ []) before out
   ends_row kind s out h = by_bool (is_in_doubt s) h
-      (λ doubted a. subst (λ (o : Option (List ℕ)). Ends kind (w.served ++ s ∷ []) before o) (sym a.1) (ends_doubted kind s doubted a.0))
-      (λ sure p. let all = part_written before after out w.served s sure w.written p.1 in inr (certain_more w.served s w.certain sure, inr (p.0, all)))
+      (λ doubted a. subst (λ (o : Option (List ℕ)). Ends kind (w.served ++ s ∷ []) before o) (sym a.1)
+      (ends_doubted kind s doubted a.0))
+      (λ sure p. let all = part_written before after out w.served s sure w.written p.1 in
+      inr (certain_more w.served s w.certain sure, inr (p.0, all)))
 
-  lost_doubted : (next : Archive S g) (s : Served) → Steps g s now next → is_in_doubt s ≡ true → old.is_lost ≡ false → next.is_lost ≡ true
+  lost_doubted : (next : Archive S g) (s : Served) → Steps g s now next → is_in_doubt s ≡ true → old.is_lost ≡ false
+      → next.is_lost ≡ true
   lost_doubted next (Ok done) steps doubted was = steps.1 (w.kept was) ∙ doubted
   lost_doubted next (Err bad) same doubted was = absurd (false≢true doubted)
 
   lost_row : (kind : RefusalKind) (next : Archive S g) (out : Option (List ℕ)) (s : Served) → Steps g s now next
-      → MatchBool (is_in_doubt s) ((kind ≡ Storage) × (out ≡ after)) (WritesPart kind after out (answer_text s)) → old.is_lost ≡ false → next.is_lost ≡ is_storage kind
+      → MatchBool (is_in_doubt s) ((kind ≡ Storage) × (out ≡ after)) (WritesPart kind after out (answer_text s))
+      → old.is_lost ≡ false → next.is_lost ≡ is_storage kind
   lost_row kind next out s steps h was = by_bool (is_in_doubt s) h
       (λ doubted a. lost_doubted next s steps doubted was ∙ sym (ap is_storage a.0))
       (λ sure p. kept_more g old now next w.served s steps sure w.kept was ∙ sym (not_storage kind p.0))
 
   -- a row more, which was not answered whole
-  pub ended_row : (kind : RefusalKind) (row : Row) (next : Archive S g) (rest out : Option (List ℕ)) (s : Served) (to : State) → Took known (w.rows ++ row ∷ []) to rest → IsServed row s → Steps g s now next
-      → MatchBool (is_in_doubt s) ((kind ≡ Storage) × (out ≡ after)) (WritesPart kind after out (answer_text s)) → Ended g kind known before out old next
+  pub ended_row : (kind : RefusalKind) (row : Row) (next : Archive S g) (rest out : Option (List ℕ)) (s : Served)
+      (to : State) → Took known (w.rows ++ row ∷ []) to rest → IsServed row s → Steps g s now next
+      → MatchBool (is_in_doubt s) ((kind ≡ Storage) × (out ≡ after)) (WritesPart kind after out (answer_text s))
+      → Ended g kind known before out old next
   ended_row kind row next rest out s to took is steps h = record {
     rows = w.rows ++ row ∷ [];
     served = w.served ++ s ∷ [];
@@ -142,16 +222,28 @@ module _ {S : Type 0} (g : Ghosts S) (known left : Option (List ℕ)) (at : Stat
   }
 
 -- ---- a reader that did not count its error
-blameless_ends : (served : List Served) (before after : Option (List ℕ)) (kind : RefusalKind) → kind ≡ ReadFailed → Ends kind served before after → Ends OutOfMemory served before after
+blameless_ends : (served : List Served) (before after : Option (List ℕ)) (kind : RefusalKind) → kind ≡ ReadFailed
+    → Ends kind served before after → Ends OutOfMemory served before after
 blameless_ends served before after kind is (inl h) = absurd cc
 blameless_ends served before after kind is (inr h) = elim h.1 [
   | inl all ↦ inr (h.0, inr (inl refl, all_written before after _ all.1))
   | inr part ↦ inr (h.0, inr (inl refl, part.1))
 ]
 
-pub told_so : {S : Type 0} (g : Ghosts S) (kind told : RefusalKind) (known before after : Option (List ℕ)) (old new : Archive S g) {Risen : Type 0}
-    → ((told ≡ kind) × (kind ≡ ReadFailed → Risen)) ⊎ ((kind ≡ ReadFailed) × (told ≡ OutOfMemory)) → Ended g kind known before after old new → Ended g told known before after old new
-told_so g kind told known before after old new (inl h) e = subst (λ (k : RefusalKind). Ended g k known before after old new) (sym h.0) e
+pub told_so : {S : Type 0} (g : Ghosts S) (kind told : RefusalKind) (known before after : Option (List ℕ))
+    (old new : Archive S g) {Risen : Type 0}
+    → ((told ≡ kind) × (kind ≡ ReadFailed → Risen)) ⊎ ((kind ≡ ReadFailed) × (told ≡ OutOfMemory))
+    → Ended g kind known before after old new → Ended g told known before after old new
+told_so g kind told known before after old new (inl h) e =
+    subst (λ (k : RefusalKind). Ended g k known before after old new) (sym h.0) e
 told_so g kind told known before after old new (inr h) e =
     subst (λ (k : RefusalKind). Ended g k known before after old new) (sym h.1)
-    (record { rows = e.rows; served = e.served; first = e.first; each = e.each; performed = e.performed; lost = λ was. e.lost was ∙ ap is_storage h.0; written = blameless_ends e.served before after kind h.0 e.written })
+    (record {
+      rows = e.rows;
+      served = e.served;
+      first = e.first;
+      each = e.each;
+      performed = e.performed;
+      lost = λ was. e.lost was ∙ ap is_storage h.0;
+      written = blameless_ends e.served before after kind h.0 e.written;
+    })

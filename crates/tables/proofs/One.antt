@@ -3,7 +3,8 @@ use Rattle.std.proofs.Common.{◌≡◌, ◌∙◌, ℕ, List, [], ◌∷◌, in
 use Rattle.commands.proofs.Again.{one_outcome}
 use Rattle.tables.specs.Requests.{Asked, Asks, AsksText, AsksUnder, under}
 
-one_under : (token : List ℕ) (fields : List (List ℕ)) (a b : Asked) → AsksUnder token fields a → AsksUnder token fields b → a ≡ b
+one_under : (token : List ℕ) (fields : List (List ℕ)) (a b : Asked) → AsksUnder token fields a
+    → AsksUnder token fields b → a ≡ b
 one_under token [] a b x y = x.2 ∙ ap (under token) (x.1 ∙ sym y.1) ∙ sym y.2
 one_under token (verb ∷ fields) a b x y = x.2 ∙ ap (under token) (one_outcome (verb ∷ fields) x.0 y.0 x.1 y.1) ∙ sym y.2
 

@@ -1,5 +1,25 @@
 -- One row more that was served.
-use Rattle.std.proofs.Common.{◌≡◌, ◌++◌, ◌∷◌, ◌∙◌, ℕ, Bool, true, false, List, [], None, Some, Ok, Err, cond, refl, sym, ap, subst}
+use Rattle.std.proofs.Common.{
+  ◌≡◌,
+  ◌++◌,
+  ◌∷◌,
+  ◌∙◌,
+  ℕ,
+  Bool,
+  true,
+  false,
+  List,
+  [],
+  None,
+  Some,
+  Ok,
+  Err,
+  cond,
+  refl,
+  sym,
+  ap,
+  subst,
+}
 use Rattle.std.proofs.lemmas.List.{flat_map_more}
 use Rattle.sqlite.specs.Held.{state}
 use Rattle.sqlite.specs.State.{HasCleanDisk}
@@ -14,7 +34,8 @@ use Rattle.tables.specs.Applying.{AreServed, IsServed, PerformsAll, Steps, answe
 use Rattle.batch_reading.specs.Input.{Row}
 use Rattle.tables.specs.declared.bad_request.BadRequest.{BadRequest}
 
-pub served_more : (rows : List Row) (served : List Served) (row : Row) (s : Served) → AreServed rows served → IsServed row s → AreServed (rows ++ row ∷ []) (served ++ s ∷ [])
+pub served_more : (rows : List Row) (served : List Served) (row : Row) (s : Served) → AreServed rows served
+    → IsServed row s → AreServed (rows ++ row ∷ []) (served ++ s ∷ [])
 served_more [] [] row s h is = (is, tt)
 served_more [] (x ∷ xs) row s h is = absurd h
 served_more (r ∷ rs) [] row s h is = absurd h
@@ -30,36 +51,45 @@ calls_bad [] bad = refl
 calls_bad (Ok d ∷ served) bad = ap (λ (calls : List Done). d ∷ calls) (calls_bad served bad)
 calls_bad (Err b ∷ served) bad = calls_bad served bad
 
-pub certain_more : (served : List Served) (s : Served) → in_doubt (calls_of served) ≡ None → is_in_doubt s ≡ false → in_doubt (calls_of (served ++ s ∷ [])) ≡ None
+pub certain_more : (served : List Served) (s : Served) → in_doubt (calls_of served) ≡ None → is_in_doubt s ≡ false
+    → in_doubt (calls_of (served ++ s ∷ [])) ≡ None
 certain_more served (Ok done) none sure =
-    ap in_doubt (calls_ok served done) ∙ doubt_after (calls_of served) (done ∷ []) none ∙ ap (λ (b : Bool). cond b (Some done.0) None) sure
+    ap in_doubt (calls_ok served done) ∙ doubt_after (calls_of served) (done ∷ []) none
+    ∙ ap (λ (b : Bool). cond b (Some done.0) None) sure
 certain_more served (Err bad) none sure = ap in_doubt (calls_bad served bad) ∙ none
 
 answers_more : (served : List Served) (s : Served) → answers (served ++ s ∷ []) ≡ answers served ++ answer_to s
 answers_more served s = sym (flat_map_more answer_to [] served s)
 
-pub answers_sure : (served : List Served) (s : Served) → is_in_doubt s ≡ false → answers (served ++ s ∷ []) ≡ answers served ++ answer_text s
+pub answers_sure : (served : List Served) (s : Served) → is_in_doubt s ≡ false → answers (served ++ s ∷ [])
+    ≡ answers served ++ answer_text s
 answers_sure served s sure = answers_more served s ∙ ap (λ (b : Bool). answers served ++ cond b [] (answer_text s)) sure
 
 nothing_more : (xs : List ℕ) → xs ++ [] ≡ xs
 nothing_more [] = refl
 nothing_more (x ∷ xs) = ap (λ (ys : List ℕ). x ∷ ys) (nothing_more xs)
 
-pub answers_doubted : (served : List Served) (s : Served) → is_in_doubt s ≡ true → answers (served ++ s ∷ []) ≡ answers served
+pub answers_doubted : (served : List Served) (s : Served) → is_in_doubt s ≡ true
+    → answers (served ++ s ∷ []) ≡ answers served
 answers_doubted served s doubted =
-    answers_more served s ∙ ap (λ (b : Bool). answers served ++ cond b [] (answer_text s)) doubted ∙ nothing_more (answers served)
+    answers_more served s ∙ ap (λ (b : Bool). answers served ++ cond b [] (answer_text s)) doubted
+    ∙ nothing_more (answers served)
 
 module _ {S : Type 0} (g : Ghosts S) (old now next : Archive S g) (served : List Served) where
-  pub kept_more : (s : Served) → Steps g s now next → is_in_doubt s ≡ false → (old.is_lost ≡ false → now.is_lost ≡ false) → old.is_lost ≡ false → next.is_lost ≡ false
+  pub kept_more : (s : Served) → Steps g s now next → is_in_doubt s ≡ false
+      → (old.is_lost ≡ false → now.is_lost ≡ false) → old.is_lost ≡ false → next.is_lost ≡ false
   kept_more (Ok done) steps sure kept was = steps.1 (kept was) ∙ sure
   kept_more (Err bad) same sure kept was = subst (λ (a : Archive S g). a.is_lost ≡ false) (sym same) (kept was)
 
-  pub performed_more : (s : Served) → in_doubt (calls_of served) ≡ None → (old.is_lost ≡ false → now.is_lost ≡ false) → PerformsAll g old (calls_of served) now → Steps g s now next
+  pub performed_more : (s : Served) → in_doubt (calls_of served) ≡ None → (old.is_lost ≡ false → now.is_lost ≡ false)
+      → PerformsAll g old (calls_of served) now → Steps g s now next
       → PerformsAll g old (calls_of (served ++ s ∷ [])) next
   performed_more (Ok done) none kept first steps = λ clean was.
       let did = steps.0 clean (kept was) in
       subst (λ (calls : List Done). Performs (state g old.conn) calls (state g next.conn)) (sym (calls_ok served done))
-      (performs_then (state g old.conn) (state g now.conn) (state g next.conn) (calls_of served) (done ∷ []) (first did.clean was) none did)
+      (performs_then (state g old.conn) (state g now.conn) (state g next.conn) (calls_of served) (done ∷ [])
+      (first did.clean was) none did)
   performed_more (Err bad) none kept first same = λ clean was.
       subst (λ (calls : List Done). Performs (state g old.conn) calls (state g next.conn)) (sym (calls_bad served bad))
-      (subst (λ (a : Archive S g). Performs (state g old.conn) (calls_of served) (state g a.conn)) (sym same) (first (subst (λ (a : Archive S g). HasCleanDisk (state g a.conn)) same clean) was))
+      (subst (λ (a : Archive S g). Performs (state g old.conn) (calls_of served) (state g a.conn)) (sym same)
+      (first (subst (λ (a : Archive S g). HasCleanDisk (state g a.conn)) same clean) was))

@@ -1,5 +1,5 @@
--- The answer to a row: a row of the token, `ok`, and the first number with how many; or of the token, `refused`, and the number
--- and the name of the refusal. A rule of our own.
+-- The answer to a row: a row of the token, `ok`, and the first number with how many; or of the token, `refused`, and
+-- the number and the name of the refusal. A rule of our own.
 use Rattle.std.specs.Prelude.{ℕ, List, [], ◌∷◌, Result, Ok, Err, codes, decimal, unwrap_or}
 use Rattle.csv.specs.Writing.{default_writer, row_text}
 use Rattle.record_text.specs.Refusals.{name_of, number_of}

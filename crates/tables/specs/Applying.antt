@@ -65,16 +65,20 @@ WritesPart kind before after text = ((kind ≡ OutOfMemory) ⊎ (kind ≡ WriteF
 -- the last request is in doubt, and no other
 abbrev pub EndsInDoubt : List Served → Type 0
 EndsInDoubt served =
-    (first : List Served) × (last : Done) × (served ≡ first ++ Ok last ∷ []) × (in_doubt (calls_of first) ≡ None) × (has_failed last.1 ≡ true)
+    (first : List Served) × (last : Done) × (served ≡ first ++ Ok last ∷ []) × (in_doubt (calls_of first) ≡ None)
+    × (has_failed last.1 ≡ true)
 
--- 80: the last request is in doubt; 94: all rows that were read are answered; 1 and 95: a beginning of the answers was written
+-- 80: the last request is in doubt; 94: all rows that were read are answered; 1 and 95: a beginning of the answers was
+-- written
 abbrev pub Ends : RefusalKind → List Served → Option (List ℕ) → Option (List ℕ) → Type 0
 Ends kind served before after =
     ((kind ≡ Storage) × EndsInDoubt served × Appends before after (answers served))
-    ⊎ ((in_doubt (calls_of served) ≡ None) × (((kind ≡ ReadFailed) × Appends before after (answers served)) ⊎ WritesPart kind before after (answers served)))
+    ⊎ ((in_doubt (calls_of served) ≡ None) × (((kind ≡ ReadFailed) × Appends before after (answers served))
+    ⊎ WritesPart kind before after (answers served)))
 
 -- all rows were served and answered, and the archive goes on
-pub record Applied {S : Type 0} (g : Ghosts S) (input before after : Option (List ℕ)) (old new : Archive S g) : Type 0 where
+pub record Applied {S : Type 0} (g : Ghosts S) (input before after : Option (List ℕ))
+    (old new : Archive S g) : Type 0 where
   pub rows : List Row
   pub served : List Served
   pub all : AreRows input rows
@@ -85,7 +89,8 @@ pub record Applied {S : Type 0} (g : Ghosts S) (input before after : Option (Lis
   pub written : Appends before after (answers served)
 
 -- the first rows were served, and then the call ended early; 80 loses the archive, and nothing else does
-pub record Ended {S : Type 0} (g : Ghosts S) (kind : RefusalKind) (input before after : Option (List ℕ)) (old new : Archive S g) : Type 0 where
+pub record Ended {S : Type 0} (g : Ghosts S) (kind : RefusalKind) (input before after : Option (List ℕ))
+    (old new : Archive S g) : Type 0 where
   pub rows : List Row
   pub served : List Served
   pub first : AreFirstRows input rows

@@ -16,7 +16,8 @@ abbrev pub batch_request : List ℕ → ℕ → List EntryRow → Request
 batch_request token source rows = record { token = token; command = command.Entries source rows }
 
 -- the rows of an input are a batch, whose request was performed on the archive with this outcome
-abbrev pub Enters : {S : Type 0} → (g : Ghosts S) → List ℕ → ℕ → Option (List ℕ) → Archive S g → Outcome → Archive S g → Type 0
+abbrev pub Enters : {S : Type 0} → (g : Ghosts S) → List ℕ → ℕ → Option (List ℕ) → Archive S g → Outcome
+    → Archive S g → Type 0
 Enters g token source input old outcome new =
     (rows : List EntryRow) × ReadsBatch input rows × Steps g (Ok (batch_request token source rows, outcome)) old new
 

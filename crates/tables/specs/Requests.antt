@@ -31,12 +31,14 @@ ReadsFields [] read = read ≡ Err FieldCount
 ReadsFields (verb ∷ fields) read = Reads (verb ∷ fields) read
 
 abbrev pub AsksUnder : List ℕ → List (List ℕ) → Asked → Type 0
-AsksUnder token fields asked = (read : Result RowCommand RefusalKind) × ReadsFields fields read × (asked ≡ under token read)
+AsksUnder token fields asked = (read : Result RowCommand RefusalKind) × ReadsFields fields read
+    × (asked ≡ under token read)
 
 -- the first field is the token
 abbrev pub AsksText : List (List ℕ) → Asked → Type 0
 AsksText [] asked = asked ≡ untold BadToken
-AsksText (token ∷ fields) asked = (IsToken token × AsksUnder token fields asked) ⊎ (¬ (IsToken token) × (asked ≡ untold BadToken))
+AsksText (token ∷ fields) asked = (IsToken token × AsksUnder token fields asked)
+    ⊎ (¬ (IsToken token) × (asked ≡ untold BadToken))
 
 -- before all else each field has to be UTF-8
 abbrev pub Asks : List (List ℕ) → Asked → Type 0

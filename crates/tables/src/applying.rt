@@ -1,7 +1,15 @@
 //! All rows of an input, applied to an archive.
 
 ghost use Rattle.std.specs.Prelude.{◌≡◌, ◌≢◌, ◌⊎◌, true, Err, IfErr, IsTrue, OnOk};
-ghost use Rattle.csv.specs.Reading.{Ready, default_config, is_flexible, reader_config, reader_state, reader_trim, source_of};
+ghost use Rattle.csv.specs.Reading.{
+  Ready,
+  default_config,
+  is_flexible,
+  reader_config,
+  reader_state,
+  reader_trim,
+  source_of,
+};
 ghost use Rattle.csv.specs.declared.parser.State.TheVariants as state;
 ghost use Rattle.csv.specs.declared.reader.Trim.TheVariants as trim;
 ghost use Rattle.devices.specs.Devices.{Rose};
@@ -19,21 +27,23 @@ use std::alloc::Global;
 use std::io::{Read, Write};
 use store::Archive;
 
-/// Reads rows of requests, performs each on the archive, and writes its answer and flushes it before the next row is decided.
-/// The rows have no header row and any number of fields; empty lines are no rows, and a byte order mark before the first is taken
-/// off. A row that is refused is answered so, and the rows behind it are served.
+/// Reads rows of requests, performs each on the archive, and writes its answer and flushes it before the next row is
+/// decided. The rows have no header row and any number of fields; empty lines are no rows, and a byte order mark before
+/// the first is taken off. A row that is refused is answered so, and the rows behind it are served.
 ///
-/// It ends early with 80: the database failed, and the request in doubt is not answered. 94 and 95: the reader or the writer failed
-/// in this call, by its count. 1: no memory was found to read a row or to form its answer, or a device did not count its error.
-/// What was written is then a beginning of the answers of the requests done.
+/// It ends early with 80: the database failed, and the request in doubt is not answered. 94 and 95: the reader or the
+/// writer failed in this call, by its count. 1: no memory was found to read a row or to form its answer, or a device
+/// did not count its error. What was written is then a beginning of the answers of the requests done.
 pub fn apply<S: Alter, R: Read + Device, W: Write + Device>(
     alloc: Global,
     archive: &mut Archive<S>,
     input: &mut R,
     output: &mut W,
 ) -> Result<(), RefusalKind>
-    ensures applied { OnOk result (Applied S.Store (row_bytes (R.remaining input.old)) (W.contents output.old) (W.contents output.new) archive.old archive.new) }
-    ensures ended { IfErr result (λ kind. Ended S.Store kind (row_bytes (R.remaining input.old)) (W.contents output.old) (W.contents output.new) archive.old archive.new) }
+    ensures applied { OnOk result (Applied S.Store (row_bytes (R.remaining input.old)) (W.contents output.old)
+        (W.contents output.new) archive.old archive.new) }
+    ensures ended { IfErr result (λ kind. Ended S.Store kind (row_bytes (R.remaining input.old)) (W.contents output.old)
+        (W.contents output.new) archive.old archive.new) }
     ensures read_failed { result ≡ Err refusal.ReadFailed → Rose (R.failed input.old) (R.failed input.new) }
     ensures write_failed { result ≡ Err refusal.WriteFailed → Rose (W.failed output.old) (W.failed output.new) }
 {
@@ -47,7 +57,8 @@ pub fn apply<S: Alter, R: Read + Device, W: Write + Device>(
 
 /// Why a call ended early: the reader is blamed only where its count of failures has risen.
 fn blamed(kind: RefusalKind, risen: bool) -> RefusalKind
-    ensures { ((result ≡ kind) × (kind ≡ refusal.ReadFailed → IsTrue risen)) ⊎ ((kind ≡ refusal.ReadFailed) × (result ≡ refusal.OutOfMemory)) }
+    ensures { ((result ≡ kind) × (kind ≡ refusal.ReadFailed → IsTrue risen))
+        ⊎ ((kind ≡ refusal.ReadFailed) × (result ≡ refusal.OutOfMemory)) }
 {
     match kind {
         RefusalKind::ReadFailed if !risen => RefusalKind::OutOfMemory,
@@ -55,8 +66,8 @@ fn blamed(kind: RefusalKind, risen: bool) -> RefusalKind
     }
 }
 
-/// The same over a reader that this call uses up, which is blamed at each error that is no want of memory. `before` is the writer's
-/// count of failures at the start of the call that asks.
+/// The same over a reader that this call uses up, which is blamed at each error that is no want of memory. `before` is
+/// the writer's count of failures at the start of the call that asks.
 fn apply_input<S: Alter, R: Read + Drop, W: Write + Device>(
     alloc: Global,
     archive: &mut Archive<S>,
@@ -64,8 +75,10 @@ fn apply_input<S: Alter, R: Read + Drop, W: Write + Device>(
     output: &mut W,
     before: u64,
 ) -> Result<(), RefusalKind>
-    ensures applied { OnOk result (Applied S.Store (row_bytes (R.remaining input)) (W.contents output.old) (W.contents output.new) archive.old archive.new) }
-    ensures ended { IfErr result (λ kind. Ended S.Store kind (row_bytes (R.remaining input)) (W.contents output.old) (W.contents output.new) archive.old archive.new) }
+    ensures applied { OnOk result (Applied S.Store (row_bytes (R.remaining input)) (W.contents output.old)
+        (W.contents output.new) archive.old archive.new) }
+    ensures ended { IfErr result (λ kind. Ended S.Store kind (row_bytes (R.remaining input)) (W.contents output.old)
+        (W.contents output.new) archive.old archive.new) }
     ensures write_failed { result ≡ Err refusal.WriteFailed → Rose before (W.failed output.new) }
 {
     let mut rows = ReaderBuilder::new()
@@ -88,8 +101,10 @@ fn apply_rows<S: Alter, R: Read, W: Write + Device>(
     requires config { reader_config rows.old ≡ default_config }
     requires flexible { is_flexible rows.old ≡ true }
     requires start { reader_state rows.old ≡ state.StartRecord }
-    ensures applied { OnOk result (Applied S.Store (source_of R.remaining rows.old) (W.contents output.old) (W.contents output.new) archive.old archive.new) }
-    ensures ended { IfErr result (λ kind. Ended S.Store kind (source_of R.remaining rows.old) (W.contents output.old) (W.contents output.new) archive.old archive.new) }
+    ensures applied { OnOk result (Applied S.Store (source_of R.remaining rows.old) (W.contents output.old)
+        (W.contents output.new) archive.old archive.new) }
+    ensures ended { IfErr result (λ kind. Ended S.Store kind (source_of R.remaining rows.old) (W.contents output.old)
+        (W.contents output.new) archive.old archive.new) }
     ensures write_failed { result ≡ Err refusal.WriteFailed → Rose before (W.failed output.new) }
 {
     let mut row = ByteRecord::new(alloc);

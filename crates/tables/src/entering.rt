@@ -16,11 +16,11 @@ use std::alloc::Global;
 use std::io::Read;
 use store::Archive;
 
-/// Reads rows of register entries, and enters them on the archive as a batch of a source: all of them or none, in one commit, as one
-/// request under the token.
+/// Reads rows of register entries, and enters them on the archive as a batch of a source: all of them or none, in one
+/// commit, as one request under the token.
 ///
-/// Where a row is no entry, or memory or the reader is wanting, the refusal is that of `read_entries`, and the archive is not
-/// touched. Else it is that of `Archive::perform`, whose place is the row that is refused.
+/// Where a row is no entry, or memory or the reader is wanting, the refusal is that of `read_entries`, and the archive
+/// is not touched. Else it is that of `Archive::perform`, whose place is the row that is refused.
 pub fn enter<S: Alter, R: Read + Device>(
     alloc: Global,
     archive: &mut Archive<S>,
@@ -28,9 +28,12 @@ pub fn enter<S: Alter, R: Read + Device>(
     source: u32,
     input: &mut R,
 ) -> Result<Answer, Refusal>
-    ensures entered { IfOk result (λ answer. Enters S.Store token source (row_bytes (R.remaining input.old)) archive.old (Ok answer) archive.new) }
-    ensures refused { IfErr result (λ e. Enters S.Store token source (row_bytes (R.remaining input.old)) archive.old (Err e) archive.new
-        ⊎ ((archive.new ≡ archive.old) × IsNoBatch (row_bytes (R.remaining input.old)) e (Rose (R.failed input.old) (R.failed input.new)))) }
+    ensures entered { IfOk result (λ answer. Enters S.Store token source (row_bytes (R.remaining input.old)) archive.old
+        (Ok answer) archive.new) }
+    ensures refused { IfErr result (λ e. Enters S.Store token source (row_bytes (R.remaining input.old)) archive.old
+        (Err e) archive.new
+        ⊎ ((archive.new ≡ archive.old) × IsNoBatch (row_bytes (R.remaining input.old)) e
+        (Rose (R.failed input.old) (R.failed input.new)))) }
 {
     match read_entries(alloc, input) {
         Ok(rows) => perform_once(

@@ -16,9 +16,9 @@ use std::alloc::Global;
 
 /// The request of a row: its token, its verb and the fields of the verb.
 ///
-/// Refused in this order: 90: a field is not UTF-8. 93: the first field is no token. 92: there is no other field. Then, with the
-/// token: 91: the verb is unknown. 92: the count of fields is not the verb's. 90: a field is not of its type. 1: memory was
-/// refused.
+/// Refused in this order: 90: a field is not UTF-8. 93: the first field is no token. 92: there is no other field. Then,
+/// with the token: 91: the verb is unknown. 92: the count of fields is not the verb's. 90: a field is not of its type.
+/// 1: memory was refused.
 pub fn read_request(alloc: Global, row: &ByteRecord) -> Result<Request, BadRequest>
     ensures { OrWants result (Asks (fields_of row.now)) }
 {

@@ -23,11 +23,11 @@ use std::alloc::Global;
 use std::io::{ErrorKind, Write};
 use store::Archive;
 
-/// Serves a row: performs its request, and writes its answer. `before` is the writer's count of failures at the start of the call
-/// that asks.
+/// Serves a row: performs its request, and writes its answer. `before` is the writer's count of failures at the start
+/// of the call that asks.
 ///
-/// 80: the database failed, and nothing is written. 95: the writer failed. 1: no memory was found to read the row, or to
-/// form or write its answer.
+/// 80: the database failed, and nothing is written. 95: the writer failed. 1: no memory was found to read the row, or
+/// to form or write its answer.
 pub(crate) fn serve_row<S: Alter, W: Write + Device>(
     alloc: Global,
     archive: &mut Archive<S>,
@@ -35,9 +35,12 @@ pub(crate) fn serve_row<S: Alter, W: Write + Device>(
     output: &mut W,
     before: u64,
 ) -> Result<(), RefusalKind>
-    ensures served { OnOk result ((s : Served) × IsServed (fields_of row.now) s × Steps S.Store s archive.old archive.new
+    ensures served { OnOk result ((s : Served) × IsServed (fields_of row.now) s
+        × Steps S.Store s archive.old archive.new
         × (is_in_doubt s ≡ false) × Appends (W.contents output.old) (W.contents output.new) (answer_text s)) }
-    ensures ended { IfErr result (λ kind. ((kind ≡ refusal.OutOfMemory) × (archive.new ≡ archive.old) × (W.contents output.new ≡ W.contents output.old))
+    ensures ended { IfErr result
+        (λ kind. ((kind ≡ refusal.OutOfMemory) × (archive.new ≡ archive.old)
+        × (W.contents output.new ≡ W.contents output.old))
         ⊎ ((s : Served) × IsServed (fields_of row.now) s × Steps S.Store s archive.old archive.new
         × MatchBool (is_in_doubt s) ((kind ≡ refusal.Storage) × (W.contents output.new ≡ W.contents output.old))
         (WritesPart kind (W.contents output.old) (W.contents output.new) (answer_text s)))) }
@@ -58,7 +61,8 @@ fn serve_request<S: Alter, W: Write + Device>(
     before: u64,
 ) -> Result<(), RefusalKind>
     ensures served { OnOk result ((o : Outcome) × Steps S.Store (Ok (request, o)) archive.old archive.new
-        × (has_failed o ≡ false) × Appends (W.contents output.old) (W.contents output.new) (answer_text (Ok (request, o)))) }
+        × (has_failed o ≡ false) × Appends (W.contents output.old) (W.contents output.new)
+        (answer_text (Ok (request, o)))) }
     ensures ended { IfErr result (λ kind. (o : Outcome) × Steps S.Store (Ok (request, o)) archive.old archive.new
         × MatchBool (has_failed o) ((kind ≡ refusal.Storage) × (W.contents output.new ≡ W.contents output.old))
         (WritesPart kind (W.contents output.old) (W.contents output.new) (answer_text (Ok (request, o))))) }
@@ -78,8 +82,11 @@ fn answer_outcome<W: Write + Device>(
     output: &mut W,
     before: u64,
 ) -> Result<(), RefusalKind>
-    ensures served { OnOk result ((has_failed outcome ≡ false) × Appends (W.contents output.old) (W.contents output.new) (answer_text (Ok («request».now, outcome)))) }
-    ensures ended { IfErr result (λ kind. MatchBool (has_failed outcome) ((kind ≡ refusal.Storage) × (W.contents output.new ≡ W.contents output.old))
+    ensures served { OnOk result ((has_failed outcome ≡ false) × Appends (W.contents output.old) (W.contents output.new)
+        (answer_text (Ok («request».now, outcome)))) }
+    ensures ended { IfErr result
+        (λ kind. MatchBool (has_failed outcome)
+        ((kind ≡ refusal.Storage) × (W.contents output.new ≡ W.contents output.old))
         (WritesPart kind (W.contents output.old) (W.contents output.new) (answer_text (Ok («request».now, outcome))))) }
     ensures failed { result ≡ Err refusal.WriteFailed → Rose before (W.failed output.new) }
 {
@@ -109,8 +116,11 @@ fn answer_bad<W: Write + Device>(
     output: &mut W,
     before: u64,
 ) -> Result<(), RefusalKind>
-    ensures served { OnOk result ((is_want bad.kind ≡ false) × Appends (W.contents output.old) (W.contents output.new) (answer_text (Err bad))) }
-    ensures ended { IfErr result (λ kind. MatchBool (is_want bad.kind) ((kind ≡ refusal.OutOfMemory) × (W.contents output.new ≡ W.contents output.old))
+    ensures served { OnOk result ((is_want bad.kind ≡ false) × Appends (W.contents output.old) (W.contents output.new)
+        (answer_text (Err bad))) }
+    ensures ended { IfErr result
+        (λ kind. MatchBool (is_want bad.kind)
+        ((kind ≡ refusal.OutOfMemory) × (W.contents output.new ≡ W.contents output.old))
         (WritesPart kind (W.contents output.old) (W.contents output.new) (answer_text (Err bad)))) }
     ensures failed { result ≡ Err refusal.WriteFailed → Rose before (W.failed output.new) }
 {

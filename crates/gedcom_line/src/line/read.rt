@@ -1,9 +1,43 @@
 //! Reading a line from its front to its end.
 
-ghost use Rattle.std.specs.Prelude.{◌≡◌, ◌==◌, if◌then◌else◌, option_map, length, drop, slice_index, None, Some, ◌<◌, ◌∷◌, ◌↔◌, IfOk, IfErr, IfSome, IsOkAnd, IsErrAnd};
+ghost use Rattle.std.specs.Prelude.{
+  ◌≡◌,
+  ◌==◌,
+  if◌then◌else◌,
+  option_map,
+  length,
+  drop,
+  slice_index,
+  None,
+  Some,
+  ◌<◌,
+  ◌∷◌,
+  ◌↔◌,
+  IfOk,
+  IfErr,
+  IfSome,
+  IsOkAnd,
+  IsErrAnd,
+};
 ghost use Rattle.std.specs.List.{AllPass, list_all};
 ghost use Rattle.gedcom_line.specs.Words.{is_digit, is_white};
-ghost use Rattle.gedcom_line.specs.Reading.{number_of as number_spelled, after_gap, level_at, is_name as name_test, named_at, xref_at, value_after, tag_at, parts, is_continuation as continuation_test, with_tag as put_together, reading_from, text_at, reading, Answers};
+ghost use Rattle.gedcom_line.specs.Reading.{
+  number_of as number_spelled,
+  after_gap,
+  level_at,
+  is_name as name_test,
+  named_at,
+  xref_at,
+  value_after,
+  tag_at,
+  parts,
+  is_continuation as continuation_test,
+  with_tag as put_together,
+  reading_from,
+  text_at,
+  reading,
+  Answers,
+};
 ghost use Rattle.gedcom_line.specs.Line.{Line, IsPiece, IsBlank, Fault};
 ghost use Rattle.gedcom_line.specs.Reading.{Parts};
 ghost use Rattle.gedcom_line.specs.declared.fault.LineKind.{LineKind};
@@ -110,7 +144,8 @@ fn with_tag<'a>(
     tag: &'a str,
     raw: &'a str,
 ) -> Result<LineRef<'a>, LineFault>
-    ensures { Answers parts result (put_together level (option_map (λ s. s.now) xref.entry) (tag.entry.now, raw.entry.now)) }
+    ensures { Answers parts result (put_together level (option_map (λ s. s.now) xref.entry)
+        (tag.entry.now, raw.entry.now)) }
 {
     if level == 99 && !is_continuation(tag) {
         return Err(LineFault::new(LineKind::BadLevel));

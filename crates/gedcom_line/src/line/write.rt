@@ -29,8 +29,10 @@ fn push_level(out: &mut String, level: u8) -> Result<(), AllocError>
 
 /// Appends a cross reference and a space, where there is one.
 fn push_xref(out: &mut String, xref: Option<&str>) -> Result<(), AllocError>
-    ensures ok { OnOk result (string_bytes out.new ≡ string_bytes out.old ++ xref_text (option_map (λ s. s.now) xref.entry)) }
-    ensures err { OnErr result (Begun (string_bytes out.old) (string_bytes out.new) (xref_text (option_map (λ s. s.now) xref.entry))) }
+    ensures ok { OnOk result (string_bytes out.new ≡ string_bytes out.old ++ xref_text
+        (option_map (λ s. s.now) xref.entry)) }
+    ensures err { OnErr result
+        (Begun (string_bytes out.old) (string_bytes out.new) (xref_text (option_map (λ s. s.now) xref.entry))) }
 {
     match xref {
         Some(name) => {
@@ -64,8 +66,14 @@ pub fn write_line(
     tag: &str,
     raw: &str,
 ) -> Result<(), AllocError>
-    ensures ok { OnOk result (string_bytes out.new ≡ string_bytes out.old ++ (spelling (record { level = level; xref = option_map (λ s. s.now) xref.entry; tag = tag.now; raw = raw.now }) ++ 10 ∷ [])) }
-    ensures err { OnErr result (Begun (string_bytes out.old) (string_bytes out.new) (spelling (record { level = level; xref = option_map (λ s. s.now) xref.entry; tag = tag.now; raw = raw.now }) ++ 10 ∷ [])) }
+    ensures ok { OnOk result
+        (string_bytes out.new ≡ string_bytes out.old
+        ++ (spelling (record { level = level; xref = option_map (λ s. s.now) xref.entry; tag = tag.now; raw = raw.now })
+        ++ 10 ∷ [])) }
+    ensures err { OnErr result
+        (Begun (string_bytes out.old) (string_bytes out.new)
+        (spelling (record { level = level; xref = option_map (λ s. s.now) xref.entry; tag = tag.now; raw = raw.now })
+        ++ 10 ∷ [])) }
 {
     push_level(out, level)?;
     out.push_str(" ")?;

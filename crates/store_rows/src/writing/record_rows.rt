@@ -9,7 +9,15 @@ ghost use Rattle.record_shapes.specs.Lists.{EachOf};
 ghost use Rattle.records.specs.Shallow.{IsShallow};
 ghost use Rattle.records.specs.Stored.{stored};
 ghost use Rattle.store_rows.specs.Shallow.{IsShallowPut};
-ghost use Rattle.store_rows.specs.Writing.{kind_word, with_record_rows, with_all_lines, with_puts_written, without_all_lines, without_record_rows, without_records};
+ghost use Rattle.store_rows.specs.Writing.{
+  kind_word,
+  with_record_rows,
+  with_all_lines,
+  with_puts_written,
+  without_all_lines,
+  without_record_rows,
+  without_records,
+};
 
 use super::Unwritten;
 use archive_state::Numbered;
@@ -32,7 +40,8 @@ pub(crate) fn write_records<S: Alter>(
 ) -> Result<(), Unwritten>
     ensures same_reference { tx.new.conn.ghost_name ≡ tx.old.conn.ghost_name }
     ensures ok { HasCleanDisk (state S.Store tx.new.conn.now)
-        → OnOk result (Follows (state S.Store tx.old.conn.now) (state S.Store tx.new.conn.now) (λ rows. without_records removals.now (with_puts_written puts.now rows))) }
+        → OnOk result (Follows (state S.Store tx.old.conn.now) (state S.Store tx.new.conn.now)
+        (λ rows. without_records removals.now (with_puts_written puts.now rows))) }
     ensures survives { Survives (state S.Store tx.old.conn.now) (state S.Store tx.new.conn.now) (λ _. ⊥) }
     ensures shallow { OnOk result (EachOf IsShallowPut puts.now) }
 {
@@ -47,7 +56,8 @@ pub(crate) fn write_records<S: Alter>(
 fn put_rows<S: Alter>(tx: &mut Transaction<'_, S>, puts: &[Numbered]) -> Result<(), Error>
     ensures same_reference { tx.new.conn.ghost_name ≡ tx.old.conn.ghost_name }
     ensures ok { HasCleanDisk (state S.Store tx.new.conn.now)
-        → OnOk result (Follows (state S.Store tx.old.conn.now) (state S.Store tx.new.conn.now) (with_record_rows puts.now)) }
+        → OnOk result (Follows (state S.Store tx.old.conn.now) (state S.Store tx.new.conn.now)
+        (with_record_rows puts.now)) }
     ensures survives { Survives (state S.Store tx.old.conn.now) (state S.Store tx.new.conn.now) (λ _. ⊥) }
 {
     'puts: for put in puts {
@@ -81,7 +91,8 @@ fn put_lines<S: Alter>(
 ) -> Result<(), Unwritten>
     ensures same_reference { tx.new.conn.ghost_name ≡ tx.old.conn.ghost_name }
     ensures ok { HasCleanDisk (state S.Store tx.new.conn.now)
-        → OnOk result (Follows (state S.Store tx.old.conn.now) (state S.Store tx.new.conn.now) (with_all_lines puts.now)) }
+        → OnOk result (Follows (state S.Store tx.old.conn.now) (state S.Store tx.new.conn.now)
+        (with_all_lines puts.now)) }
     ensures survives { Survives (state S.Store tx.old.conn.now) (state S.Store tx.new.conn.now) (λ _. ⊥) }
     ensures shallow { OnOk result (EachOf IsShallowPut puts.now) }
 {
@@ -100,7 +111,8 @@ fn put_lines_of<S: Alter>(
 ) -> Result<(), Unwritten>
     ensures same_reference { tx.new.conn.ghost_name ≡ tx.old.conn.ghost_name }
     ensures ok { HasCleanDisk (state S.Store tx.new.conn.now)
-        → OnOk result (Follows (state S.Store tx.old.conn.now) (state S.Store tx.new.conn.now) (with_changed_lines number (stored «record».now))) }
+        → OnOk result (Follows (state S.Store tx.old.conn.now) (state S.Store tx.new.conn.now)
+        (with_changed_lines number (stored «record».now))) }
     ensures survives { Survives (state S.Store tx.old.conn.now) (state S.Store tx.new.conn.now) (λ _. ⊥) }
     ensures shallow { OnOk result (IsShallow «record».now) }
 {
@@ -113,7 +125,8 @@ fn put_lines_of<S: Alter>(
 fn remove_lines<S: Alter>(tx: &mut Transaction<'_, S>, numbers: &[u32]) -> Result<(), Error>
     ensures same_reference { tx.new.conn.ghost_name ≡ tx.old.conn.ghost_name }
     ensures ok { HasCleanDisk (state S.Store tx.new.conn.now)
-        → OnOk result (Follows (state S.Store tx.old.conn.now) (state S.Store tx.new.conn.now) (without_all_lines numbers.now)) }
+        → OnOk result (Follows (state S.Store tx.old.conn.now) (state S.Store tx.new.conn.now)
+        (without_all_lines numbers.now)) }
     ensures survives { Survives (state S.Store tx.old.conn.now) (state S.Store tx.new.conn.now) (λ _. ⊥) }
 {
     'numbers: for number in numbers {
@@ -126,7 +139,8 @@ fn remove_lines<S: Alter>(tx: &mut Transaction<'_, S>, numbers: &[u32]) -> Resul
 fn remove_rows<S: Alter>(tx: &mut Transaction<'_, S>, numbers: &[u32]) -> Result<(), Error>
     ensures same_reference { tx.new.conn.ghost_name ≡ tx.old.conn.ghost_name }
     ensures ok { HasCleanDisk (state S.Store tx.new.conn.now)
-        → OnOk result (Follows (state S.Store tx.old.conn.now) (state S.Store tx.new.conn.now) (without_record_rows numbers.now)) }
+        → OnOk result (Follows (state S.Store tx.old.conn.now) (state S.Store tx.new.conn.now)
+        (without_record_rows numbers.now)) }
     ensures survives { Survives (state S.Store tx.old.conn.now) (state S.Store tx.new.conn.now) (λ _. ⊥) }
 {
     'numbers: for number in numbers {

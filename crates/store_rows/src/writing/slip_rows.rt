@@ -10,7 +10,13 @@ ghost use Rattle.records.specs.Shallow.{IsShallow};
 ghost use Rattle.records.specs.Stored.{stored};
 ghost use Rattle.store_rows.specs.Meaning.{IsShallowOption, IsShallowSlip};
 ghost use Rattle.store_rows.specs.Shallow.{IsShallowChange, IsShallowSlipChange};
-ghost use Rattle.store_rows.specs.Writing.{with_new_side, with_change, with_slip_changes, with_slip_made, with_slip_written};
+ghost use Rattle.store_rows.specs.Writing.{
+  with_new_side,
+  with_change,
+  with_slip_changes,
+  with_slip_made,
+  with_slip_written,
+};
 
 use super::Unwritten;
 use archive_state::{Change, Slip, SlipChange};
@@ -29,7 +35,8 @@ pub(crate) fn write_slip<S: Alter>(
 ) -> Result<(), Unwritten>
     ensures same_reference { tx.new.conn.ghost_name ≡ tx.old.conn.ghost_name }
     ensures ok { HasCleanDisk (state S.Store tx.new.conn.now)
-        → OnOk result (Follows (state S.Store tx.old.conn.now) (state S.Store tx.new.conn.now) (with_slip_written slip.now)) }
+        → OnOk result (Follows (state S.Store tx.old.conn.now) (state S.Store tx.new.conn.now)
+        (with_slip_written slip.now)) }
     ensures survives { Survives (state S.Store tx.old.conn.now) (state S.Store tx.new.conn.now) (λ _. ⊥) }
     ensures shallow { OnOk result (IsShallowSlipChange slip.now) }
 {
@@ -49,7 +56,8 @@ fn make_slip<S: Alter>(
 ) -> Result<(), Unwritten>
     ensures same_reference { tx.new.conn.ghost_name ≡ tx.old.conn.ghost_name }
     ensures ok { HasCleanDisk (state S.Store tx.new.conn.now)
-        → OnOk result (Follows (state S.Store tx.old.conn.now) (state S.Store tx.new.conn.now) (with_slip_made number slip.now)) }
+        → OnOk result (Follows (state S.Store tx.old.conn.now) (state S.Store tx.new.conn.now)
+        (with_slip_made number slip.now)) }
     ensures survives { Survives (state S.Store tx.old.conn.now) (state S.Store tx.new.conn.now) (λ _. ⊥) }
     ensures shallow { OnOk result (IsShallowSlip slip.now) }
 {
@@ -67,7 +75,8 @@ fn insert_changes<S: Alter>(
 ) -> Result<(), Unwritten>
     ensures same_reference { tx.new.conn.ghost_name ≡ tx.old.conn.ghost_name }
     ensures ok { HasCleanDisk (state S.Store tx.new.conn.now)
-        → OnOk result (Follows (state S.Store tx.old.conn.now) (state S.Store tx.new.conn.now) (with_slip_changes slip changes.now)) }
+        → OnOk result (Follows (state S.Store tx.old.conn.now) (state S.Store tx.new.conn.now)
+        (with_slip_changes slip changes.now)) }
     ensures survives { Survives (state S.Store tx.old.conn.now) (state S.Store tx.new.conn.now) (λ _. ⊥) }
     ensures shallow { OnOk result (EachOf IsShallowChange changes.now) }
 {
@@ -86,7 +95,8 @@ fn insert_change<S: Alter>(
 ) -> Result<(), Unwritten>
     ensures same_reference { tx.new.conn.ghost_name ≡ tx.old.conn.ghost_name }
     ensures ok { HasCleanDisk (state S.Store tx.new.conn.now)
-        → OnOk result (Follows (state S.Store tx.old.conn.now) (state S.Store tx.new.conn.now) (with_change slip change.now)) }
+        → OnOk result (Follows (state S.Store tx.old.conn.now) (state S.Store tx.new.conn.now)
+        (with_change slip change.now)) }
     ensures survives { Survives (state S.Store tx.old.conn.now) (state S.Store tx.new.conn.now) (λ _. ⊥) }
     ensures shallow { OnOk result (IsShallowChange change.now) }
 {
@@ -104,7 +114,8 @@ fn insert_new_side<S: Alter>(
 ) -> Result<(), Unwritten>
     ensures same_reference { tx.new.conn.ghost_name ≡ tx.old.conn.ghost_name }
     ensures ok { HasCleanDisk (state S.Store tx.new.conn.now)
-        → OnOk result (Follows (state S.Store tx.old.conn.now) (state S.Store tx.new.conn.now) (with_new_side slip number «record».now)) }
+        → OnOk result (Follows (state S.Store tx.old.conn.now) (state S.Store tx.new.conn.now)
+        (with_new_side slip number «record».now)) }
     ensures survives { Survives (state S.Store tx.old.conn.now) (state S.Store tx.new.conn.now) (λ _. ⊥) }
     ensures shallow { OnOk result (IsShallowOption «record».now) }
 {
@@ -125,7 +136,8 @@ fn insert_side<S: Alter>(
 ) -> Result<(), Unwritten>
     ensures same_reference { tx.new.conn.ghost_name ≡ tx.old.conn.ghost_name }
     ensures ok { HasCleanDisk (state S.Store tx.new.conn.now)
-        → OnOk result (Follows (state S.Store tx.old.conn.now) (state S.Store tx.new.conn.now) (with_slip_lines slip is_new number 0 (stored «record».now))) }
+        → OnOk result (Follows (state S.Store tx.old.conn.now) (state S.Store tx.new.conn.now)
+        (with_slip_lines slip is_new number 0 (stored «record».now))) }
     ensures survives { Survives (state S.Store tx.old.conn.now) (state S.Store tx.new.conn.now) (λ _. ⊥) }
     ensures shallow { OnOk result (IsShallow «record».now) }
 {

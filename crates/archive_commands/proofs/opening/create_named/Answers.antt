@@ -16,7 +16,9 @@ returns-in-Ok-create-clause-created g c =
 pub returns-in-Err-create-clause-refused : goal.returns-in-Err-create-clause-refused
 returns-in-Err-create-clause-refused g c =
     let refused = c.in-Err-create.ensures in
-    unmade (image_at g.S.Start) _ c.in-Err-create.kind c.in-Ok.conn c.in-Err-create.conn c.requires.named refused.refused refused.back
+    unmade (image_at g.S.Start) _ c.in-Err-create.kind c.in-Ok.conn c.in-Err-create.conn c.requires.named
+    refused.refused refused.back
     (λ clean society content t holds is.
     let opened = c.in-Ok.ensures.opened clean in
-    opened_over (file_state c.in-Ok.conn) t society content opened.0 opened.1 ((c.in-Ok.ensures.found clean).holds t holds) is)
+    opened_over (file_state c.in-Ok.conn) t society content opened.0 opened.1
+    ((c.in-Ok.ensures.found clean).holds t holds) is)

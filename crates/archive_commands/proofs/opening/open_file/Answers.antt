@@ -9,7 +9,8 @@ returns-in-Ok-adopt-clause-opened g c = (
   λ clean society content t holds is.
       let reads = c.in-Ok-adopt.ensures.adopted.1 clean in
       let opened = c.in-Ok.ensures.opened reads.clean in
-      let has = opened_over (file_state c.in-Ok.conn) t society content opened.0 opened.1 ((c.in-Ok.ensures.found reads.clean).holds t holds) is in
+      let has = opened_over (file_state c.in-Ok.conn) t society content opened.0 opened.1
+      ((c.in-Ok.ensures.found reads.clean).holds t holds) is in
       (reads.same refl society content has, reads.crash society content has),
 )
 
@@ -19,6 +20,7 @@ returns-in-Ok-clause-refused g c = (
   λ clean society content t holds is.
       let reads = c.in-Err-adopt.ensures.refused clean in
       let opened = c.in-Ok.ensures.opened reads.clean in
-      let has = opened_over (file_state c.in-Ok.conn) t society content opened.0 opened.1 ((c.in-Ok.ensures.found reads.clean).holds t holds) is in
+      let has = opened_over (file_state c.in-Ok.conn) t society content opened.0 opened.1
+      ((c.in-Ok.ensures.found reads.clean).holds t holds) is in
       (reads.refused society content has, reads.crash society content has),
 )

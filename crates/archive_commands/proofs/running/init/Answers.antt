@@ -4,4 +4,5 @@ use Rattle.archive_commands.specs.Made.{IsMadeFor}
 use Rattle.archive_commands.proofs.running.init.Goals as goal
 
 pub returns-in-Ok-clause-made : goal.returns-in-Ok-clause-made
-returns-in-Ok-clause-made g c = subst (λ conn. IsMadeFor c.args.society.now (file_state conn)) (sym c.into_connection.ensures) c.in-Ok.ensures.created
+returns-in-Ok-clause-made g c = subst (λ conn. IsMadeFor c.args.society.now (file_state conn))
+    (sym c.into_connection.ensures) c.in-Ok.ensures.created

@@ -6,5 +6,7 @@ use Rattle.archive_core.proofs.applying.apply.Goals as goal
 
 pub put_all-requires : goal.put_all-requires
 put_all-requires c =
-    let ready : with_room c.args.state.now.records c.changes.inside.puts.items ≡ c.make_ready.new.state.records = search rules in
-    subst (λ m. EachOf (IsThereFor m) c.changes.inside.puts.items) ready (room_there c.args.state.now.records c.changes.inside.puts.items)
+    let ready : with_room c.args.state.now.records c.changes.inside.puts.items
+    ≡ c.make_ready.new.state.records = search rules in
+    subst (λ m. EachOf (IsThereFor m) c.changes.inside.puts.items) ready
+    (room_there c.args.state.now.records c.changes.inside.puts.items)

@@ -20,7 +20,8 @@ pub returns-in-Err-clause-back : goal.returns-in-Err-clause-back
 returns-in-Err-clause-back c =
     let m : Records = c.args.state.now.records in
     let none : is_some (map.get m c.args.number) ≡ false = search rules in
-    let gone : c.remove_record.new.self.records ≡ map.remove (map.insert m c.args.number blank) c.args.number = search rules in
+    let gone : c.remove_record.new.self.records ≡ map.remove (map.insert m c.args.number blank)
+    c.args.number = search rules in
     let list : c.push_front.new.self.items ≡ c.args.blanks.now.items = search rules in
     ap (λ x. without x c.push_front.new.self.items) (gone ∙ blank_gone m c.args.number none) ∙ ap (without m) list
 
@@ -28,5 +29,7 @@ pub returns-in-Err-clause-err : goal.returns-in-Err-clause-err
 returns-in-Err-clause-err c =
     let m : Records = c.args.state.now.records in
     let none : is_some (map.get m c.args.number) ≡ false = search rules in
-    let gone : c.remove_record.new.self ≡ record c.args.state.now { records = map.remove (map.insert m c.args.number blank) c.args.number } = search rules in
+    let gone : c.remove_record.new.self
+    ≡ record c.args.state.now { records = map.remove (map.insert m c.args.number blank) c.args.number } =
+    search rules in
     gone ∙ ap (λ x. record c.args.state.now { records = x }) (blank_gone m c.args.number none)

@@ -8,6 +8,9 @@ returns-in-Some-clause-decides g c honest =
       look.0,
       λ held shown.
           let found = look.1 held shown in
-          let before : Content = g.V.View.content held in
-          (found.0, λ _. key_taken c.args.source c.args.kind c.args.page.now c.args.item before.records c.in_ok-entry_at.field-0 c.in-Some.field-0 c.in-Some.is found.1),
+          let before : Content = g.V.View.content held in (
+            found.0,
+            λ _. key_taken c.args.source c.args.kind c.args.page.now c.args.item before.records
+                c.in_ok-entry_at.field-0 c.in-Some.field-0 c.in-Some.is found.1,
+          ),
     )

@@ -4,7 +4,8 @@ use Rattle.archive_merge.proofs.children_once.push_first.Given as goal
 
 abbrev pub invariant-children : goal.invariant-children
 invariant-children l = record {
-  first : merging.child_of_all l.person l.first l.children.items ≡ merging.child_of_all l.person l.fn.child l.fn.children.items;
+  first : merging.child_of_all l.person l.first l.children.items ≡ merging.child_of_all l.person l.fn.child
+      l.fn.children.items;
   others : l.others.items ++ merging.others l.person l.children.items ≡ merging.others l.person l.fn.children.items;
 }
 

@@ -12,7 +12,11 @@ returns-clause-shows g c honest =
           let named = numbers.1 held shown in
           let changed = changes.1 held named.0 in (
             changed.0,
-            λ k g' at_k at_g adds. changes_made c.args.keep c.args.gone c.args.number (g.V.View.content held) k g' c.args.adds_nothing c.in_ok-numbers.numbers.items c.in_ok-changes.changes.items c.in_ok-changes_of_merge.field-0
-                at_k at_g adds named.1 (changed.1 ∙ ap (changes_of c.args.keep c.args.gone (g.V.View.content held).records) c.as_slice.ensures.value) c.in_ok-changes_of_merge.ensures,
+            λ k g' at_k at_g adds. changes_made c.args.keep c.args.gone c.args.number (g.V.View.content held) k g'
+                c.args.adds_nothing c.in_ok-numbers.numbers.items c.in_ok-changes.changes.items
+                c.in_ok-changes_of_merge.field-0
+                at_k at_g adds named.1
+                (changed.1 ∙ ap (changes_of c.args.keep c.args.gone (g.V.View.content held).records)
+                c.as_slice.ensures.value) c.in_ok-changes_of_merge.ensures,
           ),
     )

@@ -16,8 +16,10 @@ returns-clause-decides g c honest =
           let next = room.1 held free.0 in
           let done = made.1 held next.0 in (
             done.0,
-            merge_planned (g.V.View.content held) c.args.keep c.args.gone c.in_ok-number.number c.in_ok-person_at.field-0 c.in_ok-person_at-2.field-0 keeps.1 goes.1 c.if-keep-gone.false free.1 next.1
-                c.person_adds_nothing-adds_nothing.result c.person_adds_nothing-adds_nothing.ensures c.made_changes.result done.1,
+            merge_planned (g.V.View.content held) c.args.keep c.args.gone c.in_ok-number.number
+                c.in_ok-person_at.field-0 c.in_ok-person_at-2.field-0 keeps.1 goes.1 c.if-keep-gone.false free.1 next.1
+                c.person_adds_nothing-adds_nothing.result c.person_adds_nothing-adds_nothing.ensures
+                c.made_changes.result done.1,
           ),
     )
 
@@ -36,7 +38,9 @@ returns-clause-exact g c honest =
           let next = room.1 held free.0 in
           let done = made.1 held next.0 in (
             done.0,
-            merge_exact (g.V.View.content held) c.args.keep c.args.gone c.in_ok-number.number c.in_ok-person_at.field-0 c.in_ok-person_at-2.field-0 keeps.1 goes.1 c.if-keep-gone.false free.1 next.1
-                c.person_adds_nothing-adds_nothing.result c.person_adds_nothing-adds_nothing.ensures c.made_changes.result done.1,
+            merge_exact (g.V.View.content held) c.args.keep c.args.gone c.in_ok-number.number c.in_ok-person_at.field-0
+                c.in_ok-person_at-2.field-0 keeps.1 goes.1 c.if-keep-gone.false free.1 next.1
+                c.person_adds_nothing-adds_nothing.result c.person_adds_nothing-adds_nothing.ensures
+                c.made_changes.result done.1,
           ),
     )

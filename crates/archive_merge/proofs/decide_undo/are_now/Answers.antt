@@ -11,7 +11,8 @@ returns-then-not-branch-clause-shows g c honest =
           let before = was.1 held shown in
           let here = now.1 held before.0 in (
             here.0,
-            sym (one_changed (g.V.View.content held).records c.args.changes.now c.changes.change-index c.change-item.result c.changes-test.true c.change-item.is (sym here.1 ∙ c.if-not-branch.true)),
+            sym (one_changed (g.V.View.content held).records c.args.changes.now c.changes.change-index
+                c.change-item.result c.changes-test.true c.change-item.is (sym here.1 ∙ c.if-not-branch.true)),
           ),
     )
 
@@ -25,7 +26,8 @@ changes-preserved g c = record {
             let before = was.1 held shown in
             let here = now.1 held before.0 in (
               here.0,
-              still_now (g.V.View.content held).records c.args.changes.now c.changes.change-index c.change-item.result c.changes-test.true c.change-item.is before.1 (sym here.1 ∙ c.if-not-branch.false),
+              still_now (g.V.View.content held).records c.args.changes.now c.changes.change-index c.change-item.result
+                  c.changes-test.true c.change-item.is before.1 (sym here.1 ∙ c.if-not-branch.false),
             ),
       );
   counted =

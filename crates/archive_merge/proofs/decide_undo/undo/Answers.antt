@@ -12,7 +12,9 @@ returns-in_ok-changes_of_undoing-in-Ok-clause-exact g c honest =
           let agrees = may.1 held found.0 in
           let now = next.1 held agrees.0 in (
             now.0,
-            undo_exact (g.V.View.content held) c.args.number c.in-Ok.next c.in_ok-slip.slip c.in_ok-slip-2.slip c.check_slip-may.result c.in_ok-changes_of_undoing-in-Ok.field-0
-                found.1 agrees.1 c.in_ok-slip-2.ensures.passed c.in_ok-slip-2.ensures.same now.1 c.in_ok-changes_of_undoing-in-Ok.ensures,
+            undo_exact (g.V.View.content held) c.args.number c.in-Ok.next c.in_ok-slip.slip c.in_ok-slip-2.slip
+                c.check_slip-may.result c.in_ok-changes_of_undoing-in-Ok.field-0
+                found.1 agrees.1 c.in_ok-slip-2.ensures.passed c.in_ok-slip-2.ensures.same now.1
+                c.in_ok-changes_of_undoing-in-Ok.ensures,
           ),
     )

@@ -4,4 +4,5 @@ use Rattle.archive_state.specs.Merging as merging
 use Rattle.archive_merge.proofs.redirecting.+line_with.Given as goal
 
 abbrev pub invariant-children : goal.invariant-children
-invariant-children l = l.children.items ≡ map (relabel (merging.line_with (merging.renamed l.keep l.gone))) (take l.child-index l.child-items)
+invariant-children l = l.children.items ≡ map (relabel (merging.line_with (merging.renamed l.keep l.gone)))
+    (take l.child-index l.child-items)

@@ -11,6 +11,9 @@ returns-then-has_link-clause-decides g c honest =
       made.0,
       λ held shown.
           let done = made.1 held shown in
-          let before : Content = g.V.View.content held in
-          (done.0, λ at. relinked_same before c.args.number c.args.entry c.args.mention c.args.link c.unchanged.result at has (c.has_link.ensures.0 c.if-has_link.true) done.1),
+          let before : Content = g.V.View.content held in (
+            done.0,
+            λ at. relinked_same before c.args.number c.args.entry c.args.mention c.args.link c.unchanged.result
+                at has (c.has_link.ensures.0 c.if-has_link.true) done.1,
+          ),
     )

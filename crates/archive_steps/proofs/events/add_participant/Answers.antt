@@ -12,7 +12,8 @@ returns-clause-exact g c honest =
     let made = c.replaces.ensures.exact honest in
     let person = c.check_person.ensures.decides made.0 in
     let event = c.in_ok-event.ensures.decides person.0 in
-    let new : c.in_ok-event-3.event ≡ with_participant c.args.person c.in_ok-role.role c.in_ok-event.event = search rules in (
+    let new : c.in_ok-event-3.event ≡ with_participant c.args.person c.in_ok-role.role c.in_ok-event.event =
+    search rules in (
       event.0,
       λ held shown.
           let before : Content = g.V.View.content held in
@@ -21,7 +22,8 @@ returns-clause-exact g c honest =
           let done = made.1 held there.0 in (
             done.0,
             exact_if c.replaces.result before before c.args.number (kind.Event c.in_ok-event-3.event) refl done.1
-                (λ e. participant_differs (get before.records c.args.number) c.in_ok-event.event c.args.person c.in_ok-role.role found.1
+                (λ e. participant_differs (get before.records c.args.number) c.in_ok-event.event c.args.person
+                c.in_ok-role.role found.1
                 (e ∙ ap (λ x. Some (kind.Event x)) new)),
           ),
     )

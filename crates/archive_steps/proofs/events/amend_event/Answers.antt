@@ -20,6 +20,7 @@ returns-clause-exact g c honest =
           let done = made.1 held there.0 in (
             done.0,
             exact_if c.replaces.result before before c.args.number (kind.Event c.with_fields-event.result) refl done.1
-                (fields_differ (get before.records c.args.number) c.in_ok-event.event c.with_fields-event.result found.1 other),
+                (fields_differ (get before.records c.args.number) c.in_ok-event.event
+                c.with_fields-event.result found.1 other),
           ),
     )

@@ -21,6 +21,7 @@ returns-clause-exact g c honest =
           let done = made.1 held there.0 in (
             done.0,
             exact_if c.replaces.result before before c.args.number (kind.Family c.in_ok-family-3.family) refl done.1
-                (λ e. child_differs (get before.records c.args.number) c.in_ok-family.family c.args.person found.1 (e ∙ ap (λ x. Some (kind.Family x)) new)),
+                (λ e. child_differs (get before.records c.args.number) c.in_ok-family.family c.args.person found.1
+                (e ∙ ap (λ x. Some (kind.Family x)) new)),
           ),
     )

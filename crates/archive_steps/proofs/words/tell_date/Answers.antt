@@ -6,4 +6,7 @@ use Rattle.archive_steps.proofs.words.tell_date.Goals as goal
 
 pub returns-in-Some : goal.returns-in-Some
 returns-in-Some c =
-    subst (WhereSome IsUtf8Date) (sym c.in-Some.is) (subst IsUtf8 c.spelling.ensures.same c.spelling.utf8, c.spelling.ensures.given)
+    subst (WhereSome IsUtf8Date) (sym c.in-Some.is) (
+      subst IsUtf8 c.spelling.ensures.same c.spelling.utf8,
+      c.spelling.ensures.given,
+    )

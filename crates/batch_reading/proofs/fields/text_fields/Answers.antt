@@ -19,8 +19,10 @@ fields-preserved c =
     let lt : c.fields.i < length row = rw (← c.len-i-end.ensures) c.fields-test.true in
     let v = c.fields.invariant in (
       text-step _ _ lt v.0 c.in-Some.ensures.1,
-      ap (map (λ (f : Bor (List ℕ)). f.now)) c.in_ok-push-in-Some.ensures.items ∙ map_push (λ (f : Bor (List ℕ)). f.now) c.fields.fields.items c.in-Some.text
-          ∙ ap (λ fs. fs ++ c.in-Some.text.now ∷ []) v.1 ∙ ap (λ (f : List ℕ). take c.fields.i row ++ f ∷ []) c.in-Some.ensures.0 ∙ sym (take_more row c.fields.i [] lt),
+      ap (map (λ (f : Bor (List ℕ)). f.now)) c.in_ok-push-in-Some.ensures.items ∙ map_push
+          (λ (f : Bor (List ℕ)). f.now) c.fields.fields.items c.in-Some.text
+          ∙ ap (λ fs. fs ++ c.in-Some.text.now ∷ []) v.1 ∙ ap (λ (f : List ℕ). take c.fields.i row ++ f ∷ [])
+          c.in-Some.ensures.0 ∙ sym (take_more row c.fields.i [] lt),
     )
 
 pub returns : goal.returns

@@ -3,4 +3,5 @@ use Rattle.csv.specs.Records.{AllText, fields_of}
 use Rattle.batch_reading.proofs.fields.text_fields.Given as goal
 
 abbrev pub invariant-fields : goal.invariant-fields
-invariant-fields l = AllText (take l.i (fields_of l.row)) × (map (λ f. f.now) l.fields.items ≡ take l.i (fields_of l.row))
+invariant-fields l = AllText (take l.i (fields_of l.row))
+    × (map (λ f. f.now) l.fields.items ≡ take l.i (fields_of l.row))

@@ -11,4 +11,5 @@ pub returns-in-Ok-clause-refused : goal.returns-in-Ok-clause-refused
 returns-in-Ok-clause-refused c = IfErr-weaker c.add.result _ _ (λ e h. inl h) c.add.ensures.refused
 
 pub returns-in-Err-clause-refused : goal.returns-in-Err-clause-refused
-returns-in-Err-clause-refused c = told (fields_of c.args.row.now) c.in-Err.kind c.args.number c.refused_row.result c.in-Err.ensures c.refused_row.ensures
+returns-in-Err-clause-refused c = told (fields_of c.args.row.now) c.in-Err.kind c.args.number c.refused_row.result
+    c.in-Err.ensures c.refused_row.ensures

@@ -46,7 +46,8 @@ returns-in-Ok-false-clause-read g c =
     let v = c.rows.invariant in
     let f = fields_of c.read_byte_record.new.row in
     let r = rw c.in-Ok-false.field-0-test at (c.in-Ok-false.ensures.reads v.plain v.ready) in
-    all_read _ _ _ _ _ v.way (took_all g.R.Read.remaining c.rows.rows c.read_byte_record.new.self f v.way.rows v.config _ r v.way.took)
+    all_read _ _ _ _ _ v.way (took_all g.R.Read.remaining c.rows.rows c.read_byte_record.new.self f v.way.rows
+    v.config _ r v.way.took)
 
 pub returns-in-Err-clause-refused : goal.returns-in-Err-clause-refused
 returns-in-Err-clause-refused g c = unread _ _ c.reading_failed.result c.from.ensures c.reading_failed.ensures

@@ -10,5 +10,6 @@ invariant-rows g l = record {
   plain : reader_trim l.rows ≡ trim.None;
   config : reader_config l.rows ≡ default_config;
   flexible : is_flexible l.rows ≡ true;
-  way : OnTheWay (source_of g.R.Read.remaining l.fn.rows) (source_of g.R.Read.remaining l.rows) (reader_state l.rows) l.entries.items l.number;
+  way : OnTheWay (source_of g.R.Read.remaining l.fn.rows) (source_of g.R.Read.remaining l.rows)
+      (reader_state l.rows) l.entries.items l.number;
 }

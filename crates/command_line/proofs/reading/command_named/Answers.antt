@@ -8,4 +8,8 @@ pub returns-in-apply-clause-words : goal.returns-in-apply-clause-words
 returns-in-apply-clause-words c = c.word_of-in-apply.ensures
 
 pub returns-in-entries-clause-words : goal.returns-in-entries-clause-words
-returns-in-entries-clause-words c = (c.word_of-in-entries.ensures, rw (c.number_of.ensures, c.word_of-in-entries-2.ensures) refl, c.word_of-in-entries-3.ensures)
+returns-in-entries-clause-words c = (
+  c.word_of-in-entries.ensures,
+  rw (c.number_of.ensures, c.word_of-in-entries-2.ensures) refl,
+  c.word_of-in-entries-3.ensures,
+)

@@ -3,4 +3,5 @@ use Rattle.commands.specs.Bytes.{mention_fields}
 use Rattle.commands.proofs.entry_bytes.with_mentions.Given as goal
 
 abbrev pub invariant-loop-mention : goal.invariant-loop-mention
-invariant-loop-mention l = map (λ w. w.now) l.words.items ≡ map (λ w. w.now) l.fn.words.items ++ mention_fields (take l.mention-index l.mentions)
+invariant-loop-mention l = map (λ w. w.now) l.words.items ≡ map (λ w. w.now) l.fn.words.items ++ mention_fields
+    (take l.mention-index l.mentions)

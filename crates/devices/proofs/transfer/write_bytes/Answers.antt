@@ -9,6 +9,7 @@ from_place s i = rw (← length-drop i s) (take-length (drop i s))
 
 pub pieces-preserved : goal.pieces-preserved
 pieces-preserved g c = record {
-  taken = rw (take-add, ← from_place c.args.bytes.now c.pieces.at) (Appends-trans _ _ _ _ _ c.pieces.invariant.taken c.in-Ok.ensures.bytes);
+  taken = rw (take-add, ← from_place c.args.bytes.now c.pieces.at)
+      (Appends-trans _ _ _ _ _ c.pieces.invariant.taken c.in-Ok.ensures.bytes);
   in_range = omega (arith, c.in-Ok.ensures.bound, length-drop c.pieces.at c.args.bytes.now);
 }

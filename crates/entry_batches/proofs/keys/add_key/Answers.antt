@@ -8,6 +8,9 @@ use Rattle.entry_batches.proofs.Keyed.{added}
 use Rattle.entry_batches.proofs.keys.add_key.Goals as goal
 
 pub returns : goal.returns
-returns c = λ x. added x (key_words c.args.entry.now) (contains_text c.insert.new.self x) (contains_text c.args.keys.now x)
-    (subst (λ w. contains_text c.insert.new.self x ≡ cond (bytes_eq w x) true (contains_text c.args.keys.now x)) c.in_ok-key_words.ensures
-    (btree_set_updates_text (string_bytes c.in_ok-key_words.field-0) c.args.keys.now c.insert.new.self true c.in_ok-insert.ensures.updates x))
+returns c = λ x. added x (key_words c.args.entry.now) (contains_text c.insert.new.self x)
+    (contains_text c.args.keys.now x)
+    (subst (λ w. contains_text c.insert.new.self x ≡ cond (bytes_eq w x) true (contains_text c.args.keys.now x))
+    c.in_ok-key_words.ensures
+    (btree_set_updates_text (string_bytes c.in_ok-key_words.field-0) c.args.keys.now c.insert.new.self true
+    c.in_ok-insert.ensures.updates x))

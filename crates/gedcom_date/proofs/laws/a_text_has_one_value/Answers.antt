@@ -6,7 +6,8 @@ use Rattle.gedcom_date.proofs.Written.{again}
 use Rattle.gedcom_date.proofs.Fitting.{one_form}
 use Rattle.gedcom_date.proofs.laws.a_text_has_one_value.Goals as goal
 
-one : (text : List ℕ) (f g : Form) → Fits text f ⊎ ((f ≡ VerbatimText text) × FitsNone text) → Fits text g ⊎ ((g ≡ VerbatimText text) × FitsNone text) → f ≡ g
+one : (text : List ℕ) (f g : Form) → Fits text f ⊎ ((f ≡ VerbatimText text) × FitsNone text)
+    → Fits text g ⊎ ((g ≡ VerbatimText text) × FitsNone text) → f ≡ g
 one text f g (inl h) (inl k) = one_form text f g h.0 k.0
 one text f g (inl h) (inr k) = absurd (k.1 f h)
 one text f g (inr h) (inl k) = absurd (h.1 g k)

@@ -10,4 +10,5 @@ pub returns-in_err-phrase-clause-every : goal.returns-in_err-phrase-clause-every
 returns-in_err-phrase-clause-every c = λ front phrase is.
     let t = c.trimmed.ensures.parts in
     let cut = c.in_ok-front.ensures in
-    absurd (no_end c.args.text.now c.trimmed.result.now t.0 c.in_ok-front.front.now c.in_ok-front.rest.now front phrase t.1 t.2 c.trimmed.ensures.ends cut.0 cut.1 c.in_err-phrase.ensures is)
+    absurd (no_end c.args.text.now c.trimmed.result.now t.0 c.in_ok-front.front.now c.in_ok-front.rest.now front phrase
+    t.1 t.2 c.trimmed.ensures.ends cut.0 cut.1 c.in_err-phrase.ensures is)

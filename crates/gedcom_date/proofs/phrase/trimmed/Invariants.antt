@@ -6,7 +6,8 @@ use Rattle.gedcom_date.specs.Words.{is_space}
 use Rattle.gedcom_date.proofs.phrase.trimmed.Given as goal
 
 abbrev pub invariant-loop-front : goal.invariant-loop-front
-invariant-loop-front l = shadow (Utf8 l.rest) × ((after : List ℕ) × (l.text ≡ l.rest ++ after) × (list_all is_space after ≡ true))
+invariant-loop-front l = shadow (Utf8 l.rest)
+    × ((after : List ℕ) × (l.text ≡ l.rest ++ after) × (list_all is_space after ≡ true))
 
 abbrev pub decreases-loop-front : goal.decreases-loop-front
 decreases-loop-front l = length l.rest

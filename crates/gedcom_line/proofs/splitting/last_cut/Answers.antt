@@ -6,5 +6,6 @@ use Rattle.gedcom_line.proofs.splitting.last_cut.Goals as goal
 pub loop-at-preserved : goal.loop-at-preserved
 loop-at-preserved c = (
   omega arith,
-  sym (greatest_no (may_cut c.args.segment.now) c.loop-at.at c.loop-at-test.true (sym c.may_cut.ensures ∙ c.if-may_cut.false)) ∙ c.loop-at.invariant.1,
+  sym (greatest_no (may_cut c.args.segment.now) c.loop-at.at c.loop-at-test.true
+      (sym c.may_cut.ensures ∙ c.if-may_cut.false)) ∙ c.loop-at.invariant.1,
 )

@@ -3,13 +3,16 @@ use Rattle.gedcom_rules.proofs.Cuts.{none_ended, first_ended, cut_parts, whole_r
 use Rattle.gedcom_rules.proofs.cutting.cut.Goals as goal
 
 pub returns-then-at-bytes-clause-ended : goal.returns-then-at-bytes-clause-ended
-returns-then-at-bytes-clause-ended c = rw (whole_rest c.args.bytes.now (c.line_len-at.result + 1)) (first_ended c.args.bytes.now c.line_len-at.result c.line_len-at.ensures c.if-at-bytes.true).0
+returns-then-at-bytes-clause-ended c = rw (whole_rest c.args.bytes.now (c.line_len-at.result + 1))
+    (first_ended c.args.bytes.now c.line_len-at.result c.line_len-at.ensures c.if-at-bytes.true).0
 
 pub returns-then-at-bytes-clause-open_ : goal.returns-then-at-bytes-clause-open_
-returns-then-at-bytes-clause-open_ c = rw (whole_rest c.args.bytes.now (c.line_len-at.result + 1)) (first_ended c.args.bytes.now c.line_len-at.result c.line_len-at.ensures c.if-at-bytes.true).1
+returns-then-at-bytes-clause-open_ c = rw (whole_rest c.args.bytes.now (c.line_len-at.result + 1))
+    (first_ended c.args.bytes.now c.line_len-at.result c.line_len-at.ensures c.if-at-bytes.true).1
 
 pub returns-then-at-bytes-clause-parts : goal.returns-then-at-bytes-clause-parts
-returns-then-at-bytes-clause-parts c = rw (whole_rest c.args.bytes.now (c.line_len-at.result + 1)) (cut_parts c.args.bytes.now c.line_len-at.result c.line_len-at.ensures c.if-at-bytes.true)
+returns-then-at-bytes-clause-parts c = rw (whole_rest c.args.bytes.now (c.line_len-at.result + 1))
+    (cut_parts c.args.bytes.now c.line_len-at.result c.line_len-at.ensures c.if-at-bytes.true)
 
 pub returns-then-at-bytes-clause-piece : goal.returns-then-at-bytes-clause-piece
 returns-then-at-bytes-clause-piece c = first_piece c.args.bytes.now c.line_len-at.result c.line_len-at.ensures

@@ -15,6 +15,12 @@ returns-clause-value c =
     let cut : front ≡ take l.level stack = c.truncate.ensures.items ∙ ap (λ (k : ℕ). take k stack) c.from.ensures in
     let size : length front ≡ l.level = ap length cut ∙ length-take-le l.level stack c.requires in
     elim c.if-is_continuation.branch [
-      | then-is_continuation w ↦ stands l stack front kept c.push.new.self.items c.of_line.result c.requires cut (ap (λ s. length s.items) w.stack-is ∙ w.join_last.ensures.same ∙ size) (λ n. ap (λ s. standings s.items n) w.stack-is ∙ w.join_last.ensures.value n) c.in_ok-push.ensures.items c.of_line.ensures
-      | else-is_continuation w ↦ stands l stack front kept c.push.new.self.items c.of_line.result c.requires cut (ap (λ s. length s.items) w.stack-is ∙ size) (λ n. ap (λ s. standings s.items n) w.stack-is ∙ kept_above l front n (sym c.is_continuation.ensures ∙ w.if-is_continuation.false)) c.in_ok-push.ensures.items c.of_line.ensures
+      | then-is_continuation w ↦ stands l stack front kept c.push.new.self.items c.of_line.result c.requires cut
+          (ap (λ s. length s.items) w.stack-is ∙ w.join_last.ensures.same ∙ size)
+          (λ n. ap (λ s. standings s.items n) w.stack-is ∙ w.join_last.ensures.value n) c.in_ok-push.ensures.items
+          c.of_line.ensures
+      | else-is_continuation w ↦ stands l stack front kept c.push.new.self.items c.of_line.result c.requires cut
+          (ap (λ s. length s.items) w.stack-is ∙ size)
+          (λ n. ap (λ s. standings s.items n) w.stack-is ∙ kept_above l front n
+          (sym c.is_continuation.ensures ∙ w.if-is_continuation.false)) c.in_ok-push.ensures.items c.of_line.ensures
     ]

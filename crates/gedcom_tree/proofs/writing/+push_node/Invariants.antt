@@ -6,6 +6,7 @@ use Rattle.gedcom_tree.proofs.writing.+push_node.Given as goal
 
 abbrev pub invariant-loop-child : goal.invariant-loop-child
 invariant-loop-child l = record {
-  written : string_bytes l.out ++ flat_map node_text (flats (l.level + 1) (drop l.child-index l.child-items)) ≡ string_bytes l.fn.out ++ flat_map node_text (flat l.node l.level);
+  written : string_bytes l.out ++ flat_map node_text (flats (l.level + 1) (drop l.child-index l.child-items))
+      ≡ string_bytes l.fn.out ++ flat_map node_text (flat l.node l.level);
   low : IsLow (flats (l.level + 1) (drop l.child-index l.child-items));
 }

@@ -9,5 +9,7 @@ returns-then-text-le-SHORT c = λ h. few_short c.args.text.now c.if-text-le-SHOR
 
 pub returns-then-text-le-PLAIN : goal.returns-then-text-le-PLAIN
 returns-then-text-le-PLAIN c = λ h.
-    let none : list_any (λ b. eqb b 64) c.as_bytes.result.now ≡ false = sym c.contains.ensures.value ∙ not-true c.contains.result h in
-    plain_short c.args.text.now c.if-text-le-PLAIN.true (subst (λ (t : List ℕ). list_any (λ b. eqb b 64) t ≡ false) c.as_bytes.ensures.value none)
+    let none : list_any (λ b. eqb b 64) c.as_bytes.result.now ≡ false = sym c.contains.ensures.value
+    ∙ not-true c.contains.result h in
+    plain_short c.args.text.now c.if-text-le-PLAIN.true
+    (subst (λ (t : List ℕ). list_any (λ b. eqb b 64) t ≡ false) c.as_bytes.ensures.value none)

@@ -7,6 +7,8 @@ use Rattle.gedcom_tree.proofs.writing.write_nodes.Given as goal
 
 abbrev pub invariant-loop-node : goal.invariant-loop-node
 invariant-loop-node g l = record {
-  going : Going (g.W.Write.contents l.fn.writer) (g.W.Write.contents l.writer) (flat_map node_text (flats 0 l.nodes) ++ line_text trailer) (string_bytes l.out) (flat_map node_text (flats 0 (drop l.node-index l.nodes)) ++ line_text trailer);
+  going : Going (g.W.Write.contents l.fn.writer) (g.W.Write.contents l.writer)
+      (flat_map node_text (flats 0 l.nodes) ++ line_text trailer) (string_bytes l.out)
+      (flat_map node_text (flats 0 (drop l.node-index l.nodes)) ++ line_text trailer);
   low : IsLow (flats 0 (drop l.node-index l.nodes));
 }

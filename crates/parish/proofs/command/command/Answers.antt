@@ -7,45 +7,53 @@ use Rattle.parish.proofs.Ending.{apply_wanting, check_wanting, init_wanting, nor
 use Rattle.parish.proofs.command.command.Goals as goal
 
 -- what is asked for by words that are taken has the name of their command
-asked_as : (o : Option (List ℕ)) (words : List (List ℕ)) (name : List ℕ) → IsSome o → IfSome o (λ n. IsTaken words × (command_named words ≡ Some n)) → command_named words ≡ Some name → o ≡ Some name
+asked_as : (o : Option (List ℕ)) (words : List (List ℕ)) (name : List ℕ) → IsSome o
+    → IfSome o (λ n. IsTaken words × (command_named words ≡ Some n)) → command_named words ≡ Some name → o ≡ Some name
 asked_as (Some n) words name some is e = sym is.1 ∙ e
 asked_as None words name some is e = absurd cc
 
 -- and of words that are not, nothing is
-asked_for_nothing : (o : Option (List ℕ)) (words : List (List ℕ)) → IfSome o (λ n. IsTaken words × (command_named words ≡ Some n)) → ¬ (IsTaken words) → o ≡ None
+asked_for_nothing : (o : Option (List ℕ)) (words : List (List ℕ))
+    → IfSome o (λ n. IsTaken words × (command_named words ≡ Some n)) → ¬ (IsTaken words) → o ≡ None
 asked_for_nothing (Some n) words is none = absurd (none is.0)
 asked_for_nothing None words is none = refl
 
 pub returns-in-Ok-clause-norm : goal.returns-in-Ok-clause-norm
 returns-in-Ok-clause-norm g c = λ are.
     let asked = c.in-Ok.ensures in
-    c.work.ensures.norm (asked_as (name_of c.in-Ok.asked) (map string_bytes c.args.words.now) (codes "norm") (asked.taken are.0) asked.asked.0 are.1)
+    c.work.ensures.norm (asked_as (name_of c.in-Ok.asked) (map string_bytes c.args.words.now) (codes "norm")
+    (asked.taken are.0) asked.asked.0 are.1)
 
 pub returns-in-Ok-clause-check : goal.returns-in-Ok-clause-check
 returns-in-Ok-clause-check g c = λ are.
     let asked = c.in-Ok.ensures in
-    c.work.ensures.check (asked_as (name_of c.in-Ok.asked) (map string_bytes c.args.words.now) (codes "check") (asked.taken are.0) asked.asked.0 are.1)
+    c.work.ensures.check (asked_as (name_of c.in-Ok.asked) (map string_bytes c.args.words.now) (codes "check")
+    (asked.taken are.0) asked.asked.0 are.1)
 
 pub returns-in-Ok-clause-init : goal.returns-in-Ok-clause-init
 returns-in-Ok-clause-init g c = λ are.
     let asked = c.in-Ok.ensures in
     let words = map string_bytes c.args.words.now in
-    c.work.ensures.init (subcommand_of program words) asked.asked.1 (asked_as (name_of c.in-Ok.asked) words (codes "init") (asked.taken are.0) asked.asked.0 are.1)
+    c.work.ensures.init (subcommand_of program words) asked.asked.1
+    (asked_as (name_of c.in-Ok.asked) words (codes "init") (asked.taken are.0) asked.asked.0 are.1)
 
 pub returns-in-Ok-clause-apply : goal.returns-in-Ok-clause-apply
 returns-in-Ok-clause-apply g c = λ are.
     let asked = c.in-Ok.ensures in
-    c.work.ensures.apply (asked_as (name_of c.in-Ok.asked) (map string_bytes c.args.words.now) (codes "apply") (asked.taken are.0) asked.asked.0 are.1)
+    c.work.ensures.apply (asked_as (name_of c.in-Ok.asked) (map string_bytes c.args.words.now) (codes "apply")
+    (asked.taken are.0) asked.asked.0 are.1)
 
 pub returns-in-Ok-clause-entries : goal.returns-in-Ok-clause-entries
 returns-in-Ok-clause-entries g c = λ are.
     let asked = c.in-Ok.ensures in
     let words = map string_bytes c.args.words.now in
-    c.work.ensures.entries (subcommand_of program words) asked.asked.1 (asked_as (name_of c.in-Ok.asked) words (codes "entries") (asked.taken are.0) asked.asked.0 are.1)
+    c.work.ensures.entries (subcommand_of program words) asked.asked.1
+    (asked_as (name_of c.in-Ok.asked) words (codes "entries") (asked.taken are.0) asked.asked.0 are.1)
 
 pub returns-in-Ok-clause-others : goal.returns-in-Ok-clause-others
 returns-in-Ok-clause-others g c = λ none.
-    c.work.ensures.text (asked_for_nothing (name_of c.in-Ok.asked) (map string_bytes c.args.words.now) c.in-Ok.ensures.asked.0 none)
+    c.work.ensures.text (asked_for_nothing (name_of c.in-Ok.asked) (map string_bytes c.args.words.now)
+    c.in-Ok.ensures.asked.0 none)
 
 pub returns-clause-norm : goal.returns-clause-norm
 returns-clause-norm g c = λ words. norm_wanting c.refuse.result _ _ _ _ c.refuse.ensures

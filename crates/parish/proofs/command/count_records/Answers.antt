@@ -10,5 +10,6 @@ returns-clause-err g c =
       forest = c.in-Ok.forest;
       read = c.in-Ok.ensures.read;
       why = c.in-Err-show.ensures.why;
-      written = subst (AppendsBeginning (g.W.Write.contents c.args.output.now) (g.W.Write.contents c.show.new.output)) told c.in-Err-show.ensures.err;
+      written = subst (AppendsBeginning (g.W.Write.contents c.args.output.now) (g.W.Write.contents c.show.new.output))
+          told c.in-Err-show.ensures.err;
     })

@@ -9,19 +9,25 @@ pub returns-in-Init-clause-init : goal.returns-in-Init-clause-init
 returns-in-Init-clause-init g c = λ found has _.
     let words = subst (HasWords found) c.in-Init.is has in
     let made = c.init.ensures in
-    let ended = c.finished.ensures in
-    (init_ends (image_at g.S.Start) c.init.result.0 _ _ c.finished.result.0 c.init.result.1 c.finished.result.1 words.1 ended.left ended.status made.made made.refused, refl, refl)
+    let ended = c.finished.ensures in (
+      init_ends (image_at g.S.Start) c.init.result.0 _ _ c.finished.result.0 c.init.result.1 c.finished.result.1 words.1
+          ended.left ended.status made.made made.refused,
+      refl,
+      refl,
+    )
 
 pub returns-in-Apply-clause-apply : goal.returns-in-Apply-clause-apply
 returns-in-Apply-clause-apply g c = λ _.
     let did = c.apply.ensures in
     let ended = c.finished-in-Apply.ensures in
-    apply_ends (image_at g.S.Start) c.apply.result.0 c.finished-in-Apply.result.0 _ _ _ _ _ c.apply.result.1 c.finished-in-Apply.result.1 ended.left ended.status did.answered did.stopped
+    apply_ends (image_at g.S.Start) c.apply.result.0 c.finished-in-Apply.result.0 _ _ _ _ _ c.apply.result.1
+    c.finished-in-Apply.result.1 ended.left ended.status did.answered did.stopped
 
 pub returns-in-Entries-clause-entries : goal.returns-in-Entries-clause-entries
 returns-in-Entries-clause-entries g c = λ found has _.
     let words = subst (HasWords found) c.in-Entries.is has in
     let did = c.entries.ensures in
     let ended = c.entered.ensures in
-    entries_ends (image_at g.S.Start) c.entries.result.0 _ _ _ _ c.entered.result.0 _ _ _ _ _ c.entries.result.1 c.entered.result.1 words.2 words.1 ended.left ended.status
+    entries_ends (image_at g.S.Start) c.entries.result.0 _ _ _ _ c.entered.result.0 _ _ _ _ _ c.entries.result.1
+    c.entered.result.1 words.2 words.1 ended.left ended.status
     did.entered did.refused ended.told ended.untold

@@ -7,19 +7,22 @@ use Rattle.place_paths.proofs.normal.is_normal.Goals as goal
 pub returns-then-not-is_trimmed : goal.returns-then-not-is_trimmed
 returns-then-not-is_trimmed c = (
   λ t. absurd (same_no t),
-  λ n. absurd (spaces_at_ends c.loop-part.rest.now c.in-Some.part.now c.in-Some.after.now c.in-Some.ensures.0 c.in-Some.ensures.1
+  λ n. absurd (spaces_at_ends c.loop-part.rest.now c.in-Some.part.now c.in-Some.after.now c.in-Some.ensures.0
+      c.in-Some.ensures.1
       (λ same. same_no (c.if-not-is_trimmed.ensures.1 same)) (c.loop-part.invariant.1.0 n)),
 )
 
 pub loop-part-preserved : goal.loop-part-preserved
 loop-part-preserved c =
-    let on = goes_on c.loop-part.rest.now c.in-Some.part.now c.in-Some.after.now c.in-Some-behind_space.next.now c.in-Some.ensures.0 c.in-Some.ensures.1 (c.if-not-is_trimmed.ensures.0 refl) c.in-Some-behind_space.ensures in
+    let on = goes_on c.loop-part.rest.now c.in-Some.part.now c.in-Some.after.now c.in-Some-behind_space.next.now
+    c.in-Some.ensures.0 c.in-Some.ensures.1 (c.if-not-is_trimmed.ensures.0 refl) c.in-Some-behind_space.ensures in
     (search rules, (λ n. on.0 (c.loop-part.invariant.1.0 n), λ n. c.loop-part.invariant.1.1 (on.1 n)))
 
 pub returns-in-None : goal.returns-in-None
 returns-in-None c = (
   λ t. absurd (same_no t),
-  λ n. absurd (no_space_behind c.loop-part.rest.now c.in-Some.part.now c.in-Some.after.now c.in-Some.ensures.0 c.in-Some.ensures.1
+  λ n. absurd (no_space_behind c.loop-part.rest.now c.in-Some.part.now c.in-Some.after.now c.in-Some.ensures.0
+      c.in-Some.ensures.1
       (c.if-not-is_trimmed.ensures.0 refl) c.in-None.ensures (c.loop-part.invariant.1.0 n)),
 )
 

@@ -10,7 +10,8 @@ returns-then-above-number-clause-decides g t c = λ honest.
       λ held shown.
           let at = seen.1 held shown in (
             at.0,
-            sym (within_not_below c.args.parts c.args.bytes (g.V.View.content held).records c.args.number c.in-Some-parent.above c.in-Some.own
+            sym (within_not_below c.args.parts c.args.bytes (g.V.View.content held).records c.args.number
+                c.in-Some-parent.above c.in-Some.own
                 (sym (ap measured at.1) ∙ sym c.in-Some.ensures) c.in-Some-parent.is c.if-above-number.true),
           ),
     )

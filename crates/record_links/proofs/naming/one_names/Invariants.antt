@@ -4,4 +4,5 @@ use Rattle.record_links.specs.Links.{is_among}
 use Rattle.record_links.proofs.naming.one_names.Given as goal
 
 abbrev pub invariant-items : goal.invariant-items
-invariant-items g l = is_among l.number (flat_map g.T.Linked.links_of (drop l.item-index l.items)) ≡ is_among l.number (flat_map g.T.Linked.links_of l.items)
+invariant-items g l = is_among l.number (flat_map g.T.Linked.links_of (drop l.item-index l.items))
+    ≡ is_among l.number (flat_map g.T.Linked.links_of l.items)

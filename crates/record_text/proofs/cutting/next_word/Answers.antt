@@ -6,12 +6,16 @@ use Rattle.record_text.proofs.cutting.next_word.Goals as goal
 pub returns-then-not-is_empty : goal.returns-then-not-is_empty
 returns-then-not-is_empty c =
     let some : 0 < length c.in-Some.word.now = grind (arith, common_steps) in
-    sym c.loop-word.invariant.1 ∙ cut_word c.loop-word.rest.now c.in-Some.word.now c.in-Some.after.now c.in-Some.ensures.0 c.in-Some.ensures.1 some
+    sym c.loop-word.invariant.1 ∙ cut_word c.loop-word.rest.now c.in-Some.word.now c.in-Some.after.now
+    c.in-Some.ensures.0 c.in-Some.ensures.1 some
 
 pub loop-word-preserved : goal.loop-word-preserved
 loop-word-preserved c =
-    let none : length c.in-Some.word.now ≡ 0 = grind (arith, common_steps) in
-    (search rules, sym (cut_empty c.loop-word.rest.now c.in-Some.word.now c.in-Some.after.now c.in-Some.ensures.0 c.in-Some.ensures.1 none) ∙ c.loop-word.invariant.1)
+    let none : length c.in-Some.word.now ≡ 0 = grind (arith, common_steps) in (
+      search rules,
+      sym (cut_empty c.loop-word.rest.now c.in-Some.word.now c.in-Some.after.now c.in-Some.ensures.0
+          c.in-Some.ensures.1 none) ∙ c.loop-word.invariant.1,
+    )
 
 pub returns-then-is_empty : goal.returns-then-is_empty
 returns-then-is_empty c =

@@ -7,7 +7,8 @@ use Rattle.record_text.proofs.Joins.{behind}
 use Rattle.record_text.proofs.naming.spaced.Given as goal
 
 abbrev pub invariant-loop-word : goal.invariant-loop-word
-invariant-loop-word l = shadow (Utf8 l.rest) × (string_bytes l.out ++ behind (words l.rest) ≡ join_with_byte 32 (words l.text))
+invariant-loop-word l = shadow (Utf8 l.rest)
+    × (string_bytes l.out ++ behind (words l.rest) ≡ join_with_byte 32 (words l.text))
 
 abbrev pub decreases-loop-word : goal.decreases-loop-word
 decreases-loop-word l = length (words l.rest)

@@ -7,4 +7,6 @@ use Rattle.records.proofs.Worded.{read_text}
 use Rattle.records.proofs.entry_parts.role_in.Goals as goal
 
 pub returns-in-Some : goal.returns-in-Some
-returns-in-Some c = c.unwrap_or.ensures ∙ ap (λ o. unwrap_or o values.Child) (read_text role_of c.as_str.result.now c.in-Some.text c.args.text.now c.from_word.result (role_read c.as_str.result.now c.from_word.result c.from_word.ensures) c.as_str.ensures.same c.in-Some.is)
+returns-in-Some c = c.unwrap_or.ensures ∙ ap (λ o. unwrap_or o values.Child)
+    (read_text role_of c.as_str.result.now c.in-Some.text c.args.text.now c.from_word.result
+    (role_read c.as_str.result.now c.from_word.result c.from_word.ensures) c.as_str.ensures.same c.in-Some.is)

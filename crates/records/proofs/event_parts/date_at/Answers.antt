@@ -5,4 +5,5 @@ use Rattle.record_fields.proofs.Dated.{date_ok}
 use Rattle.records.proofs.event_parts.date_at.Goals as goal
 
 pub returns : goal.returns
-returns c = date_ok c.of_text.result c.in-Some.text (text_from field.Date c.args.branches.now) c.of_text.ensures (sym c.in_ok-text.ensures ∙ c.in-Some.is)
+returns c = date_ok c.of_text.result c.in-Some.text (text_from field.Date c.args.branches.now) c.of_text.ensures
+    (sym c.in_ok-text.ensures ∙ c.in-Some.is)

@@ -14,7 +14,15 @@ returns-in-Ok-clause-created g c clean blank =
     let settled = c.in-Ok.ensures.done clean blank in
     let keeps = new_keeps society in (
       (rows, settled, keeps),
-      λ t l. (nothing, refl, (rows, only_committed new rows t settled (g.met.S.Store.settled c.create.new.conn.store t settled.is_open l), keeps)),
+      λ t l. (
+        nothing,
+        refl,
+        (
+          rows,
+          only_committed new rows t settled (g.met.S.Store.settled c.create.new.conn.store t settled.is_open l),
+          keeps,
+        ),
+      ),
     )
 
 pub returns-in-Err-clause-refused : goal.returns-in-Err-clause-refused

@@ -9,7 +9,8 @@ returns-then-archive-clause-crash g c clean rows content was means shallow =
     let archive = c.args.archive.now in
     let old = state g.S.Store archive.conn in
     let kept = kept_of rows content means shallow in
-    let shown = shown_of old archive.is_lost kept was (λ t l. only_committed old rows t was (g.met.S.Store.settled archive.conn.store t was.is_open l)) in
+    let shown = shown_of old archive.is_lost kept was
+    (λ t l. only_committed old rows t was (g.met.S.Store.settled archive.conn.store t was.is_open l)) in
     ((c.decide-decided.ensures.decides clean).1 kept shown).0.crash
 
 pub returns-clause-crash : goal.returns-clause-crash
@@ -17,7 +18,8 @@ returns-clause-crash g c clean rows content was means shallow =
     let archive = c.args.archive.now in
     let old = state g.S.Store archive.conn in
     let kept = kept_of rows content means shallow in
-    let shown = shown_of old archive.is_lost kept was (λ t l. only_committed old rows t was (g.met.S.Store.settled archive.conn.store t was.is_open l)) in
+    let shown = shown_of old archive.is_lost kept was
+    (λ t l. only_committed old rows t was (g.met.S.Store.settled archive.conn.store t was.is_open l)) in
     ((c.decide-decided.ensures.decides clean).1 kept shown).0.crash
 
 pub returns-clause-decides : goal.returns-clause-decides
@@ -25,7 +27,8 @@ returns-clause-decides g c clean rows content was means shallow =
     let archive = c.args.archive.now in
     let old = state g.S.Store archive.conn in
     let kept = kept_of rows content means shallow in
-    let shown = shown_of old archive.is_lost kept was (λ t l. only_committed old rows t was (g.met.S.Store.settled archive.conn.store t was.is_open l)) in
+    let shown = shown_of old archive.is_lost kept was
+    (λ t l. only_committed old rows t was (g.met.S.Store.settled archive.conn.store t was.is_open l)) in
     ((c.decide-decided.ensures.decides clean).1 kept shown).1
 
 pub returns-clause-exact : goal.returns-clause-exact
@@ -33,7 +36,8 @@ returns-clause-exact g c clean rows content was means shallow =
     let archive = c.args.archive.now in
     let old = state g.S.Store archive.conn in
     let kept = kept_of rows content means shallow in
-    let shown = shown_of old archive.is_lost kept was (λ t l. only_committed old rows t was (g.met.S.Store.settled archive.conn.store t was.is_open l)) in
+    let shown = shown_of old archive.is_lost kept was
+    (λ t l. only_committed old rows t was (g.met.S.Store.settled archive.conn.store t was.is_open l)) in
     ((c.decide-decided.ensures.exact clean).1 kept shown).1
 
 -- while the archive is not lost no look has failed, and so none found rows that cannot be read
@@ -42,15 +46,18 @@ returns-clause-readable g c clean rows content was means shallow =
     let archive = c.args.archive.now in
     let old = state g.S.Store archive.conn in
     let kept = kept_of rows content means shallow in
-    let shown = shown_of old archive.is_lost kept was (λ t l. only_committed old rows t was (g.met.S.Store.settled archive.conn.store t was.is_open l)) in
+    let shown = shown_of old archive.is_lost kept was
+    (λ t l. only_committed old rows t was (g.met.S.Store.settled archive.conn.store t was.is_open l)) in
     let still = ((c.decide-decided.ensures.decides clean).1 kept shown).0 in
-    if_there c.decide-decided.result (λ e counted. none_is_bad 0 c.decide-decided.new.view.failures e refl (still.none c.if-archive.false) counted.0) c.decide-decided.ensures.counts.1
+    if_there c.decide-decided.result (λ e counted. none_is_bad 0 c.decide-decided.new.view.failures e refl
+    (still.none c.if-archive.false) counted.0) c.decide-decided.ensures.counts.1
 
 pub returns-clause-same : goal.returns-clause-same
 returns-clause-same g c clean rows content was means shallow =
     let archive = c.args.archive.now in
     let old = state g.S.Store archive.conn in
     let kept = kept_of rows content means shallow in
-    let shown = shown_of old archive.is_lost kept was (λ t l. only_committed old rows t was (g.met.S.Store.settled archive.conn.store t was.is_open l)) in
+    let shown = shown_of old archive.is_lost kept was
+    (λ t l. only_committed old rows t was (g.met.S.Store.settled archive.conn.store t was.is_open l)) in
     let still = ((c.decide-decided.ensures.decides clean).1 kept shown).0 in
     if_done c.decide-decided.result (still.settled c.if-archive.false)

@@ -2,4 +2,5 @@ use Rattle.std.proofs.Common.{refl}
 use Rattle.store.proofs.performing.refusal_after.Goals as goal
 
 pub returns-then-still_answers-clause-settled : goal.returns-then-still_answers-clause-settled
-returns-then-still_answers-clause-settled g c clean sure rows left = c.if-still_answers.ensures.settled clean refl rows left
+returns-then-still_answers-clause-settled g c clean sure rows left = c.if-still_answers.ensures.settled
+    clean refl rows left

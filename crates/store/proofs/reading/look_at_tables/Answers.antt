@@ -8,7 +8,10 @@ pub returns-in-Ok-clause-told : goal.returns-in-Ok-clause-told
 returns-in-Ok-clause-told g c = λ clean.
     let after = c.check_tables.ensures.told in
     let before : HasCleanDisk (state g.S.Store c.check_version.new.conn) = omega (arith, after.survives.clean, clean) in
-    if_tables g.S.Store (state g.S.Store c.args.conn.now) c.check_version.new.conn (state g.S.Store c.check_tables.new.conn) c.check_tables.result (c.in-Ok.ensures.version before) (after.refused clean)
+    if_tables g.S.Store (state g.S.Store c.args.conn.now) c.check_version.new.conn
+    (state g.S.Store c.check_tables.new.conn) c.check_tables.result (c.in-Ok.ensures.version before)
+    (after.refused clean)
 
 pub returns-in-Err-clause-told : goal.returns-in-Err-clause-told
-returns-in-Err-clause-told g c = λ clean. by_version g.S.Store (state g.S.Store c.args.conn.now) c.check_version.new.conn c.in-Err.kind (c.in-Err.ensures.told clean)
+returns-in-Err-clause-told g c = λ clean. by_version g.S.Store (state g.S.Store c.args.conn.now)
+    c.check_version.new.conn c.in-Err.kind (c.in-Err.ensures.told clean)

@@ -10,7 +10,8 @@ use Rattle.store.proofs.reading.recognise.Goals as goal
 pub returns-in-Ok-clause-reads : goal.returns-in-Ok-clause-reads
 returns-in-Ok-clause-reads g c clean =
     let read = c.in-Ok.ensures.looks in
-    ok_reads _ (state g.S.Store c.args.conn.now) (state g.S.Store c.look_at_tables.new.conn) tt (λ rows society content was keeps. tt)
+    ok_reads _ (state g.S.Store c.args.conn.now) (state g.S.Store c.look_at_tables.new.conn) tt
+    (λ rows society content was keeps. tt)
     (read.same clean) (read.crash clean) (read.clean clean)
 
 pub returns-in-Err-clause-reads : goal.returns-in-Err-clause-reads
@@ -20,7 +21,8 @@ returns-in-Err-clause-reads g c clean =
     let new = state g.S.Store c.refusal_after.new.conn in
     let after = c.refusal_after.ensures in
     let before : HasCleanDisk mid = omega (arith, after.survives.clean, clean) in
-    let left : (t : Trees) → new.may_leave t → mid.may_leave t = λ t l. elim (after.survives.crash clean t l) [ inl was ↦ was | inr none ↦ absurd none ] in
+    let left : (t : Trees) → new.may_leave t → mid.may_leave t = λ t l. elim (after.survives.crash clean t l)
+    [ inl was ↦ was | inr none ↦ absurd none ] in
     let read = c.in-Err.ensures.looks in
     err_reads _ old mid new c.in-Err.kind c.refusal_after.result
     (λ society content has. read.refused before has.0 has.1)
@@ -29,5 +31,7 @@ returns-in-Err-clause-reads g c clean =
 pub returns-in-Err-clause-told : goal.returns-in-Err-clause-told
 returns-in-Err-clause-told g c clean =
     let after = c.refusal_after.ensures in
-    let before : HasCleanDisk (state g.S.Store c.look_at_tables.new.conn) = omega (arith, after.survives.clean, clean) in
-    told_after g.S.Store (state g.S.Store c.args.conn.now) (is_storage c.refusal_after.result) c.in-Err.kind c.refusal_after.result refl after.same (c.in-Err.ensures.told before)
+    let before : HasCleanDisk (state g.S.Store c.look_at_tables.new.conn) = omega
+    (arith, after.survives.clean, clean) in
+    told_after g.S.Store (state g.S.Store c.args.conn.now) (is_storage c.refusal_after.result) c.in-Err.kind
+    c.refusal_after.result refl after.same (c.in-Err.ensures.told before)

@@ -19,7 +19,8 @@ returns-in-Err-clause-reads g c clean =
     let new = state g.S.Store c.refusal_after.new.conn in
     let after = c.refusal_after.ensures in
     let before : HasCleanDisk mid = omega (arith, after.survives.clean, clean) in
-    let left : (t : Trees) → new.may_leave t → mid.may_leave t = λ t l. elim (after.survives.crash clean t l) [ inl was ↦ was | inr none ↦ absurd none ] in
+    let left : (t : Trees) → new.may_leave t → mid.may_leave t = λ t l. elim (after.survives.crash clean t l)
+    [ inl was ↦ was | inr none ↦ absurd none ] in
     let read = c.in-Err.ensures.looks in
     err_reads _ old mid new c.in-Err.kind c.refusal_after.result
     (λ society content has. read.refused before has.0 has.1)

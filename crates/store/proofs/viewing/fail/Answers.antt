@@ -10,5 +10,6 @@ pub returns-clause-settled : goal.returns-clause-settled
 returns-clause-settled g c =
     let asked = c.refusal_after-kind in
     let old = state g.S.Store c.args.archive.now.conn in
-    subst (λ conn. HasCleanDisk (state g.S.Store conn) → is_storage asked.result ≡ false → (rows : Rows) → LeavesOnly old rows → Settled (state g.S.Store conn) rows)
+    subst (λ conn. HasCleanDisk (state g.S.Store conn) → is_storage asked.result ≡ false → (rows : Rows)
+    → LeavesOnly old rows → Settled (state g.S.Store conn) rows)
     (sym c.note.ensures.conn) asked.ensures.settled

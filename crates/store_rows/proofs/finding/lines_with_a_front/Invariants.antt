@@ -8,4 +8,5 @@ use Rattle.store_rows.proofs.finding.lines_with_a_front.Given as goal
 abbrev pub invariant-bytes : goal.invariant-bytes
 invariant-bytes g l =
     (l.conn.in_transaction ≡ false)
-    × Looks (λ rows (_ : Unit {0}). HasBelow l.at l.path rows l.found.items) (state g.S.Store l.fn.conn) (state g.S.Store l.conn) (Ok tt)
+    × Looks (λ rows (_ : Unit {0}). HasBelow l.at l.path rows l.found.items) (state g.S.Store l.fn.conn)
+    (state g.S.Store l.conn) (Ok tt)

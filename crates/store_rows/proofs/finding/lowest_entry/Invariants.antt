@@ -9,4 +9,5 @@ use Rattle.store_rows.proofs.finding.lowest_entry.Given as goal
 abbrev pub invariant-numbers : goal.invariant-numbers
 invariant-numbers g l =
     (l.conn.in_transaction ≡ false)
-    × Sees (λ c (_ : Unit {0}). IsLowestAmong (λ (n : ℕ). IsEntryAt c.records l.source l.kind l.page l.item n) (take l.number-index l.numbers) l.lowest) (state g.S.Store l.fn.conn) (state g.S.Store l.conn) (Ok tt)
+    × Sees (λ c (_ : Unit {0}). IsLowestAmong (λ (n : ℕ). IsEntryAt c.records l.source l.kind l.page l.item n)
+    (take l.number-index l.numbers) l.lowest) (state g.S.Store l.fn.conn) (state g.S.Store l.conn) (Ok tt)

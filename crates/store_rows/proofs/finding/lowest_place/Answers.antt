@@ -10,7 +10,8 @@ use Rattle.store_rows.proofs.finding.lowest_place.Goals.{then-branch, else-branc
 use Rattle.store_rows.proofs.finding.lowest_place.Goals as goal
 
 pub returns-in_err-has_path-clause-sees : goal.returns-in_err-has_path-clause-sees
-returns-in_err-has_path-clause-sees g c = sees_not c.from_residual.result (search rules) (sees_then c.numbers.invariant.1 c.in_err-has_path.ensures.sees)
+returns-in_err-has_path-clause-sees g c = sees_not c.from_residual.result (search rules)
+    (sees_then c.numbers.invariant.1 c.in_err-has_path.ensures.sees)
 
 pub numbers-preserved : goal.numbers-preserved
 numbers-preserved g c =
@@ -22,10 +23,14 @@ numbers-preserved g c =
           (λ content both.
           let grows = (λ (k : ℕ). list_any_more (λ j. j == k) all at 0 c.numbers-test.true) in
           elim c.if-branch.branch [
-            | then-branch w ↦ subst (IsLowestAmong (λ (k : ℕ). HasPath content.records k c.args.path.now) (take (at + 1) all)) (sym (w.lowest-is ∙ ap Some w.lower.ensures))
-                (one_found (λ (k : ℕ). HasPath content.records k c.args.path.now) (take at all) (take (at + 1) all) n c.numbers.lowest grows both.0 (both.1.0 w.if-branch.true))
-            | else-branch w ↦ subst (IsLowestAmong (λ (k : ℕ). HasPath content.records k c.args.path.now) (take (at + 1) all)) (sym w.lowest-is)
-                (one_passed (λ (k : ℕ). HasPath content.records k c.args.path.now) (take at all) (take (at + 1) all) n c.numbers.lowest grows both.0
+            | then-branch w ↦ subst (IsLowestAmong (λ (k : ℕ). HasPath content.records k c.args.path.now)
+                (take (at + 1) all)) (sym (w.lowest-is ∙ ap Some w.lower.ensures))
+                (one_found (λ (k : ℕ). HasPath content.records k c.args.path.now) (take at all)
+                (take (at + 1) all) n c.numbers.lowest grows both.0 (both.1.0 w.if-branch.true))
+            | else-branch w ↦ subst (IsLowestAmong (λ (k : ℕ). HasPath content.records k c.args.path.now)
+                (take (at + 1) all)) (sym w.lowest-is)
+                (one_passed (λ (k : ℕ). HasPath content.records k c.args.path.now) (take at all)
+                (take (at + 1) all) n c.numbers.lowest grows both.0
                 (λ h. let no : true ≡ false = sym (both.1.1 h) ∙ w.if-branch.false in absurd cc))
           ]) tt,
     )
@@ -33,4 +38,5 @@ numbers-preserved g c =
 pub returns-clause-sees : goal.returns-clause-sees
 returns-clause-sees g c =
     sees_from (Ok _) c.numbers.invariant.1 (λ content low.
-    subst (λ ns. IsLowestAmong (λ (k : ℕ). HasPath content.records k c.args.path.now) ns c.numbers.lowest) (take_all c.numbers.number-index c.args.numbers.now (omega arith)) low) tt
+    subst (λ ns. IsLowestAmong (λ (k : ℕ). HasPath content.records k c.args.path.now) ns c.numbers.lowest)
+    (take_all c.numbers.number-index c.args.numbers.now (omega arith)) low) tt

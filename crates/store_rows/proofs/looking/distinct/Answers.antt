@@ -6,4 +6,6 @@ use Rattle.store_rows.proofs.looking.distinct.Goals as goal
 
 pub numbers-preserved : goal.numbers-preserved
 numbers-preserved c = λ n.
-    inserted _ n _ _ (c.in_ok-insert.ensures.updates.0 n) ∙ ap (λ b. b || (get_or c.args.numbers.now c.numbers.number-index 0 == n)) (c.numbers.invariant n) ∙ sym (list_any_more (λ k. k == n) c.args.numbers.now c.numbers.number-index 0 c.numbers-test.true)
+    inserted _ n _ _ (c.in_ok-insert.ensures.updates.0 n)
+    ∙ ap (λ b. b || (get_or c.args.numbers.now c.numbers.number-index 0 == n)) (c.numbers.invariant n)
+    ∙ sym (list_any_more (λ k. k == n) c.args.numbers.now c.numbers.number-index 0 c.numbers-test.true)

@@ -6,7 +6,10 @@ use Rattle.store_rows.proofs.looking.is_closed.Goals as goal
 
 pub returns-in-Some-clause-looks : goal.returns-in-Some-clause-looks
 returns-in-Some-clause-looks g c =
-    looks_with (Ok _) (rw c.in-Some.is at c.in_ok-row.ensures.looks) (λ rows one. ap (λ (b : BatchRow). not b.is_open) c.row.view_is ∙ one_closed c.args.batch rows.batches c.in-Some.row one) tt
+    looks_with (Ok _) (rw c.in-Some.is at c.in_ok-row.ensures.looks)
+    (λ rows one. ap (λ (b : BatchRow). not b.is_open) c.row.view_is ∙ one_closed c.args.batch rows.batches
+    c.in-Some.row one) tt
 
 pub returns-in-None-clause-looks : goal.returns-in-None-clause-looks
-returns-in-None-clause-looks g c = looks_with (Ok _) (rw c.in-None.is at c.in_ok-row.ensures.looks) (λ rows none. none_closed c.args.batch rows.batches none) tt
+returns-in-None-clause-looks g c = looks_with (Ok _) (rw c.in-None.is at c.in_ok-row.ensures.looks)
+    (λ rows none. none_closed c.args.batch rows.batches none) tt

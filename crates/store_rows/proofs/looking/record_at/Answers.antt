@@ -6,10 +6,12 @@ use Rattle.store_rows.proofs.looking.record_at.Goals as goal
 
 pub returns-in_err-lines-clause-sees : goal.returns-in_err-lines-clause-sees
 returns-in_err-lines-clause-sees g c =
-    sees_lost c.from_residual-in_err-lines.result (search rules) (looks_then c.in_ok-has_record.ensures.looks c.in_err-lines.ensures.looks)
+    sees_lost c.from_residual-in_err-lines.result (search rules)
+    (looks_then c.in_ok-has_record.ensures.looks c.in_err-lines.ensures.looks)
 
 pub returns-clause-sees : goal.returns-clause-sees
 returns-clause-sees g c =
     sees_with (Ok _) (looks_then c.in_ok-has_record.ensures.looks c.in_ok-lines.ensures.looks)
     (λ rows is content means. let has : true ≡ has_record c.args.number rows = cc (is.0, c.if-not-branch.false) in
-    record_some c.args.number rows content c.in_ok-record_of.field-0 means has (sym is.1 ∙ sym c.deref.ensures.value ∙ c.in_ok-record_of.ensures.read)) tt
+    record_some c.args.number rows content c.in_ok-record_of.field-0 means has
+    (sym is.1 ∙ sym c.deref.ensures.value ∙ c.in_ok-record_of.ensures.read)) tt

@@ -15,6 +15,7 @@ returns-in_err-numbers-clause-sees g c =
 pub returns-clause-sees : goal.returns-clause-sees
 returns-clause-sees g c =
     sees_as c.recorded.result
-    (λ rows found is content means. is.1 ∙ same_referrers rows content c.args.number c.in_ok-numbers.numbers means c.recorded.ensures.ordered
+    (λ rows found is content means. is.1 ∙ same_referrers rows content c.args.number c.in_ok-numbers.numbers means
+    c.recorded.ensures.ordered
     (λ m. c.in_ok-numbers.ensures m ∙ ap (list_any (λ k. k == m)) (c.deref.ensures.value ∙ is.0)))
     (looks_then c.in_ok-lines.ensures.looks c.recorded.ensures.looks)

@@ -8,7 +8,9 @@ returns-in_err-sides-clause-refused c =
     rw (p.1, p.2) (weaker c.in_err-sides.field-0.0 (no_sides _) c.in_err-sides.ensures.refused)
 
 pub returns-clause-read : goal.returns-clause-read
-returns-clause-read c = IfOk-weaker c.paired.result _ _ (λ v e. lines_of_pairs _ _ v.items c.in_ok-sides.ensures.read e) c.paired.ensures.read
+returns-clause-read c = IfOk-weaker c.paired.result _ _ (λ v e. lines_of_pairs _ _ v.items c.in_ok-sides.ensures.read e)
+    c.paired.ensures.read
 
 pub returns-clause-refused : goal.returns-clause-refused
-returns-clause-refused c = MatchResult-weaker c.paired.result c.paired.ensures.refused (λ _ t. t) (λ kind. weaker kind (no_pairs _ _ c.in_ok-sides.ensures.read))
+returns-clause-refused c = MatchResult-weaker c.paired.result c.paired.ensures.refused (λ _ t. t)
+    (λ kind. weaker kind (no_pairs _ _ c.in_ok-sides.ensures.read))

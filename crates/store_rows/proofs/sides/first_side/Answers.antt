@@ -6,5 +6,7 @@ use Rattle.store_rows.proofs.sides.first_side.Goals as goal
 
 pub returns-clause-length : goal.returns-clause-length
 returns-clause-length c =
-    ap (λ n. n + 1) (c.next_start.ensures.start ∙ ap (λ (rows : List (ℕ × SideLine)). position_or_len (λ (r : ℕ × SideLine). begins_side r.1) rows) (rest_of_rows c.args.lines.now))
+    ap (λ n. n + 1) (c.next_start.ensures.start
+    ∙ ap (λ (rows : List (ℕ × SideLine)). position_or_len (λ (r : ℕ × SideLine). begins_side r.1) rows)
+    (rest_of_rows c.args.lines.now))
     ∙ sym (first_in_rows c.args.lines.now)

@@ -10,14 +10,17 @@ pub returns-then-not-are_of_side-clause-refused : goal.returns-then-not-are_of_s
 returns-then-not-are_of_side-clause-refused c = inr (
   refl,
   mixed c.args.lines.now c.in-Some.first.now c.in-Some.ensures.value
-      (ap (λ (r : ℕ × SideLine). list_all (λ (x : ℕ × SideLine). is_of r.1.0 r.1.1.0 x.1) c.args.lines.now) (sym c.first-2.view_is)
+      (ap (λ (r : ℕ × SideLine). list_all (λ (x : ℕ × SideLine). is_of r.1.0 r.1.1.0 x.1) c.args.lines.now)
+      (sym c.first-2.view_is)
       ∙ sym c.are_of_side.ensures ∙ c.if-not-are_of_side.true),
 )
 
 pub returns-in_err-record_of-clause-refused : goal.returns-in_err-record_of-clause-refused
 returns-in_err-record_of-clause-refused c =
     let p = err_from_is_err_and c.from_residual-in_err-record_of.result c.from_residual-in_err-record_of.ensures.1 in
-    rw (p.1, p.2) (weaker c.in_err-record_of.field-0.0 (no_record c.args.lines.now c.deref.result.now (c.deref.ensures.value ∙ c.in_ok-stored.ensures)) c.in_err-record_of.ensures.refused)
+    rw (p.1, p.2) (weaker c.in_err-record_of.field-0.0
+    (no_record c.args.lines.now c.deref.result.now (c.deref.ensures.value ∙ c.in_ok-stored.ensures))
+    c.in_err-record_of.ensures.refused)
 
 pub returns-clause-read : goal.returns-clause-read
 returns-clause-read c =

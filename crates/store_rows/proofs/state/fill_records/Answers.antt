@@ -9,5 +9,8 @@ use Rattle.store_rows.proofs.state.fill_records.Goals as goal
 
 pub returns-clause-refused : goal.returns-clause-refused
 returns-clause-refused c =
-    IfErr-weaker c.put_records.result _ _ (λ kind. refused_by kind (λ bad. inr (lacks_one (set.contains nat_cmp c.in_ok-closed.closed) (λ n. is_closed n c.args.batches.now)
-    (λ n. items_at n c.args.lines.items) (group_at c.in_ok-groups.groups) c.args.rows.now c.in_ok-closed.ensures c.in_ok-groups.ensures bad))) c.put_records.ensures.refused
+    IfErr-weaker c.put_records.result _ _
+    (λ kind. refused_by kind
+    (λ bad. inr (lacks_one (set.contains nat_cmp c.in_ok-closed.closed) (λ n. is_closed n c.args.batches.now)
+    (λ n. items_at n c.args.lines.items) (group_at c.in_ok-groups.groups) c.args.rows.now c.in_ok-closed.ensures
+    c.in_ok-groups.ensures bad))) c.put_records.ensures.refused

@@ -5,4 +5,5 @@ use Rattle.store_rows.specs.Grouped.{group_at, AreRecordsOf}
 use Rattle.store_rows.proofs.state.put_records.Given as goal
 
 abbrev pub invariant-rows : goal.invariant-rows
-invariant-rows l = AreRecordsOf (set.contains nat_cmp l.closed) (group_at l.groups) (take l.row-index l.rows) l.state.records × (l.state ≡ record l.initial.state { records = l.state.records })
+invariant-rows l = AreRecordsOf (set.contains nat_cmp l.closed) (group_at l.groups) (take l.row-index l.rows)
+    l.state.records × (l.state ≡ record l.initial.state { records = l.state.records })

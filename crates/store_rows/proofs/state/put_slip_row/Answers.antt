@@ -8,9 +8,12 @@ pub returns-in_ok-put_slip-clause-read : goal.returns-in_ok-put_slip-clause-read
 returns-in_ok-put_slip-clause-read c = λ rows was.
     rw (c.in_ok-put_slip.ensures, ap (λ (r : SlipRow). r.no) c.row.view_is)
     (one_slipped (slip_group_at c.args.groups.now) rows c.args.row.now c.args.state.now.slips c.in_ok-slip.slip
-    (rw (← ap (λ (r : SlipRow). r.no) c.row.view_is) (sym c.slip.ensures ∙ none_copied c.slip.result c.if-is_none.ensures)) c.in_ok-slip.ensures.row c.in_ok-slip.ensures.changes was)
+    (rw (← ap (λ (r : SlipRow). r.no) c.row.view_is)
+    (sym c.slip.ensures ∙ none_copied c.slip.result c.if-is_none.ensures)) c.in_ok-slip.ensures.row
+    c.in_ok-slip.ensures.changes was)
 
 pub returns-else-is_none-clause-read : goal.returns-else-is_none-clause-read
 returns-else-is_none-clause-read c = λ rows was.
     again_slipped (slip_group_at c.args.groups.now) rows c.args.row.now c.args.state.now.slips
-    (λ none. some_copied c.slip.result c.if-is_none.ensures (c.slip.ensures ∙ (rw (ap (λ (r : SlipRow). r.no) c.row.view_is) none))) was
+    (λ none. some_copied c.slip.result c.if-is_none.ensures
+    (c.slip.ensures ∙ (rw (ap (λ (r : SlipRow). r.no) c.row.view_is) none))) was

@@ -9,5 +9,11 @@ pub rows-init : goal.rows-init
 rows-init c = (none_slipped (slip_group_at c.args.groups.now) c.args.state.now.slips c.requires.none, refl)
 
 pub returns-in_err-put_slip_row-clause-refused : goal.returns-in_err-put_slip_row-clause-refused
-returns-in_err-put_slip_row-clause-refused c = let p = err_from_is_err_and c.from_residual.result c.from_residual.ensures.1 in rw (p.1, p.2) (refused_by _
-    (λ bad. (c.row-item.result.no, row_at c.args.rows.now c.rows.row-index c.row-item.result c.rows-test.true c.row-item.is, bad)) c.in_err-put_slip_row.ensures.refused)
+returns-in_err-put_slip_row-clause-refused c = let p = err_from_is_err_and c.from_residual.result
+    c.from_residual.ensures.1 in rw (p.1, p.2) (refused_by _
+    (λ bad. (
+      c.row-item.result.no,
+      row_at c.args.rows.now c.rows.row-index c.row-item.result c.rows-test.true
+          c.row-item.is,
+      bad,
+    )) c.in_err-put_slip_row.ensures.refused)

@@ -16,9 +16,15 @@ returns-clause-ok g c clean =
     let next = with_next changes.next in
     let last = c.write_slip.ensures.ok clean in
     let three = c.in_ok-write_kept.ensures.ok (omega (arith, c.write_slip.ensures.survives.clean)) in
-    let two = c.in_ok-set_next.ensures.ok (omega (arith, c.write_kept.ensures.survives.clean, c.write_slip.ensures.survives.clean)) in
+    let two = c.in_ok-set_next.ensures.ok
+    (omega (arith, c.write_kept.ensures.survives.clean, c.write_slip.ensures.survives.clean)) in
     let one = rw (c.deref.ensures.value, c.deref-2.ensures.value) at (c.in_ok-write_records.ensures.ok
-    (omega (arith, c.set_next.ensures.survives.clean, c.write_kept.ensures.survives.clean, c.write_slip.ensures.survives.clean))) in
+    (omega (
+      arith,
+      c.set_next.ensures.survives.clean,
+      c.write_kept.ensures.survives.clean,
+      c.write_slip.ensures.survives.clean,
+    ))) in
     let records = λ (rows : Rows). without_records removals (with_puts_written puts rows) in
     let first = follows_then _ _ _ (λ rows. next (records rows)) kept (follows_then _ _ _ records next one two) three in
     rw (← c.changes.view_is) (and_last c.write_slip.result _ _ _ (λ rows. kept (next (records rows))) slip first last)

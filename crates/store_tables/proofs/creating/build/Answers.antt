@@ -4,7 +4,8 @@ use Rattle.store_tables.proofs.creating.build.Goals as goal
 
 pub returns-clause-ok : goal.returns-clause-ok
 returns-clause-ok g c clean =
-    let one = c.in_ok-create_records.ensures.ok (omega (arith, c.create_receipts.ensures.survives.clean, c.fill.ensures.survives.clean)) in
+    let one = c.in_ok-create_records.ensures.ok
+    (omega (arith, c.create_receipts.ensures.survives.clean, c.fill.ensures.survives.clean)) in
     let two = c.in_ok-create_receipts.ensures.ok (omega (arith, c.fill.ensures.survives.clean)) in
     on_ok c.fill.result (λ filled was.
     let first = one was in

@@ -7,4 +7,5 @@ returns-clause-ok g c clean schema at table index is =
     let old = state g.S.Store c.args.tx.now.conn.now in
     let new = state g.S.Store c.execute.new.self.conn.now in
     let inside = is_inside old.in_transaction (λ out. let e = (c.in_ok-execute.ensures.ended out).0 in cc) in
-    builds_index schema at table index c.args.text.now old new c.in_ok-execute.field-0 is (c.in_ok-execute.ensures.runs clean inside)
+    builds_index schema at table index c.args.text.now old new c.in_ok-execute.field-0 is
+    (c.in_ok-execute.ensures.runs clean inside)

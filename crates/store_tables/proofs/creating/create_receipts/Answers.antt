@@ -6,6 +6,10 @@ use Rattle.store_tables.proofs.creating.create_receipts.Goals as goal
 
 pub returns-clause-ok : goal.returns-clause-ok
 returns-clause-ok g c clean =
-    let step0 = c.in_ok-create_table.ensures.ok (omega (arith, c.create_table-2.ensures.survives.clean, c.create_table-3.ensures.survives.clean)) schema_4 (record receipts { tree = 0 }) creating.makes_receipt in
-    let step1 = c.in_ok-create_table-2.ensures.ok (omega (arith, c.create_table-3.ensures.survives.clean)) schema_5 (record slips { tree = 0 }) creating.makes_slip in
-    on_ok c.create_table-3.result (λ more. builds_then _ _ _ _ _ _ (builds_then _ _ _ _ _ _ step0 step1) (more schema_6 (record slip_lines { tree = 0 }) creating.makes_slip_line)) (c.create_table-3.ensures.ok clean)
+    let step0 = c.in_ok-create_table.ensures.ok
+    (omega (arith, c.create_table-2.ensures.survives.clean, c.create_table-3.ensures.survives.clean)) schema_4
+    (record receipts { tree = 0 }) creating.makes_receipt in
+    let step1 = c.in_ok-create_table-2.ensures.ok (omega (arith, c.create_table-3.ensures.survives.clean)) schema_5
+    (record slips { tree = 0 }) creating.makes_slip in
+    on_ok c.create_table-3.result (λ more. builds_then _ _ _ _ _ _ (builds_then _ _ _ _ _ _ step0 step1)
+    (more schema_6 (record slip_lines { tree = 0 }) creating.makes_slip_line)) (c.create_table-3.ensures.ok clean)

@@ -4,7 +4,8 @@ use Rattle.store_tables.proofs.creating.fill.Goals as goal
 
 pub returns-clause-ok : goal.returns-clause-ok
 returns-clause-ok g c clean =
-    let one = c.in_ok-create_indexes.ensures.ok (omega (arith, c.insert_meta.ensures.survives.clean, c.insert_batch.ensures.survives.clean)) in
+    let one = c.in_ok-create_indexes.ensures.ok
+    (omega (arith, c.insert_meta.ensures.survives.clean, c.insert_batch.ensures.survives.clean)) in
     let two = c.in_ok-insert_meta.ensures.ok (omega (arith, c.insert_batch.ensures.survives.clean)) in
     on_ok c.insert_batch.result (λ follows was.
     let built = one was in

@@ -8,4 +8,6 @@ pub returns-clause-looks : goal.returns-clause-looks
 returns-clause-looks g c =
     looks_with c.at_most_one.result c.in_ok-batches_at.ensures.looks
     (if_ok c.at_most_one.result (λ found is rows was. subst (λ xs. IsOnly xs found) was.0 is) c.at_most_one.ensures.ok)
-    (if_err c.at_most_one.result (λ kind why rows was. elim why [ inl memory ↦ inl memory | inr bad ↦ absurd (bad.1 was.1) ]) c.at_most_one.ensures.err)
+    (if_err c.at_most_one.result
+    (λ kind why rows was. elim why [ inl memory ↦ inl memory | inr bad ↦ absurd (bad.1 was.1) ])
+    c.at_most_one.ensures.err)

@@ -18,5 +18,11 @@ returns-clause-looks g c =
     let old = state g.S.Store c.args.conn.now in
     let new = state g.S.Store c.read_all.new.conn in
     let did = c.read_all.ensures in
-    looks_all (λ (l : LineRow). line_fields l.line) (λ (l : LineRow). l.line) (λ (l : LineRow). IsTypedLine l.line) (λ items. items.items) lines_at (Int (pos c.args.number) ∷ []) old new c.read_all.result (λ rows. filter (λ (x : LineRow). x.no == c.args.number) rows.lines)
-    (λ rows was all shown. reads_lines_at old new c.args.number all rows was.schema was.good.holds shown) (λ rows t. kept_by _ _ rows.lines (all_weaker (λ (l : LineRow). IsU32 l.no × IsTypedLine l.line) (λ (l : LineRow). IsTypedLine l.line) (λ l is. is.1) rows.lines t.lines)) (rw (c.params-to_sql.ensures) at did.read) (rw (c.params-to_sql.ensures) at did.refused) did.same did.crash did.clean
+    looks_all (λ (l : LineRow). line_fields l.line) (λ (l : LineRow). l.line) (λ (l : LineRow). IsTypedLine l.line)
+    (λ items. items.items) lines_at (Int (pos c.args.number) ∷ []) old new c.read_all.result
+    (λ rows. filter (λ (x : LineRow). x.no == c.args.number) rows.lines)
+    (λ rows was all shown. reads_lines_at old new c.args.number all rows was.schema was.good.holds shown)
+    (λ rows t. kept_by _ _ rows.lines (all_weaker (λ (l : LineRow). IsU32 l.no × IsTypedLine l.line)
+    (λ (l : LineRow). IsTypedLine l.line) (λ l is. is.1) rows.lines t.lines))
+    (rw (c.params-to_sql.ensures) at did.read) (rw (c.params-to_sql.ensures) at did.refused) did.same
+    did.crash did.clean

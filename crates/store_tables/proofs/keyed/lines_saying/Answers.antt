@@ -19,5 +19,10 @@ returns-clause-looks g c =
     let old = state g.S.Store c.args.conn.now in
     let new = state g.S.Store c.read_all.new.conn in
     let did = c.read_all.ensures in
-    looks_all (λ (l : LineRow). Int (pos l.no) ∷ []) (λ (l : LineRow). l.no) (λ (l : LineRow). IsU32 l.no) (λ items. items.items) lines_saying (Text c.args.text.now ∷ []) old new c.read_all.result (λ rows. filter (λ (x : LineRow). is_text c.args.text.now x.line.1.text) rows.lines)
-    (λ rows was all shown. reads_saying old new c.args.text.now all rows was.schema was.good.holds shown) (λ rows t. kept_by _ _ rows.lines (all_weaker (λ (l : LineRow). IsU32 l.no × IsTypedLine l.line) (λ (l : LineRow). IsU32 l.no) (λ l is. is.0) rows.lines t.lines)) (rw (c.params-to_sql.ensures) at did.read) (rw (c.params-to_sql.ensures) at did.refused) did.same did.crash did.clean
+    looks_all (λ (l : LineRow). Int (pos l.no) ∷ []) (λ (l : LineRow). l.no) (λ (l : LineRow). IsU32 l.no)
+    (λ items. items.items) lines_saying (Text c.args.text.now ∷ []) old new c.read_all.result
+    (λ rows. filter (λ (x : LineRow). is_text c.args.text.now x.line.1.text) rows.lines)
+    (λ rows was all shown. reads_saying old new c.args.text.now all rows was.schema was.good.holds shown)
+    (λ rows t. kept_by _ _ rows.lines (all_weaker (λ (l : LineRow). IsU32 l.no × IsTypedLine l.line)
+    (λ (l : LineRow). IsU32 l.no) (λ l is. is.0) rows.lines t.lines)) (rw (c.params-to_sql.ensures) at did.read)
+    (rw (c.params-to_sql.ensures) at did.refused) did.same did.crash did.clean

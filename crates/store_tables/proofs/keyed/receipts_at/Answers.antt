@@ -19,5 +19,10 @@ returns-clause-looks g c =
     let old = state g.S.Store c.args.conn.now in
     let new = state g.S.Store c.read_all.new.conn in
     let did = c.read_all.ensures in
-    looks_all shown_receipt read_receipt (λ (r : ReceiptRow). IsToken r.token × IsTypedReceipt r.receipt) (λ items. items.items) receipts_at (Text c.args.token.now ∷ []) old new c.read_all.result (λ rows. filter (λ (x : ReceiptRow). bytes_eq x.token c.args.token.now) rows.receipts)
-    (λ rows was all shown. reads_receipts_at old new c.args.token.now all rows was.schema was.good.holds shown) (λ rows t. kept_by _ _ rows.receipts t.receipts) (rw (c.params-to_sql.ensures, c.as_str.ensures.same) at did.read) (rw (c.params-to_sql.ensures, c.as_str.ensures.same) at did.refused) did.same did.crash did.clean
+    looks_all shown_receipt read_receipt (λ (r : ReceiptRow). IsToken r.token × IsTypedReceipt r.receipt)
+    (λ items. items.items) receipts_at (Text c.args.token.now ∷ []) old new c.read_all.result
+    (λ rows. filter (λ (x : ReceiptRow). bytes_eq x.token c.args.token.now) rows.receipts)
+    (λ rows was all shown. reads_receipts_at old new c.args.token.now all rows was.schema was.good.holds shown)
+    (λ rows t. kept_by _ _ rows.receipts t.receipts)
+    (rw (c.params-to_sql.ensures, c.as_str.ensures.same) at did.read)
+    (rw (c.params-to_sql.ensures, c.as_str.ensures.same) at did.refused) did.same did.crash did.clean

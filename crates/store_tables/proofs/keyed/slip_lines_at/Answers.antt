@@ -18,5 +18,9 @@ returns-clause-looks g c =
     let old = state g.S.Store c.args.conn.now in
     let new = state g.S.Store c.read_all.new.conn in
     let did = c.read_all.ensures in
-    looks_all shown_slip_line read_slip_line (λ (s : SlipLineRow). IsU32 s.slip × IsU32 s.no × IsTypedLine s.line) (λ items. items.items) slip_lines_at (Int (pos c.args.slip) ∷ []) old new c.read_all.result (λ rows. filter (λ (x : SlipLineRow). x.slip == c.args.slip) rows.slip_lines)
-    (λ rows was all shown. reads_slip_lines_at old new c.args.slip all rows was.schema was.good.holds shown) (λ rows t. kept_by _ _ rows.slip_lines t.slip_lines) (rw (c.params-to_sql.ensures) at did.read) (rw (c.params-to_sql.ensures) at did.refused) did.same did.crash did.clean
+    looks_all shown_slip_line read_slip_line (λ (s : SlipLineRow). IsU32 s.slip × IsU32 s.no × IsTypedLine s.line)
+    (λ items. items.items) slip_lines_at (Int (pos c.args.slip) ∷ []) old new c.read_all.result
+    (λ rows. filter (λ (x : SlipLineRow). x.slip == c.args.slip) rows.slip_lines)
+    (λ rows was all shown. reads_slip_lines_at old new c.args.slip all rows was.schema was.good.holds shown)
+    (λ rows t. kept_by _ _ rows.slip_lines t.slip_lines) (rw (c.params-to_sql.ensures) at did.read)
+    (rw (c.params-to_sql.ensures) at did.refused) did.same did.crash did.clean

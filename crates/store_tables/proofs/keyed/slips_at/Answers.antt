@@ -18,7 +18,12 @@ returns-clause-looks g c =
     let old = state g.S.Store c.args.conn.now in
     let new = state g.S.Store c.read_all.new.conn in
     let did = c.read_all.ensures in
-    looks_where c.read_all.result (λ rows was items is. let e = is ∙ map_same (filter (λ (x : SlipRow). x.no == c.args.number) rows.slips) in
+    looks_where c.read_all.result
+    (λ rows was items is. let e = is ∙ map_same (filter (λ (x : SlipRow). x.no == c.args.number) rows.slips) in
     (e, rw e (one_at_most (λ (x : SlipRow). x.no) c.args.number rows.slips was.good.holds.slips.rise))) (
-    looks_all shown_slip (λ (s : SlipRow). s) IsTypedSlip (λ items. items.items) slip_at (Int (pos c.args.number) ∷ []) old new c.read_all.result (λ rows. filter (λ (x : SlipRow). x.no == c.args.number) rows.slips)
-    (λ rows was all shown. reads_slip old new c.args.number all rows was.schema was.good.holds shown) (λ rows t. kept_by _ _ rows.slips t.slips) (rw (c.params-to_sql.ensures) at did.read) (rw (c.params-to_sql.ensures) at did.refused) did.same did.crash did.clean)
+    looks_all shown_slip (λ (s : SlipRow). s) IsTypedSlip (λ items. items.items) slip_at
+    (Int (pos c.args.number) ∷ []) old new c.read_all.result
+    (λ rows. filter (λ (x : SlipRow). x.no == c.args.number) rows.slips)
+    (λ rows was all shown. reads_slip old new c.args.number all rows was.schema was.good.holds shown)
+    (λ rows t. kept_by _ _ rows.slips t.slips) (rw (c.params-to_sql.ensures) at did.read)
+    (rw (c.params-to_sql.ensures) at did.refused) did.same did.crash did.clean)

@@ -8,4 +8,5 @@ use Rattle.store_tables.proofs.lines.insert_lines.Given as goal
 abbrev pub invariant-lines : goal.invariant-lines
 invariant-lines g l =
     (l.tx.conn.ghost_name ≡ l.fn.tx.conn.ghost_name)
-    × IsOnTheWay (state g.S.Store l.fn.tx.conn.now) (state g.S.Store l.tx.conn.now) (with_lines l.number 0 l.lines) (with_lines l.number l.at (drop l.line-index l.lines))
+    × IsOnTheWay (state g.S.Store l.fn.tx.conn.now) (state g.S.Store l.tx.conn.now) (with_lines l.number 0 l.lines)
+    (with_lines l.number l.at (drop l.line-index l.lines))

@@ -16,5 +16,7 @@ returns-clause-looks g c =
     let old = state g.S.Store c.args.conn.now in
     let new = state g.S.Store c.read_all.new.conn in
     let did = c.read_all.ensures in
-    looks_all shown_line read_line (λ (l : LineRow). IsU32 l.no × IsTypedLine l.line) (λ items. items.items) select_lines [] old new c.read_all.result (λ rows. rows.lines)
-    (λ rows was all shown. reads_lines old new all rows was.schema was.good.holds shown) (λ rows t. t.lines) did.read did.refused did.same did.crash did.clean
+    looks_all shown_line read_line (λ (l : LineRow). IsU32 l.no × IsTypedLine l.line) (λ items. items.items)
+    select_lines [] old new c.read_all.result (λ rows. rows.lines)
+    (λ rows was all shown. reads_lines old new all rows was.schema was.good.holds shown)
+    (λ rows t. t.lines) did.read did.refused did.same did.crash did.clean

@@ -7,4 +7,8 @@ pub returns-clause-looks : goal.returns-clause-looks
 returns-clause-looks g c =
     looks_with c.only.result c.in_ok-read_meta_rows.ensures.looks
     (if_ok c.only.result (λ meta is rows was. let e = sym is ∙ was in cc) c.only.ensures.ok)
-    (if_err c.only.result (λ kind why rows was. elim why [ inl memory ↦ inl memory | inr bad ↦ absurd (bad.1 (ap length was)) ]) c.only.ensures.err)
+    (if_err c.only.result (λ kind why rows was. elim why [
+      | inl memory ↦ inl memory
+      | inr bad ↦
+          absurd (bad.1 (ap length was))
+    ]) c.only.ensures.err)

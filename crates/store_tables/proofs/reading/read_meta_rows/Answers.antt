@@ -17,5 +17,7 @@ returns-clause-looks g c =
     let old = state g.S.Store c.args.conn.now in
     let new = state g.S.Store c.read_all.new.conn in
     let did = c.read_all.ensures in
-    looks_all shown_meta read_meta (λ (r : Rows). IsText r.society) (λ items. items.items) select_meta [] old new c.read_all.result (λ rows. rows ∷ [])
-    (λ rows was all shown. reads_meta old new all rows was.schema was.good.holds shown) (λ rows t. (t.society, tt)) did.read did.refused did.same did.crash did.clean
+    looks_all shown_meta read_meta (λ (r : Rows). IsText r.society) (λ items. items.items) select_meta
+    [] old new c.read_all.result (λ rows. rows ∷ [])
+    (λ rows was all shown. reads_meta old new all rows was.schema was.good.holds shown)
+    (λ rows t. (t.society, tt)) did.read did.refused did.same did.crash did.clean

@@ -17,5 +17,7 @@ returns-clause-looks g c =
     let old = state g.S.Store c.args.conn.now in
     let new = state g.S.Store c.read_all.new.conn in
     let did = c.read_all.ensures in
-    looks_all shown_receipt read_receipt (λ (r : ReceiptRow). IsToken r.token × IsTypedReceipt r.receipt) (λ items. items.items) select_receipts [] old new c.read_all.result (λ rows. rows.receipts)
-    (λ rows was all shown. reads_receipts old new all rows was.schema was.good.holds shown) (λ rows t. t.receipts) did.read did.refused did.same did.crash did.clean
+    looks_all shown_receipt read_receipt (λ (r : ReceiptRow). IsToken r.token × IsTypedReceipt r.receipt)
+    (λ items. items.items) select_receipts [] old new c.read_all.result (λ rows. rows.receipts)
+    (λ rows was all shown. reads_receipts old new all rows was.schema was.good.holds shown)
+    (λ rows t. t.receipts) did.read did.refused did.same did.crash did.clean

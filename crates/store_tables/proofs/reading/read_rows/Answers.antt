@@ -4,12 +4,16 @@ use Rattle.store_tables.proofs.reading.read_rows.Goals as goal
 
 pub returns-in_err-batches-clause-looks : goal.returns-in_err-batches-clause-looks
 returns-in_err-batches-clause-looks g c =
-    looks_lost c.from_residual-in_err-batches.result (search rules) c.in_ok-meta.ensures.looks c.in_err-batches.ensures.looks
+    looks_lost c.from_residual-in_err-batches.result (search rules) c.in_ok-meta.ensures.looks
+    c.in_err-batches.ensures.looks
 
 pub returns-in_err-receipts-clause-looks : goal.returns-in_err-receipts-clause-looks
 returns-in_err-receipts-clause-looks g c =
-    looks_lost c.from_residual-in_err-receipts.result (search rules) (looks_then c.in_ok-meta.ensures.looks c.in_ok-batches.ensures.looks) c.in_err-receipts.ensures.looks
+    looks_lost c.from_residual-in_err-receipts.result (search rules)
+    (looks_then c.in_ok-meta.ensures.looks c.in_ok-batches.ensures.looks) c.in_err-receipts.ensures.looks
 
 pub returns-clause-looks : goal.returns-clause-looks
 returns-clause-looks g c =
-    looks_with (Ok _) (looks_then (looks_then c.in_ok-meta.ensures.looks c.in_ok-batches.ensures.looks) c.in_ok-receipts.ensures.looks) (λ rows is. read_whole rows _ (ap (λ (p : ℕ × List ℕ). p.0) (c.meta.view_is ∙ is.0.0)) is.0.1 is.1) tt
+    looks_with (Ok _) (looks_then (looks_then c.in_ok-meta.ensures.looks c.in_ok-batches.ensures.looks)
+    c.in_ok-receipts.ensures.looks)
+    (λ rows is. read_whole rows _ (ap (λ (p : ℕ × List ℕ). p.0) (c.meta.view_is ∙ is.0.0)) is.0.1 is.1) tt

@@ -16,5 +16,7 @@ returns-clause-looks g c =
     let old = state g.S.Store c.args.conn.now in
     let new = state g.S.Store c.read_all.new.conn in
     let did = c.read_all.ensures in
-    looks_all shown_slip_line read_slip_line (λ (s : SlipLineRow). IsU32 s.slip × IsU32 s.no × IsTypedLine s.line) (λ items. items.items) select_slip_lines [] old new c.read_all.result (λ rows. rows.slip_lines)
-    (λ rows was all shown. reads_slip_lines old new all rows was.schema was.good.holds shown) (λ rows t. t.slip_lines) did.read did.refused did.same did.crash did.clean
+    looks_all shown_slip_line read_slip_line (λ (s : SlipLineRow). IsU32 s.slip × IsU32 s.no × IsTypedLine s.line)
+    (λ items. items.items) select_slip_lines [] old new c.read_all.result (λ rows. rows.slip_lines)
+    (λ rows was all shown. reads_slip_lines old new all rows was.schema was.good.holds shown)
+    (λ rows t. t.slip_lines) did.read did.refused did.same did.crash did.clean

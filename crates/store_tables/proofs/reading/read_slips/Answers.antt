@@ -17,5 +17,7 @@ returns-clause-looks g c =
     let new = state g.S.Store c.read_all.new.conn in
     let did = c.read_all.ensures in
     looks_as c.read_all.result (λ rows items is. is ∙ map_same rows.slips) (
-    looks_all shown_slip (λ (s : SlipRow). s) IsTypedSlip (λ items. items.items) select_slips [] old new c.read_all.result (λ rows. rows.slips)
-    (λ rows was all shown. reads_slips old new all rows was.schema was.good.holds shown) (λ rows t. t.slips) did.read did.refused did.same did.crash did.clean)
+    looks_all shown_slip (λ (s : SlipRow). s) IsTypedSlip (λ items. items.items) select_slips
+    [] old new c.read_all.result (λ rows. rows.slips)
+    (λ rows was all shown. reads_slips old new all rows was.schema was.good.holds shown)
+    (λ rows t. t.slips) did.read did.refused did.same did.crash did.clean)

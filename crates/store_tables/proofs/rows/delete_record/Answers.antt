@@ -10,4 +10,5 @@ returns-clause-ok g c clean rows inside =
     let old = state g.S.Store c.args.tx.now.conn.now in
     let new = state g.S.Store c.execute.new.self.conn.now in
     let ran = rw (c.params-to_sql.ensures) at (c.in_ok-execute.ensures.runs clean inside.inside) in
-    followed _ _ old new _ (without_record_row c.args.number) (deletes_record old new c.args.number c.in_ok-execute.field-0) (typed_less_record c.args.number) ran rows inside
+    followed _ _ old new _ (without_record_row c.args.number)
+    (deletes_record old new c.args.number c.in_ok-execute.field-0) (typed_less_record c.args.number) ran rows inside

@@ -22,5 +22,21 @@ returns-clause-ok g c clean rows inside =
     let tag : IsTag line.1.tag = search rules in
     let text : IfSome line.1.text IsText = search rules in
     let typed : IsTypedLine line = (deep, tag, text, names) in
-    let ran : ExecutesInside 0 insert_line (Int (pos c.args.number) ∷ Int (pos c.args.at) ∷ line_fields line) old new (Ok c.in_ok-execute.field-0) = rw (← c.line.view_is) (rw (c.params-to_sql.ensures, c.params-to_sql-2.ensures, c.params-to_sql-3.ensures, c.params-to_sql-4.ensures, c.params-to_sql-5.ensures, c.params-to_sql-6.ensures, words_bound c.words-text.result, number_bound c.named-target.result, c.as_str-tag.ensures.same, c.words-text.ensures.same, c.named-target.ensures.same) at (c.in_ok-execute.ensures.runs clean inside.inside)) in
-    followed _ _ old new _ (with_line c.args.number c.args.at line) (inserts_line old new c.args.number c.args.at line c.in_ok-execute.field-0) (typed_line c.args.number c.args.at line low typed) ran rows inside
+    let ran : ExecutesInside 0 insert_line (Int (pos c.args.number) ∷ Int (pos c.args.at) ∷ line_fields line) old new
+    (Ok c.in_ok-execute.field-0) = rw (← c.line.view_is)
+    (rw (
+      c.params-to_sql.ensures,
+      c.params-to_sql-2.ensures,
+      c.params-to_sql-3.ensures,
+      c.params-to_sql-4.ensures,
+      c.params-to_sql-5.ensures,
+      c.params-to_sql-6.ensures,
+      words_bound c.words-text.result,
+      number_bound c.named-target.result,
+      c.as_str-tag.ensures.same,
+      c.words-text.ensures.same,
+      c.named-target.ensures.same,
+    ) at (c.in_ok-execute.ensures.runs clean inside.inside)) in
+    followed _ _ old new _ (with_line c.args.number c.args.at line)
+    (inserts_line old new c.args.number c.args.at line c.in_ok-execute.field-0)
+    (typed_line c.args.number c.args.at line low typed) ran rows inside

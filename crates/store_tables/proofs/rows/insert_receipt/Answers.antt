@@ -18,5 +18,15 @@ returns-clause-ok g c clean rows inside =
     let first : IsU32 receipt.answer.first = search rules in
     let count : IsU32 receipt.answer.count = search rules in
     let typed : IsTypedReceipt receipt = (whole, first, count) in
-    let ran = rw (c.params-to_sql.ensures, c.params-to_sql-2.ensures, c.params-to_sql-3.ensures, c.params-to_sql-4.ensures, c.as_str-words.ensures.same, c.as_slice-digest.ensures) at (c.in_ok-execute.ensures.runs clean inside.inside) in
-    followed _ _ old new _ (with_receipt c.args.token.now receipt) (inserts_receipt old new c.args.token.now receipt c.in_ok-execute.field-0) (typed_receipt c.args.token.now receipt token typed) ran rows inside
+    let ran = rw (
+      c.params-to_sql.ensures,
+      c.params-to_sql-2.ensures,
+      c.params-to_sql-3.ensures,
+      c.params-to_sql-4.ensures,
+      c.as_str-words.ensures.same,
+      c.as_slice-digest.ensures,
+    ) at
+    (c.in_ok-execute.ensures.runs clean inside.inside) in
+    followed _ _ old new _ (with_receipt c.args.token.now receipt)
+    (inserts_receipt old new c.args.token.now receipt c.in_ok-execute.field-0)
+    (typed_receipt c.args.token.now receipt token typed) ran rows inside

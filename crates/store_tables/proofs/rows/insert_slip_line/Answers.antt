@@ -23,5 +23,26 @@ returns-clause-ok g c clean rows inside =
     let tag : IsTag line.1.tag = search rules in
     let text : IfSome line.1.text IsText = search rules in
     let typed : IsTypedLine line = (deep, tag, text, names) in
-    let ran : ExecutesInside 0 insert_slip_line (Int (pos c.args.slip) ∷ Int (pos (flag c.args.is_new)) ∷ Int (pos c.args.number) ∷ Int (pos c.args.at) ∷ line_fields line) old new (Ok c.in_ok-execute.field-0) = rw (← c.line.view_is) (rw (c.params-to_sql.ensures, c.params-to_sql-2.ensures, c.params-to_sql-3.ensures, c.params-to_sql-4.ensures, c.params-to_sql-5.ensures, c.params-to_sql-6.ensures, c.params-to_sql-7.ensures, c.params-to_sql-8.ensures, c.flag-side.ensures, words_bound c.words-text.result, number_bound c.named-target.result, c.as_str-tag.ensures.same, c.words-text.ensures.same, c.named-target.ensures.same) at (c.in_ok-execute.ensures.runs clean inside.inside)) in
-    followed _ _ old new _ (with_slip_line c.args.slip c.args.is_new c.args.number c.args.at line) (inserts_slip_line old new c.args.slip c.args.is_new c.args.number c.args.at line c.in_ok-execute.field-0) (typed_slip_line c.args.slip c.args.is_new c.args.number c.args.at line known low typed) ran rows inside
+    let ran : ExecutesInside 0 insert_slip_line
+    (Int (pos c.args.slip) ∷ Int (pos (flag c.args.is_new)) ∷ Int (pos c.args.number) ∷ Int (pos c.args.at)
+    ∷ line_fields line) old new (Ok c.in_ok-execute.field-0) = rw (← c.line.view_is)
+    (rw (
+      c.params-to_sql.ensures,
+      c.params-to_sql-2.ensures,
+      c.params-to_sql-3.ensures,
+      c.params-to_sql-4.ensures,
+      c.params-to_sql-5.ensures,
+      c.params-to_sql-6.ensures,
+      c.params-to_sql-7.ensures,
+      c.params-to_sql-8.ensures,
+      c.flag-side.ensures,
+      words_bound c.words-text.result,
+      number_bound c.named-target.result,
+      c.as_str-tag.ensures.same,
+      c.words-text.ensures.same,
+      c.named-target.ensures.same,
+    ) at
+    (c.in_ok-execute.ensures.runs clean inside.inside)) in
+    followed _ _ old new _ (with_slip_line c.args.slip c.args.is_new c.args.number c.args.at line)
+    (inserts_slip_line old new c.args.slip c.args.is_new c.args.number c.args.at line c.in_ok-execute.field-0)
+    (typed_slip_line c.args.slip c.args.is_new c.args.number c.args.at line known low typed) ran rows inside

@@ -15,4 +15,5 @@ returns-clause-ok g c clean rows inside =
     let fits : SFits w64 c.in-Ok.next = search rules in
     let back : to_z w64 (of_z w64 c.in-Ok.next) ≡ pos c.args.next = to_z-of_z w64 c.in-Ok.next fits ∙ whole in
     let ran = rw (c.params-to_sql.ensures, back) at (c.in_ok-execute.ensures.runs clean inside.inside) in
-    followed _ _ old new _ (with_next c.args.next) (sets_next old new c.args.next c.in_ok-execute.field-0) (typed_next c.args.next) ran rows inside
+    followed _ _ old new _ (with_next c.args.next) (sets_next old new c.args.next c.in_ok-execute.field-0)
+    (typed_next c.args.next) ran rows inside

@@ -7,8 +7,10 @@ use Rattle.store_tables.proofs.typing.from_rows.Given as goal
 -- what the rows that are left are read as goes behind the items
 abbrev pub invariant-rows : goal.invariant-rows
 invariant-rows g l = record {
-  read : (more : List _) → EachWith g.T.FromRow.reads_as (into_iter_items l.rows) more → EachWith g.T.FromRow.reads_as l.fn.rows.items (l.items.items ++ more);
-  readable : AllByRecursion g.T.FromRow.is_readable l.fn.rows.items → AllByRecursion g.T.FromRow.is_readable (into_iter_items l.rows);
+  read : (more : List _) → EachWith g.T.FromRow.reads_as (into_iter_items l.rows) more
+      → EachWith g.T.FromRow.reads_as l.fn.rows.items (l.items.items ++ more);
+  readable : AllByRecursion g.T.FromRow.is_readable l.fn.rows.items → AllByRecursion g.T.FromRow.is_readable
+      (into_iter_items l.rows);
 }
 
 abbrev pub decreases-rows : goal.decreases-rows

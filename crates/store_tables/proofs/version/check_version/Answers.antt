@@ -33,19 +33,26 @@ returns-in-Ok-clause-looks g c =
       crash = did.crash;
       clean = did.clean;
     } in
-    looks_with c.version_of.result looked (any_ok c.version_of.result (λ _ _ _. tt)) (if_err c.version_of.result (λ kind is rows was. inl (is rows (c.deref.ensures.value ∙ was))) c.version_of.ensures.known)
+    looks_with c.version_of.result looked (any_ok c.version_of.result (λ _ _ _. tt))
+    (if_err c.version_of.result (λ kind is rows was. inl (is rows (c.deref.ensures.value ∙ was)))
+    c.version_of.ensures.known)
 
 pub returns-in-Ok-clause-version : goal.returns-in-Ok-clause-version
 returns-in-Ok-clause-version g c clean =
-    on_ok c.version_of.result (λ is. (c.in-Ok.rows.items, c.in-Ok.ensures.shown clean, (is.0, sym c.deref.ensures.value ∙ is.1))) c.version_of.ensures.version
+    on_ok c.version_of.result
+    (λ is. (c.in-Ok.rows.items, c.in-Ok.ensures.shown clean, (is.0, sym c.deref.ensures.value ∙ is.1)))
+    c.version_of.ensures.version
 
 pub returns-in-Ok-clause-newer : goal.returns-in-Ok-clause-newer
 returns-in-Ok-clause-newer g c clean =
     if_err c.version_of.result
-    (λ kind later is. let v = later is in (v.0, v.1, (c.in-Ok.rows.items, c.in-Ok.ensures.shown clean, (v.2.0, sym c.deref.ensures.value ∙ v.2.1)))) c.version_of.ensures.newer
+    (λ kind later is. let v = later is in
+    (v.0, v.1, (c.in-Ok.rows.items, c.in-Ok.ensures.shown clean, (v.2.0, sym c.deref.ensures.value ∙ v.2.1))))
+    c.version_of.ensures.newer
 
 -- a store is refused for what its rows are refused for
-refused_rows : (old new : State) (rows : List Row) (kind : RefusalKind) → Shown meta_query [] old new rows → IsRefusedRows rows kind → IsRefusedStore old new kind
+refused_rows : (old new : State) (rows : List Row) (kind : RefusalKind) → Shown meta_query [] old new rows
+    → IsRefusedRows rows kind → IsRefusedStore old new kind
 refused_rows old new rows OutOfMemory shown why = tt
 refused_rows old new rows NewerSchema shown why = (why.0, why.1, (rows, shown, why.2))
 refused_rows old new rows NotAnArchive shown why = inr (rows, shown, why)
@@ -55,7 +62,8 @@ pub returns-in-Ok-clause-told : goal.returns-in-Ok-clause-told
 returns-in-Ok-clause-told g c clean =
     let old = state g.S.Store c.args.conn.now in
     let new = state g.S.Store c.ask.new.conn in
-    if_err c.version_of.result (λ kind why. refused_rows old new c.in-Ok.rows.items kind (c.in-Ok.ensures.shown clean) (subst (λ rows. IsRefusedRows rows kind) c.deref.ensures.value why)) c.version_of.ensures.told
+    if_err c.version_of.result (λ kind why. refused_rows old new c.in-Ok.rows.items kind (c.in-Ok.ensures.shown clean)
+    (subst (λ rows. IsRefusedRows rows kind) c.deref.ensures.value why)) c.version_of.ensures.told
 
 pub returns-in-Err-clause-told : goal.returns-in-Err-clause-told
 returns-in-Err-clause-told g c clean =
@@ -63,6 +71,7 @@ returns-in-Err-clause-told g c clean =
     let new = state g.S.Store c.ask.new.conn in
     let fails = c.in-Err.ensures.failed clean in
     elim (cases_Bool (tells_no_archive c.in-Err.error)) [
-      | inl lacks ↦ subst (IsRefusedStore old new) (sym (c.refusal_of.ensures.told lacks)) (inl (c.in-Err.error, fails, lacks))
+      | inl lacks ↦ subst (IsRefusedStore old new) (sym (c.refusal_of.ensures.told lacks))
+          (inl (c.in-Err.error, fails, lacks))
       | inr has ↦ subst (IsRefusedStore old new) (sym (c.refusal_of.ensures.known has)) (c.in-Err.error, fails, has)
     ]

@@ -6,9 +6,12 @@ use Rattle.store_tables.proofs.version.prepare_all.Goals as goal
 
 pub returns-in_err-prepare_records-clause-told : goal.returns-in_err-prepare_records-clause-told
 returns-in_err-prepare_records-clause-told g c =
-    prepared_lost (meta_query ∷ record_queries) history_queries c.from_residual-in_err-prepare_records.result (search rules)
+    prepared_lost (meta_query ∷ record_queries) history_queries c.from_residual-in_err-prepare_records.result
+    (search rules)
     (prepared_then (meta_query ∷ []) record_queries c.in_ok-prepare.ensures.told c.in_err-prepare_records.ensures.told)
 
 pub returns-clause-told : goal.returns-clause-told
 returns-clause-told g c =
-    prepared_then (meta_query ∷ record_queries) history_queries (prepared_then (meta_query ∷ []) record_queries c.in_ok-prepare.ensures.told c.in_ok-prepare_records.ensures.told) c.prepare_history.ensures.told
+    prepared_then (meta_query ∷ record_queries) history_queries
+    (prepared_then (meta_query ∷ []) record_queries c.in_ok-prepare.ensures.told
+    c.in_ok-prepare_records.ensures.told) c.prepare_history.ensures.told

@@ -5,9 +5,13 @@ use Rattle.store_tables.proofs.version.prepare_history.Goals as goal
 
 pub returns-in_err-prepare-2-clause-told : goal.returns-in_err-prepare-2-clause-told
 returns-in_err-prepare-2-clause-told g c =
-    prepared_lost (select_receipts ∷ select_slips ∷ []) (select_slip_lines ∷ []) c.from_residual-in_err-prepare-2.result (search rules)
-    (prepared_then (select_receipts ∷ []) (select_slips ∷ []) c.in_ok-prepare.ensures.told c.in_err-prepare-2.ensures.told)
+    prepared_lost (select_receipts ∷ select_slips ∷ []) (select_slip_lines ∷ [])
+    c.from_residual-in_err-prepare-2.result (search rules)
+    (prepared_then (select_receipts ∷ []) (select_slips ∷ []) c.in_ok-prepare.ensures.told
+    c.in_err-prepare-2.ensures.told)
 
 pub returns-clause-told : goal.returns-clause-told
 returns-clause-told g c =
-    prepared_then (select_receipts ∷ select_slips ∷ []) (select_slip_lines ∷ []) (prepared_then (select_receipts ∷ []) (select_slips ∷ []) c.in_ok-prepare.ensures.told c.in_ok-prepare-2.ensures.told) c.prepare-3.ensures.told
+    prepared_then (select_receipts ∷ select_slips ∷ []) (select_slip_lines ∷ [])
+    (prepared_then (select_receipts ∷ []) (select_slips ∷ []) c.in_ok-prepare.ensures.told
+    c.in_ok-prepare-2.ensures.told) c.prepare-3.ensures.told

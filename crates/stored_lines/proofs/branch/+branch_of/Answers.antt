@@ -10,13 +10,17 @@ returns-in_ok-copy-in-Text t c =
     let line : Line = record { tag = c.carried.inside.tag; value = c.carried.inside.value } in
     let label : Label = record { tag = c.in_ok-tag.tag; text = Some c.in_ok-copy-in-Text.field-0; target = None } in
     let top : label ≡ label_of line = search rules in
-    let below : c.children.children.items ≡ map (relabel label_of) c.carried.inside.children.items = grind (arith, common_steps) in
-    relabelled label_of c.args.carried.now line c.carried.inside.children.items label c.children.children.items (sym c.carried.view_is) top below
+    let below : c.children.children.items ≡ map (relabel label_of) c.carried.inside.children.items = grind
+    (arith, common_steps) in
+    relabelled label_of c.args.carried.now line c.carried.inside.children.items label c.children.children.items
+    (sym c.carried.view_is) top below
 
 pub returns-in-Ref : goal.returns-in-Ref
 returns-in-Ref t c =
     let line : Line = record { tag = c.carried.inside.tag; value = c.carried.inside.value } in
     let label : Label = record { tag = c.in_ok-tag.tag; text = None; target = Some c.in-Ref.number } in
     let top : label ≡ label_of line = search rules in
-    let below : c.children.children.items ≡ map (relabel label_of) c.carried.inside.children.items = grind (arith, common_steps) in
-    relabelled label_of c.args.carried.now line c.carried.inside.children.items label c.children.children.items (sym c.carried.view_is) top below
+    let below : c.children.children.items ≡ map (relabel label_of) c.carried.inside.children.items = grind
+    (arith, common_steps) in
+    relabelled label_of c.args.carried.now line c.carried.inside.children.items label c.children.children.items
+    (sym c.carried.view_is) top below

@@ -10,12 +10,21 @@ returns-then-levels-eq0 t c = none_within c.args.branch.now c.args.levels c.if-l
 
 pub returns-then-not-is_within : goal.returns-then-not-is_within
 returns-then-not-is_within t c =
-    let label : Label = record { tag = c.branch.inside.tag; text = c.branch.inside.text; target = c.branch.inside.target } in
-    child_over c.args.branch.now label c.branch.inside.children.items c.deref-child-items.result.now c.children.child-index c.child-item.result c.args.levels c.is_within.result c.branch.view_is c.deref-child-items.ensures.value c.children-test.true c.child-item.is c.if-not-is_within.true c.is_within.ensures.1
+    let label : Label = record {
+      tag = c.branch.inside.tag;
+      text = c.branch.inside.text;
+      target = c.branch.inside.target;
+    } in
+    child_over c.args.branch.now label c.branch.inside.children.items c.deref-child-items.result.now
+    c.children.child-index c.child-item.result c.args.levels c.is_within.result c.branch.view_is
+    c.deref-child-items.ensures.value c.children-test.true c.child-item.is c.if-not-is_within.true
+    c.is_within.ensures.1
 
 pub children-preserved : goal.children-preserved
 children-preserved t c =
     let few : levels c.child-item.result ≤ c.args.levels - 1 = c.is_within.ensures.0 c.if-not-is_within.false in
-    let before : forest_levels (forest_of (take c.children.child-index c.deref-child-items.result.now)) < c.args.levels = c.children.invariant in
-    let more = levels-more c.deref-child-items.result.now c.children.child-index c.child-item.result (c.args.levels - 1) c.children-test.true c.child-item.is (omega arith) few in
+    let before : forest_levels (forest_of (take c.children.child-index c.deref-child-items.result.now))
+    < c.args.levels = c.children.invariant in
+    let more = levels-more c.deref-child-items.result.now c.children.child-index c.child-item.result
+    (c.args.levels - 1) c.children-test.true c.child-item.is (omega arith) few in
     omega arith

@@ -14,4 +14,5 @@ children-preserved t c =
     c.in_ok-push_branch.ensures
     ∙ ap (λ ls. ls ++ flat below child) c.children.invariant
     ∙ append_assoc c.args.out.now.items (first ∷ so_far) (flat below child)
-    ∙ ap (λ ls. c.args.out.now.items ++ (first ∷ ls)) (sym (flat_one_more below items c.children.child-index child c.children-test.true c.child-item.is))
+    ∙ ap (λ ls. c.args.out.now.items ++ (first ∷ ls))
+    (sym (flat_one_more below items c.children.child-index child c.children-test.true c.child-item.is))

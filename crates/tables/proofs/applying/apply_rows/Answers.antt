@@ -5,7 +5,16 @@ use Rattle.csv.specs.declared.parser.State.{State}
 use Rattle.sqlite.specs.Held.{state}
 use Rattle.store_tables.proofs.Queries.{only_committed}
 use Rattle.record_text.specs.declared.refusal.RefusalKind.TheVariants as refusal
-use Rattle.tables.proofs.OnTheWay.{OnTheWay, all_applied, at_start, ended_row, ended_same, ended_unread, one_more, performs_none}
+use Rattle.tables.proofs.OnTheWay.{
+  OnTheWay,
+  all_applied,
+  at_start,
+  ended_row,
+  ended_same,
+  ended_unread,
+  one_more,
+  performs_none,
+}
 use Rattle.batch_reading.proofs.Taking.{took_all, took_more}
 use Rattle.tables.proofs.applying.apply_rows.Goals as goal
 
@@ -23,7 +32,9 @@ rows-init g c =
       flexible = q.flexible;
       way = subst (λ (s : State). OnTheWay g.S.Store known known s out out archive archive) (sym q.start)
           (at_start g.S.Store known out archive
-          (λ clean sure. performs_none start (λ rows was t l. only_committed start rows t was (g.met.S.Store.settled archive.conn.store t was.is_open l)) clean));
+          (λ clean sure. performs_none start
+          (λ rows was t l. only_committed start rows t was
+          (g.met.S.Store.settled archive.conn.store t was.is_open l)) clean));
     }
 
 pub returns-in-Err-serve_row-clause-ended : goal.returns-in-Err-serve_row-clause-ended
@@ -42,10 +53,12 @@ returns-in-Ok-false-clause-applied g c =
     let v = c.rows.invariant in
     let f = fields_of c.read_byte_record.new.row in
     let r = rw c.in-Ok-false.field-0-test at (c.in-Ok-false.ensures.reads v.plain v.ready) in
-    all_applied g.S.Store _ _ _ _ _ _ _ v.way (took_all g.R.Read.remaining c.rows.rows c.read_byte_record.new.self f v.way.rows v.config _ r v.way.took)
+    all_applied g.S.Store _ _ _ _ _ _ _ v.way
+    (took_all g.R.Read.remaining c.rows.rows c.read_byte_record.new.self f v.way.rows v.config _ r v.way.took)
 
 pub returns-in-Err-clause-ended : goal.returns-in-Err-clause-ended
-returns-in-Err-clause-ended g c = ended_unread g.S.Store _ _ _ _ _ _ _ c.rows.invariant.way c.reading_failed.result c.reading_failed.ensures
+returns-in-Err-clause-ended g c = ended_unread g.S.Store _ _ _ _ _ _ _ c.rows.invariant.way c.reading_failed.result
+    c.reading_failed.ensures
 
 pub rows-preserved : goal.rows-preserved
 rows-preserved g c =

@@ -10,6 +10,7 @@ invariant-rows g l = record {
   plain : reader_trim l.rows ≡ trim.None;
   config : reader_config l.rows ≡ default_config;
   flexible : is_flexible l.rows ≡ true;
-  way : OnTheWay g.S.Store (source_of g.R.Read.remaining l.fn.rows) (source_of g.R.Read.remaining l.rows) (reader_state l.rows)
+  way : OnTheWay g.S.Store (source_of g.R.Read.remaining l.fn.rows) (source_of g.R.Read.remaining l.rows)
+      (reader_state l.rows)
       (g.W.Write.contents l.fn.output) (g.W.Write.contents l.output) l.fn.archive l.archive;
 }

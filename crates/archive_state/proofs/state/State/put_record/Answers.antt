@@ -7,9 +7,20 @@ use Rattle.archive_state.proofs.state.State.put_record.Goals as goal
 
 pub returns-clause-ok : goal.returns-clause-ok
 returns-clause-ok c =
-    ap (λ m. record { records = m; next = c.self.inside.next; receipts = receipts_of c.self.inside.receipts.entries; slips = from_entries c.self.inside.slips.entries })
-    (one_set c.self.inside.records.entries c.insert.new.self.entries c.args.number c.args.value c.in_ok-insert.ensures.updates.0)
-    ∙ ap (λ (s : Content). record { records = map.insert s.records c.args.number c.args.value; next = s.next; receipts = s.receipts; slips = s.slips }) c.self.view_is
+    ap (λ m. record {
+      records = m;
+      next = c.self.inside.next;
+      receipts = receipts_of c.self.inside.receipts.entries;
+      slips = from_entries c.self.inside.slips.entries;
+    })
+    (one_set c.self.inside.records.entries c.insert.new.self.entries c.args.number c.args.value
+    c.in_ok-insert.ensures.updates.0)
+    ∙ ap (λ (s : Content). record {
+      records = map.insert s.records c.args.number c.args.value;
+      next = s.next;
+      receipts = s.receipts;
+      slips = s.slips;
+    }) c.self.view_is
 
 pub returns-clause-before : goal.returns-clause-before
 returns-clause-before c =

@@ -7,9 +7,20 @@ use Rattle.archive_state.proofs.state.State.put_slip.Goals as goal
 
 pub returns-clause-ok : goal.returns-clause-ok
 returns-clause-ok c =
-    ap (λ m. record { records = from_entries c.self.inside.records.entries; next = c.self.inside.next; receipts = receipts_of c.self.inside.receipts.entries; slips = m })
-    (one_set c.self.inside.slips.entries c.insert.new.self.entries c.args.number c.args.slip c.in_ok-insert.ensures.updates.0)
-    ∙ ap (λ (s : Content). record { records = s.records; next = s.next; receipts = s.receipts; slips = map.insert s.slips c.args.number c.args.slip }) c.self.view_is
+    ap (λ m. record {
+      records = from_entries c.self.inside.records.entries;
+      next = c.self.inside.next;
+      receipts = receipts_of c.self.inside.receipts.entries;
+      slips = m;
+    })
+    (one_set c.self.inside.slips.entries c.insert.new.self.entries c.args.number c.args.slip
+    c.in_ok-insert.ensures.updates.0)
+    ∙ ap (λ (s : Content). record {
+      records = s.records;
+      next = s.next;
+      receipts = s.receipts;
+      slips = map.insert s.slips c.args.number c.args.slip;
+    }) c.self.view_is
 
 pub returns-clause-before : goal.returns-clause-before
 returns-clause-before c =

@@ -7,9 +7,19 @@ use Rattle.archive_state.proofs.state.State.remove_record.Goals as goal
 
 pub returns-clause-removed : goal.returns-clause-removed
 returns-clause-removed c =
-    ap (λ m. record { records = m; next = c.self.inside.next; receipts = receipts_of c.self.inside.receipts.entries; slips = from_entries c.self.inside.slips.entries })
+    ap (λ m. record {
+      records = m;
+      next = c.self.inside.next;
+      receipts = receipts_of c.self.inside.receipts.entries;
+      slips = from_entries c.self.inside.slips.entries;
+    })
     (one_removed c.self.inside.records.entries c.remove.new.self.entries c.args.number c.remove.ensures.updates.0)
-    ∙ ap (λ (s : Content). record { records = map.remove s.records c.args.number; next = s.next; receipts = s.receipts; slips = s.slips }) c.self.view_is
+    ∙ ap (λ (s : Content). record {
+      records = map.remove s.records c.args.number;
+      next = s.next;
+      receipts = s.receipts;
+      slips = s.slips;
+    }) c.self.view_is
 
 pub returns-clause-before : goal.returns-clause-before
 returns-clause-before c =

@@ -7,9 +7,19 @@ use Rattle.archive_state.proofs.state.State.remove_slip.Goals as goal
 
 pub returns-clause-removed : goal.returns-clause-removed
 returns-clause-removed c =
-    ap (λ m. record { records = from_entries c.self.inside.records.entries; next = c.self.inside.next; receipts = receipts_of c.self.inside.receipts.entries; slips = m })
+    ap (λ m. record {
+      records = from_entries c.self.inside.records.entries;
+      next = c.self.inside.next;
+      receipts = receipts_of c.self.inside.receipts.entries;
+      slips = m;
+    })
     (one_removed c.self.inside.slips.entries c.remove.new.self.entries c.args.number c.remove.ensures.updates.0)
-    ∙ ap (λ (s : Content). record { records = s.records; next = s.next; receipts = s.receipts; slips = map.remove s.slips c.args.number }) c.self.view_is
+    ∙ ap (λ (s : Content). record {
+      records = s.records;
+      next = s.next;
+      receipts = s.receipts;
+      slips = map.remove s.slips c.args.number;
+    }) c.self.view_is
 
 pub returns-clause-before : goal.returns-clause-before
 returns-clause-before c =

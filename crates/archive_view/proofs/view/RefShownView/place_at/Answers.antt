@@ -8,6 +8,7 @@ returns-clause-shows c = λ _. (
   tt,
   λ held shown. (
     shown,
-    subst (λ (s : Content). IsLowest (λ n. HasPath s.records n c.args.path.now) c.place_at.result) (c.as_state.ensures ∙ sym shown) c.place_at.ensures,
+    subst (λ (s : Content). IsLowest (λ n. HasPath s.records n c.args.path.now) c.place_at.result)
+        (c.as_state.ensures ∙ sym shown) c.place_at.ensures,
   ),
 )

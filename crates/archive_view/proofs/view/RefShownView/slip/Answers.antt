@@ -4,4 +4,9 @@ use Rattle.archive_state.specs.Content.{Content}
 use Rattle.archive_view.proofs.view.RefShownView.slip.Goals as goal
 
 pub returns-clause-shows : goal.returns-clause-shows
-returns-clause-shows c = λ _. (tt, λ held shown. (shown, sym (ap (λ (x : Content). map.get x.slips c.args._number) shown ∙ map.get-empty _ c.args._number)))
+returns-clause-shows c =
+    λ _. (
+      tt,
+      λ held shown.
+          (shown, sym (ap (λ (x : Content). map.get x.slips c.args._number) shown ∙ map.get-empty _ c.args._number)),
+    )

@@ -9,6 +9,7 @@ returns-clause-shows c = λ _. (
   tt,
   λ held shown. (
     shown,
-    subst (λ (s : Content). IsLowest (λ n. IsEntryAt s.records c.args.source c.args.kind c.args.page.now c.args.item n) c.entry_at.result) (sym shown) c.entry_at.ensures,
+    subst (λ (s : Content). IsLowest (λ n. IsEntryAt s.records c.args.source c.args.kind c.args.page.now c.args.item n)
+        c.entry_at.result) (sym shown) c.entry_at.ensures,
   ),
 )

@@ -13,9 +13,11 @@ invariant_of-result c =
     let utf8 : IsUtf8 (string_bytes c.in-Ok.spelling) = let utf8 = c.as_str.utf8 in search rules in
     let known = c.of_value.type_inv in
     let text : MatchOption c.in_ok-date.date (Unit {0}) (λ d. IsText d.text) = search rules in
-    let date = subst (λ (t : List ℕ). MatchOption c.in_ok-date.date (¬ (IsText t)) (λ d. d.text ≡ t)) (sym c.in-Ok.ensures.canonical) c.in_ok-date.ensures in
+    let date = subst (λ (t : List ℕ). MatchOption c.in_ok-date.date (¬ (IsText t)) (λ d. d.text ≡ t))
+    (sym c.in-Ok.ensures.canonical) c.in_ok-date.ensures in
     record {
       some = some;
-      written = written_by (string_bytes c.in-Ok.spelling) (view c.args.value.now) c.in-Ok.ensures.again c.in-Ok.ensures.canonical;
+      written = written_by (string_bytes c.in-Ok.spelling) (view c.args.value.now) c.in-Ok.ensures.again
+          c.in-Ok.ensures.canonical;
       said = said_date (string_bytes c.in-Ok.spelling) c.in_ok-date.date utf8 date text;
     }

@@ -10,8 +10,14 @@ returns-in-Ok-clause-led c =
     record {
       trace = s.0;
       nodes = c.in-Ok.ensures.grown ∙ grown_one _ c.args.piece.now;
-      sound = record { traced = s.1; stacked = c.in-Ok.ensures.stacked; deep = c.in-Ok.ensures.deep; plain = c.in-Ok.ensures.plain };
+      sound = record {
+        traced = s.1;
+        stacked = c.in-Ok.ensures.stacked;
+        deep = c.in-Ok.ensures.deep;
+        plain = c.in-Ok.ensures.plain;
+      };
     }
 
 pub returns-in-Err-clause-fault : goal.returns-in-Err-clause-fault
-returns-in-Err-clause-fault c = or_err (refused_one _ _ c.args.piece.now _ c.requires.sound.traced) c.in-Err.ensures.seen
+returns-in-Err-clause-fault c = or_err (refused_one _ _ c.args.piece.now _ c.requires.sound.traced)
+    c.in-Err.ensures.seen

@@ -5,7 +5,8 @@ use Rattle.gedcom_tree.proofs.Led.{begun, begun_traced, names_none}
 use Rattle.gedcom_tree.proofs.ended.Lines.new.Goals as goal
 
 pub returns-clause-empty : goal.returns-clause-empty
-returns-clause-empty c = begun (progress c.new.result) _ _ c.new.ensures.value (names_none _ c.new-2.ensures.none) c.new-2.ensures.none
+returns-clause-empty c = begun (progress c.new.result) _ _ c.new.ensures.value (names_none _ c.new-2.ensures.none)
+    c.new-2.ensures.none
 
 pub returns-clause-sound : goal.returns-clause-sound
 returns-clause-sound c = record {

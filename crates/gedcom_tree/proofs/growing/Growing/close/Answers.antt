@@ -11,7 +11,14 @@ returns-in_ok-push-in-Some-last_mut-clause-same c =
     let popped = c.pop.new.self.items in
     let child = c.fitted-child.result in
     closed_rolled roots popped (popped ++ child ∷ []) child p
-    (record { line = (out-Node p).line; xref = (out-Node p).xref; tag = (out-Node p).tag; value = (out-Node p).value; children = c.push.new.self }) _ refl (omega (arith, c.in-Some-last_mut.ensures.item.3.0, c.pop.new.self.ok.0)) c.in-Some-last_mut.ensures.value refl refl refl refl c.in_ok-push-in-Some-last_mut.ensures.items
+    (record {
+      line = (out-Node p).line;
+      xref = (out-Node p).xref;
+      tag = (out-Node p).tag;
+      value = (out-Node p).value;
+      children = c.push.new.self;
+    }) _ refl (omega (arith, c.in-Some-last_mut.ensures.item.3.0, c.pop.new.self.ok.0))
+    c.in-Some-last_mut.ensures.value refl refl refl refl c.in_ok-push-in-Some-last_mut.ensures.items
     ∙ same_last roots popped child c.in-Some.last c.fitted-child.ensures
     ∙ ap (built roots) (sym c.in-Some.ensures.items)
 
@@ -20,6 +27,7 @@ returns-in_ok-push-in-None-clause-same c =
     let roots = c.args.self.now.roots.items in
     let popped = c.pop.new.self.items in
     let child = c.fitted-child.result in
-    closed_at_zero roots c.push-in-None.new.self.items popped (popped ++ child ∷ []) child refl (omega (arith, c.in-None.ensures.item)) c.in_ok-push-in-None.ensures.items
+    closed_at_zero roots c.push-in-None.new.self.items popped (popped ++ child ∷ []) child refl
+    (omega (arith, c.in-None.ensures.item)) c.in_ok-push-in-None.ensures.items
     ∙ same_last roots popped child c.in-Some.last c.fitted-child.ensures
     ∙ ap (built roots) (sym c.in-Some.ensures.items)

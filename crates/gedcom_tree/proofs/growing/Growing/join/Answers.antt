@@ -13,7 +13,16 @@ returns-in_ok-join_value-clause-joined c =
     let roots = c.close_to.new.self.roots.items in
     let path = c.close_to.new.self.path.items in
     let t : List ℕ = adds (parts c.args.line.now) in
-    joined_rolled roots path p (record { line = (out-Node p).line; xref = (out-Node p).xref; tag = (out-Node p).tag; value = c.join_value.new.value; children = (out-Node p).children }) _ t
-    (omega (arith, c.in-Some.ensures.item.3.0, c.close_to.new.self.path.ok.0)) c.in-Some.ensures.value refl refl refl c.in_ok-join_value.ensures refl
-    ∙ ap (λ (k : ℕ). extended k t (built roots path)) (omega (arith, c.in_ok-close_to.ensures.depth, c.close_to.new.self.path.ok.0))
+    joined_rolled roots path p
+    (record {
+      line = (out-Node p).line;
+      xref = (out-Node p).xref;
+      tag = (out-Node p).tag;
+      value = c.join_value.new.value;
+      children = (out-Node p).children;
+    }) _ t
+    (omega (arith, c.in-Some.ensures.item.3.0, c.close_to.new.self.path.ok.0)) c.in-Some.ensures.value refl refl refl
+    c.in_ok-join_value.ensures refl
+    ∙ ap (λ (k : ℕ). extended k t (built roots path))
+    (omega (arith, c.in_ok-close_to.ensures.depth, c.close_to.new.self.path.ok.0))
     ∙ ap (extended (c.args.level - 1) t) c.in_ok-close_to.ensures.same

@@ -10,8 +10,10 @@ use Rattle.store.proofs.archive.Archive.create.Goals as goal
 
 pub returns-in-Some-clause-created : goal.returns-in-Some-clause-created
 returns-in-Some-clause-created g c =
-    subst (λ (society : List ℕ). IfOk c.create_named.result (λ made. HasCleanDisk (state g.S.Store made.conn) → SettledBlank (state g.S.Store c.args.conn)
-    → HasArchive society nothing (state g.S.Store made.conn) × LeavesArchive (state g.S.Store made.conn) society (λ found. found ≡ nothing)))
+    subst (λ (society : List ℕ). IfOk c.create_named.result (λ made. HasCleanDisk (state g.S.Store made.conn)
+    → SettledBlank (state g.S.Store c.args.conn)
+    → HasArchive society nothing (state g.S.Store made.conn) × LeavesArchive (state g.S.Store made.conn) society
+    (λ found. found ≡ nothing)))
     c.in-Some.ensures.0 c.create_named.ensures.created
 
 pub returns-in-Some-clause-refused : goal.returns-in-Some-clause-refused
@@ -19,5 +21,6 @@ returns-in-Some-clause-refused g c =
     let named = c.in-Some.ensures in
     if_err c.create_named.result (λ e refused. inr (
       subst (λ (society : List ℕ). IsSociety society) named.0 named.1,
-      subst (λ (society : List ℕ). RefusesToMake society (state g.S.Store c.args.conn) (state g.S.Store e.1) e.0) named.0 refused,
+      subst (λ (society : List ℕ). RefusesToMake society (state g.S.Store c.args.conn) (state g.S.Store e.1) e.0)
+          named.0 refused,
     )) c.create_named.ensures.refused

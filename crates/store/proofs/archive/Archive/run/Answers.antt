@@ -1,5 +1,25 @@
 -- One request more.
-use Rattle.std.proofs.Common.{rules, ◌≡◌, ◌≤◌, ◌+◌, ◌++◌, ◌∷◌, [], arith, ap, sym, subst, ◌∙◌, drop, false, true, length, refl, vec_len, vec_capacity}
+use Rattle.std.proofs.Common.{
+  rules,
+  ◌≡◌,
+  ◌≤◌,
+  ◌+◌,
+  ◌++◌,
+  ◌∷◌,
+  [],
+  arith,
+  ap,
+  sym,
+  subst,
+  ◌∙◌,
+  drop,
+  false,
+  true,
+  length,
+  refl,
+  vec_len,
+  vec_capacity,
+}
 use Rattle.std.proofs.lemmas.List.{length_push}
 use Rattle.std.specs.List.{zip}
 use Rattle.sqlite.specs.Held.{state}
@@ -21,8 +41,10 @@ requests-init g c =
       ap length none,
       short,
       room,
-      λ clean sure. subst (λ os. Performs start (zip rs os) start) (sym none) (subst (λ calls. Performs start calls start) (sym (zip_none rs))
-          (performs_none start (λ rows was t l. only_committed start rows t was (g.met.S.Store.settled conn.store t was.is_open l)) clean)),
+      λ clean sure. subst (λ os. Performs start (zip rs os) start) (sym none)
+          (subst (λ calls. Performs start calls start) (sym (zip_none rs))
+          (performs_none start (λ rows was t l. only_committed start rows t was
+          (g.met.S.Store.settled conn.store t was.is_open l)) clean)),
       subst (λ os. AreLost c.args.self.now.is_lost os c.args.self.now.is_lost) (sym none) refl,
     )
 
@@ -41,16 +63,21 @@ requests-preserved g c =
     let items : c.push.new.self.items ≡ os ++ o ∷ [] = search rules in
     let len : vec_len c.push.new.self ≡ i + 1 = search rules in
     let room : length c.args.requests.now ≤ vec_capacity c.push.new.self = search rules in
-    let here : drop (length os) rs ≡ r ∷ drop (i + 1) rs = ap (λ n. drop n rs) inv.0 ∙ item_left rs i r r c.requests-test.true c.request-item.is in
+    let here : drop (length os) rs ≡ r ∷ drop (i + 1) rs = ap (λ n. drop n rs) inv.0
+    ∙ item_left rs i r r c.requests-test.true c.request-item.is in
     let stays : now.is_lost ≡ true → next.conn ≡ now.conn = λ lost. (did.reopen lost).1 in (
       ap length items ∙ length_push os o ∙ ap (λ n. n + 1) inv.0,
       len,
       room,
       λ clean sure.
-          let goes : now.is_lost ≡ false → Performs (state g.S.Store now.conn) ((r, o) ∷ []) (state g.S.Store next.conn) = λ kept. did.performs clean kept in
+          let goes : now.is_lost ≡ false → Performs (state g.S.Store now.conn) ((r, o) ∷ [])
+          (state g.S.Store next.conn) = λ kept. did.performs clean kept in
           subst (λ xs. Performs (state g.S.Store start.conn) (zip rs xs) (state g.S.Store next.conn)) (sym items)
-          (one_more g.S.Store start.conn now.conn next.conn now.is_lost rs (drop (i + 1) rs) os r o here (omega (arith, inv.0, c.requests-test.true))
-          (subst (λ b. AreLost b os now.is_lost) sure inv.4) (inv.3 (clean_before g.S.Store now.conn next.conn now.is_lost r o goes stays clean) sure) goes stays),
+          (one_more g.S.Store start.conn now.conn next.conn now.is_lost rs (drop (i + 1) rs) os r o here
+          (omega (arith, inv.0, c.requests-test.true))
+          (subst (λ b. AreLost b os now.is_lost) sure inv.4)
+          (inv.3 (clean_before g.S.Store now.conn next.conn now.is_lost r o goes stays clean) sure) goes stays),
       subst (λ xs. AreLost start.is_lost xs next.is_lost) (sym items)
-          (lost_then start.is_lost now.is_lost next.is_lost os o inv.4 (λ lost. let again = did.reopen lost in (again.0, again.2)) (λ kept. did.lost kept)),
+          (lost_then start.is_lost now.is_lost next.is_lost os o inv.4 (λ lost. let again = did.reopen lost in
+          (again.0, again.2)) (λ kept. did.lost kept)),
     )

@@ -10,6 +10,7 @@ abbrev pub invariant-requests : goal.invariant-requests
 invariant-requests g l =
     let start = state g.S.Store l.fn.self.conn in
     let now = state g.S.Store l.self.conn in
-    (length l.outcomes.items ≡ l.request-index) × (vec_len l.outcomes ≡ l.request-index) × (length l.requests ≤ vec_capacity l.outcomes)
+    (length l.outcomes.items ≡ l.request-index) × (vec_len l.outcomes ≡ l.request-index)
+    × (length l.requests ≤ vec_capacity l.outcomes)
     × (HasCleanDisk now → l.fn.self.is_lost ≡ false → Performs start (zip l.requests l.outcomes.items) now)
     × AreLost l.fn.self.is_lost l.outcomes.items l.self.is_lost

@@ -10,5 +10,6 @@ use Rattle.store_rows.proofs.writing.record_rows.put_lines.Given as goal
 abbrev pub invariant-puts : goal.invariant-puts
 invariant-puts g l =
     (l.tx.conn.ghost_name ≡ l.fn.tx.conn.ghost_name)
-    × IsOnTheWay (state g.S.Store l.fn.tx.conn.now) (state g.S.Store l.tx.conn.now) (with_all_lines l.puts) (with_all_lines (drop l.put-index l.puts))
+    × IsOnTheWay (state g.S.Store l.fn.tx.conn.now) (state g.S.Store l.tx.conn.now) (with_all_lines l.puts)
+    (with_all_lines (drop l.put-index l.puts))
     × (EachOf IsShallowPut (drop l.put-index l.puts) → EachOf IsShallowPut l.puts)

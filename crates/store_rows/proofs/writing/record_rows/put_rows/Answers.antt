@@ -12,5 +12,7 @@ puts-preserved g c =
     let rest = drop (c.puts.put-index + 1) puts in
     let left = item_left puts c.puts.put-index put put c.puts-test.true c.put-item.is in (
       c.put_record.ensures.same_reference ∙ c.puts.invariant.0,
-      goes_on _ _ _ _ _ (with_record_row put.number (kind_word put.«record») 0) (with_record_rows rest) c.puts.invariant.1 (rw c.kind_word.ensures at c.in_ok-put_record.ensures.ok) c.put_record.ensures.survives (λ rows. ap (λ all. with_record_rows all rows) left),
+      goes_on _ _ _ _ _ (with_record_row put.number (kind_word put.«record») 0) (with_record_rows rest)
+          c.puts.invariant.1 (rw c.kind_word.ensures at c.in_ok-put_record.ensures.ok) c.put_record.ensures.survives
+          (λ rows. ap (λ all. with_record_rows all rows) left),
     )

@@ -8,4 +8,5 @@ use Rattle.store_rows.proofs.writing.record_rows.put_rows.Given as goal
 abbrev pub invariant-puts : goal.invariant-puts
 invariant-puts g l =
     (l.tx.conn.ghost_name ≡ l.fn.tx.conn.ghost_name)
-    × IsOnTheWay (state g.S.Store l.fn.tx.conn.now) (state g.S.Store l.tx.conn.now) (with_record_rows l.puts) (with_record_rows (drop l.put-index l.puts))
+    × IsOnTheWay (state g.S.Store l.fn.tx.conn.now) (state g.S.Store l.tx.conn.now) (with_record_rows l.puts)
+    (with_record_rows (drop l.put-index l.puts))

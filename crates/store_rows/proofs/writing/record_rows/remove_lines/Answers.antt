@@ -12,5 +12,7 @@ numbers-preserved g c =
     let rest = drop (c.numbers.number-index + 1) numbers in
     let left = item_left numbers c.numbers.number-index number 0 c.numbers-test.true refl in (
       c.delete_lines.ensures.same_reference ∙ c.numbers.invariant.0,
-      goes_on _ _ _ _ _ (without_lines number) (without_all_lines rest) c.numbers.invariant.1 c.in_ok-delete_lines.ensures.ok c.delete_lines.ensures.survives (λ rows. ap (λ all. without_all_lines all rows) left),
+      goes_on _ _ _ _ _ (without_lines number) (without_all_lines rest) c.numbers.invariant.1
+          c.in_ok-delete_lines.ensures.ok c.delete_lines.ensures.survives
+          (λ rows. ap (λ all. without_all_lines all rows) left),
     )

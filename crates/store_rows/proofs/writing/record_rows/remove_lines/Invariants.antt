@@ -8,4 +8,5 @@ use Rattle.store_rows.proofs.writing.record_rows.remove_lines.Given as goal
 abbrev pub invariant-numbers : goal.invariant-numbers
 invariant-numbers g l =
     (l.tx.conn.ghost_name ≡ l.fn.tx.conn.ghost_name)
-    × IsOnTheWay (state g.S.Store l.fn.tx.conn.now) (state g.S.Store l.tx.conn.now) (without_all_lines l.numbers) (without_all_lines (drop l.number-index l.numbers))
+    × IsOnTheWay (state g.S.Store l.fn.tx.conn.now) (state g.S.Store l.tx.conn.now) (without_all_lines l.numbers)
+    (without_all_lines (drop l.number-index l.numbers))

@@ -12,5 +12,7 @@ numbers-preserved g c =
     let rest = drop (c.numbers.number-index + 1) numbers in
     let left = item_left numbers c.numbers.number-index number 0 c.numbers-test.true refl in (
       c.delete_record.ensures.same_reference ∙ c.numbers.invariant.0,
-      goes_on _ _ _ _ _ (without_record_row number) (without_record_rows rest) c.numbers.invariant.1 c.in_ok-delete_record.ensures.ok c.delete_record.ensures.survives (λ rows. ap (λ all. without_record_rows all rows) left),
+      goes_on _ _ _ _ _ (without_record_row number) (without_record_rows rest) c.numbers.invariant.1
+          c.in_ok-delete_record.ensures.ok c.delete_record.ensures.survives
+          (λ rows. ap (λ all. without_record_rows all rows) left),
     )

@@ -8,4 +8,5 @@ use Rattle.store_rows.proofs.writing.record_rows.remove_rows.Given as goal
 abbrev pub invariant-numbers : goal.invariant-numbers
 invariant-numbers g l =
     (l.tx.conn.ghost_name ≡ l.fn.tx.conn.ghost_name)
-    × IsOnTheWay (state g.S.Store l.fn.tx.conn.now) (state g.S.Store l.tx.conn.now) (without_record_rows l.numbers) (without_record_rows (drop l.number-index l.numbers))
+    × IsOnTheWay (state g.S.Store l.fn.tx.conn.now) (state g.S.Store l.tx.conn.now) (without_record_rows l.numbers)
+    (without_record_rows (drop l.number-index l.numbers))

@@ -10,5 +10,6 @@ use Rattle.store_rows.proofs.writing.slip_rows.insert_changes.Given as goal
 abbrev pub invariant-changes : goal.invariant-changes
 invariant-changes g l =
     (l.tx.conn.ghost_name ≡ l.fn.tx.conn.ghost_name)
-    × IsOnTheWay (state g.S.Store l.fn.tx.conn.now) (state g.S.Store l.tx.conn.now) (with_slip_changes l.slip l.changes) (with_slip_changes l.slip (drop l.change-index l.changes))
+    × IsOnTheWay (state g.S.Store l.fn.tx.conn.now) (state g.S.Store l.tx.conn.now) (with_slip_changes l.slip l.changes)
+    (with_slip_changes l.slip (drop l.change-index l.changes))
     × (EachOf IsShallowChange (drop l.change-index l.changes) → EachOf IsShallowChange l.changes)

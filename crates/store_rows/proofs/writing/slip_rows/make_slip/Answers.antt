@@ -13,10 +13,12 @@ returns-clause-ok g c clean =
     let changes = slip.changes.items in
     let last = rw c.deref.ensures.value at (c.insert_changes.ensures.ok clean) in
     let two = c.in_ok-delete_slip_lines.ensures.ok (omega (arith, c.insert_changes.ensures.survives.clean)) in
-    let one = c.in_ok-insert_slip.ensures.ok (omega (arith, c.delete_slip_lines.ensures.survives.clean, c.insert_changes.ensures.survives.clean)) in
+    let one = c.in_ok-insert_slip.ensures.ok
+    (omega (arith, c.delete_slip_lines.ensures.survives.clean, c.insert_changes.ensures.survives.clean)) in
     let row = with_slip_row n slip.keep slip.gone slip.is_undone in
     let first = follows_then _ _ _ row (without_slip_lines n) one two in
-    rw (← c.slip.view_is) (and_last c.insert_changes.result _ _ _ (λ rows. without_slip_lines n (row rows)) (with_slip_changes n changes) first last)
+    rw (← c.slip.view_is) (and_last c.insert_changes.result _ _ _ (λ rows. without_slip_lines n (row rows))
+    (with_slip_changes n changes) first last)
 
 pub returns-clause-shallow : goal.returns-clause-shallow
 returns-clause-shallow g c = rw (← c.slip.view_is, ← c.deref.ensures.value) c.insert_changes.ensures.shallow
