@@ -2,6 +2,7 @@
 
 from __future__ import annotations
 
+import csv
 import os
 import random
 import shutil
@@ -11,7 +12,7 @@ import subprocess
 import tempfile
 import time
 
-from harness import ROOT, Case, Outcome, Tools, demand, expect, refused, refused_row, run, written
+from harness import ROOT, Case, Outcome, Tools, demand, difference, expect, refused, refused_row, run, shown, written
 
 NAME = "Ashby Family History Society"
 
@@ -34,6 +35,22 @@ WEDDING = (
 
 def lines(texts):
     return "".join(text + "\n" for text in texts).encode()
+
+
+def faults_of(answers):
+    """How each line on standard error begins where rows are answered so: a line for each row that is refused."""
+    rows = enumerate(csv.reader(answers.decode().splitlines()), 1)
+    return [f"row {n}: {row[2]} {row[3]}: " for n, row in rows if row[1] == "refused"]
+
+
+def answered(got, answers):
+    """The answers byte for byte, and beside them what is wrong with each row that is refused."""
+    expect(Outcome(got.out, b"", got.status), written(answers))
+    told = got.err.decode().split("\n")
+    wanted = [*faults_of(answers), ""]
+    same = len(told) == len(wanted) and all(line.startswith(head) for line, head in zip(told, wanted, strict=True))
+    demand(same and told[-1] == "", f"standard error has {shown(got.err)}")
+    demand(all(line.isprintable() and not line.endswith(": ") for line in told), f"no words in {shown(got.err)}")
 
 
 TABLES = ("meta", "batch", "record", "line", "receipt", "slip", "slip_line")
@@ -95,15 +112,15 @@ class Folder:
 
 def a_wedding(tools):
     with Folder(tools) as at:
-        expect(at.made().apply(), written(ANSWERS))
+        answered(at.made().apply(), ANSWERS)
 
 
 def the_same_rows_again(tools):
     """What was answered is answered again, by another run too, and nothing is made twice."""
     with Folder(tools) as at:
         at.made().apply()
-        expect(at.apply(), written(ANSWERS))
-        expect(at.apply(b"p,person,Eva,F\n"), written(b"p,ok,4,1\n"))
+        answered(at.apply(), ANSWERS)
+        answered(at.apply(b"p,person,Eva,F\n"), b"p,ok,4,1\n")
 
 
 def row_by_row(tools):
@@ -111,14 +128,16 @@ def row_by_row(tools):
     with Folder(tools) as at:
         at.made()
         for row, answer in WEDDING:
-            expect(at.apply(lines([row])), written(lines([answer])))
+            answered(at.apply(lines([row])), lines([answer]))
 
 
 def an_answer_before_the_next_row(tools):
     """Who types rows sees each answer before the next row is there."""
     with Folder(tools) as at:
         at.made()
-        process = subprocess.Popen([*at.parish, "apply", at.file], stdin=subprocess.PIPE, stdout=subprocess.PIPE)
+        process = subprocess.Popen(
+            [*at.parish, "apply", at.file], stdin=subprocess.PIPE, stdout=subprocess.PIPE, stderr=subprocess.DEVNULL
+        )
         try:
             for row, answer in WEDDING:
                 process.stdin.write(lines([row]))
@@ -137,14 +156,14 @@ def nothing_to_do(tools):
     with Folder(tools) as at:
         at.made()
         for rows in (b"", b"\n", b"\n\r\n\n", b"\xef\xbb\xbf"):
-            expect(at.apply(rows), written(b""))
+            answered(at.apply(rows), b"")
 
 
 def spellings_of_rows(tools):
     """Byte order mark, CR LF, quotes, a quoted line end, no line end at the last row, blank lines."""
     rows = b'\xef\xbb\xbfa,person,"two\nlines",M\r\n\r\n"b","person","x, y"," "\r\n\nc,person,"a ""b"" c",F'
     with Folder(tools) as at:
-        expect(at.made().apply(rows), written(b"a,ok,1,1\nb,refused,90,BadRow\nc,ok,2,1\n"))
+        answered(at.made().apply(rows), b"a,ok,1,1\nb,refused,90,BadRow\nc,ok,2,1\n")
         names = [text for (text,) in at.rows_of("SELECT text FROM line WHERE tag = 'name' ORDER BY id")]
         demand(names == ["two\nlines", 'a "b" c'], f"the names are {names}")
 
@@ -157,13 +176,156 @@ def rows_that_are_no_requests(tools):
         b"f,refused,58,BadText\ng,refused,90,BadRow\nh,ok,1,1\n"
     )
     with Folder(tools) as at:
-        expect(at.made().apply(rows), written(answers))
+        answered(at.made().apply(rows), answers)
 
 
 def a_field_of_ten_million_bytes(tools):
     with Folder(tools) as at:
         rows = b"a,person," + b"x" * 10_000_000 + b",M\nb,person,Ann,F\n"
-        expect(at.made().apply(rows), written(b"a,refused,58,BadText\nb,ok,1,1\n"))
+        answered(at.made().apply(rows), b"a,refused,58,BadText\nb,ok,1,1\n")
+
+
+# Rows that are refused, with what is wrong: the words, in an archive with what MADE makes.
+MADE = (
+    "p1,person,Ann /Lee/,F",
+    "p2,person,Tom /Lee/,M",
+    "f,family,2,1",
+    "s,source,Register,,,,",
+    "e,entry,4,BAPTISM,f. 3,1,,,,child,Ann",
+    "m0,person,Thos. /Lee/,M",
+    "m,merge,2,6",
+    "b,event,2,BIRT,,,",
+)
+TOLD = (
+    ("x,person,\xff,M", "90 BadRow: field 3 (name): it is not UTF-8"),
+    (",person,X,", "93 BadToken: field 1 (token): it is empty"),
+    ("a b,person,X,", "93 BadToken: field 1 (token): it has another character than those from ! to ~"),
+    ("t" * 65 + ",person,X,", "93 BadToken: field 1 (token): it has more than 64 characters"),
+    ("x", "92 FieldCount: there is no field behind the token"),
+    ("x,frob", "91 UnknownVerb: field 2 (verb): there is no such verb; verbs are small letters"),
+    (
+        "x,event,2,BIRT,,",
+        "92 FieldCount: the fields of event are owner, tag, value, date, place; behind the verb the row has 4",
+    ),
+    ("x,person,X,M,F", "92 FieldCount: the fields of person are name, sex; behind the verb the row has 3"),
+    ("x,person,X,m", "90 BadRow: field 4 (sex): neither empty nor M, F or U"),
+    ("x,sex,1,", "90 BadRow: field 4 (sex): none of M, F and U"),
+    ("x,name,0,X", "90 BadRow: field 3 (person): no number from 1 to 4294967295"),
+    ("x,family,1,4294967296", "90 BadRow: field 4 (wife): neither empty nor a number from 1 to 4294967295"),
+    ("x,citation,1,4,,4", "90 BadRow: field 6 (quality): neither empty nor 0, 1, 2 or 3"),
+    ("x,entry,4,BIRTH,,1,,,,child,X", "90 BadRow: field 4 (kind): none of BAPTISM, MARRIAGE and BURIAL"),
+    ("x,entry,4,BAPTISM,,1000000,,,,child,X", "90 BadRow: field 6 (item): no number from 1 to 999999"),
+    ("x,person,a\0b,M", "58 BadText: field 3 (name): it has the character U+0000"),
+    ("x,event,2,BIRT,,\"a\rb\",", "58 BadText: field 6 (date): it has a carriage return (U+000D)"),
+    ("x,repo," + "y" * 1_048_577, "58 BadText: field 3 (name): it has more than 1048576 bytes"),
+    ("x,place,,", "58 BadText: field 3 (name): it is empty"),
+    ("x,place,\"a,b\",", "58 BadText: field 3 (name): it is not normal, or its path passes the limits"),
+    ("x,source,T,,,,7", "58 BadText: field 7 (call number): it comes without a repository"),
+    ("x,link,5,1,1,", "58 BadText: field 6 (reason): it is empty"),
+    ("x,name,99,X", "50 NoSuch: field 3 (person): nothing has this number"),
+    ("x,child,99,1", "50 NoSuch: field 3 (family) or field 4 (person): nothing has this number"),
+    ("x,event,2,MARR,,,1", "51 WrongKind: field 3 (owner) or field 7 (place): what has this number is of another kind"),
+    ("x,event,4,BIRT,,,", "51 WrongKind: field 3 (owner): what has this number is of another kind"),
+    ("p1,person,X,M", "52 TokenReused: field 1 (token): another request was done under it"),
+    ("x,remove,4", "53 StillNamed: field 3 (number): another record names this one"),
+    ("x,family,1,1", "54 SamePerson: field 3 (husband) or field 4 (wife): both are one person"),
+    (
+        "x,merge,1,2",
+        "55 MergeWithinFamily: field 3 (person that stays) or field 4 (person that is gone): both are in one family, "
+        "and not both its children",
+    ),
+    ("x,child,3,1", "59 AlreadyInFamily: field 4 (person): the family has this person already"),
+    (
+        "x,entry,4,BAPTISM,f. 3,1,,,,child,X",
+        "60 DuplicateEntry: there is an entry of the same source, kind, page and item",
+    ),
+    ("x,unlink,5,2", "61 NoSuchMention: field 4 (mention): the entry has not so many mentions"),
+    ("x,event,2,MARR,,,", "62 NotOfKind: field 4 (tag): the owner has no events of this tag"),
+    ("x,entry,4,BAPTISM,,2,,,,child,X,priest,Y", "62 NotOfKind: field 12 (role): there is no such role"),
+    ("x,entry,4,BAPTISM,,2,,,,groom,X", "62 NotOfKind: a role of a mention is none of the kind of the entry"),
+    ("x,name,2,Thos.", None),
+    (
+        "x2,undo,7",
+        "56 ChangedSince: field 3 (slip): a record that the merge changed was changed since, or removed",
+    ),
+)
+
+
+def what_is_wrong_is_told(tools):
+    """Each refused row has a line on standard error, with its number and the field that is to blame."""
+    with Folder(tools) as at:
+        made = at.made().apply(lines(MADE))
+        demand(made.status == 0 and made.err == b"" and b"refused" not in made.out, f"{made}")
+        got = at.apply("\n\n".join(row for row, _ in TOLD).encode("latin-1"))
+        told = [f"row {n}: {words}" for n, (_, words) in enumerate(TOLD, 1) if words]
+        demand(got.err.decode().splitlines() == told, f"{difference(lines(told), got.err)}")
+        demand(got.status == 0 and got.out.count(b"\n") == len(TOLD), f"{got.status} {shown(got.out)}")
+        expect(at.apply(b"x3,person,Eva,F\n"), written(b"x3,ok,9,1\n"))
+
+
+def faults_that_cannot_be_told(tools):
+    """Where standard error fails or is closed, the answers and the status are the same, and so is what is done."""
+    with Folder(tools) as whole, Folder(tools) as at:
+        whole.made().apply()
+        at.made()
+        with open("/dev/full", "wb") as full:
+            got = at.apply(stderr=full)
+        demand((got.out, got.status) == (ANSWERS, 0), f"{got}")
+        demand(at.tables() == whole.tables(), "the tables differ")
+        got = run(("sh", "-c", 'exec "$@" 2>&-', "sh", *at.parish), ("apply", at.file), ROWS)
+        demand((got.out, got.status) == (ANSWERS, 0), f"{got}")
+
+
+def a_fault_is_told_behind_its_answer(tools):
+    """Who reads both streams in one sees each answer, and then what is wrong with its row."""
+    with Folder(tools) as at:
+        got = at.made().apply(stderr=subprocess.STDOUT)
+        told = iter(faults_of(ANSWERS))
+        for answer in ANSWERS.decode().splitlines():
+            line, _, rest = got.out.decode().partition("\n")
+            demand(line == answer, f"{line} for {answer}")
+            if ",refused," in answer:
+                line, _, rest = rest.partition("\n")
+                demand(line.startswith(next(told)), f"{line} behind {answer}")
+            got = Outcome(rest.encode(), b"", got.status)
+        demand(got.out == b"", f"{got.out!r} is left")
+
+
+def an_open_quote(tools):
+    """A quote that is not closed takes the rows behind it into its field: there are fewer answers than rows."""
+    rows = b'a,person,Ann,F\nb,person,"Tom,M\nc,person,Eva,F\nd,person,Joe,M\n'
+    with Folder(tools) as at:
+        answered(at.made().apply(rows), b"a,ok,1,1\nb,refused,92,FieldCount\n")
+        answered(at.apply(rows.replace(b'"', b"")), b"a,ok,1,1\nb,ok,2,1\nc,ok,3,1\nd,ok,4,1\n")
+
+
+def a_file_with_two_names(tools):
+    """A hard link is refused, by either name, and nothing changes; with one name again the archive is there."""
+    with Folder(tools) as at:
+        at.made().apply(b"a,person,Ann,F\n")
+        other = os.path.join(at.path, "other.db")
+        os.link(at.file, other)
+        for at.file in (at.file, other):
+            expect(at.apply(b"b,person,Eva,F\n"), refused(80))
+        os.remove(other)
+        at.file = os.path.join(at.path, "ashby.db")
+        answered(at.apply(b"b,person,Eva,F\n"), b"b,ok,2,1\n")
+
+
+def going_back_to_a_copy(tools):
+    """FILE and its log are moved away, the copy is put in place, and the later rows are sent again."""
+    with Folder(tools) as at:
+        at.made().apply(b"a,person,Ann,F\n")
+        copy = os.path.join(at.path, "copy.db")
+        shutil.copy(at.file, copy)
+        at.apply(b"b,person,Eva,F\n")
+        wanted = at.tables()
+        for name in ("ashby.db", "ashby.db-wal"):
+            if os.path.exists(os.path.join(at.path, name)):
+                os.rename(os.path.join(at.path, name), os.path.join(at.path, f"old-{name}"))
+        os.rename(copy, at.file)
+        answered(at.apply(b"a,person,Ann,F\nb,person,Eva,F\n"), b"a,ok,1,1\nb,ok,2,1\n")
+        demand(at.tables() == wanted, "the tables differ")
 
 
 def init_over_an_archive(tools):
@@ -172,7 +334,7 @@ def init_over_an_archive(tools):
         before = at.tables()
         expect(at.init("Another"), refused(82))
         demand(at.tables() == before, "the tables changed")
-        expect(at.apply(b"p,person,Eva,F\n"), written(b"p,ok,4,1\n"))
+        answered(at.apply(b"p,person,Eva,F\n"), b"p,ok,4,1\n")
 
 
 def init_over_another_database(tools):
@@ -188,7 +350,7 @@ def init_over_an_empty_file(tools):
         with open(at.file, "wb"):
             pass
         expect(at.apply(), refused(82))
-        expect(at.made().apply(), written(ANSWERS))
+        answered(at.made().apply(), ANSWERS)
 
 
 def a_society_without_a_name(tools):
@@ -271,7 +433,7 @@ def an_output_that_is_full(tools):
         at.made()
         with open("/dev/full", "wb") as full:
             expect(at.apply(stdout=full), refused(95))
-        expect(at.apply(), written(ANSWERS))
+        answered(at.apply(), ANSWERS)
 
 
 def a_reader_that_left(tools):
@@ -283,7 +445,7 @@ def a_reader_that_left(tools):
             expect(at.apply(stdout=writing), refused(95))
         finally:
             os.close(writing)
-        expect(at.apply(), written(ANSWERS))
+        answered(at.apply(), ANSWERS)
 
 
 def an_output_that_fails(tools):
@@ -319,7 +481,7 @@ def an_output_that_fails(tools):
             process.wait()
         kept = at.rows_of("SELECT token FROM receipt ORDER BY id")
         demand(kept == [("t1",), ("t2",), ("t3",)], f"kept is {kept}")
-        expect(at.apply(lines(rows)), written(lines(answers)))
+        answered(at.apply(lines(rows)), lines(answers))
 
 
 def an_input_that_fails(tools):
@@ -330,7 +492,7 @@ def an_input_that_fails(tools):
             expect(at.apply(stdin=folder), refused(94))
         finally:
             os.close(folder)
-        expect(at.apply(), written(ANSWERS))
+        answered(at.apply(), ANSWERS)
 
 
 def a_copy_is_an_archive(tools):
@@ -347,9 +509,9 @@ def a_copy_is_an_archive(tools):
         copy.close()
         for name in ("copy.db", "backup.db"):
             at.file = os.path.join(at.path, name)
-            expect(at.apply(), written(ANSWERS))
+            answered(at.apply(), ANSWERS)
             demand(at.tables() == tables, f"the tables of {name} differ")
-            expect(at.apply(b"p,person,Eva,F\n"), written(b"p,ok,4,1\n"))
+            answered(at.apply(b"p,person,Eva,F\n"), b"p,ok,4,1\n")
 
 
 def init_takes_no_input(tools):
@@ -370,7 +532,7 @@ def a_full_disk(tools):
         done = got.out.count(b"\n")
         expect(got, Outcome(lines(answers[:done]), refused(80).err, 1))
         demand(done < 100, "nothing was stopped")
-        expect(at.apply(lines(rows)), written(lines(answers)))
+        answered(at.apply(lines(rows)), lines(answers))
 
 
 def generated(seed, count, *how):
@@ -384,7 +546,9 @@ def killed(at, rows, after):
     with tempfile.TemporaryFile() as given:
         given.write(rows)
         given.seek(0)
-        process = subprocess.Popen([*at.parish, "apply", at.file], stdin=given, stdout=subprocess.PIPE)
+        process = subprocess.Popen(
+            [*at.parish, "apply", at.file], stdin=given, stdout=subprocess.PIPE, stderr=subprocess.DEVNULL
+        )
     got = b""
     while len(got) < after:
         piece = os.read(process.stdout.fileno(), min(64, after - len(got)))
@@ -403,7 +567,7 @@ def killed_and_run_again(tools, seed=1, count=300, stops=10, rows=None):
     rows = generated(seed, count, "lasting") if rows is None else rows
     with Folder(tools) as whole:
         wanted = whole.made().apply(rows)
-        demand(wanted.status == 0 and wanted.err == b"", f"{wanted.status} {wanted.err!r}")
+        answered(wanted, wanted.out)
         kept = whole.tables()
     rng = random.Random(seed)
     with Folder(tools) as at:
@@ -428,7 +592,7 @@ def a_page_of_a_register(tools):
         at.with_register()
         for _ in range(2):
             expect(at.entries(lines([BAPTISM, BURIAL])), written(b"made 2 entries, first 2\n"))
-        expect(at.apply(rows), written(answers))
+        answered(at.apply(rows), answers)
         expect(at.entries(lines([BAPTISM, BURIAL]), token="other"), refused_row(60, 1))
         expect(at.entries(lines([BAPTISM])), refused(52))
 
@@ -446,6 +610,8 @@ def batches_that_are_refused(tools):
         ([BAPTISM, "BURIAL,f. 4,1" + ",,,Ann" + ",buried,Ann" * 101], 92, 2),
         ([BAPTISM, "BURIAL,f. 4,1,,7,Ann,buried,Ann"], 50, 2),
         ([BAPTISM, "BURIAL,f. 4,1,,1,Ann,buried,Ann"], 51, 2),
+        ([BAPTISM, "BURIAL,f. 4,1,,2,Ann,buried,Ann"], 51, 2),  # the number of the entry before
+        ([BAPTISM, "BURIAL,f. 4,1,,3,Ann,buried,Ann"], 50, 2),  # its own
         ([BAPTISM, "BURIAL,f. 4,1,,,A\0nn,buried,Ann"], 58, 2),
     )
     with Folder(tools) as at:
@@ -458,7 +624,7 @@ def batches_that_are_refused(tools):
 def a_source_is_looked_at_before_the_rows(tools):
     with Folder(tools) as at:
         at.with_register()
-        expect(at.apply(b"p,person,Ann,F\n"), written(b"p,ok,2,1\n"))
+        answered(at.apply(b"p,person,Ann,F\n"), b"p,ok,2,1\n")
         for source, number in ((9, 50), (2, 51)):
             expect(at.entries(lines([BAPTISM, BAPTISM]), source=source), refused(number))
 
@@ -508,10 +674,10 @@ def one_entry_across_batches(tools):
     others = ["MARRIAGE,f. 3,1,,,,groom,Ann", "BAPTISM,F. 3,1,,,,child,Ann", "BAPTISM,f. 3,2,,,,child,Ann", "BAPTISM,,1,,,,child,Ann"]
     with Folder(tools) as at:
         at.with_register()
-        expect(at.apply(b"s,source,Second,,,,\n"), written(b"s,ok,2,1\n"))
+        answered(at.apply(b"s,source,Second,,,,\n"), b"s,ok,2,1\n")
         expect(at.entries(lines([BAPTISM])), written(b"made 1 entries, first 3\n"))
         expect(at.entries(lines([*others, "BAPTISM,f. 3,001,,,,child,Eva"]), token="b"), refused_row(60, 5))
-        expect(at.apply(b"e,entry,1,BAPTISM,f. 3,1,,,,child,Eva\n"), written(b"e,refused,60,DuplicateEntry\n"))
+        answered(at.apply(b"e,entry,1,BAPTISM,f. 3,1,,,,child,Eva\n"), b"e,refused,60,DuplicateEntry\n")
         expect(at.entries(lines([*others, *others[:1]]), token="c"), refused_row(60, 5))
         expect(at.entries(lines(others), token="d"), written(b"made 4 entries, first 4\n"))
         expect(at.entries(lines([BAPTISM]), source=2, token="e"), written(b"made 1 entries, first 8\n"))
@@ -525,7 +691,7 @@ def a_token_of_a_batch(tools):
         expect(at.entries(lines([BAPTISM])), written(b"made 1 entries, first 2\n"))
         expect(at.entries(b"\n" + lines([BAPTISM.replace("15 APR 1699/00", "15 apr  1699/00")])), written(b"made 1 entries, first 2\n"))
         expect(at.entries(lines([BAPTISM]), source=2), refused(52))
-        expect(at.apply(b"batch,person,Ann,F\n"), written(b"batch,refused,52,TokenReused\n"))
+        answered(at.apply(b"batch,person,Ann,F\n"), b"batch,refused,52,TokenReused\n")
         expect(at.entries(lines([BURIAL]), token="r"), refused(52))
 
 
@@ -571,6 +737,12 @@ TESTS = (
     nothing_to_do,
     spellings_of_rows,
     rows_that_are_no_requests,
+    what_is_wrong_is_told,
+    faults_that_cannot_be_told,
+    a_fault_is_told_behind_its_answer,
+    an_open_quote,
+    a_file_with_two_names,
+    going_back_to_a_copy,
     a_field_of_ten_million_bytes,
     init_over_an_archive,
     init_over_another_database,

@@ -79,8 +79,9 @@ def archive_of(command, seed, batches):
 
 
 def said(outcome):
-    """What is compared of a run: not how much it read of what a refusal leaves unread."""
-    return outcome.out, outcome.err, outcome.status
+    """What is compared of a run: not how much it read of what a refusal leaves unread, nor what is told of its rows."""
+    told = [line for line in outcome.err.splitlines() if not line.startswith(b"row ")]
+    return outcome.out, told, outcome.status
 
 
 def compared(command, rows, seed):

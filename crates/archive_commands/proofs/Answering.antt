@@ -11,7 +11,9 @@ use Rattle.archive_core.specs.Machine.{Done}
 use Rattle.record_text.specs.declared.refusal.RefusalKind.{RefusalKind}
 use Rattle.record_text.specs.declared.refusal.RefusalKind.TheVariants.{ReadFailed, WriteFailed}
 use Rattle.store.specs.declared.archive.Archive.{Archive}
-use Rattle.tables.specs.Applying.{Applied, Ended, PerformsAll, calls_of}
+use Rattle.tables.specs.Applying.{PerformsAll, calls_of}
+use Rattle.tables.specs.RowByRow.{AppliedInTurn, EndedInTurn}
+use Rattle.tables.proofs.InTurn.{all_told}
 use Rattle.archive_commands.specs.Applying.{Answered, PerformsOn, Unanswered}
 use Rattle.archive_commands.specs.Opening.{IsTakenUp}
 
@@ -31,9 +33,12 @@ module _ {D : Type 0} {g : disk.Ghosts D} (image : Image) (old new : Archive (Fi
       let has = (taken did.clean society c t holds is).0 in
       ((λ none. did.done none society c has), did.crash society c has))
 
-  pub all_answered : {A : Type 0} (r : Result A RefusalKind) (input before after : Option (List ℕ))
-      → OnOk r (Applied over_files input before after old new) → OnOk r (Answered image input before after (Some conn))
-  all_answered (Ok a) input before after all = record {
+  pub all_answered : {A W F : Type 0} (r : Result A RefusalKind) (input : Option (List ℕ))
+      (written : W → Option (List ℕ)) (told : F → Option (List ℕ)) (a b : W) (x y : F)
+      → OnOk r (AppliedInTurn over_files written told input (record { archive = old; output = a; faults = x })
+      (record { archive = new; output = b; faults = y }))
+      → OnOk r (Answered image input (written a) (written b) (told x) (told y) (Some conn))
+  all_answered (Ok one) input written told a b x y (all, turn) = record {
     rows = all.rows;
     served = all.served;
     all = all.all;
@@ -41,16 +46,18 @@ module _ {D : Type 0} {g : disk.Ghosts D} (image : Image) (old new : Archive (Fi
     certain = all.certain;
     performed = performed_on (calls_of all.served) all.performed;
     written = all.written;
+    faulted = all_told over_files written told 1 all.served _ _ turn;
   }
-  all_answered (Err kind) input before after all = tt
+  all_answered (Err kind) input written told a b x y all = tt
 
-  pub part_answered : {A : Type 0} (r : Result A RefusalKind) (input before after : Option (List ℕ))
-      (ReaderFailed WriterFailed : Type 0)
-      → IfErr r (λ kind. Ended over_files kind input before after old new) → (r ≡ Err ReadFailed → ReaderFailed)
-      → (r ≡ Err WriteFailed → WriterFailed)
-      → IfErr r (λ kind. Unanswered image kind input before after ReaderFailed WriterFailed (Some conn))
-  part_answered (Ok a) input before after ReaderFailed WriterFailed part reads writes = tt
-  part_answered (Err kind) input before after ReaderFailed WriterFailed part reads writes = inr (
+  pub part_answered : {A W F : Type 0} (r : Result A RefusalKind) (input : Option (List ℕ))
+      (written : W → Option (List ℕ)) (told : F → Option (List ℕ)) (a b : W) (x y : F) (ReaderFailed WriterFailed : Type 0)
+      → IfErr r (λ kind. EndedInTurn over_files written told kind input
+      (record { archive = old; output = a; faults = x }) (record { archive = new; output = b; faults = y }))
+      → (r ≡ Err ReadFailed → ReaderFailed) → (r ≡ Err WriteFailed → WriterFailed)
+      → IfErr r (λ kind. Unanswered image kind input (written a) (written b) ReaderFailed WriterFailed (Some conn))
+  part_answered (Ok one) input written told a b x y ReaderFailed WriterFailed part reads writes = tt
+  part_answered (Err kind) input written told a b x y ReaderFailed WriterFailed (part, turn) reads writes = inr (
     ((λ is. reads (ap Err is)), (λ is. writes (ap Err is))),
     record {
       rows = part.rows;

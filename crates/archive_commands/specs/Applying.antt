@@ -15,6 +15,7 @@ use Rattle.store.specs.Archives.{HasArchive, LeavesArchive}
 use Rattle.store.specs.Histories.{MayBeFound, in_doubt}
 use Rattle.tables.specs.Answers.{Served}
 use Rattle.tables.specs.Applying.{AreServed, Ends, answers, calls_of}
+use Rattle.tables.specs.RowByRow.{AreTold}
 use Rattle.batch_reading.specs.Input.{AreFirstRows, AreRows, Row}
 use Rattle.archive_commands.specs.Opening.{Unopened, WhereHeld}
 
@@ -34,8 +35,9 @@ module _ {D : Type 0} {g : disk.Ghosts D} where
   abbrev pub IsPerformed : Image → List Done → Option (Held (FileStore D g)) → Type 0
   IsPerformed image calls left = IsSomeAnd left (λ conn. PerformsOn image calls (file_state conn))
 
-  -- all rows of the input were served on the archive, none is in doubt, and their answers were written
-  pub record Answered (image : Image) (input before after : Option (List ℕ))
+  -- all rows of the input were served on the archive, none is in doubt, their answers were written, and what is wrong
+  -- with those that are refused was told on the faults
+  pub record Answered (image : Image) (input before after quiet told : Option (List ℕ))
       (left : Option (Held (FileStore D g))) : Type 0 where
     pub rows : List Row
     pub served : List Served
@@ -44,6 +46,7 @@ module _ {D : Type 0} {g : disk.Ghosts D} where
     pub certain : in_doubt (calls_of served) ≡ None
     pub performed : IsPerformed image (calls_of served) left
     pub written : Appends before after (answers served)
+    pub faulted : AreTold 1 served quiet told
 
   -- the first rows were served on it, and of their answers what the reason leaves was written
   pub record PartAnswered (image : Image) (kind : RefusalKind) (input before after : Option (List ℕ))

@@ -33,27 +33,28 @@ pub fn init<S: Start>(
     }
 }
 
-/// `apply`: the requests of the rows of the input, done on the archive in a file, with their answers on the output; and
-/// the connection over the file where one was opened.
+/// `apply`: the requests of the rows of the input, done on the archive in a file, with their answers on the output, and
+/// on the faults what is wrong with those that are refused; and the connection over the file where one was opened.
 ///
 /// 82: there is no file, or it has no archive. 83: a later program made it. 80: the file cannot be opened or is no
 /// database. At these nothing is read and nothing written. Else it ends as `tables::apply` does.
-pub fn apply<S: Start, R: Read + Device, W: Write + Device>(
+pub fn apply<S: Start, R: Read + Device, W: Write + Device, F: Write + Device>(
     rt: &HostRuntime,
     file: &str,
     start: S,
     input: &mut R,
     output: &mut W,
+    faults: &mut F,
 ) -> (Result<(), RefusalKind>, Option<OpenFile<S>>)
     ensures answered { OnOk result.0 (Answered (image_at S.Start) (row_bytes (R.remaining input.old))
-        (W.contents output.old) (W.contents output.new) result.1) }
+        (W.contents output.old) (W.contents output.new) (F.contents faults.old) (F.contents faults.new) result.1) }
     ensures stopped { IfErr result.0 (λ kind. Unanswered (image_at S.Start) kind (row_bytes (R.remaining input.old))
         (W.contents output.old) (W.contents output.new)
         (Rose (R.failed input.old) (R.failed input.new)) (Rose (W.failed output.old) (W.failed output.new)) result.1) }
 {
     match open(rt, file, start) {
         Ok(mut archive) => {
-            let outcome = tables::apply(rt.alloc(), &mut archive, input, output);
+            let outcome = tables::apply(rt.alloc(), &mut archive, input, output, faults);
             (outcome, Some(archive.into_connection()))
         }
         Err((kind, left)) => (Err(kind), left),

@@ -45,9 +45,9 @@ module _ {D : Type 0} {g : disk.Ghosts D} (image : Image) where
     refused = λ _. (refusal.OutOfMemory, inr (inl refl));
   }
 
-  pub apply_wanting : (status : ℕ) (input old : Option (List ℕ)) (ReaderFailed WriterFailed : Type 0) → status ≡ 1
-      → ApplyEnds {D = D} {g = g} image status input old old ReaderFailed WriterFailed None
-  apply_wanting status input old ReaderFailed WriterFailed e = record {
+  pub apply_wanting : (status : ℕ) (input old quiet told : Option (List ℕ)) (ReaderFailed WriterFailed : Type 0)
+      → status ≡ 1 → ApplyEnds {D = D} {g = g} image status input old old quiet told ReaderFailed WriterFailed None
+  apply_wanting status input old quiet told ReaderFailed WriterFailed e = record {
     bound = omega (arith, e);
     done = λ none. absurd (omega (arith, e, none));
     refused = λ _. (refusal.OutOfMemory, inl (refl, refl, keeps old));
@@ -68,17 +68,17 @@ module _ {D : Type 0} {g : disk.Ghosts D} (image : Image) where
     refused = λ one. (kind, unmade);
   }
 
-  apply_by : {A : Type 0} (r : Result A RefusalKind) (status : ℕ) (input old new : Option (List ℕ))
+  apply_by : {A : Type 0} (r : Result A RefusalKind) (status : ℕ) (input old new quiet told : Option (List ℕ))
       (ReaderFailed WriterFailed : Type 0) (left : Option (Held (FileStore D g)))
-      → status ≡ (if is_ok r then 0 else 1) → OnOk r (Answered image input old new left)
+      → status ≡ (if is_ok r then 0 else 1) → OnOk r (Answered image input old new quiet told left)
       → IfErr r (λ kind. Unanswered image kind input old new ReaderFailed WriterFailed left)
-      → ApplyEnds image status input old new ReaderFailed WriterFailed left
-  apply_by (Ok a) status input old new ReaderFailed WriterFailed left e all part = record {
+      → ApplyEnds image status input old new quiet told ReaderFailed WriterFailed left
+  apply_by (Ok a) status input old new quiet told ReaderFailed WriterFailed left e all part = record {
     bound = omega (arith, e);
     done = λ zero. all;
     refused = λ one. absurd (omega (arith, e, one));
   }
-  apply_by (Err kind) status input old new ReaderFailed WriterFailed left e all part = record {
+  apply_by (Err kind) status input old new quiet told ReaderFailed WriterFailed left e all part = record {
     bound = omega (arith, e);
     done = λ zero. absurd (omega (arith, e, zero));
     refused = λ one. (kind, inr part);
@@ -93,12 +93,25 @@ module _ {D : Type 0} {g : disk.Ghosts D} (image : Image) where
       subst (λ (x : Option (Held (FileStore D g))). InitEnds image named status x) (sym same)
       (subst (λ (x : List ℕ). InitEnds image x status left) is (init_by r given status left e made unmade))
 
-  pub apply_ends : {A : Type 0} (r : Result A RefusalKind) (status : ℕ) (input old new : Option (List ℕ))
+  -- what ends with 0 tells no more
+  still_told : {A F : Type 0} (r : Result A RefusalKind) (input old new : Option (List ℕ)) (told : F → Option (List ℕ))
+      (quiet between after : F) (left : Option (Held (FileStore D g))) → OnOk r (after ≡ between)
+      → OnOk r (Answered image input old new (told quiet) (told between) left)
+      → OnOk r (Answered image input old new (told quiet) (told after) left)
+  still_told {F = F} (Ok a) input old new told quiet between after left kept all =
+      subst (λ (f : F). Answered image input old new (told quiet) (told f) left) (sym kept) all
+  still_told (Err kind) input old new told quiet between after left kept all = tt
+
+  pub apply_ends : {A F : Type 0} (r : Result A RefusalKind) (status : ℕ) (input old new : Option (List ℕ))
+      (told : F → Option (List ℕ)) (quiet between after : F)
       (ReaderFailed WriterFailed : Type 0) (left back : Option (Held (FileStore D g)))
-      → back ≡ left → status ≡ (if is_ok r then 0 else 1) → OnOk r (Answered image input old new left)
+      → back ≡ left → OnOk r (after ≡ between) → status ≡ (if is_ok r then 0 else 1)
+      → OnOk r (Answered image input old new (told quiet) (told between) left)
       → IfErr r (λ kind. Unanswered image kind input old new ReaderFailed WriterFailed left)
-      → ApplyEnds image status input old new ReaderFailed WriterFailed back
-  apply_ends r status input old new ReaderFailed WriterFailed left back same e all part =
-      subst (λ (x : Option (Held (FileStore D g))). ApplyEnds image status input old new ReaderFailed WriterFailed x)
+      → ApplyEnds image status input old new (told quiet) (told after) ReaderFailed WriterFailed back
+  apply_ends r status input old new told quiet between after ReaderFailed WriterFailed left back same kept e all part =
+      subst (λ (x : Option (Held (FileStore D g))). ApplyEnds image status input old new (told quiet) (told after)
+      ReaderFailed WriterFailed x)
       (sym same)
-      (apply_by r status input old new ReaderFailed WriterFailed left e all part)
+      (apply_by r status input old new (told quiet) (told after) ReaderFailed WriterFailed left e
+      (still_told r input old new told quiet between after left kept all) part)

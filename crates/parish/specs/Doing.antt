@@ -31,11 +31,12 @@ module _ {R W : Type 0} (reader : read.Ghosts R) (reads : device.Ghosts R) (writ
       CheckEnds status (reader.remaining input) (writer.contents output) (writer.contents written)
       (HasReadFailed input rest) (HasWriteFailed output written)
 
-  abbrev pub Applies : {D : Type 0} {g : disk.Ghosts D} → Image → ℕ → R → R → W → W
-      → Option (Held (FileStore D g)) → Type 0
-  Applies image status input rest output written left =
+  -- the last two texts are what the faults had before and have after
+  abbrev pub Applies : {D : Type 0} {g : disk.Ghosts D} → Image → ℕ → R → R → W → W → Option (List ℕ)
+      → Option (List ℕ) → Option (Held (FileStore D g)) → Type 0
+  Applies image status input rest output written quiet told left =
       ApplyEnds image status (row_bytes (reader.remaining input)) (writer.contents output) (writer.contents written)
-      (HasReadFailed input rest) (HasWriteFailed output written) left
+      quiet told (HasReadFailed input rest) (HasWriteFailed output written) left
 
   -- a batch under this token, of this source
   abbrev pub EntersBatch : {D : Type 0} {g : disk.Ghosts D} → Image → List ℕ → ℕ → ℕ → R → R → W → W

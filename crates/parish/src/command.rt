@@ -52,8 +52,8 @@ const WRITE_FAILED: TreeFault = TreeFault {
 /// Does what the words ask for, the program's name first, and gives the exit status, with the connection over the
 /// archive's file where one was opened. Who calls closes it.
 ///
-/// Results go to `output`, a refusal goes to `faults` as one line. Where `faults` fails too, the
-/// status tells alone. Where the words are refused nothing is read, and nothing written elsewhere.
+/// Results go to `output`, a refusal goes to `faults` as one line, and so does what is wrong with a row of `apply` that
+/// is refused. Where `faults` fails too, the status tells alone. Where the words are refused nothing is read, and nothing written elsewhere.
 /// Words that are taken are never refused: what they name is done, with 0, or 1 and a reason.
 pub fn command<S: Start, R: Read + Device, W: Write + Device, F: Write + Device>(
     rt: &HostRuntime,
@@ -64,7 +64,7 @@ pub fn command<S: Start, R: Read + Device, W: Write + Device, F: Write + Device>
     faults: &mut F,
 ) -> (u8, Option<OpenFile<S>>)
     ensures status { result.0 ≤ 2 }
-    ensures done { result.0 ≡ 0 → faults.new ≡ faults.old }
+    ensures done { result.0 ≡ 0 → ¬ (AreOf (map string_bytes words.now) (codes "apply")) → faults.new ≡ faults.old }
     ensures words { result.0 ≡ 2 → (input.new ≡ input.old) × (output.new ≡ output.old) × (result.1 ≡ None) }
     ensures norm { AreOf (map string_bytes words.now) (codes "norm")
         → Normalises R.Read R.Device W.Write W.Device result.0 input.old input.new output.old output.new }
@@ -75,7 +75,7 @@ pub fn command<S: Start, R: Read + Device, W: Write + Device, F: Write + Device>
         × (input.new ≡ input.old) × (output.new ≡ output.old) }
     ensures apply { AreOf (map string_bytes words.now) (codes "apply")
         → Applies R.Read R.Device W.Write W.Device (image_at S.Start) result.0 input.old input.new output.old
-        output.new result.1 }
+        output.new (F.contents faults.old) (F.contents faults.new) result.1 }
     ensures entries { AreOf (map string_bytes words.now) (codes "entries")
         → EntersBatch R.Read R.Device W.Write W.Device (image_at S.Start) (token_in (map string_bytes words.now))
         (source_in (map string_bytes words.now))
@@ -100,7 +100,7 @@ fn work<S: Start, R: Read + Device, W: Write + Device, F: Write + Device>(
     faults: &mut F,
 ) -> (u8, Option<OpenFile<S>>)
     ensures status { result.0 ≤ 1 }
-    ensures done { result.0 ≡ 0 → faults.new ≡ faults.old }
+    ensures done { result.0 ≡ 0 → ¬ (name_of asked.entry ≡ Some (codes "apply")) → faults.new ≡ faults.old }
     ensures norm { name_of asked.entry ≡ Some (codes "norm")
         → Normalises R.Read R.Device W.Write W.Device result.0 input.old input.new output.old output.new }
     ensures check { name_of asked.entry ≡ Some (codes "check")
@@ -110,7 +110,7 @@ fn work<S: Start, R: Read + Device, W: Write + Device, F: Write + Device>(
         × (output.new ≡ output.old) }
     ensures apply { name_of asked.entry ≡ Some (codes "apply")
         → Applies R.Read R.Device W.Write W.Device (image_at S.Start) result.0 input.old input.new output.old
-        output.new result.1 }
+        output.new (F.contents faults.old) (F.contents faults.new) result.1 }
     ensures entries { (found : _) → HasWords found asked.entry → name_of asked.entry ≡ Some (codes "entries")
         → EntersBatch R.Read R.Device W.Write W.Device (image_at S.Start) (word_in found (codes "token"))
         (number_of (word_in found (codes "source")))
@@ -121,7 +121,10 @@ fn work<S: Start, R: Read + Device, W: Write + Device, F: Write + Device>(
         Asked::Norm => (norm(rt.alloc(), input, output, faults), None),
         Asked::Check => (check(rt.alloc(), input, output, faults), None),
         Asked::Init { file, society } => finished(init(rt, file, society, start), faults),
-        Asked::Apply { file } => finished(apply(rt, file, start, input, output), faults),
+        Asked::Apply { file } => {
+            let done = apply(rt, file, start, input, output, faults);
+            finished(done, faults)
+        }
         Asked::Entries {
             file,
             source,

@@ -1,4 +1,5 @@
 mod Entered
+mod InTurn
 mod OnTheWay
 mod One
 mod Outcomes

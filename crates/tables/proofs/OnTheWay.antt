@@ -101,10 +101,24 @@ pub record OnTheWay {S : Type 0} (g : Ghosts S) (known left : Option (List ℕ))
   pub performed : PerformsAll g old (calls_of served) new
   pub written : Appends before after (answers served)
 
+-- of the rows that were served P is said beside it
+abbrev pub OnTheWayWith : {S : Type 0} (g : Ghosts S) (known left : Option (List ℕ)) (at : State)
+    (before after : Option (List ℕ)) (old new : Archive S g) → (List Served → Type 0) → Type 0
+OnTheWayWith g known left at before after old new P = (w : OnTheWay g known left at before after old new) × P w.served
+
+abbrev pub AppliedWith : {S : Type 0} (g : Ghosts S) (known before after : Option (List ℕ)) (old new : Archive S g)
+    → (List Served → Type 0) → Type 0
+AppliedWith g known before after old new P = (all : Applied g known before after old new) × P all.served
+
+abbrev pub EndedWith : {S : Type 0} (g : Ghosts S) (kind : RefusalKind) (known before after : Option (List ℕ))
+    (old new : Archive S g) → (List Served → Type 0) → Type 0
+EndedWith g kind known before after old new P = (part : Ended g kind known before after old new) × P part.served
+
 pub at_start : {S : Type 0} (g : Ghosts S) (known out : Option (List ℕ)) (archive : Archive S g)
-    → PerformsAll g archive [] archive → OnTheWay g known known st.StartRecord out out archive archive
-at_start g known out archive none =
-    record {
+    (P : List Served → Type 0) → PerformsAll g archive [] archive → P []
+    → OnTheWayWith g known known st.StartRecord out out archive archive P
+at_start g known out archive P none p =
+    (record {
       rows = [];
       served = [];
       took = took_none known;
@@ -113,16 +127,16 @@ at_start g known out archive none =
       kept = λ was. was;
       performed = none;
       written = Appends-nil out;
-    }
+    }, p)
 
 module _ {S : Type 0} (g : Ghosts S) (known left : Option (List ℕ)) (at : State) (before after : Option (List ℕ))
     (old now : Archive S g) (w : OnTheWay g known left at before after old now) where
   -- a row more, which was answered
   pub one_more : (row : Row) (next : Archive S g) (rest out : Option (List ℕ)) (s : Served) (to : State)
       → Took known (w.rows ++ row ∷ []) to rest → IsServed row s → Steps g s now next → is_in_doubt s ≡ false
-      → Appends after out (answer_text s)
-      → OnTheWay g known rest to before out old next
-  one_more row next rest out s to took is steps sure wrote = record {
+      → Appends after out (answer_text s) → (P : List Served → Type 0) → P (w.served ++ s ∷ [])
+      → OnTheWayWith g known rest to before out old next P
+  one_more row next rest out s to took is steps sure wrote P p = (record {
     rows = w.rows ++ row ∷ [];
     served = w.served ++ s ∷ [];
     took = took;
@@ -132,10 +146,11 @@ module _ {S : Type 0} (g : Ghosts S) (known left : Option (List ℕ)) (at : Stat
     performed = performed_more g old now next w.served s w.certain w.kept w.performed steps;
     written = subst (Appends before out) (sym (answers_sure w.served s sure))
         (Appends-trans before after out _ _ w.written wrote);
-  }
+  }, p)
 
-  pub all_applied : AreRows known w.rows → Applied g known before after old now
-  all_applied all = record {
+  pub all_applied : (P : List Served → Type 0) → P w.served → AreRows known w.rows
+      → AppliedWith g known before after old now P
+  all_applied P p all = (record {
     rows = w.rows;
     served = w.served;
     all = all;
@@ -144,7 +159,7 @@ module _ {S : Type 0} (g : Ghosts S) (known left : Option (List ℕ)) (at : Stat
     kept = w.kept;
     performed = w.performed;
     written = w.written;
-  }
+  }, p)
 
   ends_unread : (kind : RefusalKind) → (kind ≡ OutOfMemory) ⊎ (kind ≡ ReadFailed) → Ends kind w.served before after
   ends_unread kind (inl e) = inr (w.certain, inr (inl e, all_written before after _ w.written))
@@ -156,9 +171,9 @@ module _ {S : Type 0} (g : Ghosts S) (known left : Option (List ℕ)) (at : Stat
   lost_unread kind (inr e) was = w.kept was ∙ sym (ap is_storage e)
 
   -- no row more was read
-  pub ended_unread : (kind : RefusalKind) → (kind ≡ OutOfMemory) ⊎ (kind ≡ ReadFailed)
-      → Ended g kind known before after old now
-  ended_unread kind why = record {
+  pub ended_unread : (P : List Served → Type 0) → P w.served → (kind : RefusalKind)
+      → (kind ≡ OutOfMemory) ⊎ (kind ≡ ReadFailed) → EndedWith g kind known before after old now P
+  ended_unread P p kind why = (record {
     rows = w.rows;
     served = w.served;
     first = took_first known left w.rows at w.took;
@@ -166,14 +181,16 @@ module _ {S : Type 0} (g : Ghosts S) (known left : Option (List ℕ)) (at : Stat
     performed = w.performed;
     lost = lost_unread kind why;
     written = ends_unread kind why;
-  }
+  }, p)
 
   -- nothing was done of the row that was read
-  pub ended_same : (kind : RefusalKind) (next : Archive S g) (out : Option (List ℕ)) → kind ≡ OutOfMemory → next ≡ now
-      → out ≡ after → Ended g kind known before out old next
-  ended_same kind next out why same kept =
-      subst (λ (a : Archive S g). Ended g kind known before out old a) (sym same)
-      (subst (λ (o : Option (List ℕ)). Ended g kind known before o old now) (sym kept) (ended_unread kind (inl why)))
+  pub ended_same : (P : List Served → Type 0) → P w.served → (kind : RefusalKind) (next : Archive S g)
+      (out : Option (List ℕ)) → kind ≡ OutOfMemory → next ≡ now
+      → out ≡ after → EndedWith g kind known before out old next P
+  ended_same P p kind next out why same kept =
+      subst (λ (a : Archive S g). EndedWith g kind known before out old a P) (sym same)
+      (subst (λ (o : Option (List ℕ)). EndedWith g kind known before o old now P) (sym kept)
+      (ended_unread P p kind (inl why)))
 
   ends_doubted : (kind : RefusalKind) (s : Served) → is_in_doubt s ≡ true → kind ≡ Storage
       → Ends kind (w.served ++ s ∷ []) before after
@@ -207,11 +224,11 @@ module _ {S : Type 0} (g : Ghosts S) (known left : Option (List ℕ)) (at : Stat
       (λ sure p. kept_more g old now next w.served s steps sure w.kept was ∙ sym (not_storage kind p.0))
 
   -- a row more, which was not answered whole
-  pub ended_row : (kind : RefusalKind) (row : Row) (next : Archive S g) (rest out : Option (List ℕ)) (s : Served)
-      (to : State) → Took known (w.rows ++ row ∷ []) to rest → IsServed row s → Steps g s now next
+  pub ended_row : (P : List Served → Type 0) (kind : RefusalKind) (row : Row) (next : Archive S g)
+      (rest out : Option (List ℕ)) (s : Served) (to : State) → P (w.served ++ s ∷ []) → Took known (w.rows ++ row ∷ []) to rest → IsServed row s → Steps g s now next
       → MatchBool (is_in_doubt s) ((kind ≡ Storage) × (out ≡ after)) (WritesPart kind after out (answer_text s))
-      → Ended g kind known before out old next
-  ended_row kind row next rest out s to took is steps h = record {
+      → EndedWith g kind known before out old next P
+  ended_row P kind row next rest out s to p took is steps h = (record {
     rows = w.rows ++ row ∷ [];
     served = w.served ++ s ∷ [];
     first = took_first known rest (w.rows ++ row ∷ []) to took;
@@ -219,7 +236,7 @@ module _ {S : Type 0} (g : Ghosts S) (known left : Option (List ℕ)) (at : Stat
     performed = performed_more g old now next w.served s w.certain w.kept w.performed steps;
     lost = lost_row kind next out s steps h;
     written = ends_row kind s out h;
-  }
+  }, p)
 
 -- ---- a reader that did not count its error
 blameless_ends : (served : List Served) (before after : Option (List ℕ)) (kind : RefusalKind) → kind ≡ ReadFailed
@@ -231,19 +248,19 @@ blameless_ends served before after kind is (inr h) = elim h.1 [
 ]
 
 pub told_so : {S : Type 0} (g : Ghosts S) (kind told : RefusalKind) (known before after : Option (List ℕ))
-    (old new : Archive S g) {Risen : Type 0}
+    (old new : Archive S g) (P : List Served → Type 0) {Risen : Type 0}
     → ((told ≡ kind) × (kind ≡ ReadFailed → Risen)) ⊎ ((kind ≡ ReadFailed) × (told ≡ OutOfMemory))
-    → Ended g kind known before after old new → Ended g told known before after old new
-told_so g kind told known before after old new (inl h) e =
-    subst (λ (k : RefusalKind). Ended g k known before after old new) (sym h.0) e
-told_so g kind told known before after old new (inr h) e =
-    subst (λ (k : RefusalKind). Ended g k known before after old new) (sym h.1)
+    → EndedWith g kind known before after old new P → EndedWith g told known before after old new P
+told_so g kind told known before after old new P (inl h) e =
+    subst (λ (k : RefusalKind). EndedWith g k known before after old new P) (sym h.0) e
+told_so g kind told known before after old new P (inr h) e =
+    subst (λ (k : RefusalKind). EndedWith g k known before after old new P) (sym h.1)
     (record {
-      rows = e.rows;
-      served = e.served;
-      first = e.first;
-      each = e.each;
-      performed = e.performed;
-      lost = λ was. e.lost was ∙ ap is_storage h.0;
-      written = blameless_ends e.served before after kind h.0 e.written;
-    })
+      rows = e.0.rows;
+      served = e.0.served;
+      first = e.0.first;
+      each = e.0.each;
+      performed = e.0.performed;
+      lost = λ was. e.0.lost was ∙ ap is_storage h.0;
+      written = blameless_ends e.0.served before after kind h.0 e.0.written;
+    }, e.1)

@@ -2,3 +2,4 @@ pub mod Answers
 pub mod Applying
 pub mod Entering
 pub mod Requests
+pub mod RowByRow

@@ -1,7 +1,8 @@
-use Rattle.std.proofs.Common.{◌≡◌, ◌∙◌, refl, sym, codes, map, string_bytes}
+use Rattle.std.proofs.Common.{◌≡◌, ◌∙◌, refl, sym, subst, codes, map, string_bytes}
 use Rattle.std.specs.Prelude.{List, ℕ, Option, Some, None, IfSome, IsSome}
 use Rattle.clap.specs.Words.{subcommand_of}
 use Rattle.command_line.specs.Commands.{IsTaken, command_named, name_of, program}
+use Rattle.parish.specs.Ends.{AreOf}
 use Rattle.parish.proofs.Entered.{entries_wanting}
 use Rattle.parish.proofs.Ending.{apply_wanting, check_wanting, init_wanting, norm_wanting}
 use Rattle.parish.proofs.command.command.Goals as goal
@@ -17,6 +18,18 @@ asked_for_nothing : (o : Option (List ℕ)) (words : List (List ℕ))
     → IfSome o (λ n. IsTaken words × (command_named words ≡ Some n)) → ¬ (IsTaken words) → o ≡ None
 asked_for_nothing (Some n) words is none = absurd (none is.0)
 asked_for_nothing None words is none = refl
+
+-- what is asked for has the name of no command but that of the words
+asked_alone : (o : Option (List ℕ)) (words : List (List ℕ)) (name : List ℕ)
+    → IfSome o (λ n. IsTaken words × (command_named words ≡ Some n)) → o ≡ Some name → AreOf words name
+asked_alone o words name is e =
+    subst (λ (x : Option (List ℕ)). IfSome x (λ n. IsTaken words × (command_named words ≡ Some n))) e is
+
+pub returns-in-Ok-clause-done : goal.returns-in-Ok-clause-done
+returns-in-Ok-clause-done g c = λ zero other.
+    c.work.ensures.done zero
+    (λ is. other (asked_alone (name_of c.in-Ok.asked) (map string_bytes c.args.words.now) (codes "apply")
+    c.in-Ok.ensures.asked.0 is))
 
 pub returns-in-Ok-clause-norm : goal.returns-in-Ok-clause-norm
 returns-in-Ok-clause-norm g c = λ are.
@@ -62,7 +75,7 @@ pub returns-clause-check : goal.returns-clause-check
 returns-clause-check g c = λ words. check_wanting c.refuse.result _ _ _ _ c.refuse.ensures
 
 pub returns-clause-apply : goal.returns-clause-apply
-returns-clause-apply g c = λ words. apply_wanting _ c.refuse.result _ _ _ _ c.refuse.ensures
+returns-clause-apply g c = λ words. apply_wanting _ c.refuse.result _ _ _ _ _ _ c.refuse.ensures
 
 pub returns-clause-init : goal.returns-clause-init
 returns-clause-init g c = λ words. (init_wanting _ _ c.refuse.result c.refuse.ensures, refl, refl)

@@ -1,6 +1,6 @@
-use Rattle.std.proofs.Common.{refl, subst}
+use Rattle.std.proofs.Common.{ap, refl, subst}
 use Rattle.sqlite_wal.specs.Files.{image_at}
-use Rattle.command_line.specs.Commands.{HasWords}
+use Rattle.command_line.specs.Commands.{HasWords, name_of}
 use Rattle.parish.proofs.Entered.{entries_ends}
 use Rattle.parish.proofs.Ending.{apply_ends, init_ends}
 use Rattle.parish.proofs.command.work.Goals as goal
@@ -20,8 +20,11 @@ pub returns-in-Apply-clause-apply : goal.returns-in-Apply-clause-apply
 returns-in-Apply-clause-apply g c = λ _.
     let did = c.apply.ensures in
     let ended = c.finished-in-Apply.ensures in
-    apply_ends (image_at g.S.Start) c.apply.result.0 c.finished-in-Apply.result.0 _ _ _ _ _ c.apply.result.1
-    c.finished-in-Apply.result.1 ended.left ended.status did.answered did.stopped
+    apply_ends (image_at g.S.Start) c.apply.result.0 c.finished-in-Apply.result.0 _ _ _ g.F.Write.contents _ _ _ _ _
+    c.apply.result.1 c.finished-in-Apply.result.1 ended.left ended.done ended.status did.answered did.stopped
+
+pub returns-in-Apply-clause-done : goal.returns-in-Apply-clause-done
+returns-in-Apply-clause-done g c = λ _ other. absurd (other (ap name_of c.in-Apply.is))
 
 pub returns-in-Entries-clause-entries : goal.returns-in-Entries-clause-entries
 returns-in-Entries-clause-entries g c = λ found has _.

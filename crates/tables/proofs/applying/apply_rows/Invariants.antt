@@ -1,7 +1,8 @@
 use Rattle.std.proofs.Common.{◌≡◌, true}
 use Rattle.csv.specs.Reading.{Ready, default_config, is_flexible, reader_config, reader_state, reader_trim, source_of}
 use Rattle.csv.specs.declared.reader.Trim.TheVariants as trim
-use Rattle.tables.proofs.OnTheWay.{OnTheWay}
+use Rattle.tables.proofs.InTurn.{InTurn}
+use Rattle.tables.proofs.OnTheWay.{OnTheWayWith}
 use Rattle.tables.proofs.applying.apply_rows.Given as goal
 
 abbrev pub invariant-rows : goal.invariant-rows
@@ -10,7 +11,10 @@ invariant-rows g l = record {
   plain : reader_trim l.rows ≡ trim.None;
   config : reader_config l.rows ≡ default_config;
   flexible : is_flexible l.rows ≡ true;
-  way : OnTheWay g.S.Store (source_of g.R.Read.remaining l.fn.rows) (source_of g.R.Read.remaining l.rows)
+  way : OnTheWayWith g.S.Store (source_of g.R.Read.remaining l.fn.rows) (source_of g.R.Read.remaining l.rows)
       (reader_state l.rows)
-      (g.W.Write.contents l.fn.output) (g.W.Write.contents l.output) l.fn.archive l.archive;
+      (g.W.Write.contents l.fn.output) (g.W.Write.contents l.output) l.fn.archive l.archive
+      (InTurn g.S.Store g.W.Write.contents g.F.Write.contents l.number
+      (record { archive = l.fn.archive; output = l.fn.output; faults = l.fn.faults })
+      (record { archive = l.archive; output = l.output; faults = l.faults }));
 }
