@@ -16,7 +16,7 @@ from dataclasses import dataclass
 from harness import ROOT, Case, Outcome, demand, expect, run, shown
 
 # All that the two commands may call beside rt.
-NEEDED = "bash dirname env grep mktemp python3 readlink rm sed sh tail tee".split()
+NEEDED = "bash dirname env grep mktemp nproc python3 readlink rm sed sh tail tee".split()
 # What their stand-ins call.
 NEEDED_HERE = "cat chmod cp mkdir mv sleep".split()
 
@@ -166,6 +166,15 @@ def made_again_after_an_edit(copy):
     demand(copy.calls("run") == made + 2, "not made again for another kit")
 
 
+def all_processors(copy):
+    passes_on(copy)
+    with open(copy.env["RT_CALLS"], encoding="utf-8") as calls:
+        made = [line.split() for line in calls if line.startswith("run ")]
+    demand(made[0][:2] == ["run", "--jobs"], f"rt is called as {made}")
+    demand(1 <= int(made[0][2]) <= (os.cpu_count() or 1), f"rt gets {made[0][2]} processors")
+    demand(made[0][3:] == ["--", "--version"], f"rt is called as {made}")
+
+
 def not_made_again(copy):
     passes_on(copy)
     for file in ("crates/other/src/lib.rt", "crates/low/must-fail/a.edit", "README.md"):
@@ -295,6 +304,7 @@ def proofs_that_fail(copy):
 SCRIPTS = (
     ("./parish makes the program once and passes all on", made_once),
     ("./parish makes the program again after an edit", made_again_after_an_edit),
+    ("./parish shares the work among processors", all_processors),
     ("./parish makes nothing again where the program is the same", not_made_again),
     ("./parish runs no executable of other sources", made_again_where_another_build_left_it),
     ("./parish ends with 3 where the program is not proved", not_proved),
