@@ -287,8 +287,8 @@ def a_reader_that_left(tools):
 
 
 def an_output_that_fails(tools):
-    """An output that cannot be written to, from the start or after an answer. Rows that were done are kept, and each that was
-    acknowledged is among them; sent again they get their answers."""
+    """An output that cannot be written to, from the start or after an answer. Rows that were done are kept, and each
+    that was acknowledged is among them; sent again they get their answers."""
     rows = [f"t{n},person,Ann /{n}/,F" for n in range(1, 51)]
     answers = [f"t{n},ok,{n},1" for n in range(1, 51)]
     with Folder(tools) as at:
@@ -341,7 +341,8 @@ def a_copy_is_an_archive(tools):
         first = at.file
         for name in sorted(os.listdir(at.path)):
             shutil.copy(os.path.join(at.path, name), os.path.join(at.path, name.replace("ashby", "copy")))
-        source, copy = sqlite3.connect(f"file:{first}?mode=ro", uri=True), sqlite3.connect(os.path.join(at.path, "backup.db"))
+        source = sqlite3.connect(f"file:{first}?mode=ro", uri=True)
+        copy = sqlite3.connect(os.path.join(at.path, "backup.db"))
         source.backup(copy)
         source.close()
         copy.close()
@@ -360,7 +361,8 @@ def init_takes_no_input(tools):
 
 
 def a_full_disk(tools):
-    """Where no more may be written to a file, 80; what was answered is kept, and the rest is done when there is room."""
+    """Where no more may be written to a file, 80; what was answered is kept, and the rest is done when there is
+    room."""
     with Folder(tools) as at:
         at.made()
         rows = [f"t{n},person,{'x' * 2_000} /{n}/,M" for n in range(1, 101)]
@@ -399,7 +401,8 @@ def killed(at, rows, after):
 
 
 def killed_and_run_again(tools, seed=1, count=300, stops=10, rows=None):
-    """A program that is killed at some moment, and again: the rows sent again get the answers of a run that was not stopped."""
+    """A program that is killed at some moment, and again: the rows sent again get the answers of a run that was not
+    stopped."""
     rows = generated(seed, count, "lasting") if rows is None else rows
     with Folder(tools) as whole:
         wanted = whole.made().apply(rows)
@@ -481,7 +484,9 @@ def a_batch_without_an_archive(tools):
 def the_longest_entry(tools):
     with Folder(tools) as at:
         at.with_register()
-        expect(at.entries(lines(["BURIAL,,0000999999,,," + ",buried,Ann" * 100])), written(b"made 1 entries, first 2\n"))
+        expect(
+            at.entries(lines(["BURIAL,,0000999999,,," + ",buried,Ann" * 100])), written(b"made 1 entries, first 2\n")
+        )
 
 
 ROLES = {
@@ -504,8 +509,14 @@ def roles_of_each_kind(tools):
 
 
 def one_entry_across_batches(tools):
-    """An entry is one by its source, kind, page and item, however the item is written; another of these makes another entry."""
-    others = ["MARRIAGE,f. 3,1,,,,groom,Ann", "BAPTISM,F. 3,1,,,,child,Ann", "BAPTISM,f. 3,2,,,,child,Ann", "BAPTISM,,1,,,,child,Ann"]
+    """An entry is one by its source, kind, page and item, however the item is written; another of these makes another
+    entry."""
+    others = [
+        "MARRIAGE,f. 3,1,,,,groom,Ann",
+        "BAPTISM,F. 3,1,,,,child,Ann",
+        "BAPTISM,f. 3,2,,,,child,Ann",
+        "BAPTISM,,1,,,,child,Ann",
+    ]
     with Folder(tools) as at:
         at.with_register()
         expect(at.apply(b"s,source,Second,,,,\n"), written(b"s,ok,2,1\n"))
@@ -518,12 +529,16 @@ def one_entry_across_batches(tools):
 
 
 def a_token_of_a_batch(tools):
-    """A token is kept with the source and the rows of its batch: another batch, or a row of requests, is 52 under it. A refused batch keeps none."""
+    """A token is kept with the source and the rows of its batch: another batch, or a row of requests, is 52 under it. A
+    refused batch keeps none."""
     with Folder(tools) as at:
         at.with_register()
         expect(at.entries(lines([BAPTISM, BAPTISM])), refused_row(60, 2))
         expect(at.entries(lines([BAPTISM])), written(b"made 1 entries, first 2\n"))
-        expect(at.entries(b"\n" + lines([BAPTISM.replace("15 APR 1699/00", "15 apr  1699/00")])), written(b"made 1 entries, first 2\n"))
+        expect(
+            at.entries(b"\n" + lines([BAPTISM.replace("15 APR 1699/00", "15 apr  1699/00")])),
+            written(b"made 1 entries, first 2\n"),
+        )
         expect(at.entries(lines([BAPTISM]), source=2), refused(52))
         expect(at.apply(b"batch,person,Ann,F\n"), written(b"batch,refused,52,TokenReused\n"))
         expect(at.entries(lines([BURIAL]), token="r"), refused(52))

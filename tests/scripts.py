@@ -6,19 +6,22 @@ The copy has the two commands, their sum of the sources, and crates of one file 
 
 from __future__ import annotations
 
+import errno
 import os
 import shutil
 import stat
 import tempfile
 import threading
+import time
 from dataclasses import dataclass
 
-from harness import ROOT, Case, Outcome, demand, expect, run, shown
+from harness import ROOT, Case, Failed, Outcome, demand, expect, run, shown
 
 # All that the two commands may call beside rt.
 NEEDED = "bash dirname env grep mktemp nproc python3 readlink rm sed sh tail tee".split()
 # What their stand-ins call.
 NEEDED_HERE = "cat chmod cp mkdir mv sleep".split()
+TRIES = 20
 
 RT = """#!/bin/sh
 # Stands in for the toolchain: $RT_SAYS has what each call does.
@@ -74,7 +77,15 @@ class Copy:
             os.chmod(path, os.stat(path).st_mode | stat.S_IXUSR)
 
     def run(self, name, *words, given=b"", **how):
-        return run((self.path(name),), words, given, **{"env": self.env, **how})
+        # A process that another case begins has, for a moment, the files open that this one has just written.
+        for _ in range(TRIES):
+            try:
+                return run((self.path(name),), words, given, **{"env": self.env, **how})
+            except OSError as error:
+                if error.errno != errno.ETXTBSY:
+                    raise
+                time.sleep(0.1)
+        raise Failed(f"{name} could not be started {TRIES} times")
 
     def calls(self, verb):
         """How often rt was called so."""
