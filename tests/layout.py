@@ -19,10 +19,12 @@ KINDS = (".md", ".rt", ".antt", ".py", ".sh")
 LEFT_OUT = {".git", "out", "__pycache__"}
 
 # Files with lines that cannot be broken, and what such a line has: a list of lemmas for the prover,
-# which `rt fmt` writes on one line; a statement of SQL, which is one string; a fact of a type.
+# which `rt fmt` writes on one line; a statement of SQL, which is one string; a fact of a type; a row
+# of a table, in documents whose tables are no lists yet.
 LEMMAS = re.compile(r"^\s*#\[tactic\(")
 STATEMENT = re.compile(r'"CREATE ')
 FACT = re.compile(r"^\s*ghost \w+: ")
+TABLE = re.compile(r"^ *\|")
 LONGER = {
     "crates/archive_core/src/applying.rt": LEMMAS,
     "crates/archive_looks/src/names.rt": LEMMAS,
@@ -32,6 +34,9 @@ LONGER = {
     "crates/place_paths/src/paths.rt": LEMMAS,
     "crates/store_tables/proofs/Texts.antt": STATEMENT,
     "crates/store_tables/src/creating.rt": STATEMENT,
+    "docs/FORMATS.md": TABLE,
+    "docs/KEEPING.md": TABLE,
+    "docs/REFUSALS.md": TABLE,
 }
 
 LINK = re.compile(r"\]\(([^)\s]+)\)")
