@@ -19,6 +19,16 @@ pub no_person_path : (m : Records) (n : ℕ) (p : model.Person) → get m n ≡ 
 unfolding path_of
 no_person_path m n p at = person_path_by (n + 1) m n p at
 
+pub no_place_person : (p : model.Person) → is_wanted a_place (kind.Person p) ≡ true → ⊥
+no_place_person p e = let none : false ≡ true = e in absurd cc
+
+pub no_source_person : (p : model.Person) → is_wanted a_source (kind.Person p) ≡ true → ⊥
+no_source_person p e = let none : false ≡ true = e in absurd cc
+
+pub either_none : (b : Bool) (o : Option (List ℕ)) → o ≡ None → (if b then o else None) ≡ None
+either_none true o e = e
+either_none false o e = refl
+
 -- ---- a part of the records
 module _ (part all : Records) (within : (n : ℕ) (r : Record) → get part n ≡ Some r → get all n ≡ Some r) where
   climbs_within : (n : ℕ) (names : List (List ℕ)) → Climbs part n names → Climbs all n names
