@@ -126,7 +126,8 @@ module _ (source : ℕ) (k : EntryKind) (page : List ℕ) (item : Item) where
             (bytes_eq e.page page && e.item.number == item.number) rest).0),
         bytes_are e.page page (and_parts (bytes_eq e.page page) (e.item.number == item.number) last).0,
         same_item e.item item
-            (eqb-true e.item.number item.number (and_parts (bytes_eq e.page page) (e.item.number == item.number) last).1),
+            (eqb-true e.item.number item.number
+            (and_parts (bytes_eq e.page page) (e.item.number == item.number) last).1),
       )
 
   like_is : (r : Record) → is_like source k page item r ≡ true → (e : model.Entry) × (r ≡ kind.Entry e)

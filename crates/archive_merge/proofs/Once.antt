@@ -61,10 +61,12 @@ module _ (P : Link → Type 0) where
       (each_both P (carried_links a) (carried_links b) h k)
 
   front_lines : (a b : Lines) → EachOf P (carried_links (a ++ b)) → EachOf P (carried_links a)
-  front_lines a b h = each_front P (carried_links a) (carried_links b) (subst (EachOf P) (flat_map-append line_links a b) h)
+  front_lines a b h = each_front P (carried_links a) (carried_links b)
+      (subst (EachOf P) (flat_map-append line_links a b) h)
 
   back_lines : (a b : Lines) → EachOf P (carried_links (a ++ b)) → EachOf P (carried_links b)
-  back_lines a b h = each_back P (carried_links a) (carried_links b) (subst (EachOf P) (flat_map-append line_links a b) h)
+  back_lines a b h = each_back P (carried_links a) (carried_links b)
+      (subst (EachOf P) (flat_map-append line_links a b) h)
 
   -- ---- persons
   sex_links : (s t : Option Sex) → EachOf P (carried_links (second_sex s t))

@@ -1,10 +1,11 @@
 -- Paths of places: a person has none, and in a part of the records no place has another one than in all.
 use Rattle.std.proofs.Common.{◌≡◌, ◌⊎◌, ℕ, ◌+◌, zero, suc, List, [], ◌∷◌, refl, sym, ap, ◌∙◌, inl, inr}
-use Rattle.std.specs.Prelude.{Option, Some, None}
+use Rattle.std.specs.Prelude.{Bool, true, false, Option, Some, None, if◌then◌else◌}
 use Rattle.std.specs.FinMap.{get}
 use Rattle.record_kinds.specs.Model as model
 use Rattle.record_kinds.specs.declared.record.Record.{Record}
 use Rattle.record_kinds.specs.declared.record.Record.TheVariants as kind
+use Rattle.record_links.specs.Links.{a_place, a_source, is_wanted}
 use Rattle.archive_state.specs.Content.{Records}
 use Rattle.archive_state.specs.Known.{path_with, path_by, path_of}
 use Rattle.archive_state.specs.Paths.{Climbs, HasPath}

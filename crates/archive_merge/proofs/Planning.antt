@@ -79,7 +79,8 @@ module _ (c : Content) (keep gone n : ℕ) (k g : model.Person) (at_k : person_a
   step_is =
       let rest5 : ℕ → RowStep = λ n. Ok (with_merge keep gone c (n + 1), record { first = n; count = 1 }) in
       let rest4 : Unit {0} → RowStep = λ _. and_then (next_free c) rest5 in
-      let rest3 : Unit {0} → RowStep = λ _. and_then (need (not (is_clash keep gone c.records)) MergeWithinFamily) rest4 in
+      let rest3 : Unit {0} → RowStep = λ _. and_then
+      (need (not (is_clash keep gone c.records)) MergeWithinFamily) rest4 in
       let rest2 : model.Person → RowStep = λ _. and_then (need (not (keep == gone)) SamePerson) rest3 in
       let rest1 : model.Person → RowStep = λ _. and_then (person_at c gone) rest2 in
       ap (λ x. and_then x rest1) at_k ∙ ap (λ x. and_then x rest2) at_g

@@ -99,7 +99,8 @@ pub merged_by : (c after : Content) (keep gone : ℕ) (a : Answer) → merge_ste
 merged_by c after keep gone a e =
     let rest5 : ℕ → RowStep = λ n. Ok (with_merge keep gone c (n + 1), record { first = n; count = 1 }) in
     let rest4 : Unit {0} → RowStep = λ _. and_then (next_free c) rest5 in
-    let rest3 : Unit {0} → RowStep = λ _. and_then (need (not (is_clash keep gone c.records)) MergeWithinFamily) rest4 in
+    let rest3 : Unit {0} → RowStep = λ _. and_then
+    (need (not (is_clash keep gone c.records)) MergeWithinFamily) rest4 in
     let rest2 : model.Person → RowStep = λ _. and_then (need (not (keep == gone)) SamePerson) rest3 in
     let rest1 : model.Person → RowStep = λ _. and_then (person_at c gone) rest2 in
     let h1 = passed (person_at c keep) rest1 (after, a) e in
@@ -150,7 +151,8 @@ pub record Undone (c : Content) (n : ℕ) (after : Content) : Type 0 where
 pub undone_by : (c after : Content) (n : ℕ) (a : Answer) → undo_step c n ≡ Ok (after, a) → Undone c n after
 undone_by c after n a e =
     let rest3 : Slip → Unit {0} → RowStep = λ s _. Ok (with_undo n s c, record { first = 0; count = 0 }) in
-    let rest2 : Slip → Unit {0} → RowStep = λ s _. and_then (need (is_now c.records s.changes) ChangedSince) (rest3 s) in
+    let rest2 : Slip → Unit {0} → RowStep = λ s _. and_then
+    (need (is_now c.records s.changes) ChangedSince) (rest3 s) in
     let rest1 : Slip → RowStep = λ s. and_then (need (not s.is_undone) AlreadyUndone) (rest2 s) in
     let h1 = passed (slip_at c n) rest1 (after, a) e in
     let h2 = passed (need (not h1.0.is_undone) AlreadyUndone) (rest2 h1.0) (after, a) h1.2 in
@@ -170,7 +172,8 @@ pub undone_answer : (c after : Content) (n : ℕ) (a : Answer) → undo_step c n
     → (a.first ≡ 0) × (a.count ≡ 0)
 undone_answer c after n a e =
     let rest3 : Slip → Unit {0} → RowStep = λ s _. Ok (with_undo n s c, record { first = 0; count = 0 }) in
-    let rest2 : Slip → Unit {0} → RowStep = λ s _. and_then (need (is_now c.records s.changes) ChangedSince) (rest3 s) in
+    let rest2 : Slip → Unit {0} → RowStep = λ s _. and_then
+    (need (is_now c.records s.changes) ChangedSince) (rest3 s) in
     let rest1 : Slip → RowStep = λ s. and_then (need (not s.is_undone) AlreadyUndone) (rest2 s) in
     let h1 = passed (slip_at c n) rest1 (after, a) e in
     let h2 = passed (need (not h1.0.is_undone) AlreadyUndone) (rest2 h1.0) (after, a) h1.2 in

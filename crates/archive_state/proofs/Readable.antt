@@ -247,14 +247,16 @@ module _ (c : Content) (sound : IsSound c) where
         each_back (Stands c.records) (place_line_links e.place)
         (flat_map participant_links e.participants ++ carried_links e.carried) named.1 in
         record {
-          owned = each_more (IsCitationOf c.records n) (IsCitationBelow (known_of c.records)) (citation_below n) under owned;
+          owned = each_more (IsCitationOf c.records n) (IsCitationBelow (known_of c.records))
+              (citation_below n) under owned;
           place = shown n e.place
               (each_front (Stands c.records) (place_line_links e.place)
               (flat_map participant_links e.participants ++ carried_links e.carried) named.1)
               (sound.rules.places n (kind.Event e) at);
           participants = of_each (Stands c.records) _ (IsReadableParticipant (known_of c.records)) participant_links
               (λ p k own. (person_tag (get c.records p.person) k.0, own)) e.participants
-              (each_front (Stands c.records) (flat_map participant_links e.participants) (carried_links e.carried) rest) u.0;
+              (each_front (Stands c.records) (flat_map participant_links e.participants) (carried_links e.carried) rest)
+              u.0;
           untaken = u.1;
         }
 

@@ -313,7 +313,8 @@ name_found words t utf8 e =
 event_tag_found : (c : Content) (owner : ℕ) (place : Option ℕ) (t tag : List ℕ) → event_tag c owner place t ≡ Ok tag
     → (o : Owner) × (owner_at c owner ≡ Ok o) × PlaceAt c place × (is_tag_of o tag ≡ true)
 event_tag_found c owner place t tag e =
-    let o = both_answered (owner_at c owner) (λ o. and_then (passed (each (said_place_at c) place)) (λ _. tag_in o t)) tag
+    let o = both_answered (owner_at c owner) (λ o. and_then (passed (each (said_place_at c) place)) (λ _. tag_in o t))
+    tag
     e in
     let p = both_answered (passed (each (said_place_at c) place)) (λ _. tag_in o.0 t) tag o.2 in
     (o.0, o.1, maybe_place c place p.0 p.1, tag_found o.0 t tag p.2)

@@ -178,7 +178,8 @@ source_found title author publisher repo call_number s t-utf8 a-utf8 p-utf8 n-ut
     and_then (need (not (lacks_repo repo n)) BadText) (λ _. Ok (plain_source t.0 a.0 p repo n)))) s a.2 in
     let n = both_answered (maybe_text_in call_number)
     (λ n. and_then (need (not (lacks_repo repo n)) BadText) (λ _. Ok (plain_source t.0 a.0 p.0 repo n))) s p.2 in
-    let u = both_answered (need (not (lacks_repo repo n.0)) BadText) (λ _. Ok (plain_source t.0 a.0 p.0 repo n.0)) s n.2 in
+    let u = both_answered (need (not (lacks_repo repo n.0)) BadText)
+    (λ _. Ok (plain_source t.0 a.0 p.0 repo n.0)) s n.2 in
     let same : s ≡ plain_source t.0 a.0 p.0 repo n.0 = let f : Ok (plain_source t.0 a.0 p.0 repo n.0)
     ≡ Ok s = u.2 in cc in
     record {

@@ -54,7 +54,17 @@ use Rattle.gedcom_line.specs.Reading.{
 }
 use Rattle.gedcom_line.specs.declared.fault.LineKind.{LineKind}
 use Rattle.gedcom_line.specs.declared.fault.LineKind.TheVariants.{NotUtf8, BadLevel, BadXref, BadTag, Nul}
-use Rattle.gedcom_line.proofs.Steps.{spans_only, some_is, eqb_false, level_spelled, spelled_level, xref_spelled, spelled_xref, tag_spelled, spelled_tag}
+use Rattle.gedcom_line.proofs.Steps.{
+  spans_only,
+  some_is,
+  eqb_false,
+  level_spelled,
+  spelled_level,
+  xref_spelled,
+  spelled_xref,
+  tag_spelled,
+  spelled_tag,
+}
 use Rattle.gedcom_line.proofs.Texts.{is_utf8_false}
 use Rattle.gedcom_line.proofs.Spans.{in_class_ascii}
 use Rattle.gedcom_line.specs.declared.class.Class.TheVariants.{White}

@@ -225,7 +225,8 @@ forest_keeps [] h = absurd (let bad : false ≡ true = h.head in cc)
 forest_keeps (i ∷ is) h =
     let n : IsNodeOf i = h.nodes.0 in
     let top : i.level ≡ 0 = first_head i h.head in
-    let apart = and_parts (not (option_map_or (λ x. list_any (is_called x) is) i.xref false)) (are_distinct is) h.names in
+    let apart = and_parts (not (option_map_or (λ x. list_any (is_called x) is) i.xref false))
+    (are_distinct is) h.names in
     node_lines_keep start i is true false n (first_unbroken i n h.head) (first_heads i top)
     (first_stands i is n top (not-true _ apart.0))
     (λ p s. items_keep is p i.level true false s h.nodes.1 (subst (λ (k : ℕ). rises k is ≡ true) (sym top) h.levels)

@@ -149,8 +149,6 @@ charset_again (Text t) h = record {
 }
 charset_again (Pointer p) h = absurd cc
 
-]
-
 none_all : (t : List ℕ) → list_any (λ b. eqb b 10) t ≡ false → list_all (λ b. not (eqb b 10)) t ≡ true
 none_all [] h = refl
 none_all (b ∷ bs) h =

@@ -149,7 +149,8 @@ pub set_none : (q : Progress) (l : Parts) (ls : List Parts) → eqb q.count 0 �
     → names_set q l.level (role_of l.tag) ≡ true → Fits (after q l) ls → belongs l.level ls ≡ []
 set_none q l ls c h f =
     let level : l.level ≡ 1 = eqb-true l.level 1
-    (and_parts q.in_head (eqb l.level 1) (and_parts (q.in_head && eqb l.level 1) (is_charset_tag (role_of l.tag)) h).0).1 in
+    (and_parts q.in_head (eqb l.level 1)
+    (and_parts (q.in_head && eqb l.level 1) (is_charset_tag (role_of l.tag)) h).0).1 in
     let named : names_set (after q l) l.level (role_of l.tag) ≡ true = names_set_kept q l l.level (role_of l.tag) c
     (omega arith) ∙ h in
     own_none q l ls f (by_set (is_text (value_of l)) (names_set (after q l) l.level (role_of l.tag))

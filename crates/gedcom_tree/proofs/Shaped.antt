@@ -47,7 +47,8 @@ use Rattle.gedcom_line.proofs.Whole.{is_continuation_of}
 
 low_level : (l : Parts) → IsLine l → is_continuation l.tag ≡ false → l.level ≤ 98
 low_level l i own = elim (cases_Bool (eqb l.level 99)) [
-  | inl e ↦ let c : is_continuation l.tag ≡ true = is_continuation_of l.tag (i.high (eqb-true l.level 99 e)) in absurd cc
+  | inl e ↦ let c : is_continuation l.tag ≡ true = is_continuation_of l.tag (i.high (eqb-true l.level 99 e)) in
+      absurd cc
   | inr e ↦ let n : l.level ≡ 99 → ⊥ = eqb_no l.level 99 e in omega (arith, i.level, n)
 ]
 

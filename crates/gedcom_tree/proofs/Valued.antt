@@ -118,7 +118,8 @@ unescaped_each p (c ∷ d ∷ cs) h =
     let r = and_parts (p c) (list_all p (d ∷ cs)) h in
     elim (cases_Bool (eqb c 64 && eqb d 64)) [
       | inl e ↦
-          let at : p 64 ≡ true = subst (λ (x : ℕ). p x ≡ true) (eqb-true c 64 (and_parts (eqb c 64) (eqb d 64) e).0) r.0 in
+          let at : p 64 ≡ true = subst (λ (x : ℕ). p x ≡ true)
+          (eqb-true c 64 (and_parts (eqb c 64) (eqb d 64) e).0) r.0 in
           rw (e, at) (unescaped_each p cs (and_parts (p d) (list_all p cs) r.1).1)
       | inr e ↦ rw (e, r.0) (unescaped_each p (d ∷ cs) r.1)
     ]

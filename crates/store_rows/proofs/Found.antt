@@ -89,7 +89,8 @@ sees_then {result = result} h k = record {
         is rows (h.same (k.clean clean) rows was) c means,
       )) (k.read clean);
   same = λ clean. if_ok result (λ b is rows was. is rows (h.same (k.clean clean) rows was)) (k.same clean);
-  refused = λ clean. IfErr-weaker result _ _ (λ kind is rows was. is rows (h.same (k.clean clean) rows was)) (k.refused clean);
+  refused = λ clean. IfErr-weaker result _ _ (λ kind is rows was. is rows (h.same (k.clean clean) rows was))
+      (k.refused clean);
   crash = λ clean rows was. k.crash clean rows (h.same (k.clean clean) rows was);
   clean = λ clean. h.clean (k.clean clean);
 }
@@ -113,7 +114,8 @@ sees_after {a = a} result f h k = record {
   read = λ clean. if_ok result (λ b is rows was c means. f rows c b (h.read (k.clean clean) rows was) means
       (is rows (h.same (k.clean clean) rows was) c means)) (k.read clean);
   same = λ clean. if_ok result (λ b is rows was. is rows (h.same (k.clean clean) rows was)) (k.same clean);
-  refused = λ clean. IfErr-weaker result _ _ (λ kind is rows was. is rows (h.same (k.clean clean) rows was)) (k.refused clean);
+  refused = λ clean. IfErr-weaker result _ _ (λ kind is rows was. is rows (h.same (k.clean clean) rows was))
+      (k.refused clean);
   crash = λ clean rows was. k.crash clean rows (h.same (k.clean clean) rows was);
   clean = λ clean. h.clean (k.clean clean);
 }

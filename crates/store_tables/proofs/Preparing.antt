@@ -262,7 +262,8 @@ pub looks_prepared : {A : Type 0} (queries : List (List ℕ))
 looks_prepared queries plain old new result only p = record {
   read = λ clean. any_read result (λ a rows was. tt);
   same = λ clean. same_read result (λ same rows was. still_settled old new rows same was) (p.same clean);
-  refused = λ clean. IfErr-weaker result _ _ (λ kind why rows was. refused_settled queries plain old new was.schema kind why) (p.refused clean);
+  refused = λ clean. IfErr-weaker result _ _
+      (λ kind why rows was. refused_settled queries plain old new was.schema kind why) (p.refused clean);
   crash = λ clean rows was t leaves. elim (p.survives.crash clean t leaves) [
     | inl before ↦
         only_committed old rows t was (only was.is_open t before)

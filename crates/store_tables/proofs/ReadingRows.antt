@@ -124,7 +124,8 @@ module _ {X Y A : Type 0} (shown : X → Row) (read : X → Y) (IsTyped : X → 
   looks_all reads refuses same crash clean = record {
     read = reads_all reads;
     same = same;
-    refused = λ is_clean. IfErr-weaker result _ _ (λ kind why rows settled. only_fails kind rows settled why) (refuses is_clean);
+    refused = λ is_clean. IfErr-weaker result _ _ (λ kind why rows settled. only_fails kind rows settled why)
+        (refuses is_clean);
     crash = crash;
     clean = clean;
   }
@@ -164,7 +165,8 @@ looks_then {result = result} h k = record {
   read = λ clean. if_ok result
       (λ b is rows was. (h.read (k.clean clean) rows was, is rows (h.same (k.clean clean) rows was))) (k.read clean);
   same = λ clean. if_ok result (λ b is rows was. is rows (h.same (k.clean clean) rows was)) (k.same clean);
-  refused = λ clean. IfErr-weaker result _ _ (λ kind is rows was. is rows (h.same (k.clean clean) rows was)) (k.refused clean);
+  refused = λ clean. IfErr-weaker result _ _ (λ kind is rows was. is rows (h.same (k.clean clean) rows was))
+      (k.refused clean);
   crash = λ clean rows was. k.crash clean rows (h.same (k.clean clean) rows was);
   clean = λ clean. h.clean (k.clean clean);
 }

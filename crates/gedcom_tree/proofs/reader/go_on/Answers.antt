@@ -43,8 +43,10 @@ returns-in-Ok-add_all-clause-fault c =
     c.in-Ok-add_all.ensures.led in
     let left = ap (λ (t : List ℕ). t ++ c.in-Ok-add_all.behind.now) c.clear.ensures.items
     ∙ c.in-Ok-add_all.ensures.open_ in
-    IfErr-weaker c.hold-in-Ok-add_all.result _ _ (λ f. or_err (λ h next. blames_open c.args.lines.now c.add_all.new.self (x ∷ ps) (pieces c.args.bytes.now).open_
-    (fault_view f) next all (h.0, subst (λ (t : List ℕ). max_line < length t) left h.1))) c.hold-in-Ok-add_all.ensures.fault
+    IfErr-weaker c.hold-in-Ok-add_all.result _ _
+    (λ f. or_err (λ h next. blames_open c.args.lines.now c.add_all.new.self (x ∷ ps) (pieces c.args.bytes.now).open_
+    (fault_view f) next all (h.0, subst (λ (t : List ℕ). max_line < length t) left h.1)))
+    c.hold-in-Ok-add_all.ensures.fault
 
 pub returns-in-Err-add_all-clause-fault : goal.returns-in-Err-add_all-clause-fault
 returns-in-Err-add_all-clause-fault c =

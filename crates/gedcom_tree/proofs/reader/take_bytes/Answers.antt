@@ -39,7 +39,8 @@ returns-in-None-clause-fault c =
     (piece-append c.args.rest.now.items c.args.bytes.now c.requires.piece c.in-None.ensures.piece)) in
     let none = subst (Leads c.args.lines.now c.args.lines.now) (sym o.0)
     (leads_none c.args.lines.now c.requires.sound) in
-    IfErr-weaker c.hold.result _ _ (λ f. or_err (λ h next. blames_open c.args.lines.now c.args.lines.now (pieces x).ended (pieces x).open_
+    IfErr-weaker c.hold.result _ _
+    (λ f. or_err (λ h next. blames_open c.args.lines.now c.args.lines.now (pieces x).ended (pieces x).open_
     (fault_view f) next none (h.0, subst (λ (t : List ℕ). max_line < length t) (sym o.1) h.1))) c.hold.ensures.fault
 
 pub returns-in-Some-clause-led : goal.returns-in-Some-clause-led

@@ -21,7 +21,8 @@ pub returns-clause-known : goal.returns-clause-known
 returns-clause-known g c clean =
     let old = state g.S.Store c.args.conn.now in
     let new = state g.S.Store c.query_all.new.self in
-    IfErr-weaker c.query_all.result _ _ (λ e fails rows was. fails_known c.args.sql.now c.requires.plain old new was.schema
+    IfErr-weaker c.query_all.result _ _
+    (λ e fails rows was. fails_known c.args.sql.now c.requires.plain old new was.schema
     (bound c.args.params.now) e fails) (c.query_all.ensures.err clean)
 
 pub returns-clause-crash : goal.returns-clause-crash

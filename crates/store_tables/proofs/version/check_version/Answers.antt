@@ -35,7 +35,8 @@ returns-in-Ok-clause-looks g c =
       clean = did.clean;
     } in
     looks_with c.version_of.result looked (any_ok c.version_of.result (λ _ _ _. tt))
-    (IfErr-weaker c.version_of.result _ _ (λ kind is rows was. inl (is rows (c.deref.ensures.value ∙ was))) c.version_of.ensures.known)
+    (IfErr-weaker c.version_of.result _ _ (λ kind is rows was. inl (is rows (c.deref.ensures.value ∙ was)))
+    c.version_of.ensures.known)
 
 pub returns-in-Ok-clause-version : goal.returns-in-Ok-clause-version
 returns-in-Ok-clause-version g c clean =
@@ -46,7 +47,8 @@ returns-in-Ok-clause-version g c clean =
 pub returns-in-Ok-clause-newer : goal.returns-in-Ok-clause-newer
 returns-in-Ok-clause-newer g c clean =
     IfErr-weaker c.version_of.result _ _ (λ kind later is. let v = later is in
-    (v.0, v.1, (c.in-Ok.rows.items, c.in-Ok.ensures.shown clean, (v.2.0, sym c.deref.ensures.value ∙ v.2.1)))) c.version_of.ensures.newer
+    (v.0, v.1, (c.in-Ok.rows.items, c.in-Ok.ensures.shown clean, (v.2.0, sym c.deref.ensures.value ∙ v.2.1))))
+    c.version_of.ensures.newer
 
 -- a store is refused for what its rows are refused for
 refused_rows : (old new : State) (rows : List Row) (kind : RefusalKind) → Shown meta_query [] old new rows
@@ -60,7 +62,8 @@ pub returns-in-Ok-clause-told : goal.returns-in-Ok-clause-told
 returns-in-Ok-clause-told g c clean =
     let old = state g.S.Store c.args.conn.now in
     let new = state g.S.Store c.ask.new.conn in
-    IfErr-weaker c.version_of.result _ _ (λ kind why. refused_rows old new c.in-Ok.rows.items kind (c.in-Ok.ensures.shown clean)
+    IfErr-weaker c.version_of.result _ _ (λ kind why. refused_rows old new c.in-Ok.rows.items kind
+    (c.in-Ok.ensures.shown clean)
     (subst (λ rows. IsRefusedRows rows kind) c.deref.ensures.value why)) c.version_of.ensures.told
 
 pub returns-in-Err-clause-told : goal.returns-in-Err-clause-told
