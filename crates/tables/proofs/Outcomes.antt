@@ -5,10 +5,6 @@ pub on_ok : {E P Q : Type 0} (r : Result (Unit {0}) E) → (P → Q) → OnOk r 
 on_ok (Ok u) f h = f h
 on_ok (Err e) f h = h
 
-pub if_err : {A E : Type 0} {P Q : E → Type 0} (r : Result A E) → ((e : E) → P e → Q e) → IfErr r P → IfErr r Q
-if_err (Ok a) f h = h
-if_err (Err e) f h = f e h
-
 pub by_bool : {A B G : Type 0} (b : Bool) → MatchBool b A B → (b ≡ true → A → G) → (b ≡ false → B → G) → G
 by_bool true h f g = f refl h
 by_bool false h f g = g refl h

@@ -1,6 +1,7 @@
 use Rattle.std.proofs.Common.{Ok, Err, inl, inr, refl}
+use Rattle.std.proofs.lemmas.Result.{IfErr-weaker}
 use Rattle.commands.specs.Rows.{is_want}
-use Rattle.tables.proofs.Outcomes.{by_bool, if_err, on_ok}
+use Rattle.tables.proofs.Outcomes.{by_bool, on_ok}
 use Rattle.tables.proofs.serving.serve_row.Goals as goal
 
 pub returns-in-Ok-clause-served : goal.returns-in-Ok-clause-served
@@ -10,7 +11,7 @@ returns-in-Ok-clause-served g c =
 
 pub returns-in-Ok-clause-ended : goal.returns-in-Ok-clause-ended
 returns-in-Ok-clause-ended g c =
-    if_err c.serve_request.result (λ kind h. inr (Ok (c.in-Ok.request, h.0), c.in-Ok.ensures, h.1, h.2))
+    IfErr-weaker c.serve_request.result _ _ (λ kind h. inr (Ok (c.in-Ok.request, h.0), c.in-Ok.ensures, h.1, h.2))
     c.serve_request.ensures.ended
 
 pub returns-in-Err-clause-served : goal.returns-in-Err-clause-served
@@ -20,5 +21,6 @@ returns-in-Err-clause-served g c =
 
 pub returns-in-Err-clause-ended : goal.returns-in-Err-clause-ended
 returns-in-Err-clause-ended g c =
-    if_err c.answer_bad.result (λ kind h. by_bool (is_want c.in-Err.bad.kind) h (λ yes a. inl (a.0, refl, a.1))
+    IfErr-weaker c.answer_bad.result _ _
+    (λ kind h. by_bool (is_want c.in-Err.bad.kind) h (λ yes a. inl (a.0, refl, a.1))
     (λ no w. inr (Err c.in-Err.bad, c.in-Err.ensures no, refl, w))) c.answer_bad.ensures.ended
