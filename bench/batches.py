@@ -1,9 +1,10 @@
 """Times batches of register entries in a real file, beside sqlite3 (C): python3 bench/batches.py [ROWS..].
 
-For batches of ROWS rows (10,000, 20,000, 40,000 and 100,000), 20 entries a page, each with two mentions: how long `parish entries` takes to
-enter them on a new archive with one source, its opening and closing in it. Beside it, for the first ROWS: the same entries as rows of `entry` by
-`parish apply`, which commits each, and the C library through Python's module `sqlite3`, which writes the same rows of the tables with the
-look-ups of a row of `entry`, in one commit and with a commit an entry (see bench/requests.py). Three runs of each in turn, of which the fastest counts.
+For batches of ROWS rows (10,000, 20,000, 40,000 and 100,000), 20 entries a page, each with two mentions: how long
+`parish entries` takes to enter them on a new archive with one source, its opening and closing in it. Beside it, for the
+first ROWS: the same entries as rows of `entry` by `parish apply`, which commits each, and the C library through
+Python's module `sqlite3`, which writes the same rows of the tables with the look-ups of a row of `entry`, in one commit
+and with a commit an entry (see bench/requests.py). Three runs of each in turn, of which the fastest counts.
 """
 
 import csv
@@ -74,7 +75,10 @@ def theirs(file, made, together):
                 conn.execute(LINE, line)
             if not together or n + 1 == len(made):
                 conn.execute("UPDATE meta SET next = ?1", (record[0] + 1,))
-                conn.execute("INSERT INTO receipt (token, digest, first, count) VALUES (?1, ?2, ?3, ?4)", (f"t{n}", bytes(32), record[0], 1))
+                conn.execute(
+                    "INSERT INTO receipt (token, digest, first, count) VALUES (?1, ?2, ?3, ?4)",
+                    (f"t{n}", bytes(32), record[0], 1),
+                )
                 conn.execute("COMMIT")
         seconds = time.perf_counter() - start
         conn.close()
@@ -101,8 +105,16 @@ def main():
 
         rows = entries(counts[0])
         for count in counts:
-            told("`parish entries`, one batch", fastest(lambda: on_a_copy(lambda copy: entered(copy, entries(count)))), count)
-        told("`parish apply`, rows of `entry`", fastest(lambda: on_a_copy(lambda copy: apply(copy, text(rows)))), len(rows))
+            told(
+                "`parish entries`, one batch",
+                fastest(lambda: on_a_copy(lambda copy: entered(copy, entries(count)))),
+                count,
+            )
+        told(
+            "`parish apply`, rows of `entry`",
+            fastest(lambda: on_a_copy(lambda copy: apply(copy, text(rows)))),
+            len(rows),
+        )
         with tempfile.TemporaryDirectory() as other:
             copy = copied(file, other)
             entered(copy, rows)

@@ -1,13 +1,15 @@
 """Times requests on an archive in a real file, beside sqlite3 (C): python3 bench/requests.py [PERSONS..].
 
-For archives of PERSONS persons (100, 10,000 and 100,000, written in one transaction of this script's own): how long `parish apply`
-takes to open and close the archive, and for each verb to do one row, with its commit. A row's time is what a process that does 100 such rows,
-each changing a record that no other changes, takes from the answer to the first until the answer to the last, over 99: so the opening is not in it. Then
-10,000 rows of all verbs in turn on the smallest archive.
+For archives of PERSONS persons (100, 10,000 and 100,000, written in one transaction of this script's own): how long
+`parish apply` takes to open and close the archive, and for each verb to do one row, with its commit. A row's time is
+what a process that does 100 such rows, each changing a record that no other changes, takes from the answer to the first
+until the answer to the last, over 99: so the opening is not in it. Then 10,000 rows of all verbs in turn on the
+smallest archive.
 
-The peer is the C library through Python's module `sqlite3`, over a copy of the same file, with a log (WAL) and a sync at each commit
-(synchronous=FULL): for each row it looks up the token, the next number, and the records and lines that the row names, and then writes the same rows as
-parish has written, which the script has read of parish's own archive before. It decides nothing. Three runs of each in turn, of which the fastest counts.
+The peer is the C library through Python's module `sqlite3`, over a copy of the same file, with a log (WAL) and a sync
+at each commit (synchronous=FULL): for each row it looks up the token, the next number, and the records and lines that
+the row names, and then writes the same rows as parish has written, which the script has read of parish's own archive
+before. It decides nothing. Three runs of each in turn, of which the fastest counts.
 """
 
 import csv
@@ -24,8 +26,10 @@ ROOT = pathlib.Path(__file__).resolve().parents[1]
 PARISH = ROOT / "crates/parish/out/parish"
 MANY, ROWS, RUNS = 100, 10_000, 3
 LINE = "INSERT INTO line (no, pos, depth, tag, text, dst) VALUES (?1, ?2, ?3, ?4, ?5, ?6)"
-VERBS = ("person", "name", "sex", "family", "child", "event", "amend", "participant", "place", "repo", "source", "citation",
-         "entry", "link", "unlink", "remove")
+VERBS = (
+    "person", "name", "sex", "family", "child", "event", "amend", "participant", "place", "repo", "source", "citation",
+    "entry", "link", "unlink", "remove",
+)
 
 
 def row(verb, k, persons):
@@ -84,7 +88,9 @@ def text(rows, first=0):
 def apply(file, rows):
     """Seconds of one process that does these rows."""
     start = time.perf_counter()
-    out = subprocess.run([str(PARISH), "apply", str(file)], input=rows.encode(), stdout=subprocess.PIPE, check=True).stdout
+    out = subprocess.run(
+        [str(PARISH), "apply", str(file)], input=rows.encode(), stdout=subprocess.PIPE, check=True
+    ).stdout
     seconds = time.perf_counter() - start
     assert out.count(b",ok,") == rows.count("\n"), out[-200:]
     return seconds
@@ -106,8 +112,8 @@ def between_answers(file, rows):
 
 
 def made(file, persons):
-    """An archive of so many persons, and behind them MANY families, as many events, a source, MANY repositories that nothing names,
-    and twice as many register entries, of which the latter half have a link."""
+    """An archive of so many persons, and behind them MANY families, as many events, a source, MANY repositories that
+    nothing names, and twice as many register entries, of which the latter half have a link."""
     subprocess.run([str(PARISH), "init", str(file), "--society", "Ashby"], check=True)
     with sqlite3.connect(file) as conn:
         for number in range(1, persons + 1):
@@ -138,24 +144,34 @@ def ours(file, rows):
 
 
 def lines_of(conn, number):
-    return conn.execute("SELECT no, pos, depth, tag, text, dst FROM line WHERE no = ?1 ORDER BY id", (number,)).fetchall()
+    return conn.execute(
+        "SELECT no, pos, depth, tag, text, dst FROM line WHERE no = ?1 ORDER BY id", (number,)
+    ).fetchall()
 
 
 def plan(file, rows):
-    """What parish writes for each row: its token, the numbers that it names, the records that it puts, the next number, its receipt.
-    Each row is one request on records that no other row changes, so the lines that are there at the end are those that it wrote."""
+    """What parish writes for each row: its token, the numbers that it names, the records that it puts, the next number,
+    its receipt. Each row is one request on records that no other row changes, so the lines that are there at the end
+    are those that it wrote."""
     with tempfile.TemporaryDirectory() as folder:
         copy = copied(file, folder)
         before, after = sqlite3.connect(file), sqlite3.connect(copy)
         apply(copy, text(rows))
         found = []
         for n, fields in enumerate(rows):
-            receipt = after.execute("SELECT token, digest, first, count FROM receipt WHERE token = ?1", (f"t{n}",)).fetchone()
+            receipt = after.execute(
+                "SELECT token, digest, first, count FROM receipt WHERE token = ?1", (f"t{n}",)
+            ).fetchone()
             named = [word for word in fields[1:] if isinstance(word, int)]
             put = [number for number in named if lines_of(before, number) != lines_of(after, number)]
             put += [receipt[2]] * receipt[3]
-            kinds = [after.execute("SELECT no, kind, batch FROM record WHERE no = ?1", (number,)).fetchone() for number in put]
-            found.append((named, [(number, kind, lines_of(after, number)) for number, kind in zip(put, kinds)], receipt))
+            kinds = [
+                after.execute("SELECT no, kind, batch FROM record WHERE no = ?1", (number,)).fetchone()
+                for number in put
+            ]
+            found.append(
+                (named, [(number, kind, lines_of(after, number)) for number, kind in zip(put, kinds)], receipt)
+            )
         before.close()
         after.close()
     return found
@@ -223,7 +239,8 @@ def verbs(file, persons):
 def opening(file, persons):
     own = min(ours(file, []) for _ in range(RUNS))
     peer = min(theirs(file, [])[0] for _ in range(RUNS))
-    print(f"| {persons:,} | opening, {file.stat().st_size / 1_000:,.0f} kB | {own * 1_000:.1f} ms | {peer * 1_000:.1f} ms |", flush=True)
+    size = file.stat().st_size / 1_000
+    print(f"| {persons:,} | opening, {size:,.0f} kB | {own * 1_000:.1f} ms | {peer * 1_000:.1f} ms |", flush=True)
 
 
 def all_in_turn(file, persons):

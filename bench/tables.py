@@ -1,9 +1,10 @@
 """Times rows written in one commit and read back, beside sqlite3 (C): python3 bench/tables.py [COUNT..].
 
 Of COUNT persons with a name each (10,000 and 100,000): a row of `record` and two of `line` for each, in memory, in one
-commit, and all of them read back. archive_rows is timed by differences: a run that makes the records, one that writes them
-too, and one that reads them too. The peer is the C library through Python's module `sqlite3`, with the same tables and the
-same statements, each prepared once, over a database in memory. Five runs of each in turn, of which the fastest counts.
+commit, and all of them read back. archive_rows is timed by differences: a run that makes the records, one that writes
+them too, and one that reads them too. The peer is the C library through Python's module `sqlite3`, with the same tables
+and the same statements, each prepared once, over a database in memory. Five runs of each in turn, of which the fastest
+counts.
 """
 
 import pathlib

@@ -228,10 +228,10 @@ TOLD = (
     ("x,event,4,BIRT,,,", "51 WrongKind: field 3 (owner): what has this number is of another kind"),
     ("p1,person,X,M", "52 TokenReused: field 1 (token): another request was done under it"),
     ("x,remove,4", "53 StillNamed: field 3 (number): another record names this one"),
-    ("x,family,1,1", "54 SamePerson: field 3 (husband) or field 4 (wife): both are one person"),
+    ("x,family,1,1", "54 SamePerson: field 3 (husband) and field 4 (wife): both are one person"),
     (
         "x,merge,1,2",
-        "55 MergeWithinFamily: field 3 (person that stays) or field 4 (person that is gone): both are in one family, "
+        "55 MergeWithinFamily: field 3 (person that stays) and field 4 (person that is gone): both are in one family, "
         "and not both its children",
     ),
     ("x,child,3,1", "59 AlreadyInFamily: field 4 (person): the family has this person already"),
@@ -449,8 +449,8 @@ def a_reader_that_left(tools):
 
 
 def an_output_that_fails(tools):
-    """An output that cannot be written to, from the start or after an answer. Rows that were done are kept, and each that was
-    acknowledged is among them; sent again they get their answers."""
+    """An output that cannot be written to, from the start or after an answer. Rows that were done are kept, and each
+    that was acknowledged is among them; sent again they get their answers."""
     rows = [f"t{n},person,Ann /{n}/,F" for n in range(1, 51)]
     answers = [f"t{n},ok,{n},1" for n in range(1, 51)]
     with Folder(tools) as at:
@@ -503,7 +503,8 @@ def a_copy_is_an_archive(tools):
         first = at.file
         for name in sorted(os.listdir(at.path)):
             shutil.copy(os.path.join(at.path, name), os.path.join(at.path, name.replace("ashby", "copy")))
-        source, copy = sqlite3.connect(f"file:{first}?mode=ro", uri=True), sqlite3.connect(os.path.join(at.path, "backup.db"))
+        source = sqlite3.connect(f"file:{first}?mode=ro", uri=True)
+        copy = sqlite3.connect(os.path.join(at.path, "backup.db"))
         source.backup(copy)
         source.close()
         copy.close()
@@ -522,7 +523,8 @@ def init_takes_no_input(tools):
 
 
 def a_full_disk(tools):
-    """Where no more may be written to a file, 80; what was answered is kept, and the rest is done when there is room."""
+    """Where no more may be written to a file, 80; what was answered is kept, and the rest is done when there is
+    room."""
     with Folder(tools) as at:
         at.made()
         rows = [f"t{n},person,{'x' * 2_000} /{n}/,M" for n in range(1, 101)]
@@ -563,7 +565,8 @@ def killed(at, rows, after):
 
 
 def killed_and_run_again(tools, seed=1, count=300, stops=10, rows=None):
-    """A program that is killed at some moment, and again: the rows sent again get the answers of a run that was not stopped."""
+    """A program that is killed at some moment, and again: the rows sent again get the answers of a run that was not
+    stopped."""
     rows = generated(seed, count, "lasting") if rows is None else rows
     with Folder(tools) as whole:
         wanted = whole.made().apply(rows)
@@ -647,7 +650,9 @@ def a_batch_without_an_archive(tools):
 def the_longest_entry(tools):
     with Folder(tools) as at:
         at.with_register()
-        expect(at.entries(lines(["BURIAL,,0000999999,,," + ",buried,Ann" * 100])), written(b"made 1 entries, first 2\n"))
+        expect(
+            at.entries(lines(["BURIAL,,0000999999,,," + ",buried,Ann" * 100])), written(b"made 1 entries, first 2\n")
+        )
 
 
 ROLES = {
@@ -670,8 +675,14 @@ def roles_of_each_kind(tools):
 
 
 def one_entry_across_batches(tools):
-    """An entry is one by its source, kind, page and item, however the item is written; another of these makes another entry."""
-    others = ["MARRIAGE,f. 3,1,,,,groom,Ann", "BAPTISM,F. 3,1,,,,child,Ann", "BAPTISM,f. 3,2,,,,child,Ann", "BAPTISM,,1,,,,child,Ann"]
+    """An entry is one by its source, kind, page and item, however the item is written; another of these makes another
+    entry."""
+    others = [
+        "MARRIAGE,f. 3,1,,,,groom,Ann",
+        "BAPTISM,F. 3,1,,,,child,Ann",
+        "BAPTISM,f. 3,2,,,,child,Ann",
+        "BAPTISM,,1,,,,child,Ann",
+    ]
     with Folder(tools) as at:
         at.with_register()
         answered(at.apply(b"s,source,Second,,,,\n"), b"s,ok,2,1\n")
@@ -684,12 +695,16 @@ def one_entry_across_batches(tools):
 
 
 def a_token_of_a_batch(tools):
-    """A token is kept with the source and the rows of its batch: another batch, or a row of requests, is 52 under it. A refused batch keeps none."""
+    """A token is kept with the source and the rows of its batch: another batch, or a row of requests, is 52 under it. A
+    refused batch keeps none."""
     with Folder(tools) as at:
         at.with_register()
         expect(at.entries(lines([BAPTISM, BAPTISM])), refused_row(60, 2))
         expect(at.entries(lines([BAPTISM])), written(b"made 1 entries, first 2\n"))
-        expect(at.entries(b"\n" + lines([BAPTISM.replace("15 APR 1699/00", "15 apr  1699/00")])), written(b"made 1 entries, first 2\n"))
+        expect(
+            at.entries(b"\n" + lines([BAPTISM.replace("15 APR 1699/00", "15 apr  1699/00")])),
+            written(b"made 1 entries, first 2\n"),
+        )
         expect(at.entries(lines([BAPTISM]), source=2), refused(52))
         answered(at.apply(b"batch,person,Ann,F\n"), b"batch,refused,52,TokenReused\n")
         expect(at.entries(lines([BURIAL]), token="r"), refused(52))

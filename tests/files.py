@@ -1,7 +1,7 @@
 """Small files, and what `norm` and `check` make of each: the rows of tests/table/.
 
-Each file is given to both commands, whole, and to the program that feeds the reader in pieces, which also
-tells the lines of the nodes, or the byte that decides a fault. What `norm` writes is given to it again, and comes out as it is.
+Each file is given to both commands, whole, and to the program that feeds the reader in pieces, which also tells the
+lines of the nodes, or the byte that decides a fault. What `norm` writes is given to it again, and comes out as it is.
 """
 
 from __future__ import annotations

@@ -3,10 +3,11 @@
     python3 tests/long_archives.py kills [ROWS [KILLS [SEED]]]
     python3 tests/long_archives.py compare 'COMMAND' [ROWS [SEED]]
 
-`kills` gives ROWS generated rows (2,000) to `apply`, kills it KILLS times (20) at random moments and gives the same rows again: each answer
-has to be that of a run that was not stopped, and so have the tables. `compare` gives ROWS rows (5,000), in archives of 200 rows each, to
-`apply` and to a second program, which takes the same words, then drawn batches to `entries`, and their rows one by one to `apply`, and compares
-what is told. The last line is `N passed, M failed`.
+`kills` gives ROWS generated rows (2,000) to `apply`, kills it KILLS times (20) at random moments and gives the same
+rows again: each answer has to be that of a run that was not stopped, and so have the tables. `compare` gives ROWS rows
+(5,000), in archives of 200 rows each, to `apply` and to a second program, which takes the same words, then drawn
+batches to `entries`, and their rows one by one to `apply`, and compares what is told. The last line is `N passed, M
+failed`.
 """
 
 from __future__ import annotations
@@ -42,7 +43,8 @@ def written(rows):
 
 
 def drawn(seed, answered):
-    """Token, source and rows of batches: entries that another archive is asked for, of sources of this one, most without their place."""
+    """Token, source and rows of batches: entries that another archive is asked for, of sources of this one, most
+    without their place."""
     rng = random.Random(seed)
     sources = [row[2] for row in answered if row[1] == "ok" and row[0] in sources_of(seed)] or ["1"]
     entries = [row[3:] for row in fields_of(generated(seed + 500_000, EACH)) if row[1:2] == ["entry"]]
@@ -62,7 +64,8 @@ def sources_of(seed):
 
 
 def archive_of(command, seed, batches):
-    """What is told of an archive: of the rows, of batches, which are drawn once where there are none, and of their rows one by one."""
+    """What is told of an archive: of the rows, of batches, which are drawn once where there are none, and of their rows
+    one by one."""
     with tempfile.TemporaryDirectory() as folder:
         file = os.path.join(folder, "a.db")
         made = run(command, ("init", file, "--society", "Ashby"))
@@ -97,7 +100,10 @@ def compared(command, rows, seed):
             passed += 1
         else:
             failed += 1
-            one, other = next((both for both in zip(ours, theirs, strict=True) if said(both[0]) != said(both[1])), (ours[0], theirs[0]))
+            one, other = next(
+                (both for both in zip(ours, theirs, strict=True) if said(both[0]) != said(both[1])),
+                (ours[0], theirs[0]),
+            )
             print(f"archive {number}: {difference(other.out, one.out)} {one.err!r} {other.err!r}")
     print(f"{accepted} rows accepted, {entered} batches entered")
     return passed, failed

@@ -86,7 +86,9 @@ def records_of_before(tools):
 
 def with_many_events(at):
     """A new archive with a person and another one, who has many events."""
-    done = at.made().apply(lines(["p1,person,Tom,M", "p2,person,Thos.,F", *(f"e{n},event,2,RESI,,," for n in range(MANY))]))
+    done = at.made().apply(
+        lines(["p1,person,Tom,M", "p2,person,Thos.,F", *(f"e{n},event,2,RESI,,," for n in range(MANY))])
+    )
     demand(done.status == 0 and b"refused" not in done.out, f"{done.status} {done.err!r}")
     return at
 
@@ -96,7 +98,8 @@ def records(at):
 
 
 def a_merge_of_many_events(tools, stops=8):
-    """A merge that changes many records, and its undoing, are killed while they are written: each is there whole or not at all."""
+    """A merge that changes many records, and its undoing, are killed while they are written: each is there whole or not
+    at all."""
     requests = ((b"m,merge,1,2\n", f"m,ok,{MANY + 3},1\n".encode()), (f"u,undo,{MANY + 3}\n".encode(), b"u,ok,0,0\n"))
     rng = random.Random(MANY)
     with Folder(tools) as at:
@@ -117,7 +120,9 @@ def a_merge_of_many_events(tools, stops=8):
 
 def cut_off(at, rows, seconds):
     """A run that is killed after some seconds, if it is not done."""
-    process = subprocess.Popen([*at.parish, "apply", at.file], stdin=subprocess.PIPE, stdout=subprocess.DEVNULL, stderr=subprocess.DEVNULL)
+    process = subprocess.Popen(
+        [*at.parish, "apply", at.file], stdin=subprocess.PIPE, stdout=subprocess.DEVNULL, stderr=subprocess.DEVNULL
+    )
     try:
         process.communicate(rows, timeout=seconds)
     except subprocess.TimeoutExpired:
@@ -126,11 +131,14 @@ def cut_off(at, rows, seconds):
 
 
 def families_of_merges(count):
-    """Rows that are all accepted: in each family the husband is merged with another spelling of him, and every second merge is undone."""
+    """Rows that are all accepted: in each family the husband is merged with another spelling of him, and every second
+    merge is undone."""
     rows, number = [], 1
     for n in range(count):
         a, b, family, event, slip = range(number, number + 5)
-        rows += [f"a{n},person,Tom,M", f"b{n},person,Thos.,M", f"f{n},family,{b},", f"e{n},event,{b},BIRT,,17{n % 100:02},"]
+        rows += [
+            f"a{n},person,Tom,M", f"b{n},person,Thos.,M", f"f{n},family,{b},", f"e{n},event,{b},BIRT,,17{n % 100:02},"
+        ]
         rows += [f"q{n},participant,{event},{a},witness", f"m{n},merge,{a},{b}"]
         rows += [f"u{n},undo,{slip}"] * (n % 2)
         number += 5

@@ -20,7 +20,8 @@ DOCUMENT = "docs/REFUSALS.md"
 
 NUMBER = re.compile(r"^number_of kind\.(\w+) = ([0-9]+)$", re.MULTILINE)
 NAME = re.compile(r'^name_of kind\.(\w+) = codes "(\w+)"$', re.MULTILINE)
-ROW = re.compile(r"^\| ([0-9]+) \| (\w+) \|", re.MULTILINE)
+# (a refusal begins a row of a table, or an item of a list)
+ROW = re.compile(r"^(?:\| |- \*\*)([0-9]+)(?: \||\*\*) (\w+)(?: \||:)", re.MULTILINE)
 
 # What requests, the archive and its file are refused with: of some of these no program prints a line yet.
 NOT_PRINTED = range(40, 94)

@@ -23,6 +23,7 @@ sys.dont_write_bytecode = True
 import archives  # noqa: E402
 import documents  # noqa: E402
 import files  # noqa: E402
+import layout  # noqa: E402
 import memory  # noqa: E402
 import merges  # noqa: E402
 import properties  # noqa: E402
@@ -33,7 +34,7 @@ import streams  # noqa: E402
 from harness import ROOT, Case, Failed, Tools  # noqa: E402
 
 # The longest ones first, since they run side by side.
-PARTS = (sizes, archives, merges, memory, properties, streams, scripts, documents, refusals, files)
+PARTS = (sizes, archives, merges, memory, properties, streams, scripts, documents, refusals, files, layout)
 PIECES = "tree_pieces"
 
 

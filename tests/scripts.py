@@ -6,19 +6,22 @@ The copy has the two commands, their sum of the sources, and crates of one file 
 
 from __future__ import annotations
 
+import errno
 import os
 import shutil
 import stat
 import tempfile
 import threading
+import time
 from dataclasses import dataclass
 
-from harness import ROOT, Case, Outcome, demand, expect, run, shown
+from harness import ROOT, Case, Failed, Outcome, demand, expect, run, shown
 
 # All that the two commands may call beside rt.
-NEEDED = "bash dirname env grep mktemp python3 readlink rm sed sh tail tee".split()
+NEEDED = "bash dirname env grep mktemp nproc python3 readlink rm sed sh tail tee".split()
 # What their stand-ins call.
 NEEDED_HERE = "cat chmod cp mkdir mv sleep".split()
+TRIES = 20
 
 RT = """#!/bin/sh
 # Stands in for the toolchain: $RT_SAYS has what each call does.
@@ -74,7 +77,15 @@ class Copy:
             os.chmod(path, os.stat(path).st_mode | stat.S_IXUSR)
 
     def run(self, name, *words, given=b"", **how):
-        return run((self.path(name),), words, given, **{"env": self.env, **how})
+        # A process that another case begins has, for a moment, the files open that this one has just written.
+        for _ in range(TRIES):
+            try:
+                return run((self.path(name),), words, given, **{"env": self.env, **how})
+            except OSError as error:
+                if error.errno != errno.ETXTBSY:
+                    raise
+                time.sleep(0.1)
+        raise Failed(f"{name} could not be started {TRIES} times")
 
     def calls(self, verb):
         """How often rt was called so."""
@@ -164,6 +175,15 @@ def made_again_after_an_edit(copy):
     copy.env["KIT"] = "2"
     passes_on(copy)
     demand(copy.calls("run") == made + 2, "not made again for another kit")
+
+
+def all_processors(copy):
+    passes_on(copy)
+    with open(copy.env["RT_CALLS"], encoding="utf-8") as calls:
+        made = [line.split() for line in calls if line.startswith("run ")]
+    demand(made[0][:2] == ["run", "--jobs"], f"rt is called as {made}")
+    demand(1 <= int(made[0][2]) <= (os.cpu_count() or 1), f"rt gets {made[0][2]} processors")
+    demand(made[0][3:] == ["--", "--version"], f"rt is called as {made}")
 
 
 def not_made_again(copy):
@@ -295,6 +315,7 @@ def proofs_that_fail(copy):
 SCRIPTS = (
     ("./parish makes the program once and passes all on", made_once),
     ("./parish makes the program again after an edit", made_again_after_an_edit),
+    ("./parish shares the work among processors", all_processors),
     ("./parish makes nothing again where the program is the same", not_made_again),
     ("./parish runs no executable of other sources", made_again_where_another_build_left_it),
     ("./parish ends with 3 where the program is not proved", not_proved),

@@ -274,12 +274,27 @@ STREAMS = (
     ("entries without a file", refuses_words(b"<FILE>", "entries", "--source", "1", "--token", "t")),
     ("entries without a source", refuses_words(b"--source <N>", "entries", "a.db", "--token", "t")),
     ("entries without a token", refuses_words(b"--token <T>", "entries", "a.db", "--source", "1")),
-    ("entries of two sources", refuses_words(b"--source <N>", "entries", "a.db", "--source", "1", "--source", "2", "--token", "t")),
+    (
+        "entries of two sources",
+        refuses_words(b"--source <N>", "entries", "a.db", "--source", "1", "--source", "2", "--token", "t"),
+    ),
     ("entries of source 0", refuses_words(b"'0'", "entries", "a.db", "--source", "0", "--token", "t")),
-    ("entries of a source above all numbers", refuses_words(b"'4294967296'", "entries", "a.db", "--source", "4294967296", "--token", "t")),
-    ("entries of a source that is no number", refuses_words(b"'one'", "entries", "a.db", "--source", "one", "--token", "t")),
-    ("entries of a source without words", refuses_words(b"--source <N>", "entries", "a.db", "--source", "", "--token", "t")),
-    ("entries with a society", refuses_words(b"'--society'", "entries", "a.db", "--source", "1", "--token", "t", "--society", "x")),
+    (
+        "entries of a source above all numbers",
+        refuses_words(b"'4294967296'", "entries", "a.db", "--source", "4294967296", "--token", "t"),
+    ),
+    (
+        "entries of a source that is no number",
+        refuses_words(b"'one'", "entries", "a.db", "--source", "one", "--token", "t"),
+    ),
+    (
+        "entries of a source without words",
+        refuses_words(b"--source <N>", "entries", "a.db", "--source", "", "--token", "t"),
+    ),
+    (
+        "entries with a society",
+        refuses_words(b"'--society'", "entries", "a.db", "--source", "1", "--token", "t", "--society", "x"),
+    ),
     ("no words", refuses_words(USAGE)),
     ("an unknown command", refuses_words(b"'frobnicate'", "frobnicate")),
     ("an empty word", refuses_words(b"''", "")),

@@ -44,7 +44,14 @@ CARRIED = (
     ("nothing", (Line(0, "x", "y"),), ""),
     (
         "three deep and beside one another",
-        (Line(0, "x"), Line(1, "A", "1"), Line(2, "B", ""), Line(3, "C", None, 4), Line(2, "D", "two\nlines"), Line(1, "E", "")),
+        (
+            Line(0, "x"),
+            Line(1, "A", "1"),
+            Line(2, "B", ""),
+            Line(3, "C", None, 4),
+            Line(2, "D", "two\nlines"),
+            Line(1, "E", ""),
+        ),
         "0 A =1\n1 B =\n2 C 4\n1 D =two\\nlines\n0 E =\n",
     ),
     ("a text and a number", (Line(0, "x"), Line(1, "A", "1", 2)), "0 A =1\n"),

@@ -89,7 +89,14 @@ NAMES = (
     ),
     (
         "an entry of the numbers 10 and 11",
-        (Line(0, "entry", "BURIAL"), Line(1, "key", "2 1", 10), Line(1, "page", "1"), Line(1, "item", "2"), Line(1, "date", "1700", 11), Line(1, "text", "3")),
+        (
+            Line(0, "entry", "BURIAL"),
+            Line(1, "key", "2 1", 10),
+            Line(1, "page", "1"),
+            Line(1, "item", "2"),
+            Line(1, "date", "1700", 11),
+            Line(1, "text", "3"),
+        ),
         (),
     ),
 )

@@ -28,8 +28,8 @@ def answered(program, data, env=None):
 
 
 def told(plain, got, status, refusals=(REFUSED,)):
-    """Whether the run told that a growth was refused, by one of these answers. False: its answers are those of before, as where std asks for
-    less instead. ValueError: an answer is another one."""
+    """Whether the run told that a growth was refused, by one of these answers. False: its answers are those of before,
+    as where std asks for less instead. ValueError: an answer is another one."""
     for wanted, found in zip(plain, got):
         if found in refusals:
             return True

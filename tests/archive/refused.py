@@ -148,7 +148,10 @@ REFUSED = (
     ("a participant without a number", (*EVENT, Line(1, "participant", "witness"))),
     ("an entry of no kind", but(ENTRY, 0, Line(0, "entry", "baptism"))),
     ("an entry without a source", but(ENTRY, 1, Line(1, "key", "12 f. 3"))),
-    ("an entry with its source on its first line", but(but(ENTRY, 1, Line(1, "key", "12 f. 3")), 0, Line(0, "entry", "BAPTISM", 4))),
+    (
+        "an entry with its source on its first line",
+        but(but(ENTRY, 1, Line(1, "key", "12 f. 3")), 0, Line(0, "entry", "BAPTISM", 4)),
+    ),
     ("an entry with its source on two lines", but(ENTRY, 0, Line(0, "entry", "BAPTISM", 4))),
     ("an entry with its source on the line of its page", but(ENTRY, 2, Line(1, "page", "f. 3", 4))),
     ("an entry without a key", but(ENTRY, 1)),

@@ -27,7 +27,9 @@ def day(rng):
 
 
 def month(rng):
-    return rng.choice(MONTHS + ["FEB", "FEB"]) if rng.random() < 0.95 else rng.choice(["VEND", "JANUARY", "MARZ", "XYZ"])
+    if rng.random() < 0.95:
+        return rng.choice(MONTHS + ["FEB", "FEB"])
+    return rng.choice(["VEND", "JANUARY", "MARZ", "XYZ"])
 
 
 def date(rng):

@@ -2,7 +2,8 @@
 
     python3 tests/requests/generate.py SEED COUNT [lasting]
 
-`lasting`: no row removes a record or merges persons, so that each row, whenever it is given again, is answered as before.
+`lasting`: no row removes a record or merges persons, so that each row, whenever it is given again, is answered as
+before.
 """
 
 import random
@@ -34,8 +35,8 @@ QUALITIES = ["", "0", "1", "2", "3"]
 PLACES = ["Kent", "Ashby", "Mill Lane, Ashby", "\u00e9, \u4e2d", "two\nlines", "The \"Mill\"", ", Kent"]
 DEEPEST = 8  # places within each other, so that no path passes the limits
 
-# The kinds of the fields of each verb: number, text, sex, tag, date, quality, place's name, kind of an entry, item, place of a
-# mention, or reason. Behind those of an entry come a role and a text for each mention.
+# The kinds of the fields of each verb: number, text, sex, tag, date, quality, place's name, kind of an entry, item,
+# place of a mention, or reason. Behind those of an entry come a role and a text for each mention.
 KINDS = {
     "person": "TS",
     "name": "NT",
@@ -71,12 +72,15 @@ ODD = {
     "R": ["", "Child", "widow", "father of groom", "a\rb", "a\0b"],
     "W": ["", "", "a\rb", "a\0b"],
 }
-ODD_VERBS = ["frob", "", "Person", "person ", "personal", "repository", "removed", "Entry", "links", "entries", "merged", "Undo"]
+ODD_VERBS = [
+    "frob", "", "Person", "person ", "personal", "repository", "removed", "Entry", "links", "entries", "merged", "Undo"
+]
 ODD_TOKENS = ["", "a b", "x" * 65, "\u00e9", "!", "~", "a,b", "x" * 64, "\x7f"]
 
 
 class Slip:
-    """What a merge changed: what was kept of each record before, and which change each has had last since; none of the one that is gone."""
+    """What a merge changed: what was kept of each record before, and which change each has had last since; none of the
+    one that is gone."""
 
     def __init__(self, old, new):
         self.old = old
@@ -128,7 +132,7 @@ class Rows:
         }
 
     def touch(self, number, stamp=None):
-        """A record has a new value, or that of an earlier change. A value that may be had before has a stamp below 0."""
+        """A record has a new value, or that of an earlier change. What may be had before has a stamp below 0."""
         self.changed += 1
         self.stamps[number] = self.changed if stamp is None else stamp
 
@@ -261,7 +265,9 @@ class Rows:
             if number in self.links:
                 self.links[number] = {at: keep if one == gone else one for at, one in self.links[number].items()}
             if number in self.members:
-                self.members[number] = tuple({keep if one == gone else one for one in some} for some in self.members[number])
+                self.members[number] = tuple(
+                    {keep if one == gone else one for one in some} for some in self.members[number]
+                )
         self.take_out(gone)
         for number in (keep, *changed):
             self.touch(number)
@@ -359,8 +365,8 @@ class Rows:
         return [verb, *fields]
 
     def odd(self):
-        """A row that is refused: an unknown verb, a field more or less, one person twice, a call number alone, what is wrong
-        with an entry or a mention, or a wrong field."""
+        """A row that is refused: an unknown verb, a field more or less, one person twice, a call number alone, what is
+        wrong with an entry or a mention, or a wrong field."""
         verb = self.rng.choice(self.verbs())
         fields = getattr(self, verb)()
         form = self.rng.random()
@@ -381,7 +387,12 @@ class Rows:
         if verb == "entry" and form < 0.7:
             return [verb, *self.odd_entry(fields)]
         if verb in ("link", "unlink") and form < 0.5:
-            return [verb, fields[0], self.spelt(len(self.links[int(fields[0])]) + self.rng.choice([1, 1, 2, 9])), *fields[2:]]
+            return [
+                verb,
+                fields[0],
+                self.spelt(len(self.links[int(fields[0])]) + self.rng.choice([1, 1, 2, 9])),
+                *fields[2:],
+            ]
         kinds = kinds_of(verb, fields)
         at = self.rng.randrange(len(fields))
         fields[at] = self.wrong(verb, kinds[at], at)
@@ -389,7 +400,12 @@ class Rows:
 
     def odd_merge(self, fields):
         """One person twice, or two of one family of whom one is a partner."""
-        found = [(a, b) for partners, children in self.members.values() for a in partners for b in sorted((partners | children) - {a})]
+        found = [
+            (a, b)
+            for partners, children in self.members.values()
+            for a in partners
+            for b in sorted((partners | children) - {a})
+        ]
         if not found or self.chance(0.3):
             return [fields[0], fields[0]]
         two = self.rng.choice(sorted(found))
@@ -398,7 +414,11 @@ class Rows:
     def refused_slips(self):
         """Slips that were undone, or of which a record has changed for good since."""
         slips = self.slips.items()
-        return [number for number, slip in slips if not slip.is_open or (not self.has_new(slip) and not self.may_have_new(slip))]
+        return [
+            number
+            for number, slip in slips
+            if not slip.is_open or (not self.has_new(slip) and not self.may_have_new(slip))
+        ]
 
     def may_have_new(self, slip):
         """Whether each record of a slip has its new value, or one that may be the same."""

@@ -2,10 +2,10 @@
 
     python3 tests/requests/run.py [--program COMMAND] [--only WORD]
 
-Each scenario is a run of the program, in new archives; a row with its answer is a case, and a last one that
-the archives of the program hold the same at the end. Then come the cases of stops.py. One line a scenario that fails, and last
-`N passed, M failed`; status 0 only if none failed and one passed. COMMAND is a program, or a command in
-quotes; without it, the executable that `rt ci` or `rt run` left under crates/.
+Each scenario is a run of the program, in new archives; a row with its answer is a case, and a last one that the
+archives of the program hold the same at the end. Then come the cases of stops.py. One line a scenario that fails, and
+last `N passed, M failed`; status 0 only if none failed and one passed. COMMAND is a program, or a command in quotes;
+without it, the executable that `rt ci` or `rt run` left under crates/.
 """
 
 import argparse

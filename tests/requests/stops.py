@@ -2,10 +2,10 @@
 
     python3 tests/requests/stops.py [--program COMMAND] [--only WORD]
 
-For each file, and with the power going off at the end or not, the number of calls that go well rises from 0 until nothing is
-stopped any more. A case is one such number: what was answered, what is found when the files are opened again, and what is
-answered and found then when the same is asked once more. One line a case that fails, and last `N passed, M failed`; status 0
-only if none failed and one passed. COMMAND as in run.py.
+For each file, and with the power going off at the end or not, the number of calls that go well rises from 0 until
+nothing is stopped any more. A case is one such number: what was answered, what is found when the files are opened
+again, and what is answered and found then when the same is asked once more. One line a case that fails, and last `N
+passed, M failed`; status 0 only if none failed and one passed. COMMAND as in run.py.
 """
 
 from __future__ import annotations
@@ -72,7 +72,8 @@ def is_answered(first: list[str]) -> bool:
 
 
 def is_performed(one: Stopped) -> bool:
-    """A request that was answered is found done; one that was not begun is not; and it is done when it is sent again."""
+    """A request that was answered is found done; one that was not begun is not; and it is done when it is sent
+    again."""
     if one.is_done:
         wanted = {"after"}
     elif len(one.first) == 4:

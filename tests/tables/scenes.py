@@ -194,7 +194,8 @@ def looked_for() -> Scene:
     return filling.scene("records, referrers and receipts, asked of the tables")
 
 
-# Paths and the lowest place of each. Ashby in Kent is 25 and 27; 22 is a place within Ashby, 25, and 23 one whose own name has a comma.
+# Paths and the lowest place of each. Ashby in Kent is 25 and 27; 22 is a place within Ashby, 25, and 23 one whose own
+# name has a comma.
 PLACES = {
     20: place("Kent"),
     21: place("Ashby"),
@@ -299,7 +300,11 @@ FOREIGN = (
     ("a line of no kind", (ONE, LINE + "(1, 0, 0, 'nobody', NULL, NULL)"), UNREADABLE),
     ("a line too deep", (ONE, LINE + "(1, 0, 0, 'person', NULL, NULL), (1, 1, 2, 'name', 'x', NULL)"), UNREADABLE),
     ("a tag that is none", (ONE, LINE + "(1, 0, 0, 'person', NULL, NULL), (1, 1, 1, 'a b', 'x', NULL)"), UNREADABLE),
-    ("a text that is none", (ONE, LINE + "(1, 0, 0, 'person', NULL, NULL), (1, 1, 1, 'name', 'x\r', NULL)"), UNREADABLE),
+    (
+        "a text that is none",
+        (ONE, LINE + "(1, 0, 0, 'person', NULL, NULL), (1, 1, 1, 'name', 'x\r', NULL)"),
+        UNREADABLE,
+    ),
     ("a depth below 0", (ONE, LINE + "(1, 0, -1, 'person', NULL, NULL)"), UNREADABLE),
     ("a number above the greatest", ("INSERT INTO record VALUES (4294967296, 'person', 0)",), UNREADABLE),
     ("a number below 0", ("INSERT INTO record VALUES (-1, 'person', 0)",), UNREADABLE),
@@ -314,14 +319,34 @@ FOREIGN = (
     ("a digest of 31 bytes", (RECEIPT + "('a', x'" + "07" * 31 + "', 1, 1)",), UNREADABLE),
     ("a first number below 0", (RECEIPT + f"('a', {DIGEST}, -1, 1)",), UNREADABLE),
     ("a slip's new side first", (SLIP, SLIP_LINE + "(3, 1, 1, 0, 0, 'person')"), UNREADABLE),
-    ("a slip's new side of another number", (SLIP, SLIP_LINE + "(3, 0, 1, 0, 0, 'person'), (3, 1, 2, 0, 0, 'person')"), UNREADABLE),
-    ("a slip's lines of two numbers in one record", (SLIP, SLIP_LINE + "(3, 0, 1, 0, 0, 'person'), (3, 0, 2, 1, 1, 'name')"), UNREADABLE),
+    (
+        "a slip's new side of another number",
+        (SLIP, SLIP_LINE + "(3, 0, 1, 0, 0, 'person'), (3, 1, 2, 0, 0, 'person')"),
+        UNREADABLE,
+    ),
+    (
+        "a slip's lines of two numbers in one record",
+        (SLIP, SLIP_LINE + "(3, 0, 1, 0, 0, 'person'), (3, 0, 2, 1, 1, 'name')"),
+        UNREADABLE,
+    ),
     ("a slip's first line that is deeper", (SLIP, SLIP_LINE + "(3, 0, 1, 0, 1, 'person')"), UNREADABLE),
     ("a slip's side that is neither", (SLIP, SLIP_LINE + "(3, 2, 1, 0, 0, 'person')"), UNREADABLE),
-    ("a record of an open batch", ("INSERT INTO batch VALUES (1, 1)", "INSERT INTO record VALUES (1, 'person', 1)"), ""),
-    ("a flag of 2, which is set as every number but 0 is", ("INSERT INTO batch VALUES (1, 2)", "INSERT INTO slip VALUES (3, 1, 2, 2)"), ""),
+    (
+        "a record of an open batch",
+        ("INSERT INTO batch VALUES (1, 1)", "INSERT INTO record VALUES (1, 'person', 1)"),
+        "",
+    ),
+    (
+        "a flag of 2, which is set as every number but 0 is",
+        ("INSERT INTO batch VALUES (1, 2)", "INSERT INTO slip VALUES (3, 1, 2, 2)"),
+        "",
+    ),
     ("a slip of no changes", (SLIP,), ""),
-    ("two changes of one number", (SLIP, SLIP_LINE + "(3, 0, 1, 0, 0, 'person'), (3, 0, 1, 0, 0, 'repo'), (3, 1, 1, 0, 0, 'repo')"), ""),
+    (
+        "two changes of one number",
+        (SLIP, SLIP_LINE + "(3, 0, 1, 0, 0, 'person'), (3, 0, 1, 0, 0, 'repo'), (3, 1, 1, 0, 0, 'repo')"),
+        "",
+    ),
 )
 
 # what `version` answers of a store
@@ -336,7 +361,12 @@ VERSIONS = (
     ("nothing made", (), None, "82 NotAnArchive\n"),
     ("another table", ("CREATE TABLE note (id INTEGER PRIMARY KEY)",), None, "82 NotAnArchive\n"),
     ("a meta of other columns", ("CREATE TABLE meta (id INTEGER PRIMARY KEY)",), None, "82 NotAnArchive\n"),
-    ("a version in words", ("CREATE TABLE meta (version, next, society)", "INSERT INTO meta VALUES ('x', 1, 'a')"), None, "82 NotAnArchive\n"),
+    (
+        "a version in words",
+        ("CREATE TABLE meta (version, next, society)", "INSERT INTO meta VALUES ('x', 1, 'a')"),
+        None,
+        "82 NotAnArchive\n",
+    ),
 )
 
 
@@ -361,7 +391,18 @@ def again():
 
 
 def scenes():
-    yield from (all_records(), one_changed(), taken(), receipts(), slips(), looked_for(), places_found(), entries_found(), dangling(), again())
+    yield from (
+        all_records(),
+        one_changed(),
+        taken(),
+        receipts(),
+        slips(),
+        looked_for(),
+        places_found(),
+        entries_found(),
+        dangling(),
+        again(),
+    )
     yield from foreign()
 
 

@@ -4,7 +4,8 @@ use Rattle.std.specs.Prelude.{Option, None, Ok, Err}
 use Rattle.archive_state.specs.Content.{Content}
 use Rattle.commands.specs.declared.command.Command.{Command}
 use Rattle.commands.specs.declared.command.Command.TheVariants as command
-use Rattle.archive_steps.specs.Steps.{RowStep, row_step}
+use Rattle.archive_merge.specs.Steps.{RowStep}
+use Rattle.archive_steps.specs.Steps.{row_step}
 use Rattle.archive_steps.specs.Words.{IsUtf8Row}
 use Rattle.archive_steps.proofs.Following.{Follows, row_follows}
 use Rattle.entry_batches.proofs.Commands.{batch_follows}

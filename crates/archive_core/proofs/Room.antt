@@ -130,12 +130,6 @@ is_none : (o : Option Record) → is_some o ≡ false → o ≡ None
 is_none None e = refl
 is_none (Some r) e = absurd cc
 
-pub blank_not_put : (m : Records) (n : ℕ) → is_some (get m n) ≡ true → with_blank m n ≡ m
-blank_not_put m n e = ap (λ b. if b then m else insert m n blank) e
-
-pub blank_put : (m : Records) (n : ℕ) → is_some (get m n) ≡ false → with_blank m n ≡ insert m n blank
-blank_put m n e = ap (λ b. if b then m else insert m n blank) e
-
 pub blank_back : (m : Records) (n : ℕ) (ns : List ℕ) → is_some (get m n) ≡ false
     → without (insert m n blank) (n ∷ ns) ≡ without m ns
 blank_back m n ns e = ap (λ x. without x ns) (taken_out m n blank (is_none (get m n) e))

@@ -6,7 +6,7 @@ use Rattle.std.specs.Ordering.{nat_cmp, eq_by_cmp}
 use Rattle.std.specs.Cmp.{nat_cmp_total, eq_by_cmp_equiv}
 use Rattle.archive_state.specs.Content.{Content, Slips}
 use Rattle.archive_state.specs.Slips.{Slip}
-use Rattle.archive_steps.proofs.Same.{one_number}
+use Rattle.archive_state.proofs.Putting.{one_number}
 
 module _ {X : Type 0} where
   at_once : (b : Bool) (v : X) (old o : Option X) → (b ≡ true → o ≡ old) → cond b old (cond b (Some v) o) ≡ o

@@ -97,9 +97,6 @@ pub place_stands : (o : Option Record) (x : model.Place) → place_in o ≡ Ok x
     → option_map (is_wanted a_place) o ≡ Some true
 place_stands o x e = ap (option_map (is_wanted a_place)) (place_found o x e)
 
-pub owner_stands : (o : Option Record) (x : Owner) → owner_in o ≡ Ok x → option_map (is_wanted a_holder) o ≡ Some true
-owner_stands o x e = let f = owner_found o x e in ap (option_map (is_wanted a_holder)) f.1 ∙ ap Some f.2
-
 -- a check that has passed holds
 pub needed : (b : Bool) (k : RefusalKind) (u : Unit {0}) → need b k ≡ Ok u → b ≡ true
 needed true k u e = refl

@@ -29,6 +29,7 @@ use Rattle.std.specs.List.{list_any}
 use Rattle.std.specs.Ordering.{nat_cmp, is_eq, is_lt}
 use Rattle.std.specs.declared.cmp.Ordering.{Ordering}
 use Rattle.std.specs.declared.cmp.Ordering.TheVariants.{Less, Equal, Greater}
+use Rattle.std.proofs.lemmas.Bool.{and_parts}
 use Rattle.record_text.specs.declared.refusal.RefusalKind.{RefusalKind}
 use Rattle.record_text.specs.declared.refusal.RefusalKind.TheVariants.{DuplicateEntry}
 use Rattle.record_fields.specs.Bytes.{bytes_same, bytes_are}
@@ -45,37 +46,11 @@ use Rattle.archive_state.specs.Entries.{HasKey, IsEntryAt}
 use Rattle.archive_state.specs.Paths.{IsLowest}
 use Rattle.archive_looks.specs.Checks.{need}
 use Rattle.archive_looks.specs.Entries.{entry_in, is_like, key_is_free}
-
-first : (a b : Bool) → (a && b) ≡ true → a ≡ true
-first true b e = refl
-first false b e = absurd cc
-
-second : (a b : Bool) → (a && b) ≡ true → b ≡ true
-second true b e = e
-second false b e = absurd cc
-
-below : (a b : Bool) → T (a && b) → T a
-below true b p = tt
-below false b p = absurd p
-
-behind : (a b : Bool) → T (a && b) → T b
-behind true b p = p
-behind false b p = absurd p
+use Rattle.archive_state.proofs.Rising.{first_holds, rest_holds, not_found}
 
 -- kinds are the same where their words are
-same_kind : (a b : EntryKind) → entry_kind_word a ≡ entry_kind_word b → a ≡ b
+pub same_kind : (a b : EntryKind) → entry_kind_word a ≡ entry_kind_word b → a ≡ b
 same_kind a b e = let both : Some a ≡ Some b = sym (entry_kind_back a) ∙ ap entry_kind_of e ∙ entry_kind_back b in cc
-
--- what is below all keys is none of them
-not_found : (k : ℕ) (es : List (ℕ × Record)) → T (below_all nat_cmp k es) → find nat_cmp k es ≡ None
-not_found k [] h = refl
-not_found k (e ∷ es) h =
-    elim (nat_cmp k e.0) as (λ o. T (is_lt o && below_all nat_cmp k es) → cond (is_eq o) (Some e.1)
-    (find nat_cmp k es) ≡ None) [
-      | Less ↦ λ p. not_found k es p
-      | Equal ↦ λ p. absurd p
-      | Greater ↦ λ p. absurd p
-    ] h
 
 module _ (f : Record → Bool) where
   -- a record that stands at a number passes, and so one of the list does
@@ -110,7 +85,7 @@ module _ (f : Record → Bool) where
           q,
         )
         | false ↦ λ q g.
-            let more = at_any es (behind (below_all nat_cmp e.0 es) (is_sorted nat_cmp es) rises) g in
+            let more = at_any es (rest_holds (below_all nat_cmp e.0 es) (is_sorted nat_cmp es) rises) g in
             let apart : (o : Ordering) → nat_cmp more.0 e.0 ≡ o → cond (is_eq o) (Some e.1)
             (find nat_cmp more.0 es) ≡ Some more.1 =
             λ o. elim o as (λ o. nat_cmp more.0 e.0 ≡ o → cond (is_eq o) (Some e.1) (find nat_cmp more.0 es)
@@ -119,7 +94,7 @@ module _ (f : Record → Bool) where
               | Equal ↦ λ is.
                   let same : more.0 ≡ e.0 = ranked more.0 e.0 Equal (sym is) in
                   let gone : find nat_cmp more.0 es ≡ None = ap (λ k. find nat_cmp k es) same
-                  ∙ not_found e.0 es (below (below_all nat_cmp e.0 es) (is_sorted nat_cmp es) rises) in
+                  ∙ not_found e.0 es (first_holds (below_all nat_cmp e.0 es) (is_sorted nat_cmp es) rises) in
                   let wrong : None ≡ Some more.1 = sym gone ∙ more.2 in absurd cc
               | Greater ↦ λ is. more.2
             ] in
@@ -138,20 +113,21 @@ module _ (source : ℕ) (k : EntryKind) (page : List ℕ) (item : Item) where
 
   key_of : (e : model.Entry) → is_like source k page item (kind.Entry e) ≡ true → HasKey source k page item e
   key_of e h =
-      let rest = second (e.source == source)
+      let rest = (and_parts (e.source == source)
       (bytes_eq (entry_kind_word e.kind) (entry_kind_word k) &&
-      (bytes_eq e.page page && e.item.number == item.number)) h in
-      let last = second (bytes_eq (entry_kind_word e.kind) (entry_kind_word k))
-      (bytes_eq e.page page && e.item.number == item.number) rest in (
+      (bytes_eq e.page page && e.item.number == item.number)) h).1 in
+      let last = (and_parts (bytes_eq (entry_kind_word e.kind) (entry_kind_word k))
+      (bytes_eq e.page page && e.item.number == item.number) rest).1 in (
         eqb-true e.source source
-            (first (e.source == source) (bytes_eq (entry_kind_word e.kind) (entry_kind_word k) &&
-            (bytes_eq e.page page && e.item.number == item.number)) h),
+            (and_parts (e.source == source) (bytes_eq (entry_kind_word e.kind) (entry_kind_word k) &&
+            (bytes_eq e.page page && e.item.number == item.number)) h).0,
         same_kind e.kind k (bytes_are (entry_kind_word e.kind) (entry_kind_word k)
-            (first (bytes_eq (entry_kind_word e.kind) (entry_kind_word k))
-            (bytes_eq e.page page && e.item.number == item.number) rest)),
-        bytes_are e.page page (first (bytes_eq e.page page) (e.item.number == item.number) last),
+            (and_parts (bytes_eq (entry_kind_word e.kind) (entry_kind_word k))
+            (bytes_eq e.page page && e.item.number == item.number) rest).0),
+        bytes_are e.page page (and_parts (bytes_eq e.page page) (e.item.number == item.number) last).0,
         same_item e.item item
-            (eqb-true e.item.number item.number (second (bytes_eq e.page page) (e.item.number == item.number) last)),
+            (eqb-true e.item.number item.number
+            (and_parts (bytes_eq e.page page) (e.item.number == item.number) last).1),
       )
 
   like_is : (r : Record) → is_like source k page item r ≡ true → (e : model.Entry) × (r ≡ kind.Entry e)

@@ -27,6 +27,7 @@ use Rattle.std.specs.List.{list_any, onto_first}
 use Rattle.std.proofs.lemmas.List.Folds.{list_any-append}
 use Rattle.std.proofs.lemmas.List.Splits.{slice_split-cons_yes, slice_split-cons_no, length-slice_split}
 use Rattle.std.specs.FinMap.{get}
+use Rattle.std.proofs.Math.Bool.{or_comm, or_assoc}
 use Rattle.record_text.specs.declared.refusal.RefusalKind.TheVariants.{BadText}
 use Rattle.record_kinds.specs.Model as model
 use Rattle.archive_state.specs.Content.{Content, Records}
@@ -44,22 +45,12 @@ is_dark b = not (b == 32)
 abbrev is_told : ℕ → Bool
 is_told b = not (b == 44 || b == 32)
 
-or_swapped : (a b : Bool) → (a || b) ≡ (b || a)
-or_swapped true true = refl
-or_swapped true false = refl
-or_swapped false true = refl
-or_swapped false false = refl
-
-or_grouped : (a b c : Bool) → ((a || b) || c) ≡ (a || (b || c))
-or_grouped true b c = refl
-or_grouped false b c = refl
-
 -- ---- one part
 dark_backwards : (t : List ℕ) → list_any is_dark (backwards t) ≡ list_any is_dark t
 dark_backwards [] = refl
 dark_backwards (b ∷ bs) =
     list_any-append is_dark (backwards bs) (b ∷ []) ∙ ap (λ x. x || list_any is_dark (b ∷ [])) (dark_backwards bs)
-    ∙ or_swapped (list_any is_dark bs) (list_any is_dark (b ∷ [])) ∙ or_grouped (is_dark b) false
+    ∙ or_comm (list_any is_dark bs) (list_any is_dark (b ∷ [])) ∙ or_assoc (is_dark b) false
     (list_any is_dark bs)
 
 dark_from_word : (t : List ℕ) → list_any is_dark (from_word t) ≡ list_any is_dark t
@@ -80,7 +71,7 @@ some_append (x ∷ s) t = some_suc (length (s ++ t)) ∙ sym (ap (λ b. b || nat
 
 some_backwards : (t : List ℕ) → nat_lt 0 (length (backwards t)) ≡ nat_lt 0 (length t)
 some_backwards [] = refl
-some_backwards (b ∷ bs) = some_append (backwards bs) (b ∷ []) ∙ or_swapped (nat_lt 0 (length (backwards bs)))
+some_backwards (b ∷ bs) = some_append (backwards bs) (b ∷ []) ∙ or_comm (nat_lt 0 (length (backwards bs)))
     (nat_lt 0 1) ∙ ap (λ x. x || nat_lt 0 (length (backwards bs))) (some_suc 0) ∙ sym (some_suc (length bs))
 
 some_from_word : (t : List ℕ) → nat_lt 0 (length (from_word t)) ≡ list_any is_dark t
@@ -106,7 +97,7 @@ some_part (t ∷ ts) = ap (λ x. x || list_any (λ u. nat_lt 0 (length (trimmed 
 dark_first : (b : ℕ) (ts : List (List ℕ)) → 0 < length ts → list_any (list_any is_dark) (onto_first b ts)
     ≡ (is_dark b || list_any (list_any is_dark) ts)
 dark_first b [] l = absurd (omega arith)
-dark_first b (t ∷ ts) l = or_grouped (is_dark b) (list_any is_dark t) (list_any (list_any is_dark) ts)
+dark_first b (t ∷ ts) l = or_assoc (is_dark b) (list_any is_dark t) (list_any (list_any is_dark) ts)
 
 -- what is neither comma nor space stands in a part
 dark_parts : (t : List ℕ) → list_any (list_any is_dark) (parts t) ≡ says_something t
@@ -129,7 +120,7 @@ part_is_said t = some_part (parts t) ∙ dark_parts t
 -- what is put between two names says nothing
 said_joined : (names : List (List ℕ)) → says_something (joined names) ≡ list_any says_something names
 said_joined [] = refl
-said_joined (name ∷ []) = sym (or_swapped (says_something name) false)
+said_joined (name ∷ []) = sym (or_comm (says_something name) false)
 said_joined (name ∷ (above ∷ names)) =
     list_any-append is_told name (codes ", " ++ joined (above ∷ names)) ∙ ap (λ x. says_something name || x)
     (said_joined (above ∷ names))
@@ -184,8 +175,3 @@ needed false e = absurd cc
 pub said_has_part : (c : Content) (n : ℕ) → said_place_at c n ≡ Ok tt → (path : List ℕ) → HasPath c.records n path
     → has_part path ≡ true
 said_has_part c n e path h = needed (has_part path) (sym (said_by_path c n path h) ∙ e)
-
--- a place whose path has such a part is said
-pub part_is_enough : (c : Content) (n : ℕ) (path : List ℕ) → HasPath c.records n path → has_part path ≡ true
-    → said_place_at c n ≡ Ok tt
-part_is_enough c n path h e = said_by_path c n path h ∙ ap (λ b. need b BadText) e

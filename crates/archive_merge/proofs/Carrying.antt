@@ -2,6 +2,8 @@
 use Rattle.std.proofs.Common.{◌≡◌, ℕ, List, [], ◌∷◌, ◌++◌, refl, sym, subst}
 use Rattle.std.specs.Prelude.{map, Option, Some, None, option_map, ◌==◌}
 use Rattle.std.specs.List.{flat_map}
+use Rattle.std.proofs.lemmas.List.{map-append}
+use Rattle.std.proofs.lemmas.Grind.{flat_map-append}
 use Rattle.stored_lines.specs.Tree.{Tree, relabel}
 use Rattle.stored_lines.specs.Line.{Line, Lines}
 use Rattle.record_kinds.specs.Model as model
@@ -27,7 +29,7 @@ use Rattle.archive_state.specs.Merging.{
   second_sex,
 }
 use Rattle.archive_state.proofs.Each.{each_both, each_front, each_back}
-use Rattle.archive_merge.proofs.Lists.{cat, flat_cat, map_both, flat_both, each_flat, each_to_flat}
+use Rattle.archive_merge.proofs.Lists.{cat, flat_cat, each_flat, each_to_flat}
 use Rattle.archive_merge.proofs.Once.{chosen}
 
 -- ---- each number changed
@@ -52,10 +54,10 @@ module _ (f : ℕ → ℕ) where
       (flat_map (λ (c : model.Child). c.carried ++ c.carried_by_person) x.children ++ x.carried) _ _
       (flat_cat moved_line (partner_with f) (λ p. p.carried ++ p.carried_by_person)
       (λ p. p.carried ++ p.carried_by_person)
-      (λ p. sym (map_both moved_line p.carried p.carried_by_person)) x.partners)
+      (λ p. sym (map-append moved_line p.carried p.carried_by_person)) x.partners)
       (cat moved_line (flat_map (λ (c : model.Child). c.carried ++ c.carried_by_person) x.children) x.carried _ _
       (flat_cat moved_line (child_with f) (λ c. c.carried ++ c.carried_by_person)
-      (λ c. c.carried ++ c.carried_by_person) (λ c. sym (map_both moved_line c.carried c.carried_by_person))
+      (λ c. c.carried ++ c.carried_by_person) (λ c. sym (map-append moved_line c.carried c.carried_by_person))
       x.children) refl)
   carried_moved (kind.Citation x) = refl
   carried_moved (kind.Event x) =
@@ -130,7 +132,7 @@ module _ (OfLine : Tree Line → Type 0) where
   lines_joined k g a b sex =
       let of_name : model.Name → Lines = λ n. n.carried in
       each_both OfLine (flat_map of_name (k.names ++ g.names)) (k.carried ++ (g.carried ++ second_sex k.sex g.sex))
-      (subst (EachOf OfLine) (sym (flat_both of_name k.names g.names))
+      (subst (EachOf OfLine) (sym (flat_map-append of_name k.names g.names))
       (each_both OfLine (flat_map of_name k.names) (flat_map of_name g.names)
       (each_front OfLine (flat_map of_name k.names) k.carried a)
       (each_front OfLine (flat_map of_name g.names) g.carried b)))

@@ -3,6 +3,7 @@ use Rattle.std.proofs.Common.{◌≡◌, ℕ, List, [], ◌∷◌, Bool, true, f
 use Rattle.std.specs.Prelude.{Option, Some, None, IsTrue, ◌&&◌, ◌==◌}
 use Rattle.std.specs.Str.{bytes_eq}
 use Rattle.std.specs.FinMap.{get}
+use Rattle.std.proofs.lemmas.Bool.{and_parts, and_from, eqb-true}
 use Rattle.stored_lines.specs.Line.{Label}
 use Rattle.record_fields.specs.Bytes.{bytes_are, bytes_same}
 use Rattle.records.specs.Stored.{stored}
@@ -19,11 +20,7 @@ use Rattle.archive_merge.specs.Comparing.{
   is_same_record,
   is_now,
 }
-use Rattle.archive_merge.proofs.Once.{same_number, number_itself}
-
-both_yes : (a b : Bool) → (a && b) ≡ true → (a ≡ true) × (b ≡ true)
-both_yes true b e = (refl, e)
-both_yes false b e = absurd cc
+use Rattle.archive_merge.proofs.Once.{number_itself}
 
 text_is : (s t : Option (List ℕ)) → is_same_text s t ≡ true → s ≡ t
 text_is None None e = refl
@@ -33,14 +30,14 @@ text_is (Some s) None e = absurd cc
 
 target_is : (s t : Option ℕ) → is_same_target s t ≡ true → s ≡ t
 target_is None None e = refl
-target_is (Some s) (Some t) e = ap Some (same_number s t e)
+target_is (Some s) (Some t) e = ap Some (eqb-true s t e)
 target_is None (Some t) e = absurd cc
 target_is (Some s) None e = absurd cc
 
 label_is : (a b : Label) → is_same_label a b ≡ true → a ≡ b
 label_is a b e =
-    let x = both_yes (bytes_eq a.tag b.tag) (is_same_text a.text b.text && is_same_target a.target b.target) e in
-    let y = both_yes (is_same_text a.text b.text) (is_same_target a.target b.target) x.1 in
+    let x = and_parts (bytes_eq a.tag b.tag) (is_same_text a.text b.text && is_same_target a.target b.target) e in
+    let y = and_parts (is_same_text a.text b.text) (is_same_target a.target b.target) x.1 in
     λ i. record {
       tag = bytes_are a.tag b.tag x.0 i;
       text = text_is a.text b.text y.0 i;
@@ -50,9 +47,9 @@ label_is a b e =
 lines_are : (ls ms : List (ℕ × Label)) → are_same_lines ls ms ≡ true → ls ≡ ms
 lines_are [] [] e = refl
 lines_are (a ∷ ls) (b ∷ ms) e =
-    let x = both_yes (a.0 == b.0) (is_same_label a.1 b.1 && are_same_lines ls ms) e in
-    let y = both_yes (is_same_label a.1 b.1) (are_same_lines ls ms) x.1 in
-    λ i. (same_number a.0 b.0 x.0 i, label_is a.1 b.1 y.0 i) ∷ lines_are ls ms y.1 i
+    let x = and_parts (a.0 == b.0) (is_same_label a.1 b.1 && are_same_lines ls ms) e in
+    let y = and_parts (is_same_label a.1 b.1) (are_same_lines ls ms) x.1 in
+    λ i. (eqb-true a.0 b.0 x.0 i, label_is a.1 b.1 y.0 i) ∷ lines_are ls ms y.1 i
 lines_are [] (b ∷ ms) e = absurd cc
 lines_are (a ∷ ls) [] e = absurd cc
 
@@ -64,7 +61,7 @@ record_is (Some r) None e = absurd cc
 
 pub now_is : (m : Records) (cs : List Change) → is_now m cs ≡ true → IsNow m cs
 now_is m [] e = tt
-now_is m (c ∷ cs) e = let x = both_yes (is_same_record (get m c.number) c.new) (is_now m cs) e in
+now_is m (c ∷ cs) e = let x = and_parts (is_same_record (get m c.number) c.new) (is_now m cs) e in
     (record_is (get m c.number) c.new x.0, now_is m cs x.1)
 
 -- ---- and back
@@ -76,17 +73,14 @@ target_same : (t : Option ℕ) → is_same_target t t ≡ true
 target_same None = refl
 target_same (Some t) = number_itself t
 
-yes_both : (a b : Bool) → a ≡ true → b ≡ true → (a && b) ≡ true
-yes_both a b e f = ap (λ x. x && b) e ∙ f
-
 label_same : (a : Label) → is_same_label a a ≡ true
-label_same a = yes_both (bytes_eq a.tag a.tag) _ (bytes_same a.tag a.tag refl)
-    (yes_both (is_same_text a.text a.text) _ (text_same a.text) (target_same a.target))
+label_same a = and_from (bytes_eq a.tag a.tag) _ (bytes_same a.tag a.tag refl)
+    (and_from (is_same_text a.text a.text) _ (text_same a.text) (target_same a.target))
 
 lines_same : (ls : List (ℕ × Label)) → are_same_lines ls ls ≡ true
 lines_same [] = refl
-lines_same (a ∷ ls) = yes_both (a.0 == a.0) _ (number_itself a.0)
-    (yes_both (is_same_label a.1 a.1) _ (label_same a.1) (lines_same ls))
+lines_same (a ∷ ls) = and_from (a.0 == a.0) _ (number_itself a.0)
+    (and_from (is_same_label a.1 a.1) _ (label_same a.1) (lines_same ls))
 
 pub record_same : (r : Option Record) → is_same_record r r ≡ true
 record_same None = refl
@@ -94,7 +88,7 @@ record_same (Some r) = lines_same (stored r)
 
 pub is_now_new : (m : Records) (cs : List Change) → IsNow m cs → is_now m cs ≡ true
 is_now_new m [] h = refl
-is_now_new m (c ∷ cs) h = yes_both (is_same_record (get m c.number) c.new) _
+is_now_new m (c ∷ cs) h = and_from (is_same_record (get m c.number) c.new) _
     (ap (is_same_record (get m c.number)) (sym h.0) ∙ record_same (get m c.number)) (is_now_new m cs h.1)
 
 -- ---- by a test of lines

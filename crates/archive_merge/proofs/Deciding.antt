@@ -29,8 +29,10 @@ use Rattle.std.proofs.Common.{
 use Rattle.std.specs.Prelude.{Some, map, not, ◌||◌, ◌&&◌, ◌==◌}
 use Rattle.std.specs.List.{list_any, filter, flat_map}
 use Rattle.std.specs.FinMap.{get, entries}
-use Rattle.std.proofs.lemmas.List.{take_more}
+use Rattle.std.proofs.lemmas.List.{take_more, append-nil}
 use Rattle.std.proofs.lemmas.List.Folds.{list_any-append}
+use Rattle.std.proofs.lemmas.Bool.{and_parts, or_right, or_left, or_cases}
+use Rattle.std.proofs.lemmas.Grind.{flat_map-append}
 use Rattle.record_kinds.specs.Model as model
 use Rattle.record_kinds.specs.declared.record.Record.{Record}
 use Rattle.record_kinds.specs.declared.record.Record.TheVariants as kind
@@ -44,19 +46,8 @@ use Rattle.archive_view.specs.Looks.{OnView}
 use Rattle.archive_merge.specs.Comparing.{is_now, is_same_record}
 use Rattle.archive_merge.specs.Looks.{clashes_in, clashes_among, change_of, changes_of}
 use Rattle.archive_merge.specs.Merges.{is_clash, change_at, merge_changes, changed_numbers, is_changed}
-use Rattle.archive_merge.proofs.Lists.{append_nothing, flat_both}
 use Rattle.archive_merge.proofs.Merge.{entries_there}
 use Rattle.archive_merge.proofs.Numbers.{numbers_found}
-
--- ---- looks in a row
-pub then_look : {S Held : Type 0} (honest : S → Type 0) (shows : S → Held → Type 0) (content : Held → Content)
-    (a b c : S) (P Q R : Content → Type 0)
-    → OnView honest shows content a b P → OnView honest shows content b c Q → ((x : Content) → P x → Q x → R x)
-    → OnView honest shows content a c R
-then_look honest shows content a b c P Q R p q r h =
-    let second = q h in
-    let first = p second.0 in
-    (first.0, λ held s. let x = first.1 held s in let y = second.1 held x.0 in (y.0, r (content held) x.1 y.1))
 
 -- ---- tests of one number after the other
 one_more : (P : ℕ → Bool) (ns : List ℕ) (i n : ℕ) → i < length ns → n ≡ get_or ns i n
@@ -75,56 +66,36 @@ either : (a : Bool) → (a || true) ≡ true
 either true = refl
 either false = refl
 
-first_yes : (a b : Bool) → a ≡ true → (a || b) ≡ true
-first_yes a b e = ap (λ x. x || b) e
-
-second_yes : (a b : Bool) → b ≡ true → (a || b) ≡ true
-second_yes a b e = ap (λ x. a || x) e ∙ either a
-
-pub one_there : (P : ℕ → Bool) (ns : List ℕ) (i n : ℕ) → i < length ns → n ≡ get_or ns i n → P n ≡ true
-    → list_any P ns ≡ true
-one_there P [] i n h e is = absurd (omega arith)
-one_there P (k ∷ ns) zero n h e is = first_yes (P k) (list_any P ns) (ap P (sym e) ∙ is)
-one_there P (k ∷ ns) (suc i) n h e is = second_yes (P k) (list_any P ns) (one_there P ns i n (omega arith) e is)
-
-one_of : (a b : Bool) → (a || b) ≡ true → (a ≡ true) ⊎ (b ≡ true)
-one_of true b e = inl refl
-one_of false b e = inr e
-
 module _ {A : Type 0} where
   any_front : (P : A → Bool) (xs ys : List A) → list_any P xs ≡ true → list_any P (xs ++ ys) ≡ true
-  any_front P xs ys e = list_any-append P xs ys ∙ first_yes (list_any P xs) (list_any P ys) e
+  any_front P xs ys e = list_any-append P xs ys ∙ or_left (list_any P xs) (list_any P ys) e
 
   any_back : (P : A → Bool) (xs ys : List A) → list_any P ys ≡ true → list_any P (xs ++ ys) ≡ true
-  any_back P xs ys e = list_any-append P xs ys ∙ second_yes (list_any P xs) (list_any P ys) e
+  any_back P xs ys e = list_any-append P xs ys ∙ or_right (list_any P xs) (list_any P ys) e
 
 module _ {A B : Type 0} where
   any_flat : (P : B → Bool) (p : A → Bool) (h : A → List B) → ((a : A) → p a ≡ true → list_any P (h a) ≡ true)
       → (xs : List A) → list_any p xs ≡ true → list_any P (flat_map h xs) ≡ true
   any_flat P p h f [] e = absurd cc
   any_flat P p h f (x ∷ xs) e =
-      elim (one_of (p x) (list_any p xs) e) as (λ _. list_any P (h x ++ flat_map h xs) ≡ true) [
+      elim (or_cases (p x) (list_any p xs) e) as (λ _. list_any P (h x ++ flat_map h xs) ≡ true) [
         | inl y ↦ any_front P (h x) (flat_map h xs) (f x y)
         | inr y ↦ any_back P (h x) (flat_map h xs) (any_flat P p h f xs y)
       ]
 
 -- ---- families of both
-both_yes : (a b : Bool) → (a && b) ≡ true → (a ≡ true) × (b ≡ true)
-both_yes true b e = (refl, e)
-both_yes false b e = absurd cc
-
 module _ (n : ℕ) where
   abbrev is_it : Link → Bool
   is_it l = l.0 == n
 
   partner_named : (p : model.Partner) → (p.person == n) ≡ true → list_any is_it (partner_links p) ≡ true
-  partner_named p e = first_yes (p.person == n) _ e
+  partner_named p e = or_left (p.person == n) _ e
 
   child_named : (p : model.Child) → (p.person == n) ≡ true → list_any is_it (child_links p) ≡ true
-  child_named p e = first_yes (p.person == n) _ e
+  child_named p e = or_left (p.person == n) _ e
 
   member_named : (x : model.Family) → has_member n x ≡ true → is_among n (links (kind.Family x)) ≡ true
-  member_named x e = elim (one_of (list_any (λ (p : model.Partner). p.person == n) x.partners)
+  member_named x e = elim (or_cases (list_any (λ (p : model.Partner). p.person == n) x.partners)
       (has_child n x) e) as (λ _. list_any is_it (family_links x) ≡ true) [
         | inl y ↦ any_front is_it (flat_map partner_links x.partners)
             (flat_map child_links x.children ++ carried_links x.carried)
@@ -139,8 +110,8 @@ module _ (keep gone : ℕ) (m : Records) where
   -- a family of both names the one that is gone
   clash_names : (r : Record) → clashes keep gone r ≡ true → is_among gone (links r) ≡ true
   clash_names (kind.Family x) e =
-      let a = both_yes (has_member keep x && has_member gone x) (not (has_child keep x && has_child gone x)) e in
-      let b = both_yes (has_member keep x) (has_member gone x) a.0 in
+      let a = and_parts (has_member keep x && has_member gone x) (not (has_child keep x && has_child gone x)) e in
+      let b = and_parts (has_member keep x) (has_member gone x) a.0 in
       member_named gone x b.1
   clash_names (kind.Place x) e = absurd cc
   clash_names (kind.Repo x) e = absurd cc
@@ -210,9 +181,9 @@ changes_found keep gone c k g at_k at_g =
 pub one_change_more : (f : ℕ → List Change) (ns : List ℕ) (i n : ℕ) (cs ds : List Change) → i < length ns
     → n ≡ get_or ns i n → cs ≡ flat_map f (take i ns) → ds ≡ cs ++ f n → ds ≡ flat_map f (take (i + 1) ns)
 one_change_more f ns i n cs ds h e was more =
-    more ∙ ap (λ l. l ++ f n) was ∙ ap (λ l. flat_map f (take i ns) ++ l) (sym (append_nothing (f n)))
+    more ∙ ap (λ l. l ++ f n) was ∙ ap (λ l. flat_map f (take i ns) ++ l) (sym (append-nil (f n)))
     ∙ ap (λ k. flat_map f (take i ns) ++ (f k ++ [])) e
-    ∙ sym (ap (flat_map f) (take_more ns i n h) ∙ flat_both f (take i ns) (get_or ns i n ∷ []))
+    ∙ sym (ap (flat_map f) (take_more ns i n h) ∙ flat_map-append f (take i ns) (get_or ns i n ∷ []))
 
 -- ---- families that are looked at
 pub clash_found : (keep gone : ℕ) (c : Content) (ns : List ℕ) (b : Bool) → ns ≡ referrers c gone

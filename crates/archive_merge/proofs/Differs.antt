@@ -23,6 +23,8 @@ use Rattle.std.proofs.Common.{
 }
 use Rattle.std.specs.Prelude.{Option, Some, None, is_none, map, option_map, not, length, ◌&&◌, ◌||◌, ◌==◌}
 use Rattle.std.specs.FinMap.{get}
+use Rattle.std.proofs.lemmas.Bool.{and_from}
+use Rattle.std.proofs.lemmas.List.{length-map, length-append}
 use Rattle.stored_lines.specs.Tree.{relabel}
 use Rattle.record_kinds.specs.Model as model
 use Rattle.record_fields.specs.declared.words.Sex.{Sex}
@@ -87,23 +89,12 @@ module _ (keep gone : ℕ) (apart : keep ≡ gone → ⊥) where
       (others_with (kind.Person g)))
 
 -- ---- what is added is seen
-long_both : {A : Type 0} (xs ys : List A) → length (xs ++ ys) ≡ length xs + length ys
-long_both [] ys = let z : (n : ℕ) → n ≡ 0 + n = λ n. omega arith in z (length ys)
-long_both (x ∷ xs) ys = let e : length (xs ++ ys) ≡ length xs + length ys = long_both xs ys in omega arith
-
-long_map : {A B : Type 0} (g : A → B) (xs : List A) → length (map g xs) ≡ length xs
-long_map g [] = refl
-long_map g (x ∷ xs) = ap suc (long_map g xs)
-
 none_long : {A : Type 0} (xs : List A) → length xs ≡ 0 → is_empty xs ≡ true
 none_long [] e = refl
 none_long (x ∷ xs) e = absurd (omega arith)
 
 one_long : (n : ℕ) → n ≡ 0 → 0 < n → ⊥
 one_long n e h = omega arith
-
-yes_both : (a b : Bool) → a ≡ true → b ≡ true → (a && b) ≡ true
-yes_both a b e h = ap (λ x. x && b) e ∙ h
 
 left_no : (a b d x : Bool) → a ≡ false → d ≡ true → x ≡ false → (a || ((b && not d) || x)) ≡ true → ⊥
 left_no false true true false e h i t = absurd cc
@@ -130,24 +121,24 @@ nothing_seen f k g e =
     let names : length (map (name_with f) k.names ++ map (name_with f) g.names) ≡ length k.names = ap
     (λ (p : model.Person). length p.names) e in
     let a : length (map (name_with f) k.names ++ map (name_with f) g.names) ≡ length (map (name_with f) k.names)
-    + length (map (name_with f) g.names) = long_both (map (name_with f) k.names) (map (name_with f) g.names) in
-    let b : length (map (name_with f) k.names) ≡ length k.names = long_map (name_with f) k.names in
-    let d : length (map (name_with f) g.names) ≡ length g.names = long_map (name_with f) g.names in
+    + length (map (name_with f) g.names) = length-append (map (name_with f) k.names) (map (name_with f) g.names) in
+    let b : length (map (name_with f) k.names) ≡ length k.names = length-map k.names (name_with f) in
+    let d : length (map (name_with f) g.names) ≡ length g.names = length-map g.names (name_with f) in
     let no_names : length g.names ≡ 0 = omega arith in
     let ours : length (lines_with f k.carried ++ (lines_with f g.carried ++ second_sex k.sex g.sex))
     ≡ length k.carried = ap (λ (p : model.Person). length p.carried) e in
     let h : length (lines_with f k.carried ++ (lines_with f g.carried ++ second_sex k.sex g.sex))
     ≡ length (lines_with f k.carried) + length (lines_with f g.carried ++ second_sex k.sex g.sex) =
-    long_both (lines_with f k.carried) (lines_with f g.carried ++ second_sex k.sex g.sex) in
+    length-append (lines_with f k.carried) (lines_with f g.carried ++ second_sex k.sex g.sex) in
     let i : length (lines_with f g.carried ++ second_sex k.sex g.sex) ≡ length (lines_with f g.carried) + length
-    (second_sex k.sex g.sex) = long_both (lines_with f g.carried) (second_sex k.sex g.sex) in
-    let j : length (lines_with f k.carried) ≡ length k.carried = long_map (relabel (line_with f)) k.carried in
-    let l : length (lines_with f g.carried) ≡ length g.carried = long_map (relabel (line_with f)) g.carried in
+    (second_sex k.sex g.sex) = length-append (lines_with f g.carried) (second_sex k.sex g.sex) in
+    let j : length (lines_with f k.carried) ≡ length k.carried = length-map k.carried (relabel (line_with f)) in
+    let l : length (lines_with f g.carried) ≡ length g.carried = length-map g.carried (relabel (line_with f)) in
     let no_lines : length g.carried ≡ 0 = omega arith in
     let no_sex : length (second_sex k.sex g.sex) ≡ 0 = omega arith in
     let sex : sex_of_two k.sex g.sex ≡ k.sex = ap (λ (p : model.Person). p.sex) e in
-    yes_both (is_empty g.names) (is_none g.sex && is_empty g.carried) (none_long g.names no_names)
-    (yes_both (is_none g.sex) (is_empty g.carried) (no_second_sex k.sex g.sex sex no_sex)
+    and_from (is_empty g.names) (is_none g.sex && is_empty g.carried) (none_long g.names no_names)
+    (and_from (is_none g.sex) (is_empty g.carried) (no_second_sex k.sex g.sex sex no_sex)
     (none_long g.carried no_lines))
 
 -- ---- each changed number

@@ -4,6 +4,7 @@ use Rattle.std.proofs.Common.{◌≡◌, ℕ, suc, List, [], ◌∷◌, ◌++◌
 use Rattle.std.specs.Prelude.{Option, Some, None, option_map, map, length, codes, decimal, nat_le, bytes_eq, ◌&&◌}
 use Rattle.std.specs.List.{list_all}
 use Rattle.std.specs.Option.{unwrap_or}
+use Rattle.std.proofs.lemmas.Bool.{and_parts, eqb-true}
 use Rattle.stored_lines.specs.Tree.{
   Tree,
   Forest,
@@ -55,32 +56,27 @@ use Rattle.record_shapes.specs.Entries.{
 }
 use Rattle.record_shapes.proofs.Entries.{entry_back}
 use Rattle.archive_state.specs.Merging.{value_with, line_with, lines_with, link_with, mention_with, entry_with}
-use Rattle.archive_merge.proofs.Once.{same_number}
 use Rattle.archive_merge.proofs.Untaken.{through}
-
-both_true : (a b : Bool) → (a && b) ≡ true → (a ≡ true) × (b ≡ true)
-both_true true b e = (refl, e)
-both_true false b e = absurd cc
 
 -- ---- lines that are found the same are the same
 value_is : (v w : Value) → same_value v w ≡ true → v ≡ w
 value_is (value.Text t) (value.Text u) e = ap value.Text (bytes_are t u e)
-value_is (value.Ref n) (value.Ref k) e = ap value.Ref (same_number n k e)
+value_is (value.Ref n) (value.Ref k) e = ap value.Ref (eqb-true n k e)
 value_is (value.Text t) (value.Ref k) e = absurd cc
 value_is (value.Ref n) (value.Text u) e = absurd cc
 
 mutual
   tree_is : (t u : Tree Line) → same_tree t u ≡ true → t ≡ u
   tree_is (node l g) (node k h) e =
-      let x = both_true (bytes_eq l.tag k.tag) (same_value l.value k.value && same_forest g h) e in
-      let y = both_true (same_value l.value k.value) (same_forest g h) x.1 in
+      let x = and_parts (bytes_eq l.tag k.tag) (same_value l.value k.value && same_forest g h) e in
+      let y = and_parts (same_value l.value k.value) (same_forest g h) x.1 in
       λ i. node (record { tag = bytes_are l.tag k.tag x.0 i; value = value_is l.value k.value y.0 i })
       (forest_is g h y.1 i)
 
   forest_is : (g h : Forest Line) → same_forest g h ≡ true → g ≡ h
   forest_is none none e = refl
   forest_is (more t g) (more u h) e =
-      let x = both_true (same_tree t u) (same_forest g h) e in
+      let x = and_parts (same_tree t u) (same_forest g h) e in
       λ i. more (tree_is t u x.0 i) (forest_is g h x.1 i)
   forest_is none (more u h) e = absurd cc
   forest_is (more t g) none e = absurd cc
@@ -101,8 +97,8 @@ said_path (Some path) e = refl
 place_known : (known : Known) (e : model.Entry) → is_entry known e ≡ true → (n : ℕ) → e.place ≡ Some n
     → known.path n ≡ Some (unwrap_or (known.path n) [])
 place_known known e h n at =
-    let x = both_true (bytes_eq (known.tag e.source) (codes "SOUR")) _ h in
-    let y = both_true (is_said known e.place) _ x.1 in
+    let x = and_parts (bytes_eq (known.tag e.source) (codes "SOUR")) _ h in
+    let y = and_parts (is_said known e.place) _ x.1 in
     said_path (known.path n) (ap (is_said known) (sym at) ∙ y.0)
 
 if_entry : (b : Bool) (g e : model.Entry) → entry_if b g ≡ Some e → (b ≡ true) × (g ≡ e)
@@ -127,9 +123,9 @@ unfolding entry_of
 is_of known word ts e is =
     let g : model.Entry = entry_on word ts in
     let a = if_entry (has_its_lines known (value.Text word) ts g) g e is in
-    let b = both_true (is_some (entry_kind_of word))
+    let b = and_parts (is_some (entry_kind_of word))
     (same_forest (forest_of ts) (forest_of (entry_lines (around known) g)) && is_entry known g) a.0 in
-    let c = both_true (same_forest (forest_of ts) (forest_of (entry_lines (around known) g))) (is_entry known g) b.1 in
+    let c = and_parts (same_forest (forest_of ts) (forest_of (entry_lines (around known) g))) (is_entry known g) b.1 in
     record {
       e = g;
       lines = lines_are ts (entry_lines (around known) g) c.0;

@@ -27,6 +27,8 @@ use Rattle.std.specs.Prelude.{Option, Some, None, option_map, IfSome, map, lengt
 use Rattle.std.specs.FinMap.{get}
 use Rattle.std.specs.List.{flat_map, list_any}
 use Rattle.std.specs.Str.{bytes_eq}
+use Rattle.std.proofs.lemmas.List.{length-map}
+use Rattle.std.proofs.lemmas.Option.{IfSome_then}
 use Rattle.record_kinds.specs.Model as model
 use Rattle.record_kinds.specs.declared.record.Record.{Record}
 use Rattle.record_kinds.specs.declared.record.Record.TheVariants as kind
@@ -108,30 +110,12 @@ use Rattle.archive_merge.proofs.Merged.{
   map_some,
 }
 use Rattle.archive_merge.proofs.Once.{join_links, once_into}
-use Rattle.archive_merge.proofs.PathsKept.{no_person_path}
+use Rattle.archive_merge.proofs.PathsKept.{no_person_path, either_none, no_place_person, no_source_person}
 use Rattle.archive_merge.proofs.Renaming.{moved, links_moved}
 use Rattle.archive_merge.proofs.Rooms.{room_with, room_once, room_joined}
 use Rattle.archive_merge.proofs.Tags.{of_records_with, of_records_once, of_records_joined}
 use Rattle.archive_merge.proofs.Texts.{texts_with, texts_once, texts_joined}
 use Rattle.archive_merge.proofs.Untaken.{through, untaken_with, untaken_joined, untaken_any}
-
-no_place_person : (p : model.Person) → is_wanted a_place (kind.Person p) ≡ true → ⊥
-no_place_person p e = let none : false ≡ true = e in absurd cc
-
-no_source_person : (p : model.Person) → is_wanted a_source (kind.Person p) ≡ true → ⊥
-no_source_person p e = let none : false ≡ true = e in absurd cc
-
-same_length : {A B : Type 0} (g : A → B) (xs : List A) → length (map g xs) ≡ length xs
-same_length g [] = refl
-same_length g (x ∷ xs) = ap suc (same_length g xs)
-
-some_more : {A : Type 0} (P Q : A → Type 0) → ((a : A) → P a → Q a) → (o : Option A) → IfSome o P → IfSome o Q
-some_more P Q f None h = tt
-some_more P Q f (Some a) h = f a h
-
-either_none : (b : Bool) (o : Option (List ℕ)) → o ≡ None → (if b then o else None) ≡ None
-either_none true o e = e
-either_none false o e = refl
 
 module _ (c : Content) (next keep gone : ℕ) (k g : model.Person) (sound : IsSound c) (later : c.next ≤ next)
     (at_k : get c.records keep ≡ Some (kind.Person k)) (at_g : get c.records gone ≡ Some (kind.Person g))
@@ -287,7 +271,7 @@ module _ (c : Content) (next keep gone : ℕ) (k g : model.Person) (sound : IsSo
 
   mentions_with : (r : Record) → HasSoundMentions r → HasSoundMentions (merged_record keep gone r)
   mentions_with (kind.Entry e) h = (
-    subst (λ n. (1 ≤ n) × (n ≤ 100)) (sym (same_length (mention_with f) e.mentions)) h.0,
+    subst (λ n. (1 ≤ n) × (n ≤ 100)) (sym (length-map e.mentions (mention_with f))) h.0,
     each_to_map (λ (x : model.Mention). is_role_of e.kind x.role ≡ true) (mention_with f) e.mentions h.1,
   )
   mentions_with (kind.Place p) h = tt
@@ -341,8 +325,7 @@ module _ (c : Content) (next keep gone : ℕ) (k g : model.Person) (sound : IsSo
   Said x = (path : List ℕ) → HasPath m x path → has_part path ≡ true
 
   said_after : (r : Record) → HasSaidPlace m r → HasSaidPlace after r
-  said_after r said = some_more Said (λ x. (path : List ℕ) → HasPath after x path → has_part path ≡ true)
-      (λ x k path h. k path (merge_path x path h)) (place_of r) said
+  said_after r said = IfSome_then (place_of r) said (λ x k path h. k path (merge_path x path h))
 
   said_line : (x : Option model.EventPlace) → EachOf (Stands m) (place_line_links x)
       → IfSome (option_map (λ (p : model.EventPlace). p.place) x) Said

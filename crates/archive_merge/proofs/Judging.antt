@@ -10,10 +10,10 @@ use Rattle.commands.specs.Rows.{and_then}
 use Rattle.archive_looks.specs.Checks.{need}
 use Rattle.archive_merge.specs.Comparing.{IsNow, is_now}
 use Rattle.archive_merge.specs.Merges.{with_undo}
-use Rattle.archive_merge.specs.Steps.{Step, slip_in, undo_step}
+use Rattle.archive_merge.specs.Steps.{RowStep, slip_in, undo_step}
 use Rattle.archive_merge.proofs.Comparing.{is_now_new, now_is}
 
-abbrev judged : Content → ℕ → Slip → Bool → Bool → Step
+abbrev judged : Content → ℕ → Slip → Bool → Bool → RowStep
 judged c n s undone now = and_then (need (not undone) AlreadyUndone)
     (λ _. and_then (need now ChangedSince) (λ _. Ok (with_undo n s c, record { first = 0; count = 0 })))
 

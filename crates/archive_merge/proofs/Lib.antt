@@ -1,5 +1,5 @@
 mod Lists
-mod Alike
+pub mod Alike
 mod Renaming
 mod Once
 mod Merged

@@ -2,42 +2,9 @@
 use Rattle.std.proofs.Common.{◌≡◌, ℕ, ◌+◌, ◌<◌, List, [], ◌∷◌, ◌++◌, refl, sym, ap, ◌∙◌, length, take, get_or}
 use Rattle.std.specs.Prelude.{map}
 use Rattle.std.specs.List.{flat_map}
-use Rattle.std.proofs.lemmas.List.{map_push, take_more}
+use Rattle.std.proofs.lemmas.List.{map-append, map_push, take_more}
+use Rattle.archive_state.proofs.Each.{each_front, each_back, each_both}
 use Rattle.record_shapes.specs.Lists.{EachOf}
-
-module _ {A : Type 0} where
-  pub each_more : (P Q : A → Type 0) → ((a : A) → P a → Q a) → (xs : List A) → EachOf P xs → EachOf Q xs
-  each_more P Q f [] h = tt
-  each_more P Q f (x ∷ xs) h = (f x h.0, each_more P Q f xs h.1)
-
-  pub each_all : (P : A → Type 0) → ((a : A) → P a) → (xs : List A) → EachOf P xs
-  each_all P f [] = tt
-  each_all P f (x ∷ xs) = (f x, each_all P f xs)
-
-  pub each_zip : (P Q R : A → Type 0) → ((a : A) → P a → Q a → R a) → (xs : List A) → EachOf P xs
-      → EachOf Q xs → EachOf R xs
-  each_zip P Q R f [] h k = tt
-  each_zip P Q R f (x ∷ xs) h k = (f x h.0 k.0, each_zip P Q R f xs h.1 k.1)
-
-  pub each_both : (P : A → Type 0) (xs ys : List A) → EachOf P xs → EachOf P ys → EachOf P (xs ++ ys)
-  each_both P [] ys h k = k
-  each_both P (x ∷ xs) ys h k = (h.0, each_both P xs ys h.1 k)
-
-  pub each_front : (P : A → Type 0) (xs ys : List A) → EachOf P (xs ++ ys) → EachOf P xs
-  each_front P [] ys h = tt
-  each_front P (x ∷ xs) ys h = (h.0, each_front P xs ys h.1)
-
-  pub each_back : (P : A → Type 0) (xs ys : List A) → EachOf P (xs ++ ys) → EachOf P ys
-  each_back P [] ys h = h
-  each_back P (x ∷ xs) ys h = each_back P xs ys h.1
-
-  pub append_more : (xs ys zs : List A) → (xs ++ ys) ++ zs ≡ xs ++ (ys ++ zs)
-  append_more [] ys zs = refl
-  append_more (x ∷ xs) ys zs = ap (λ l. x ∷ l) (append_more xs ys zs)
-
-  pub append_nothing : (xs : List A) → xs ++ [] ≡ xs
-  append_nothing [] = refl
-  append_nothing (x ∷ xs) = ap (λ l. x ∷ l) (append_nothing xs)
 
 module _ {A B : Type 0} where
   -- one more of a list that is mapped from its start on
@@ -48,10 +15,6 @@ module _ {A B : Type 0} where
       pushed ∙ ap (λ l. l ++ (y ∷ [])) was ∙ ap (λ z. map f (take i xs) ++ (z ∷ [])) (is ∙ ap f e)
       ∙ sym (ap (map f) (take_more xs i x h) ∙ map_push f (take i xs) (get_or xs i x))
 
-  pub map_both : (f : A → B) (xs ys : List A) → map f (xs ++ ys) ≡ map f xs ++ map f ys
-  map_both f [] ys = refl
-  map_both f (x ∷ xs) ys = ap (λ l. f x ∷ l) (map_both f xs ys)
-
   pub each_mapped : (P : B → Type 0) (f : A → B) (xs : List A) → EachOf P (map f xs) → EachOf (λ a. P (f a)) xs
   each_mapped P f [] h = tt
   each_mapped P f (x ∷ xs) h = (h.0, each_mapped P f xs h.1)
@@ -59,11 +22,6 @@ module _ {A B : Type 0} where
   pub each_to_map : (P : B → Type 0) (f : A → B) (xs : List A) → EachOf (λ a. P (f a)) xs → EachOf P (map f xs)
   each_to_map P f [] h = tt
   each_to_map P f (x ∷ xs) h = (h.0, each_to_map P f xs h.1)
-
-  pub flat_both : (f : A → List B) (xs ys : List A) → flat_map f (xs ++ ys) ≡ flat_map f xs ++ flat_map f ys
-  flat_both f [] ys = refl
-  flat_both f (x ∷ xs) ys = ap (λ l. f x ++ l) (flat_both f xs ys)
-      ∙ sym (append_more (f x) (flat_map f xs) (flat_map f ys))
 
   pub each_flat : (P : B → Type 0) (f : A → List B) (xs : List A) → EachOf P (flat_map f xs)
       → EachOf (λ a. EachOf P (f a)) xs
@@ -80,7 +38,7 @@ module _ {A B : Type 0} where
 
   -- two lists that are maps of two
   pub cat : (m : A → B) (xs ys : List A) (us vs : List B) → us ≡ map m xs → vs ≡ map m ys → us ++ vs ≡ map m (xs ++ ys)
-  cat m xs ys us vs e g = ap (λ l. l ++ vs) e ∙ ap (λ l. map m xs ++ l) g ∙ sym (map_both m xs ys)
+  cat m xs ys us vs e g = ap (λ l. l ++ vs) e ∙ ap (λ l. map m xs ++ l) g ∙ sym (map-append m xs ys)
 
 module _ {A B C : Type 0} where
   pub flat_cat : (m : B → C) (g : A → A) (h : A → List B) (k : A → List C) → ((a : A) → k (g a) ≡ map m (h a))

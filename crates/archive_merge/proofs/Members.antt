@@ -23,6 +23,7 @@ use Rattle.std.proofs.Common.{
 }
 use Rattle.std.specs.Prelude.{map, not, ◌&&◌, ◌||◌, ◌==◌, if◌then◌else◌}
 use Rattle.std.specs.List.{list_any}
+use Rattle.std.proofs.lemmas.Bool.{or_parts, eqb-true}
 use Rattle.record_kinds.specs.Model as model
 use Rattle.record_kinds.specs.declared.record.Record.TheVariants as kind
 use Rattle.archive_state.specs.Merging.{
@@ -39,9 +40,8 @@ use Rattle.archive_state.specs.Merging.{
 }
 use Rattle.record_shapes.specs.Lists.{IsOnce}
 use Rattle.record_shapes.specs.Members.{members}
-use Rattle.archive_merge.proofs.Once.{same_number, number_itself, number_other}
+use Rattle.archive_merge.proofs.Once.{number_itself, number_other}
 use Rattle.archive_merge.proofs.Merged.{which, renamed_gone, renamed_other}
-use Rattle.archive_merge.proofs.Same.{first_no, second_no}
 
 zero_more : (x : ℕ) → 0 + x ≡ x
 zero_more x = omega arith
@@ -64,8 +64,8 @@ none_counted : (n : ℕ) (xs : List ℕ) → list_any (λ m. m == n) xs ≡ fals
 unfolding count one_if
 none_counted n [] e = refl
 none_counted n (x ∷ xs) e =
-    let rest : count n xs ≡ 0 = none_counted n xs (second_no (x == n) (list_any (λ m. m == n) xs) e) in
-    ap (λ b. one_if b + count n xs) (first_no (x == n) (list_any (λ m. m == n) xs) e) ∙ zero_more (count n xs) ∙ rest
+    let rest : count n xs ≡ 0 = none_counted n xs (or_parts (x == n) (list_any (λ m. m == n) xs) e).1 in
+    ap (λ b. one_if b + count n xs) (or_parts (x == n) (list_any (λ m. m == n) xs) e).0 ∙ zero_more (count n xs) ∙ rest
 
 some_counted : (n : ℕ) (xs : List ℕ) → list_any (λ m. m == n) xs ≡ true → 1 ≤ count n xs
 unfolding count one_if
@@ -87,7 +87,7 @@ unfolding count one_if
 once_counted [] h n = omega arith
 once_counted (x ∷ xs) h n = elim (x == n) as (λ b. (x == n) ≡ b → one_if b + count n xs ≤ 1) [
   | true ↦ λ e. let none : count n xs ≡ 0 = none_counted n xs
-      (subst (λ k. list_any (λ m. m == k) xs ≡ false) (same_number x n e) h.0) in omega arith
+      (subst (λ k. list_any (λ m. m == k) xs ≡ false) (eqb-true x n e) h.0) in omega arith
   | false ↦ λ e. let rest : count n xs ≤ 1 = once_counted xs h.1 n in omega arith
 ] refl
 
@@ -193,7 +193,7 @@ others_other k n h (d ∷ ds) =
     (map person ds)) [
       | true ↦ λ e. others_other k n h ds ∙ sym (zero_more (count n (map person ds)))
           ∙ ap (λ b. one_if b + count n (map person ds))
-          (sym (number_other d.person n (λ q. h (sym q ∙ same_number d.person k e))))
+          (sym (number_other d.person n (λ q. h (sym q ∙ eqb-true d.person k e))))
       | false ↦ λ e. ap (λ y. one_if (d.person == n) + y) (others_other k n h ds)
     ] refl
 

@@ -26,6 +26,9 @@ use Rattle.std.specs.Prelude.{Option, Some, None, is_none, map, option_map, not,
 use Rattle.std.specs.List.{filter, list_any}
 use Rattle.std.specs.FinMap.{FinMap, get, find, insert, entries, get-entries}
 use Rattle.std.specs.Ordering.{nat_cmp, eq_by_cmp}
+use Rattle.std.proofs.lemmas.Bool.{and_parts, or_parts, not-false}
+use Rattle.std.proofs.lemmas.Option.{IfSome_then}
+use Rattle.std.proofs.lemmas.List.{append-nil}
 use Rattle.record_kinds.specs.Model as model
 use Rattle.record_fields.specs.declared.words.Sex.{Sex}
 use Rattle.record_kinds.specs.declared.record.Record.{Record}
@@ -78,11 +81,11 @@ use Rattle.archive_merge.specs.Merges.{
   with_merge,
 }
 use Rattle.archive_merge.proofs.Comparing.{IsNow}
-use Rattle.archive_merge.proofs.Lists.{append_nothing, each_to_map, each_to_flat, each_mapped}
+use Rattle.archive_merge.proofs.Lists.{each_to_map, each_to_flat, each_mapped}
 use Rattle.archive_state.proofs.Each.{each_more, each_both, each_zip}
 use Rattle.archive_merge.proofs.Merged.{at_gone, at_keep, at_other, which, alike_before}
 use Rattle.archive_merge.proofs.Once.{number_itself}
-use Rattle.archive_merge.proofs.Same.{first_no, second_no, all_fixed, record_same, once_in_same}
+use Rattle.archive_merge.proofs.Same.{all_fixed, record_same, once_in_same}
 use Rattle.archive_merge.proofs.Picking.{key, entries_rise}
 use Rattle.archive_state.proofs.Putting.{one_number, itself, put_cases, put_elsewhere}
 use Rattle.archive_merge.proofs.Changing.{
@@ -96,7 +99,7 @@ use Rattle.archive_merge.proofs.Changing.{
   no_gone,
   each_found,
 }
-use Rattle.archive_state.proofs.Keeping.{slip_later, keeps_sound}
+use Rattle.archive_state.proofs.Keeping.{slip_later, keeps_sound, number_later}
 use Rattle.record_shapes.specs.Paths.{has_part}
 use Rattle.archive_state.specs.Paths.{HasPath}
 use Rattle.archive_state.specs.Slips.{Slip}
@@ -115,14 +118,10 @@ null_option : {A : Type 0} (o : Option A) → is_none o ≡ true → o ≡ None
 null_option None e = refl
 null_option (Some a) e = absurd cc
 
-both_yes : (a b : Bool) → (a && b) ≡ true → (a ≡ true) × (b ≡ true)
-both_yes true b e = (refl, e)
-both_yes false b e = absurd cc
-
 nothing_added : (g : model.Person) → adds_nothing (Some (kind.Person g)) ≡ true → IsEmptyPerson (kind.Person g)
 nothing_added g e =
-    let a = both_yes (is_empty g.names) (is_none g.sex && is_empty g.carried) e in
-    let b = both_yes (is_none g.sex) (is_empty g.carried) a.1 in
+    let a = and_parts (is_empty g.names) (is_none g.sex && is_empty g.carried) e in
+    let b = and_parts (is_none g.sex) (is_empty g.carried) a.1 in
     (null_list g.names a.0, null_option g.sex b.0, null_list g.carried b.1)
 
 sex_alone : (s : Option Sex) → sex_of_two s None ≡ s
@@ -137,19 +136,12 @@ joined_nothing : (f : ℕ → ℕ) (k g : model.Person) → IsEmptyPerson (kind.
     → joined_person k (person_with f g) ≡ k
 joined_nothing f k g (names, sex, lines) =
     let a : k.names ++ map (name_with f) g.names ≡ k.names = ap (λ l. k.names ++ map (name_with f) l) names
-    ∙ append_nothing k.names in
+    ∙ append-nil k.names in
     let b : sex_of_two k.sex g.sex ≡ k.sex = ap (sex_of_two k.sex) sex ∙ sex_alone k.sex in
     let d : k.carried ++ (lines_with f g.carried ++ second_sex k.sex g.sex) ≡ k.carried =
     ap (λ l. k.carried ++ (lines_with f l ++ second_sex k.sex g.sex)) lines ∙ ap (λ s. k.carried ++ second_sex k.sex s)
-    sex ∙ ap (λ l. k.carried ++ l) (no_second k.sex) ∙ append_nothing k.carried in
+    sex ∙ ap (λ l. k.carried ++ l) (no_second k.sex) ∙ append-nil k.carried in
     λ i. record { names = a i; sex = b i; carried = d i }
-
-some_more : {A : Type 0} (P Q : A → Type 0) → ((a : A) → P a → Q a) → (o : Option A) → IfSome o P → IfSome o Q
-some_more P Q f None h = tt
-some_more P Q f (Some a) h = f a h
-
-number_later : (a b : ℕ) → a ≤ b → (n : ℕ) → IsNumber a n → IsNumber b n
-number_later a b h n k = let less : n < a = k.1 in (k.0, omega arith)
 
 -- ---- entries stand
 module _ {X : Type 0} where
@@ -178,17 +170,13 @@ module _ {X : Type 0} where
   none_passes p n x [] e h = absurd cc
   none_passes p n x (d ∷ es) e h =
       elim (eq_by_cmp nat_cmp n d.0) as (λ b. cond b (Some d.1) (find nat_cmp n es) ≡ Some x → p x ≡ false) [
-        | true ↦ λ q. let same : d.1 ≡ x = cc in ap p (sym same) ∙ first_no (p d.1) (list_any (λ y. p y.1) es) e
-        | false ↦ λ q. none_passes p n x es (second_no (p d.1) (list_any (λ y. p y.1) es) e) q
+        | true ↦ λ q. let same : d.1 ≡ x = cc in ap p (sym same) ∙ (or_parts (p d.1) (list_any (λ y. p y.1) es) e).0
+        | false ↦ λ q. none_passes p n x es (or_parts (p d.1) (list_any (λ y. p y.1) es) e).1 q
       ] h
 
 pub no_clashes : (keep gone : ℕ) (m : Records) → is_clash keep gone m ≡ false
     → EachIn m (λ n r. clashes keep gone r ≡ false)
 no_clashes keep gone m e n r at = none_passes (clashes keep gone) n r (entries m) e (sym (get-entries m n) ∙ at)
-
-double : (b : Bool) → not b ≡ false → b ≡ true
-double true e = refl
-double false e = absurd cc
 
 -- ---- the merge of a sound archive
 module _ (c : Content) (keep gone : ℕ) (k g : model.Person) (sound : IsSound c)
@@ -208,15 +196,15 @@ module _ (c : Content) (keep gone : ℕ) (k g : model.Person) (sound : IsSound c
   adds_none : is_changed keep gone m keep (kind.Person k) ≡ false → IsEmptyPerson (kind.Person g)
   adds_none t =
       let a : ((keep == keep && not (adds_nothing (get m gone))) || is_among gone (links (kind.Person k))) ≡ false =
-      second_no (keep == gone) _ t in
+      (or_parts (keep == gone) _ t).1 in
       let b : (keep == keep && not (adds_nothing (get m gone))) ≡ false =
-      first_no (keep == keep && not (adds_nothing (get m gone))) _ a in
+      (or_parts (keep == keep && not (adds_nothing (get m gone))) _ a).0 in
       let d : not (adds_nothing (get m gone)) ≡ false = ap (λ x. x && not (adds_nothing (get m gone)))
       (sym (number_itself keep)) ∙ b in
-      nothing_added g (ap adds_nothing (sym at_g) ∙ double (adds_nothing (get m gone)) d)
+      nothing_added g (ap adds_nothing (sym at_g) ∙ not-false (adds_nothing (get m gone)) d)
 
   not_named : (n : ℕ) (r : Record) → is_changed keep gone m n r ≡ false → is_among gone (links r) ≡ false
-  not_named n r t = second_no (n == keep && not (adds_nothing (get m gone))) _ (second_no (n == gone) _ t)
+  not_named n r t = (or_parts (n == keep && not (adds_nothing (get m gone))) _ (or_parts (n == gone) _ t).1).1
 
   unchanged : (n : ℕ) (r : Record) → get m n ≡ Some r → is_changed keep gone m n r ≡ false
       → merged keep gone (get m) n ≡ Some r
@@ -308,9 +296,7 @@ module _ (c : Content) (keep gone : ℕ) (k g : model.Person) (sound : IsSound c
   old_events (kind.Other p) h = tt
 
   old_said : (r : Record) → HasSaidPlace m r → HasSaidPlace o r
-  old_said r said = some_more (λ p. (path : List ℕ) → HasPath m p path → has_part path ≡ true)
-      (λ p. (path : List ℕ) → HasPath o p path → has_part path ≡ true)
-      (λ p k path h. k path (path_within o m sub p path h)) (place_of r) said
+  old_said r said = IfSome_then (place_of r) said (λ p k path h. k path (path_within o m sub p path h))
 
   old_rules : HasSoundRecords (c.next + 1) o
   old_rules = record {
@@ -425,10 +411,6 @@ module _ (c : Content) (keep gone : ℕ) (k g : model.Person) (sound : IsSound c
         named = λ n r e. each_more (Stands m) (StandsIfThere o) stands_if (links r) (sound.named n r (sub n r e));
         rules = old_rules;
       }
-
-  -- each number of the slip has its new record
-  pub now_new : IsNow after (merge_changes keep gone m)
-  now_new = each_change (λ x. get after x.number ≡ x.new) (λ n r at t. made_merged n)
 
   -- no number of a record is that of a slip, the new one included
   slip_apart : (n : ℕ) → IsNumber c.next n → get c.slips n ≡ None

@@ -1,13 +1,14 @@
 -- What a merge makes of what stands at a number.
 use Rattle.std.proofs.Common.{◌≡◌, ◌⊎◌, ℕ, Bool, true, false, refl, sym, ap, ◌∙◌, subst, inl, inr}
 use Rattle.std.specs.Prelude.{Option, Some, None, option_map, ◌==◌, if◌then◌else◌}
+use Rattle.std.proofs.lemmas.Bool.{eqb-false, eqb-true}
 use Rattle.record_kinds.specs.Model as model
 use Rattle.record_kinds.specs.declared.record.Record.{Record}
 use Rattle.record_kinds.specs.declared.record.Record.TheVariants as kind
 use Rattle.archive_state.specs.Merging.{merged, merged_record, merged_person, joined_person, person_with, renamed}
 use Rattle.archive_state.proofs.Keeping.{IsAlike, alike_itself}
 use Rattle.archive_merge.proofs.Alike.{persons_alike, alike_merged}
-use Rattle.archive_merge.proofs.Once.{number_itself, number_other, same_number, other_number}
+use Rattle.archive_merge.proofs.Once.{number_itself, number_other}
 
 pub renamed_gone : (keep gone : ℕ) → renamed keep gone gone ≡ keep
 renamed_gone keep gone = ap (λ b. if b then keep else gone) (number_itself gone)
@@ -38,11 +39,11 @@ module _ (keep gone : ℕ) (before : ℕ → Option Record) where
 pub which : (keep gone n : ℕ) → (n ≡ gone) ⊎ (((n ≡ gone → ⊥) × (n ≡ keep)) ⊎ ((n ≡ gone → ⊥) × (n ≡ keep → ⊥)))
 which keep gone n = elim (n == gone) as (λ b. (n == gone) ≡ b → (n ≡ gone)
     ⊎ (((n ≡ gone → ⊥) × (n ≡ keep)) ⊎ ((n ≡ gone → ⊥) × (n ≡ keep → ⊥)))) [
-      | true ↦ λ e. inl (same_number n gone e)
+      | true ↦ λ e. inl (eqb-true n gone e)
       | false ↦ λ e. elim (n == keep) as (λ b. (n == keep) ≡ b → (n ≡ gone)
           ⊎ (((n ≡ gone → ⊥) × (n ≡ keep)) ⊎ ((n ≡ gone → ⊥) × (n ≡ keep → ⊥)))) [
-            | true ↦ λ f. inr (inl (other_number n gone e, same_number n keep f))
-            | false ↦ λ f. inr (inr (other_number n gone e, other_number n keep f))
+            | true ↦ λ f. inr (inl (eqb-false n gone e, eqb-true n keep f))
+            | false ↦ λ f. inr (inr (eqb-false n gone e, eqb-false n keep f))
           ] refl
     ] refl
 

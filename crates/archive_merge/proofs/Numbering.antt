@@ -85,14 +85,6 @@ module _ (whole found s : List ℕ) (i n d : ℕ) (h : i < length s) where
       (drop (i + 1) s) (is_above n (get_or s i d) l) (not_less n (get_or s i d) (omega arith)))
       ∙ behind found (get_or s i d) (with_number n (drop (i + 1) s))
 
-pub not_in : (b : Bool) → not b ≡ true → b ≡ false
-not_in true e = absurd cc
-not_in false e = refl
-
-pub now_in : (b : Bool) → not b ≡ false → b ≡ true
-now_in true e = refl
-now_in false e = absurd cc
-
 -- the same, of the list and the flag that stand there after the branches
 pub joined : (whole items ours mine : List ℕ) (k n : ℕ) (x y : Bool) (rest : List ℕ)
     → whole ≡ (mine ++ (k ∷ [])) ++ rest_of y n rest → items ≡ ours ++ (k ∷ []) → ours ≡ mine → x ≡ y
@@ -103,7 +95,3 @@ joined whole items ours mine k n x y rest e pushed same is = e ∙ ap (λ l. (l 
 pub at_end : (whole found xs : List ℕ) (i n : ℕ) (b : Bool) → length xs ≤ i → whole ≡ found ++ rest_of b n (drop i xs)
     → whole ≡ found ++ rest_of b n []
 at_end whole found xs i n b h e = e ∙ ap (λ l. found ++ rest_of b n l) (drop_all i xs h)
-
-pub nothing_left : (xs : List ℕ) → xs ++ [] ≡ xs
-nothing_left [] = refl
-nothing_left (x ∷ xs) = ap (λ l. x ∷ l) (nothing_left xs)

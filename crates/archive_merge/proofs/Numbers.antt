@@ -12,13 +12,11 @@ use Rattle.record_shapes.specs.Lists.{EachOf, Ascends}
 use Rattle.archive_state.specs.declared.slip.Change.{Change}
 use Rattle.archive_merge.specs.Merges.{with_number, is_changed, adds_nothing, merge_changes, change_at, changed_numbers}
 use Rattle.std.proofs.lemmas.Bool.Decides.{nat_tests}
+use Rattle.std.proofs.lemmas.Bool.{lt-ltb}
 use Rattle.archive_state.proofs.Each.{each_all}
 use Rattle.archive_merge.proofs.Picking.{key, entries_rise}
 use Rattle.archive_state.proofs.Putting.{one_number}
 use Rattle.archive_merge.proofs.Once.{number_itself, number_other}
-
-is_less : (a b : ℕ) → a < b → nat_lt a b ≡ true
-is_less a b h = grind (arith, nat_tests)
 
 not_less : (a b : ℕ) → b < a → nat_lt a b ≡ false
 not_less a b h = grind (arith, nat_tests)
@@ -47,7 +45,7 @@ module _ {X : Type 0} where
         | true ↦
             let less : n < e.0 = h.0 in
             let other : (n == e.0) ≡ false = number_other n e.0 (λ same. absurd (omega arith)) in
-            let lower : nat_lt n e.0 ≡ true = is_less n e.0 less in
+            let lower : nat_lt n e.0 ≡ true = lt-ltb n e.0 less in
             ap (λ b. if b then e.0 ∷ map key (filter p es)
             else (if nat_lt n e.0 then n ∷ (e.0 ∷ map key (filter p es)) else e.0 ∷ with_number n
             (map key (filter p es)))) other

@@ -2,6 +2,8 @@
 use Rattle.std.proofs.Common.{◌≡◌, ℕ, List, [], ◌∷◌, ◌++◌, Bool, true, false, refl, sym, subst, ◌∙◌, arith}
 use Rattle.std.specs.Prelude.{Option, Some, None, ◌==◌, if◌then◌else◌}
 use Rattle.std.specs.List.{flat_map}
+use Rattle.std.proofs.lemmas.Bool.{eqb-true}
+use Rattle.std.proofs.lemmas.Grind.{flat_map-append}
 use Rattle.stored_lines.specs.Line.{Lines}
 use Rattle.record_kinds.specs.Model as model
 use Rattle.record_fields.specs.declared.words.Sex.{Sex}
@@ -29,20 +31,14 @@ use Rattle.archive_state.specs.Merging.{
 }
 use Rattle.record_shapes.specs.Lists.{EachOf}
 use Rattle.archive_state.proofs.Each.{each_both, each_front, each_back}
-use Rattle.archive_merge.proofs.Lists.{flat_both, each_flat, each_to_flat}
-
-pub same_number : (a b : ℕ) → (a == b) ≡ true → a ≡ b
-same_number a b e = grind (arith)
-
-pub other_number : (a b : ℕ) → (a == b) ≡ false → a ≡ b → ⊥
-other_number a b e same = grind (arith)
+use Rattle.archive_merge.proofs.Lists.{each_flat, each_to_flat}
 
 pub number_itself : (a : ℕ) → (a == a) ≡ true
 number_itself a = grind (arith)
 
 pub number_other : (a b : ℕ) → (a ≡ b → ⊥) → (a == b) ≡ false
 number_other a b h = elim (a == b) as (λ x. (a == b) ≡ x → (a == b) ≡ false) [
-  | true ↦ λ e. absurd (h (same_number a b e))
+  | true ↦ λ e. absurd (h (eqb-true a b e))
   | false ↦ λ e. e
 ] refl
 
@@ -61,14 +57,16 @@ module _ (P : Link → Type 0) where
   -- lines of two, joined
   both_lines : (a b : Lines) → EachOf P (carried_links a) → EachOf P (carried_links b)
       → EachOf P (carried_links (a ++ b))
-  both_lines a b h k = subst (EachOf P) (sym (flat_both line_links a b))
+  both_lines a b h k = subst (EachOf P) (sym (flat_map-append line_links a b))
       (each_both P (carried_links a) (carried_links b) h k)
 
   front_lines : (a b : Lines) → EachOf P (carried_links (a ++ b)) → EachOf P (carried_links a)
-  front_lines a b h = each_front P (carried_links a) (carried_links b) (subst (EachOf P) (flat_both line_links a b) h)
+  front_lines a b h = each_front P (carried_links a) (carried_links b)
+      (subst (EachOf P) (flat_map-append line_links a b) h)
 
   back_lines : (a b : Lines) → EachOf P (carried_links (a ++ b)) → EachOf P (carried_links b)
-  back_lines a b h = each_back P (carried_links a) (carried_links b) (subst (EachOf P) (flat_both line_links a b) h)
+  back_lines a b h = each_back P (carried_links a) (carried_links b)
+      (subst (EachOf P) (flat_map-append line_links a b) h)
 
   -- ---- persons
   sex_links : (s t : Option Sex) → EachOf P (carried_links (second_sex s t))
@@ -81,7 +79,7 @@ module _ (P : Link → Type 0) where
   join_links k g h i =
       each_both P (flat_map name_links (k.names ++ g.names))
       (carried_links (k.carried ++ (g.carried ++ second_sex k.sex g.sex)))
-      (subst (EachOf P) (sym (flat_both name_links k.names g.names))
+      (subst (EachOf P) (sym (flat_map-append name_links k.names g.names))
       (each_both P (flat_map name_links k.names) (flat_map name_links g.names)
       (each_front P (flat_map name_links k.names) (carried_links k.carried) h)
       (each_front P (flat_map name_links g.names) (carried_links g.carried) i)))
@@ -100,7 +98,7 @@ module _ (P : Link → Type 0) where
       (flat_map name_links (k.names ++ g.names))
       (carried_links (k.carried ++ (g.carried ++ second_sex k.sex g.sex))) h in
       let two : EachOf P (flat_map name_links k.names ++ flat_map name_links g.names) = subst (EachOf P)
-      (flat_both name_links k.names g.names) names in
+      (flat_map-append name_links k.names g.names) names in
       let more : EachOf P (carried_links (g.carried ++ second_sex k.sex g.sex)) = back_lines k.carried
       (g.carried ++ second_sex k.sex g.sex) lines in (
         each_both P (flat_map name_links k.names) (carried_links k.carried)
@@ -165,7 +163,7 @@ module _ (P : Link → Type 0) where
       let rest : EachOf OfChild (others n ds) = choice (EachOf OfChild) (EachOf OfChild (others n ds)) (d.person == n)
       (others n ds) (d ∷ others n ds) (λ f j. j) (λ f j. j.1) k in
       let all = all_out n (joined_child c d) ds is i rest in
-      let two = child_out c d (is ∙ sym (same_number d.person n e)) all.0 in
+      let two = child_out c d (is ∙ sym (eqb-true d.person n e)) all.0 in
       (two.0, (two.1, all.1)))
       (λ e i.
       let rest : EachOf OfChild (d ∷ others n ds) = choice (EachOf OfChild) (EachOf OfChild (d ∷ others n ds))
@@ -185,7 +183,7 @@ module _ (P : Link → Type 0) where
   children_out n [] h = tt
   children_out n (c ∷ cs) h = choice (EachOf OfChild) (EachOf OfChild (c ∷ cs)) (c.person == n)
       (child_of_all n c cs ∷ others n cs) (c ∷ once_child n cs)
-      (λ e i. all_out n c cs (same_number c.person n e) i.0 i.1) (λ e i. (i.0, children_out n cs i.1)) h
+      (λ e i. all_out n c cs (eqb-true c.person n e) i.0 i.1) (λ e i. (i.0, children_out n cs i.1)) h
 
   family_into : (n : ℕ) (x : model.Family) → EachOf P (links (kind.Family x))
       → EachOf P (links (once_in n (kind.Family x)))

@@ -24,6 +24,7 @@ use Rattle.std.proofs.Common.{
 use Rattle.std.specs.Prelude.{Option, Some, None, codes, bytes_eq, length, nat_le, ◌&&◌, ◌||◌, if◌then◌else◌}
 use Rattle.std.specs.FinMap.{get}
 use Rattle.std.specs.List.{list_all, list_any}
+use Rattle.std.proofs.lemmas.Bool.{and_parts, and_from}
 use Rattle.stored_lines.specs.Tree.{Tree, Forest, node, none, more, forest_of}
 use Rattle.stored_lines.specs.Line.{Line, Lines}
 use Rattle.stored_lines.specs.declared.carried.Value.{Value}
@@ -66,18 +67,7 @@ use Rattle.archive_state.specs.Content.{Records}
 use Rattle.archive_state.specs.Known.{tag_at, path_of, known_of, known_before}
 use Rattle.archive_state.specs.Sound.{HasOwnShape, owner_in}
 use Rattle.archive_state.proofs.Changing.{cases_of}
-use Rattle.archive_merge.proofs.PathsKept.{path_or_none}
-
-both_true : (a b : Bool) → (a && b) ≡ true → (a ≡ true) × (b ≡ true)
-both_true true b e = (refl, e)
-both_true false b e = absurd cc
-
-yes_both : (a b : Bool) → a ≡ true → b ≡ true → (a && b) ≡ true
-yes_both a b e f = ap (λ x. x && b) e ∙ f
-
-either_none : (b : Bool) (o : Option (List ℕ)) → o ≡ None → (if b then o else None) ≡ None
-either_none true o e = e
-either_none false o e = refl
+use Rattle.archive_merge.proofs.PathsKept.{path_or_none, either_none}
 
 -- no more than 97 levels are left
 at_most : (o : Option Record) → room_below o ≤ 97
@@ -102,7 +92,7 @@ abbrev chain : List (Bool × Field) → Field
 chain [] = part.carried
 chain (r ∷ rs) = row (r.0 && false) r.1 (chain rs)
 
-off : (b : Bool) (x y : Field) → row (b && false) x y ≡ y
+pub off : (b : Bool) (x y : Field) → row (b && false) x y ≡ y
 off true x y = refl
 off false x y = refl
 
@@ -157,8 +147,8 @@ fewer : (g h : Tree Line → Field) (leaves : Field → Bool) → leaves part.ca
     → AreUntaken g leaves ts
 fewer g h leaves leave same [] u = refl
 fewer g h leaves leave same (t ∷ ts) u =
-    let both = both_true (leaves (h t)) (list_all (λ v. leaves (h v)) ts) u in
-    yes_both (leaves (g t)) (list_all (λ v. leaves (g v)) ts)
+    let both = and_parts (leaves (h t)) (list_all (λ v. leaves (h v)) ts) u in
+    and_from (leaves (g t)) (list_all (λ v. leaves (g v)) ts)
     (elim (same t) as (λ _. leaves (g t) ≡ true) [
       | inl nothing ↦ ap leaves nothing ∙ leave
       | inr is ↦ ap leaves is ∙ both.0
@@ -265,11 +255,11 @@ module _ (a b : Known) (less : (n : ℕ) → IsLess a b n) where
       → list_all (λ (m : model.Mention). is_role_of what m.role && names_person b m.link) ms ≡ true
   mentions_less what [] e = refl
   mentions_less what (m ∷ ms) e =
-      let x = both_true (is_role_of what m.role && names_person a m.link)
+      let x = and_parts (is_role_of what m.role && names_person a m.link)
       (list_all (λ (n : model.Mention). is_role_of what n.role && names_person a n.link) ms) e in
-      let y = both_true (is_role_of what m.role) (names_person a m.link) x.0 in
-      yes_both (is_role_of what m.role && names_person b m.link) _
-      (yes_both (is_role_of what m.role) (names_person b m.link) y.0 (mention_less m.link y.1))
+      let y = and_parts (is_role_of what m.role) (names_person a m.link) x.0 in
+      and_from (is_role_of what m.role && names_person b m.link) _
+      (and_from (is_role_of what m.role) (names_person b m.link) y.0 (mention_less m.link y.1))
       (mentions_less what ms x.1)
 
   said_less : (o : Option ℕ) → is_said a o ≡ true → is_said b o ≡ true
@@ -292,27 +282,27 @@ module _ (a b : Known) (less : (n : ℕ) → IsLess a b n) where
   its_lines_less : (v : Value) (ts : Lines) (e : model.Entry) → has_its_lines a v ts e ≡ true
       → has_its_lines b v ts e ≡ true
   its_lines_less v ts e h =
-      let x = both_true (is_some (entry_kind_of (text_in v))) _ h in
-      let y = both_true (is_text_value v) _ x.1 in
-      let z = both_true (same_forest (forest_of ts) (forest_of (entry_lines (around a) e))) (is_entry a e) y.1 in
-      let source = both_true (bytes_eq (a.tag e.source) (codes "SOUR")) _ z.1 in
-      let said = both_true (is_said a e.place) _ source.1 in
-      let some = both_true (nat_le 1 (length e.mentions)) _ said.1 in
-      let few = both_true (nat_le (length e.mentions) 100) _ some.1 in
+      let x = and_parts (is_some (entry_kind_of (text_in v))) _ h in
+      let y = and_parts (is_text_value v) _ x.1 in
+      let z = and_parts (same_forest (forest_of ts) (forest_of (entry_lines (around a) e))) (is_entry a e) y.1 in
+      let source = and_parts (bytes_eq (a.tag e.source) (codes "SOUR")) _ z.1 in
+      let said = and_parts (is_said a e.place) _ source.1 in
+      let some = and_parts (nat_le 1 (length e.mentions)) _ said.1 in
+      let few = and_parts (nat_le (length e.mentions) 100) _ some.1 in
       let of_source : bytes_eq (b.tag e.source) (codes "SOUR") ≡ true = elim
       (less e.source).tag as (λ _. bytes_eq (b.tag e.source) (codes "SOUR") ≡ true) [
         | inl is ↦ let never : false ≡ true = sym (ap (λ x. bytes_eq x (codes "SOUR")) is) ∙ source.0 in absurd cc
         | inr is ↦ sym (ap (λ x. bytes_eq x (codes "SOUR")) is) ∙ source.0
       ] in
-      let rules : is_entry b e ≡ true = yes_both (bytes_eq (b.tag e.source) (codes "SOUR")) _ of_source
-      (yes_both (is_said b e.place) _ (said_less e.place said.0)
-      (yes_both (nat_le 1 (length e.mentions)) _ some.0
-      (yes_both (nat_le (length e.mentions) 100) _ few.0 (mentions_less e.kind e.mentions few.1)))) in
+      let rules : is_entry b e ≡ true = and_from (bytes_eq (b.tag e.source) (codes "SOUR")) _ of_source
+      (and_from (is_said b e.place) _ (said_less e.place said.0)
+      (and_from (nat_le 1 (length e.mentions)) _ some.0
+      (and_from (nat_le (length e.mentions) 100) _ few.0 (mentions_less e.kind e.mentions few.1)))) in
       let lines : same_forest (forest_of ts) (forest_of (entry_lines (around b) e)) ≡ true = ap
       (λ us. same_forest (forest_of ts) (forest_of us)) (sym (lines_less e e.place said.0)) ∙ z.0 in
-      yes_both (is_some (entry_kind_of (text_in v))) _ x.0
-      (yes_both (is_text_value v) _ y.0
-      (yes_both (same_forest (forest_of ts) (forest_of (entry_lines (around b) e))) (is_entry b e) lines rules))
+      and_from (is_some (entry_kind_of (text_in v))) _ x.0
+      (and_from (is_text_value v) _ y.0
+      (and_from (same_forest (forest_of ts) (forest_of (entry_lines (around b) e))) (is_entry b e) lines rules))
 
   -- what is no entry where more is known is none
   pub no_entry_less : (v : Value) (ts : Lines) → entry_of b v ts ≡ None → entry_of a v ts ≡ None

@@ -10,19 +10,7 @@ use Rattle.std.specs.declared.cmp.Ordering.{Ordering}
 use Rattle.std.specs.declared.cmp.Ordering.TheVariants.{Less, Equal, Greater}
 use Rattle.record_shapes.specs.Lists.{EachOf, Ascends}
 use Rattle.archive_state.proofs.Putting.{one_number}
-
-first : (a b : Bool) → T (a && b) → T a
-first true b p = tt
-first false b p = absurd p
-
-second : (a b : Bool) → T (a && b) → T b
-second true b p = p
-second false b p = absurd p
-
-less_is : (o : Ordering) → T (is_lt o) → o ≡ Less
-less_is Less p = refl
-less_is Equal p = absurd p
-less_is Greater p = absurd p
+use Rattle.archive_state.proofs.Rising.{first_holds, rest_holds, less_is}
 
 module _ {X : Type 0} where
   abbrev pub key : ℕ × X → ℕ
@@ -31,15 +19,15 @@ module _ {X : Type 0} where
   below_keys : (k : ℕ) (es : List (ℕ × X)) → T (below_all nat_cmp k es) → EachOf (λ j. k < j) (map key es)
   below_keys k [] h = tt
   below_keys k (e ∷ es) h = (
-    ranked k e.0 Less (sym (less_is (nat_cmp k e.0) (first (is_lt (nat_cmp k e.0)) (below_all nat_cmp k es) h))),
-    below_keys k es (second (is_lt (nat_cmp k e.0)) (below_all nat_cmp k es) h),
+    ranked k e.0 Less (sym (less_is (nat_cmp k e.0) (first_holds (is_lt (nat_cmp k e.0)) (below_all nat_cmp k es) h))),
+    below_keys k es (rest_holds (is_lt (nat_cmp k e.0)) (below_all nat_cmp k es) h),
   )
 
   rising_keys : (es : List (ℕ × X)) → T (is_sorted nat_cmp es) → Ascends (map key es)
   rising_keys [] h = tt
   rising_keys (e ∷ es) h = (
-    below_keys e.0 es (first (below_all nat_cmp e.0 es) (is_sorted nat_cmp es) h),
-    rising_keys es (second (below_all nat_cmp e.0 es) (is_sorted nat_cmp es) h),
+    below_keys e.0 es (first_holds (below_all nat_cmp e.0 es) (is_sorted nat_cmp es) h),
+    rising_keys es (rest_holds (below_all nat_cmp e.0 es) (is_sorted nat_cmp es) h),
   )
 
   -- the entries of a map rise

@@ -3,6 +3,7 @@ use Rattle.std.proofs.Common.{◌≡◌, ℕ, ◌+◌, List, [], ◌∷◌, Bool
 use Rattle.std.specs.Prelude.{Some, None, map, not, ◌==◌, Result, Ok, Err, IfOk, if◌then◌else◌}
 use Rattle.std.specs.List.{flat_map}
 use Rattle.std.specs.FinMap.{get}
+use Rattle.std.proofs.lemmas.Bool.{not-true}
 use Rattle.record_text.specs.declared.refusal.RefusalKind.{RefusalKind}
 use Rattle.record_text.specs.declared.refusal.RefusalKind.TheVariants.{
   SamePerson,
@@ -30,12 +31,12 @@ use Rattle.archive_looks.specs.Exact.{IsExact}
 use Rattle.archive_merge.specs.Comparing.{is_now}
 use Rattle.archive_merge.specs.Looks.{changes_of, made_changes, may_undo}
 use Rattle.archive_merge.specs.Merges.{adds_nothing, is_clash, put_new, put_old, with_merge, with_number}
-use Rattle.archive_merge.specs.Steps.{Step, merge_step, slip_at}
+use Rattle.archive_merge.specs.Steps.{RowStep, merge_step, slip_at}
 use Rattle.archive_merge.proofs.Comparing.{now_is}
 use Rattle.archive_merge.proofs.Deciding.{changes_found}
 use Rattle.archive_merge.proofs.Exactness.{merge_is_exact, undo_is_exact}
 use Rattle.archive_merge.proofs.Once.{number_other}
-use Rattle.archive_merge.proofs.Stepping.{a_person, a_slip, needed, passed, the_next, turned}
+use Rattle.archive_merge.proofs.Stepping.{a_person, a_slip, needed, passed, the_next}
 
 -- the changes of a merge, put together from what was found
 abbrev merge_of : ℕ → ℕ → ℕ → List Change → Changes
@@ -76,11 +77,12 @@ module _ (c : Content) (keep gone n : ℕ) (k g : model.Person) (at_k : person_a
     (adds : b ≡ adds_nothing (Some (kind.Person g))) where
   step_is : merge_step c keep gone ≡ Ok (with_merge keep gone c (n + 1), record { first = n; count = 1 })
   step_is =
-      let rest5 : ℕ → Step = λ n. Ok (with_merge keep gone c (n + 1), record { first = n; count = 1 }) in
-      let rest4 : Unit {0} → Step = λ _. and_then (next_free c) rest5 in
-      let rest3 : Unit {0} → Step = λ _. and_then (need (not (is_clash keep gone c.records)) MergeWithinFamily) rest4 in
-      let rest2 : model.Person → Step = λ _. and_then (need (not (keep == gone)) SamePerson) rest3 in
-      let rest1 : model.Person → Step = λ _. and_then (person_at c gone) rest2 in
+      let rest5 : ℕ → RowStep = λ n. Ok (with_merge keep gone c (n + 1), record { first = n; count = 1 }) in
+      let rest4 : Unit {0} → RowStep = λ _. and_then (next_free c) rest5 in
+      let rest3 : Unit {0} → RowStep = λ _. and_then
+      (need (not (is_clash keep gone c.records)) MergeWithinFamily) rest4 in
+      let rest2 : model.Person → RowStep = λ _. and_then (need (not (keep == gone)) SamePerson) rest3 in
+      let rest1 : model.Person → RowStep = λ _. and_then (person_at c gone) rest2 in
       ap (λ x. and_then x rest1) at_k ∙ ap (λ x. and_then x rest2) at_g
       ∙ ap (λ x. and_then (need (not x) SamePerson) rest3) (number_other keep gone apart)
       ∙ ap (λ x. and_then x rest4) free ∙ ap (λ x. and_then x rest5) room
@@ -153,7 +155,7 @@ undo_exact c n next s kept check changes found agrees is_ok is now e =
     let first = passed (need (not s.is_undone) AlreadyUndone)
     (λ _. need (is_now c.records s.changes) ChangedSince) tt may in
     undo_is_exact c n s changes there
-    (turned s.is_undone (needed (not s.is_undone) AlreadyUndone first.0 first.1))
+    (not-true s.is_undone (needed (not s.is_undone) AlreadyUndone first.0 first.1))
     (now_is c.records s.changes (needed (is_now c.records s.changes) ChangedSince tt first.2))
     (e ∙ ap (undone_by_changes n next) (ap (λ (x : Slip). x.changes) is)
     ∙ ap (λ j. undone_by_changes n j s.changes) now)

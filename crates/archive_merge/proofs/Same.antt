@@ -2,6 +2,7 @@
 use Rattle.std.proofs.Common.{◌≡◌, ℕ, List, [], ◌∷◌, ◌++◌, Bool, true, false, refl, ap, ◌∙◌, subst}
 use Rattle.std.specs.Prelude.{map, Option, Some, None, option_map, ◌||◌, ◌==◌, if◌then◌else◌}
 use Rattle.std.specs.List.{flat_map, list_any}
+use Rattle.std.proofs.lemmas.Bool.{or_parts, eqb-true}
 use Rattle.stored_lines.specs.Tree.{Tree, Forest, node, none, more, relabel, relabel_all}
 use Rattle.stored_lines.specs.Line.{Line, Lines}
 use Rattle.stored_lines.specs.declared.carried.Value.{Value}
@@ -52,7 +53,6 @@ use Rattle.archive_state.specs.Merging.{
 use Rattle.record_shapes.specs.Lists.{EachOf, IsOnce}
 use Rattle.archive_state.specs.Sound.{HasMembersOnce}
 use Rattle.archive_state.proofs.Each.{each_front, each_back}
-use Rattle.archive_merge.proofs.Once.{same_number}
 
 module _ (f : ℕ → ℕ) where
   abbrev pub Fixed : Link → Type 0
@@ -186,19 +186,11 @@ module _ (f : ℕ → ℕ) where
   })
 
 -- ---- not named
-pub first_no : (a b : Bool) → (a || b) ≡ false → a ≡ false
-first_no true b e = absurd cc
-first_no false b e = refl
-
-pub second_no : (a b : Bool) → (a || b) ≡ false → b ≡ false
-second_no true b e = absurd cc
-second_no false b e = e
-
 pub all_fixed : (keep gone : ℕ) (ls : List Link) → is_among gone ls ≡ false → EachOf (Fixed (renamed keep gone)) ls
 all_fixed keep gone [] e = tt
 all_fixed keep gone (l ∷ ls) e = (
-  ap (λ b. if b then keep else l.0) (first_no (l.0 == gone) (is_among gone ls) e),
-  all_fixed keep gone ls (second_no (l.0 == gone) (is_among gone ls) e),
+  ap (λ b. if b then keep else l.0) (or_parts (l.0 == gone) (is_among gone ls) e).0,
+  all_fixed keep gone ls (or_parts (l.0 == gone) (is_among gone ls) e).1,
 )
 
 -- ---- children that are once
@@ -209,8 +201,8 @@ none_joined : (n : ℕ) (c : model.Child) (ds : List model.Child) → list_any (
     → (child_of_all n c ds ≡ c) × (others n ds ≡ ds)
 none_joined n c [] e = (refl, refl)
 none_joined n c (d ∷ ds) e =
-    let rest = none_joined n c ds (second_no (d.person == n) (list_any (λ m. m == n) (map person ds)) e) in
-    let other : (d.person == n) ≡ false = first_no (d.person == n) (list_any (λ m. m == n) (map person ds)) e in (
+    let rest = none_joined n c ds (or_parts (d.person == n) (list_any (λ m. m == n) (map person ds)) e).1 in
+    let other : (d.person == n) ≡ false = (or_parts (d.person == n) (list_any (λ m. m == n) (map person ds)) e).0 in (
       ap (λ b. if b then child_of_all n (joined_child c d) ds else child_of_all n c ds) other ∙ rest.0,
       ap (λ b. if b then others n ds else d ∷ others n ds) other ∙ ap (λ l. d ∷ l) rest.1,
     )
@@ -222,7 +214,7 @@ once_same n (c ∷ cs) h =
     → (if b then child_of_all n c cs ∷ others n cs else c ∷ once_child n cs) ≡ c ∷ cs) [
       | true ↦ λ e.
           let both = none_joined n c cs (subst (λ k. list_any (λ m. m == k) (map person cs) ≡ false)
-          (same_number c.person n e) h.0) in
+          (eqb-true c.person n e) h.0) in
           λ i. both.0 i ∷ both.1 i
       | false ↦ λ e. ap (λ l. c ∷ l) (once_same n cs h.1)
     ] refl

@@ -4,6 +4,7 @@ use Rattle.std.specs.Prelude.{Option, Some, None, not, ◌==◌, nat_le, Result,
 use Rattle.std.proofs.lemmas.Bool.Decides.{nat_tests}
 use Rattle.std.specs.List.{filter}
 use Rattle.std.specs.FinMap.{get, entries}
+use Rattle.std.proofs.lemmas.Bool.{not-true, eqb-false}
 use Rattle.record_text.specs.declared.refusal.RefusalKind.{RefusalKind}
 use Rattle.record_text.specs.declared.refusal.RefusalKind.TheVariants.{
   SamePerson,
@@ -23,7 +24,7 @@ use Rattle.archive_state.specs.Merging.{merged}
 use Rattle.archive_state.specs.Sound.{IsSound}
 use Rattle.commands.specs.Rows.{and_then}
 use Rattle.archive_looks.specs.Checks.{need, person_in, person_at, next_free}
-use Rattle.archive_merge.specs.Steps.{slip_in, slip_at, Step, merge_step, undo_step}
+use Rattle.archive_merge.specs.Steps.{slip_in, slip_at, RowStep, merge_step, undo_step}
 use Rattle.archive_merge.specs.Comparing.{is_now}
 use Rattle.archive_merge.specs.Merges.{
   is_changed,
@@ -36,7 +37,6 @@ use Rattle.archive_merge.specs.Merges.{
   with_undo,
 }
 use Rattle.archive_merge.proofs.Lists.{each_to_map}
-use Rattle.archive_merge.proofs.Once.{other_number}
 use Rattle.archive_state.proofs.Putting.{put_here}
 use Rattle.archive_merge.proofs.Changing.{undone_merge, made_there, each_found}
 use Rattle.archive_merge.proofs.Merge.{entries_there, no_clashes, made_merged, merge_sound}
@@ -52,10 +52,6 @@ passed (Err k) f b e = absurd cc
 pub needed : (t : Bool) (k : RefusalKind) (u : Unit {0}) → need t k ≡ Ok u → t ≡ true
 needed true k u e = refl
 needed false k u e = absurd cc
-
-pub turned : (b : Bool) → not b ≡ true → b ≡ false
-turned true e = absurd cc
-turned false e = refl
 
 within : (n : ℕ) → nat_le n 4_294_967_295 ≡ true → n ≤ 4294967295
 within n e = grind (arith, nat_tests)
@@ -101,11 +97,12 @@ pub record Merged (c : Content) (keep gone : ℕ) (after : Content) (a : Answer)
 pub merged_by : (c after : Content) (keep gone : ℕ) (a : Answer) → merge_step c keep gone ≡ Ok (after, a)
     → Merged c keep gone after a
 merged_by c after keep gone a e =
-    let rest5 : ℕ → Step = λ n. Ok (with_merge keep gone c (n + 1), record { first = n; count = 1 }) in
-    let rest4 : Unit {0} → Step = λ _. and_then (next_free c) rest5 in
-    let rest3 : Unit {0} → Step = λ _. and_then (need (not (is_clash keep gone c.records)) MergeWithinFamily) rest4 in
-    let rest2 : model.Person → Step = λ _. and_then (need (not (keep == gone)) SamePerson) rest3 in
-    let rest1 : model.Person → Step = λ _. and_then (person_at c gone) rest2 in
+    let rest5 : ℕ → RowStep = λ n. Ok (with_merge keep gone c (n + 1), record { first = n; count = 1 }) in
+    let rest4 : Unit {0} → RowStep = λ _. and_then (next_free c) rest5 in
+    let rest3 : Unit {0} → RowStep = λ _. and_then
+    (need (not (is_clash keep gone c.records)) MergeWithinFamily) rest4 in
+    let rest2 : model.Person → RowStep = λ _. and_then (need (not (keep == gone)) SamePerson) rest3 in
+    let rest1 : model.Person → RowStep = λ _. and_then (person_at c gone) rest2 in
     let h1 = passed (person_at c keep) rest1 (after, a) e in
     let h2 = passed (person_at c gone) rest2 (after, a) h1.2 in
     let h3 = passed (need (not (keep == gone)) SamePerson) rest3 (after, a) h2.2 in
@@ -120,8 +117,8 @@ merged_by c after keep gone a e =
       g = h2.0;
       at_k = a_person (get c.records keep) h1.0 h1.1;
       at_g = a_person (get c.records gone) h2.0 h2.1;
-      apart = other_number keep gone (turned (keep == gone) (needed (not (keep == gone)) SamePerson h3.0 h3.1));
-      free = turned (is_clash keep gone c.records)
+      apart = eqb-false keep gone (not-true (keep == gone) (needed (not (keep == gone)) SamePerson h3.0 h3.1));
+      free = not-true (is_clash keep gone c.records)
           (needed (not (is_clash keep gone c.records)) MergeWithinFamily h4.0 h4.1);
       left = ap (λ n. with_merge keep gone c (n + 1)) next ∙ ap (λ (x : Content × Answer). x.0) both;
       first = next ∙ ap (λ (x : Content × Answer). x.1.first) both;
@@ -153,9 +150,10 @@ pub record Undone (c : Content) (n : ℕ) (after : Content) : Type 0 where
 
 pub undone_by : (c after : Content) (n : ℕ) (a : Answer) → undo_step c n ≡ Ok (after, a) → Undone c n after
 undone_by c after n a e =
-    let rest3 : Slip → Unit {0} → Step = λ s _. Ok (with_undo n s c, record { first = 0; count = 0 }) in
-    let rest2 : Slip → Unit {0} → Step = λ s _. and_then (need (is_now c.records s.changes) ChangedSince) (rest3 s) in
-    let rest1 : Slip → Step = λ s. and_then (need (not s.is_undone) AlreadyUndone) (rest2 s) in
+    let rest3 : Slip → Unit {0} → RowStep = λ s _. Ok (with_undo n s c, record { first = 0; count = 0 }) in
+    let rest2 : Slip → Unit {0} → RowStep = λ s _. and_then
+    (need (is_now c.records s.changes) ChangedSince) (rest3 s) in
+    let rest1 : Slip → RowStep = λ s. and_then (need (not s.is_undone) AlreadyUndone) (rest2 s) in
     let h1 = passed (slip_at c n) rest1 (after, a) e in
     let h2 = passed (need (not h1.0.is_undone) AlreadyUndone) (rest2 h1.0) (after, a) h1.2 in
     let h3 = passed (need (is_now c.records h1.0.changes) ChangedSince) (rest3 h1.0) (after, a) h2.2 in
@@ -164,7 +162,7 @@ undone_by c after n a e =
     record {
       slip = h1.0;
       there = a_slip (get c.slips n) (get c.records n) h1.0 h1.1;
-      open_yet = turned h1.0.is_undone (needed (not h1.0.is_undone) AlreadyUndone h2.0 h2.1);
+      open_yet = not-true h1.0.is_undone (needed (not h1.0.is_undone) AlreadyUndone h2.0 h2.1);
       now = now_is c.records h1.0.changes (needed (is_now c.records h1.0.changes) ChangedSince h3.0 h3.1);
       left = ap (λ (x : Content × Answer). x.0) both;
     }
@@ -173,9 +171,10 @@ undone_by c after n a e =
 pub undone_answer : (c after : Content) (n : ℕ) (a : Answer) → undo_step c n ≡ Ok (after, a)
     → (a.first ≡ 0) × (a.count ≡ 0)
 undone_answer c after n a e =
-    let rest3 : Slip → Unit {0} → Step = λ s _. Ok (with_undo n s c, record { first = 0; count = 0 }) in
-    let rest2 : Slip → Unit {0} → Step = λ s _. and_then (need (is_now c.records s.changes) ChangedSince) (rest3 s) in
-    let rest1 : Slip → Step = λ s. and_then (need (not s.is_undone) AlreadyUndone) (rest2 s) in
+    let rest3 : Slip → Unit {0} → RowStep = λ s _. Ok (with_undo n s c, record { first = 0; count = 0 }) in
+    let rest2 : Slip → Unit {0} → RowStep = λ s _. and_then
+    (need (is_now c.records s.changes) ChangedSince) (rest3 s) in
+    let rest1 : Slip → RowStep = λ s. and_then (need (not s.is_undone) AlreadyUndone) (rest2 s) in
     let h1 = passed (slip_at c n) rest1 (after, a) e in
     let h2 = passed (need (not h1.0.is_undone) AlreadyUndone) (rest2 h1.0) (after, a) h1.2 in
     let h3 = passed (need (is_now c.records h1.0.changes) ChangedSince) (rest3 h1.0) (after, a) h2.2 in

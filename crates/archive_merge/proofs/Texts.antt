@@ -21,6 +21,7 @@ use Rattle.std.specs.Prelude.{map, Option, Some, None, option_map}
 use Rattle.std.specs.List.{flat_map}
 use Rattle.std.specs.Str.{IsUtf8}
 use Rattle.std.proofs.lemmas.Str.{IsUtf8-from_ascii}
+use Rattle.std.proofs.lemmas.List.{map-append}
 use Rattle.stored_lines.specs.Tree.{Tree, Forest, node, none, more, relabel, relabel_all}
 use Rattle.stored_lines.specs.Line.{Line, Lines}
 use Rattle.stored_lines.specs.declared.carried.Value.{Value}
@@ -60,7 +61,7 @@ use Rattle.archive_state.specs.Texts.{
   carried_texts,
 }
 use Rattle.archive_state.proofs.Each.{each_both, each_front, each_back}
-use Rattle.archive_merge.proofs.Lists.{map_both, each_flat, each_to_flat}
+use Rattle.archive_merge.proofs.Lists.{each_flat, each_to_flat}
 use Rattle.archive_merge.proofs.Carrying.{carried_moved, lines_once, lines_joined}
 
 -- what does not look at numbers is the same of each of a list
@@ -167,7 +168,7 @@ texts_joined k g h i =
     let text_of : model.Name → List ℕ = λ n. n.text in
     let both : model.Person = joined_person k g in
     each_both IsText (own_texts (kind.Person both)) (carried_texts (kind.Person both))
-    (subst (EachOf IsText) (sym (map_both text_of k.names g.names))
+    (subst (EachOf IsText) (sym (map-append text_of k.names g.names))
     (each_both IsText (map text_of k.names) (map text_of g.names)
     (each_front IsText (own_texts (kind.Person k)) (carried_texts (kind.Person k)) h)
     (each_front IsText (own_texts (kind.Person g)) (carried_texts (kind.Person g)) i)))

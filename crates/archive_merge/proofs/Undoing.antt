@@ -37,6 +37,8 @@ use Rattle.std.specs.Prelude.{
 }
 use Rattle.std.specs.FinMap.{get}
 use Rattle.std.specs.List.{flat_map, list_all, list_any}
+use Rattle.std.proofs.lemmas.Bool.{and_parts, and_from}
+use Rattle.std.proofs.lemmas.Option.{IfSome_then}
 use Rattle.stored_lines.specs.Tree.{Tree, Forest, node, relabel}
 use Rattle.stored_lines.specs.Line.{Line, Lines}
 use Rattle.stored_lines.specs.declared.carried.Value.{Value}
@@ -128,9 +130,10 @@ use Rattle.archive_merge.proofs.Merged.{
   alike_before,
 }
 use Rattle.archive_merge.proofs.Once.{joined_links, once_out}
-use Rattle.archive_merge.proofs.PathsKept.{no_person_path}
+use Rattle.archive_merge.proofs.PathsKept.{no_person_path, either_none, no_place_person, no_source_person}
 use Rattle.archive_merge.proofs.Renaming.{moved, links_moved}
 use Rattle.archive_merge.proofs.Untaken.{through, by_tree, person_by, untaken_back}
+use Rattle.archive_merge.proofs.Part.{off}
 
 -- a person, as a record
 person_is : (r : Record) → IsPerson r → (p : model.Person) × (r ≡ kind.Person p)
@@ -149,42 +152,16 @@ none_named : (P : Link → Type 0) (p : model.Person) → IsEmptyPerson (kind.Pe
 none_named P p (names, sex, lines) = subst (EachOf P)
     (sym (ap (λ l. flat_map name_links l ++ carried_links p.carried) names ∙ ap carried_links lines)) tt
 
--- a person is no place, and no source
-no_place_person : (p : model.Person) → is_wanted a_place (kind.Person p) ≡ true → ⊥
-no_place_person p e = let none : false ≡ true = e in absurd cc
-
-no_source_person : (p : model.Person) → is_wanted a_source (kind.Person p) ≡ true → ⊥
-no_source_person p e = let none : false ≡ true = e in absurd cc
-
-some_more : {A : Type 0} (P Q : A → Type 0) → ((a : A) → P a → Q a) → (o : Option A) → IfSome o P → IfSome o Q
-some_more P Q f None h = tt
-some_more P Q f (Some a) h = f a h
-
-either_none : (b : Bool) (o : Option (List ℕ)) → o ≡ None → (if b then o else None) ≡ None
-either_none true o e = e
-either_none false o e = refl
-
-both_true : (a b : Bool) → (a && b) ≡ true → (a ≡ true) × (b ≡ true)
-both_true true b e = (refl, e)
-both_true false b e = absurd cc
-
-yes_both : (a b : Bool) → a ≡ true → b ≡ true → (a && b) ≡ true
-yes_both a b e f = ap (λ x. x && b) e ∙ f
-
 all_front : (q : Tree Line → Bool) (ts us : Lines) → list_all q (ts ++ us) ≡ true → list_all q ts ≡ true
 all_front q [] us h = refl
-all_front q (t ∷ ts) us h = let x = both_true (q t) (list_all q (ts ++ us)) h in
-    yes_both (q t) (list_all q ts) x.0 (all_front q ts us x.1)
+all_front q (t ∷ ts) us h = let x = and_parts (q t) (list_all q (ts ++ us)) h in
+    and_from (q t) (list_all q ts) x.0 (all_front q ts us x.1)
 
 all_back : (q : Tree Line → Bool) (ts us : Lines) → list_all q (ts ++ us) ≡ true → list_all q us ≡ true
 all_back q [] us h = h
-all_back q (t ∷ ts) us h = all_back q ts us (both_true (q t) (list_all q (ts ++ us)) h).1
+all_back q (t ∷ ts) us h = all_back q ts us (and_parts (q t) (list_all q (ts ++ us)) h).1
 
 -- ---- lines of a person with a pointer: whoever has them, they are carried, or of a field that leaves none
-off : (b : Bool) (x y : Field) → row (b && false) x y ≡ y
-off true x y = refl
-off false x y = refl
-
 two_rows : (p q : model.Person) (a b : Bool) → person_leaves p (row a part.a_side (row b part.a_citation part.carried))
     ≡ true → person_leaves q (row a part.a_side (row b part.a_citation part.carried)) ≡ true
 two_rows p q true b e = absurd cc
@@ -473,8 +450,7 @@ module _ (next number : ℕ) (s : Slip) (slip : IsSoundSlip next number s) where
     said_back (kind.Other p) h k = tt
 
     said_after : (r : Record) → HasSaidPlace m r → HasSaidPlace after r
-    said_after r said = some_more (Said m) (Said after) (λ k h path there. h path (undo_path k path there))
-        (place_of r) said
+    said_after r said = IfSome_then (place_of r) said (λ k h path there. h path (undo_path k path there))
 
     -- ---- events
     tag_back : (r : Record) → EachOf Named (links r) → HasEventTag m (merged_record s.keep s.gone r)
@@ -576,11 +552,11 @@ module _ (next number : ℕ) (s : Slip) (slip : IsSoundSlip next number s) where
         (person_leaves q) (lines_with f ts) → AreUntaken (person_field (known_of after)) (person_leaves p) ts
     person_lines p q [] h old now = refl
     person_lines p q (t ∷ ts) h old now =
-        let x = both_true (person_leaves p (person_field (known_of o) t))
+        let x = and_parts (person_leaves p (person_field (known_of o) t))
         (list_all (λ u. person_leaves p (person_field (known_of o) u)) ts) old in
-        let y = both_true (person_leaves q (person_field (known_of m) (relabel (line_with f) t)))
+        let y = and_parts (person_leaves q (person_field (known_of m) (relabel (line_with f) t)))
         (list_all (λ u. person_leaves q (person_field (known_of m) u)) (lines_with f ts)) now in
-        yes_both (person_leaves p (person_field (known_of after) t))
+        and_from (person_leaves p (person_field (known_of after) t))
         (list_all (λ u. person_leaves p (person_field (known_of after) u)) ts)
         (person_line p q t (each_front Named (line_links t) (carried_links ts) h) x.0 y.0)
         (person_lines p q ts (each_back Named (line_links t) (carried_links ts) h) x.1 y.1)

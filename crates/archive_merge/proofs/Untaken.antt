@@ -3,6 +3,7 @@
 use Rattle.std.proofs.Common.{◌≡◌, ℕ, List, [], ◌∷◌, ◌++◌, Bool, true, false, refl, sym, ap, ◌∙◌}
 use Rattle.std.specs.Prelude.{Option, Some, None, option_map, ◌&&◌}
 use Rattle.std.specs.List.{list_all}
+use Rattle.std.proofs.lemmas.Bool.{and_parts}
 use Rattle.stored_lines.specs.Tree.{Tree, Forest, node, none, more, relabel, relabel_all}
 use Rattle.stored_lines.specs.Line.{Line, Lines}
 use Rattle.stored_lines.specs.declared.carried.Value.{Value}
@@ -287,10 +288,6 @@ module _ (f : ℕ → ℕ) where
   untaken_back earlier known (kind.Other o) u = tt
 
 -- ---- two persons
-both_true : (a b : Bool) → (a && b) ≡ true → (a ≡ true) × (b ≡ true)
-both_true true b e = (refl, e)
-both_true false b e = absurd cc
-
 -- what is known of places before a number is nothing to a person
 pub untaken_any : (one other known : Known) (p : model.Person) → HasUntaken one known (kind.Person p)
     → HasUntaken other known (kind.Person p)
@@ -300,7 +297,7 @@ all_both : (q : Tree Line → Bool) (ts us : Lines) → list_all q ts ≡ true �
     → list_all q (ts ++ us) ≡ true
 all_both q [] us h k = k
 all_both q (t ∷ ts) us h k =
-    let both = both_true (q t) (list_all q ts) h in
+    let both = and_parts (q t) (list_all q ts) h in
     ap (λ x. x && list_all q (ts ++ us)) both.0 ∙ all_both q ts us both.1 k
 
 -- a field that leaves a line of one of the two leaves it where both are one
@@ -326,7 +323,7 @@ more_leave : (field : Tree Line → Field) (old new : Field → Bool) → ((x : 
     → (ts : Lines) → AreUntaken field old ts → AreUntaken field new ts
 more_leave field old new h [] u = refl
 more_leave field old new h (t ∷ ts) u =
-    let both = both_true (old (field t)) (list_all (λ v. old (field v)) ts) u in
+    let both = and_parts (old (field t)) (list_all (λ v. old (field v)) ts) u in
     λ i. h (field t) both.0 i && more_leave field old new h ts both.1 i
 
 -- the line of a second sex is one of a field that the person has

@@ -22,6 +22,7 @@ use Rattle.std.proofs.Common.{
 use Rattle.std.specs.Prelude.{Option, Some, None, Ok, map, is_none, ◌++◌, ◌&&◌, ◌||◌, ◌==◌, if◌then◌else◌}
 use Rattle.std.specs.List.{filter, flat_map, list_any}
 use Rattle.std.specs.FinMap.{get, insert, entries}
+use Rattle.std.proofs.lemmas.Bool.{or_parts, eqb-true}
 use Rattle.record_kinds.specs.declared.record.Record.{Record}
 use Rattle.receipts.specs.declared.answer.Answer.{Answer}
 use Rattle.archive_state.specs.Content.{Content, Records}
@@ -37,7 +38,7 @@ use Rattle.archive_state.proofs.Putting.{put_cases, put_elsewhere}
 use Rattle.archive_merge.proofs.Comparing.{IsNow}
 use Rattle.archive_merge.proofs.Changing.{made_none}
 use Rattle.archive_merge.proofs.Merge.{entries_there}
-use Rattle.archive_merge.proofs.Once.{number_itself, same_number}
+use Rattle.archive_merge.proofs.Once.{number_itself}
 use Rattle.archive_merge.proofs.Stepping.{Merged, merged_by, Undone, undone_by}
 
 abbrev takes : ℕ → Change → Bool
@@ -55,7 +56,7 @@ not_taken keep gone n m p (e ∷ es) none there =
           → ((b && is_none (change_at keep gone m e).new) || list_any (takes n)
           (map (change_at keep gone m) (filter p es)))
           ≡ false) [
-            | true ↦ λ q. let both : Some e.1 ≡ None = sym there.0 ∙ ap (get m) (same_number e.0 n q)
+            | true ↦ λ q. let both : Some e.1 ≡ None = sym there.0 ∙ ap (get m) (eqb-true e.0 n q)
                 ∙ none in absurd cc
             | false ↦ λ q. not_taken keep gone n m p es none there.1
           ] refl
@@ -81,10 +82,6 @@ merge_keeps_used c after keep gone n a e (below, none, undone) =
       ],
     )
 
-first_no : (a b : Bool) → (a || b) ≡ false → (a ≡ false) × (b ≡ false)
-first_no true b e = absurd cc
-first_no false b e = (refl, e)
-
 taken_at : (n : ℕ) (c : Change) → c.number ≡ n → c.new ≡ None → takes n c ≡ true
 taken_at n c at new = ap (λ k. k == n && is_none c.new) at ∙ ap (λ o. n == n && is_none o) new
     ∙ ap (λ b. b && true) (number_itself n)
@@ -94,7 +91,7 @@ left_alone : (m : Records) (n : ℕ) (cs : List Change) (x : Records) → get m 
     → list_any (takes n) cs ≡ false → get (with_puts x (flat_map put_old cs)) n ≡ get x n
 left_alone m n [] x none now kept = refl
 left_alone m n (c ∷ cs) x none now kept =
-    let no = first_no (takes n c) (list_any (takes n) cs) kept in
+    let no = or_parts (takes n c) (list_any (takes n) cs) kept in
     elim (is_same_record (Some c.old) c.new) as (λ b. get
     (with_puts x (put_of c.number (if b then None else Some c.old) ++ flat_map put_old cs)) n ≡ get x n) [
       | true ↦ left_alone m n cs x none now.1 no.1

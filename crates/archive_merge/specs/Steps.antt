@@ -20,9 +20,9 @@ use Rattle.archive_looks.specs.Checks.{need, person_at, next_free}
 use Rattle.archive_merge.specs.Comparing.{is_now}
 use Rattle.archive_merge.specs.Merges.{is_clash, with_merge, with_undo}
 
--- what an accepted command leaves, and its answer
-abbrev pub Step : Type 0
-Step = Result (Content × Answer) RefusalKind
+-- what an accepted command of one row leaves, and its answer; or its refusal, which has no place
+abbrev pub RowStep : Type 0
+RowStep = Result (Content × Answer) RefusalKind
 
 -- a number without a slip is that of a record, or of nothing
 abbrev pub no_slip : Option Record → Result Slip RefusalKind
@@ -36,7 +36,7 @@ slip_in None r = no_slip r
 abbrev pub slip_at : Content → ℕ → Result Slip RefusalKind
 slip_at c n = slip_in (get c.slips n) (get c.records n)
 
-abbrev pub merge_step : Content → ℕ → ℕ → Step
+abbrev pub merge_step : Content → ℕ → ℕ → RowStep
 merge_step c keep gone =
     and_then (person_at c keep) (λ k.
     and_then (person_at c gone) (λ g.
@@ -45,7 +45,7 @@ merge_step c keep gone =
     and_then (next_free c) (λ n.
     Ok (with_merge keep gone c (n + 1), record { first = n; count = 1 }))))))
 
-abbrev pub undo_step : Content → ℕ → Step
+abbrev pub undo_step : Content → ℕ → RowStep
 undo_step c n =
     and_then (slip_at c n) (λ s.
     and_then (need (not s.is_undone) AlreadyUndone) (λ _.

@@ -27,6 +27,7 @@ use Rattle.std.specs.Prelude.{Option, Some, None, option_map, ◌||◌, ◌==◌
 use Rattle.std.specs.FinMap.{get, insert, remove, get-remove}
 use Rattle.std.specs.Ordering.{nat_cmp, eq_by_cmp}
 use Rattle.std.specs.Cmp.{nat_cmp_total}
+use Rattle.std.proofs.lemmas.Bool.{or_parts, eqb-false}
 use Rattle.record_kinds.specs.Model as model
 use Rattle.record_kinds.specs.declared.record.Record.{Record}
 use Rattle.record_kinds.specs.declared.record.Record.TheVariants as kind
@@ -186,12 +187,6 @@ elsewhere [] m n other = refl
 elsewhere (p ∷ puts) m n other = elsewhere puts (insert m p.number p.«record») n other.1
     ∙ put_elsewhere m p.number p.«record» n other.0
 
-pub puts_still : (m : Records) (puts : List Numbered) → EachOf (λ (p : Numbered). get m p.number ≡ None) puts
-    → (n : ℕ) (r : Record) → get m n ≡ Some r → get (with_puts m puts) n ≡ Some r
-puts_still m puts free n r at =
-    elsewhere puts m n (each_more (λ (p : Numbered). get m p.number ≡ None) (λ (p : Numbered). n ≡ p.number → ⊥)
-    (λ p none same. let both : Some r ≡ None = sym at ∙ (ap (get m) same ∙ none) in absurd cc) puts free) ∙ at
-
 -- ---- a record less
 -- what is there without a number, was there
 less_is : (m : Records) (k n : ℕ) (r : Record) → get (remove m k) n ≡ Some r → (n ≡ k → ⊥) × (get m n ≡ Some r)
@@ -212,23 +207,12 @@ less_still m k n other = get-remove nat_cmp_total m k n
       | false ↦ λ x. refl
     ] refl
 
-not_it : (a b : ℕ) → (a == b) ≡ false → a ≡ b → ⊥
-not_it a b e same = grind (arith)
-
-first_no : (a b : Bool) → (a || b) ≡ false → a ≡ false
-first_no true b e = absurd cc
-first_no false b e = refl
-
-second_no : (a b : Bool) → (a || b) ≡ false → b ≡ false
-second_no true b e = absurd cc
-second_no false b e = e
-
 -- no link is to the number
 none_to : (k : ℕ) (ls : List Link) → is_among k ls ≡ false → EachOf (λ (l : Link). l.0 ≡ k → ⊥) ls
 none_to k [] e = tt
 none_to k (l ∷ ls) e = (
-  not_it l.0 k (first_no (l.0 == k) (is_among k ls) e),
-  none_to k ls (second_no (l.0 == k) (is_among k ls) e),
+  eqb-false l.0 k (or_parts (l.0 == k) (is_among k ls) e).0,
+  none_to k ls (or_parts (l.0 == k) (is_among k ls) e).1,
 )
 
 -- a record that no other names may be taken out

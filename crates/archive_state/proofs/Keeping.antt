@@ -442,7 +442,7 @@ keeps_sound c after sound keeps =
     keeps.distinct keeps.paths keeps.keys keeps.slips keeps.stayed keeps.free
 
 -- ---- the next number is a greater one
-number_later : (a b : ℕ) → a ≤ b → (n : ℕ) → IsNumber a n → IsNumber b n
+pub number_later : (a b : ℕ) → a ≤ b → (n : ℕ) → IsNumber a n → IsNumber b n
 number_later a b h n k = let less : n < a = k.1 in (k.0, omega arith)
 
 rules_later : (a b : ℕ) → a ≤ b → (m : Records) → HasSoundRecords a m → HasSoundRecords b m

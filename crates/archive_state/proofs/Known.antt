@@ -23,6 +23,7 @@ use Rattle.std.proofs.Common.{
 use Rattle.std.specs.Prelude.{Option, Some, None, option_map, codes, if◌then◌else◌}
 use Rattle.std.proofs.lemmas.Bool.Decides.{nat_tests}
 use Rattle.std.specs.FinMap.{get}
+use Rattle.std.proofs.lemmas.Bool.{lt-ltb, ltb-true}
 use Rattle.record_kinds.specs.Model as model
 use Rattle.record_kinds.specs.declared.record.Record.{Record}
 use Rattle.record_kinds.specs.declared.record.Record.TheVariants as kind
@@ -32,12 +33,6 @@ use Rattle.archive_state.specs.Content.{Records}
 use Rattle.archive_state.specs.Paths.{IsPlaceAt, Climbs, HasPath}
 use Rattle.archive_state.specs.Known.{path_under, path_with, path_by, path_of}
 use Rattle.archive_state.proofs.Climbing.{goes_path}
-
-is_less : (a b : ℕ) → a < b → nat_lt a b ≡ true
-is_less a b h = grind (arith, nat_tests)
-
-less_is : (a b : ℕ) → nat_lt a b ≡ true → a < b
-less_is a b h = grind (arith, nat_tests)
 
 -- ---- a path is known
 known_climbs : (steps : ℕ) (m : Records) (n : ℕ) (names : List (List ℕ)) → n < steps → Climbs m n names
@@ -49,7 +44,7 @@ known_climbs (suc steps) m n (name ∷ []) less (p, at, is, alone) =
 known_climbs (suc steps) m n (name ∷ (above ∷ names)) less (p, at, is, (q, up, lower, climbs)) =
     let nearer : q < steps = omega arith in
     ap (path_with n (path_by steps m)) at ∙ ap (path_under n (path_by steps m) p.name) up
-    ∙ ap (λ b. if b then option_map (path_below p.name) (path_by steps m q) else None) (is_less q n lower)
+    ∙ ap (λ b. if b then option_map (path_below p.name) (path_by steps m q) else None) (lt-ltb q n lower)
     ∙ ap (option_map (path_below p.name)) (known_climbs steps m q (above ∷ names) nearer climbs)
     ∙ ap (λ t. Some (t ++ (codes ", " ++ joined (above ∷ names)))) is
 
@@ -70,7 +65,7 @@ module _ (m : Records) (n : ℕ) (above : ℕ → Option (List ℕ)) (up : (q : 
   from_parent p at (Some q) is path e =
       elim (nat_lt q n) as (λ b. nat_lt q n ≡ b → (if b then option_map (path_below p.name) (above q) else None)
       ≡ Some path → HasPath m n path) [
-        | true ↦ λ less f. from_above m n q p at is (less_is q n less) (above q) (up q) path f
+        | true ↦ λ less f. from_above m n q p at is (ltb-true q n less) (above q) (up q) path f
         | false ↦ λ less f. absurd cc
       ] refl e
 

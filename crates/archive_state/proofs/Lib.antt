@@ -1,6 +1,7 @@
 mod Entries
 pub mod Keyed
 mod Lowest
+pub mod Rising
 mod Maps
 pub mod Putting
 pub mod Climbing
@@ -10,5 +11,5 @@ pub mod Each
 pub mod Keeping
 pub mod Knowing
 pub mod Changing
-mod PathTexts
+pub mod PathTexts
 mod Readable

@@ -12,27 +12,7 @@ use Rattle.record_kinds.specs.declared.record.Record.{Record}
 use Rattle.archive_state.specs.Content.{Records}
 use Rattle.archive_state.specs.Paths.{IsLowest}
 use Rattle.archive_state.proofs.Entries.{sorted_of}
-
-first : (a b : Bool) → T (a && b) → T a
-first true b p = tt
-first false b p = absurd p
-
-second : (a b : Bool) → T (a && b) → T b
-second true b p = p
-second false b p = absurd p
-
-less_is : (o : Ordering) → T (is_lt o) → o ≡ Less
-less_is Less p = refl
-less_is Equal p = absurd p
-less_is Greater p = absurd p
-
--- what is below all keys is none of them
-not_found : {X : Type 0} (k : ℕ) (es : List (ℕ × X)) → T (below_all nat_cmp k es) → find nat_cmp k es ≡ None
-not_found k [] h = refl
-not_found k (e ∷ es) h =
-    ap (λ o. cond (is_eq o) (Some e.1) (find nat_cmp k es))
-    (less_is (nat_cmp k e.0) (first (is_lt (nat_cmp k e.0)) (below_all nat_cmp k es) h))
-    ∙ not_found k es (second (is_lt (nat_cmp k e.0)) (below_all nat_cmp k es) h)
+use Rattle.archive_state.proofs.Rising.{first_holds, rest_holds, less_is, not_found}
 
 -- what is below one that is below all is below all
 below_below : {X : Type 0} (k x : ℕ) (es : List (ℕ × X)) → nat_cmp k x ≡ Less → T (below_all nat_cmp x es)
@@ -40,10 +20,10 @@ below_below : {X : Type 0} (k x : ℕ) (es : List (ℕ × X)) → nat_cmp k x �
 below_below k x [] e h = tt
 below_below k x (f ∷ es) e h =
     let here : nat_cmp x f.0 ≡ Less = less_is (nat_cmp x f.0)
-    (first (is_lt (nat_cmp x f.0)) (below_all nat_cmp x es) h) in
+    (first_holds (is_lt (nat_cmp x f.0)) (below_all nat_cmp x es) h) in
     let there : nat_cmp k f.0 ≡ Less = nat_cmp_total.trans k x f.0 e here in
     let rest : T (below_all nat_cmp k es) = below_below k x es e
-    (second (is_lt (nat_cmp x f.0)) (below_all nat_cmp x es) h) in
+    (rest_holds (is_lt (nat_cmp x f.0)) (below_all nat_cmp x es) h) in
     subst (λ o. T (is_lt o && below_all nat_cmp k es)) (sym there) rest
 
 -- where P holds of a number, something stands there
@@ -74,7 +54,7 @@ ahead_first m P e es h = h.stands e.0 e.1 (ap (λ o. cond (is_eq o) (Some e.1) (
 pub ahead_past : (m : Records) (P : ℕ → Type 0) (e : ℕ × Record) (es : List (ℕ × Record)) → Ahead m P (e ∷ es)
     → ¬ (P e.0) → Ahead m P es
 ahead_past m P e es h other = record {
-  rises = second (below_all nat_cmp e.0 es) (is_sorted nat_cmp es) h.rises;
+  rises = rest_holds (below_all nat_cmp e.0 es) (is_sorted nat_cmp es) h.rises;
   holds = λ k p.
       elim (nat_cmp k e.0) as (λ o. nat_cmp k e.0 ≡ o → cond (is_eq o) (Some e.1) (find nat_cmp k es) ≡ get m k
       → find nat_cmp k es ≡ get m k) [
@@ -90,7 +70,7 @@ ahead_past m P e es h other = record {
         | Equal ↦ λ q f g.
             let same : k ≡ e.0 = ranked k e.0 Equal (sym q) in
             let below : T (below_all nat_cmp k es) = subst (λ n. T (below_all nat_cmp n es)) (sym same)
-            (first (below_all nat_cmp e.0 es) (is_sorted nat_cmp es) h.rises) in
+            (first_holds (below_all nat_cmp e.0 es) (is_sorted nat_cmp es) h.rises) in
             let both : None ≡ Some r = sym (not_found k es below) ∙ g in cc
         | Greater ↦ λ q f g. f g
       ] refl (h.stands k r);
@@ -104,7 +84,7 @@ ahead_found m P e es there h p = (
   λ k less q.
       let lower : nat_cmp k e.0 ≡ Less = sym (nat_cmp_is k e.0 Less less) in
       let below : T (below_all nat_cmp k es) = below_below k e.0 es lower
-      (first (below_all nat_cmp e.0 es) (is_sorted nat_cmp es) h.rises) in
+      (first_holds (below_all nat_cmp e.0 es) (is_sorted nat_cmp es) h.rises) in
       let gone : find nat_cmp k (e ∷ es) ≡ None = ap (λ o. cond (is_eq o) (Some e.1) (find nat_cmp k es)) lower
       ∙ not_found k es below in
       there k q (sym (h.holds k q) ∙ gone),

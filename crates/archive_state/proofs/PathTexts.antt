@@ -30,7 +30,7 @@ use Rattle.record_shapes.specs.Paths.{joined, trimmed, parts, normal, IsWithinLi
 use Rattle.record_shapes.specs.Fields.{path_below}
 
 -- ---- what is cut at commas
-parts_some : (xs : List ℕ) → (y : List ℕ) × (ys : List (List ℕ)) × (parts xs ≡ y ∷ ys)
+pub parts_some : (xs : List ℕ) → (y : List ℕ) × (ys : List (List ℕ)) × (parts xs ≡ y ∷ ys)
 parts_some [] = ([], [], refl)
 parts_some (x ∷ xs) = elim (x == 44) as (λ b. (y : List ℕ) × (ys : List (List ℕ))
     × (cond b ([] ∷ parts xs) (onto_first x (parts xs)) ≡ y ∷ ys)) [
@@ -38,11 +38,11 @@ parts_some (x ∷ xs) = elim (x == 44) as (λ b. (y : List ℕ) × (ys : List (L
       | false ↦ let s = parts_some xs in (x ∷ s.0, s.1, ap (onto_first x) s.2)
     ]
 
-onto_both : (x : ℕ) (xs ys : List (List ℕ)) (y : List ℕ) (more : List (List ℕ)) → xs ≡ y ∷ more
+pub onto_both : (x : ℕ) (xs ys : List (List ℕ)) (y : List ℕ) (more : List (List ℕ)) → xs ≡ y ∷ more
     → onto_first x (xs ++ ys) ≡ onto_first x xs ++ ys
 onto_both x xs ys y more e = ap (λ l. onto_first x (l ++ ys)) e ∙ sym (ap (λ l. onto_first x l ++ ys) e)
 
-parts_both : (xs ys : List ℕ) → parts (xs ++ (44 ∷ ys)) ≡ parts xs ++ parts ys
+pub parts_both : (xs ys : List ℕ) → parts (xs ++ (44 ∷ ys)) ≡ parts xs ++ parts ys
 parts_both [] ys = refl
 parts_both (x ∷ xs) ys =
     let s = parts_some xs in
@@ -54,7 +54,7 @@ parts_both (x ∷ xs) ys =
     ]
 
 -- a space in front is none of a part
-spaced : (ys : List (List ℕ)) (y : List ℕ) (more : List (List ℕ)) → ys ≡ y ∷ more
+pub spaced : (ys : List (List ℕ)) (y : List ℕ) (more : List (List ℕ)) → ys ≡ y ∷ more
     → map trimmed (onto_first 32 ys) ≡ map trimmed ys
 spaced ys y more e = ap (λ l. map trimmed (onto_first 32 l)) e ∙ sym (ap (map trimmed) e)
 

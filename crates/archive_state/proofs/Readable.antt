@@ -80,6 +80,7 @@ use Rattle.archive_state.specs.Sound.{IsSound, Stands}
 use Rattle.archive_state.proofs.Climbing.{goes_path}
 use Rattle.archive_state.proofs.Known.{path_known}
 use Rattle.archive_state.proofs.PathTexts.{normal_below, limits_are, limits_of_name}
+use Rattle.archive_state.proofs.Each.{each_front, each_back, each_both, each_more}
 
 -- ---- what a link names has the tag of its kind
 source_tag : (o : Option Record) → option_map (is_wanted a_source) o ≡ Some true
@@ -106,37 +107,21 @@ place_there (Some (kind.Place p)) e = (p, refl)
 place_there (Some _) e = absurd cc
 
 -- ---- lists
-front : {A : Type 0} (P : A → Type 0) (xs ys : List A) → EachOf P (xs ++ ys) → EachOf P xs
-front P [] ys h = tt
-front P (x ∷ xs) ys h = (h.0, front P xs ys h.1)
-
-back : {A : Type 0} (P : A → Type 0) (xs ys : List A) → EachOf P (xs ++ ys) → EachOf P ys
-back P [] ys h = h
-back P (x ∷ xs) ys h = back P xs ys h.1
-
-both : {A : Type 0} (P : A → Type 0) (xs ys : List A) → EachOf P xs → EachOf P ys → EachOf P (xs ++ ys)
-both P [] ys h k = k
-both P (x ∷ xs) ys h k = (h.0, both P xs ys h.1 k)
-
-each : {A : Type 0} (P Q : A → Type 0) → ((a : A) → P a → Q a) → (xs : List A) → EachOf P xs → EachOf Q xs
-each P Q f [] h = tt
-each P Q f (x ∷ xs) h = (f x h.0, each P Q f xs h.1)
-
 -- of each of a list, what holds of all that it gives
 of_each : {X A : Type 0} (P : A → Type 0) (Q R : X → Type 0) (f : X → List A) → ((x : X) → EachOf P (f x) → Q x → R x)
     → (xs : List X) → EachOf P (flat_map f xs) → EachOf Q xs → EachOf R xs
 of_each P Q R f h [] k q = tt
 of_each P Q R f h (x ∷ xs) k q = (
-  h x (front P (f x) (flat_map f xs) k) q.0,
-  of_each P Q R f h xs (back P (f x) (flat_map f xs) k) q.1,
+  h x (each_front P (f x) (flat_map f xs) k) q.0,
+  of_each P Q R f h xs (each_back P (f x) (flat_map f xs) k) q.1,
 )
 
 of_map : {X A : Type 0} (P : A → Type 0) (Q : ℕ → Type 0) (f : X → List A) (g : X → ℕ)
     → ((x : X) → EachOf P (f x) → Q (g x)) → (xs : List X) → EachOf P (flat_map f xs) → EachOf Q (map g xs)
 of_map P Q f g h [] k = tt
 of_map P Q f g h (x ∷ xs) k = (
-  h x (front P (f x) (flat_map f xs) k),
-  of_map P Q f g h xs (back P (f x) (flat_map f xs) k),
+  h x (each_front P (f x) (flat_map f xs) k),
+  of_map P Q f g h xs (each_back P (f x) (flat_map f xs) k),
 )
 
 module _ (c : Content) (sound : IsSound c) where
@@ -218,7 +203,7 @@ module _ (c : Content) (sound : IsSound c) where
       let u = sound.rules.untaken n (kind.Source s) at in (
         of_each (Stands c.records) _ (IsReadableHolding (known_of c.records)) holding_links
             (λ h k own. (repo_tag (get c.records h.repo) k.0, own)) s.holdings
-            (front (Stands c.records) (flat_map holding_links s.holdings) (carried_links s.carried)
+            (each_front (Stands c.records) (flat_map holding_links s.holdings) (carried_links s.carried)
             (sound.named n (kind.Source s) at)) u.0,
         u.1,
       )
@@ -259,17 +244,19 @@ module _ (c : Content) (sound : IsSound c) where
         let named = sound.named n (kind.Event e) at in
         let u = sound.rules.untaken n (kind.Event e) at in
         let rest : EachOf (Stands c.records) (flat_map participant_links e.participants ++ carried_links e.carried) =
-        back (Stands c.records) (place_line_links e.place)
+        each_back (Stands c.records) (place_line_links e.place)
         (flat_map participant_links e.participants ++ carried_links e.carried) named.1 in
         record {
-          owned = each (IsCitationOf c.records n) (IsCitationBelow (known_of c.records)) (citation_below n) under owned;
+          owned = each_more (IsCitationOf c.records n) (IsCitationBelow (known_of c.records))
+              (citation_below n) under owned;
           place = shown n e.place
-              (front (Stands c.records) (place_line_links e.place)
+              (each_front (Stands c.records) (place_line_links e.place)
               (flat_map participant_links e.participants ++ carried_links e.carried) named.1)
               (sound.rules.places n (kind.Event e) at);
           participants = of_each (Stands c.records) _ (IsReadableParticipant (known_of c.records)) participant_links
               (λ p k own. (person_tag (get c.records p.person) k.0, own)) e.participants
-              (front (Stands c.records) (flat_map participant_links e.participants) (carried_links e.carried) rest) u.0;
+              (each_front (Stands c.records) (flat_map participant_links e.participants) (carried_links e.carried) rest)
+              u.0;
           untaken = u.1;
         }
 
@@ -291,9 +278,9 @@ module _ (c : Content) (sound : IsSound c) where
       events = h.events;
       citations = h.citations;
       all = h.all;
-      are_events = each (IsEventOf c.records n) (IsEventBelow (known_of c.records) a tags)
+      are_events = each_more (IsEventOf c.records n) (IsEventBelow (known_of c.records) a tags)
           (event_below n owner tags there one) h.events h.are_events;
-      are_citations = each (IsCitationOf c.records n) (IsCitationBelow (known_of c.records))
+      are_citations = each_more (IsCitationOf c.records n) (IsCitationBelow (known_of c.records))
           (citation_below n) h.citations h.are_citations;
     }
 
@@ -331,9 +318,9 @@ module _ (c : Content) (sound : IsSound c) where
         × ((k : ℕ) → e.place ≡ Some k → (known_of c.records).path k ≡ Some (a.path k))
     entry_readable n e at =
         let named = sound.named n (kind.Entry e) at in
-        let placed : EachOf (Stands c.records) (field_links a_place e.place) = front (Stands c.records)
+        let placed : EachOf (Stands c.records) (field_links a_place e.place) = each_front (Stands c.records)
         (field_links a_place e.place) (flat_map mention_links e.mentions) named.1 in
-        let mentioned : EachOf (Stands c.records) (flat_map mention_links e.mentions) = back (Stands c.records)
+        let mentioned : EachOf (Stands c.records) (flat_map mention_links e.mentions) = each_back (Stands c.records)
         (field_links a_place e.place) (flat_map mention_links e.mentions) named.1 in
         let rules = sound.rules.mentions n (kind.Entry e) at in
         let role : model.Mention → Bool = λ x. is_role_of e.kind x.role in
@@ -357,14 +344,14 @@ module _ (c : Content) (sound : IsSound c) where
     family_members x named =
         let P : Link → Type 0 = Stands c.records in
         let Q : ℕ → Type 0 = IsKnown (codes "INDI") (known_of c.records) in
-        let rest : EachOf P (flat_map child_links x.children ++ carried_links x.carried) = back P
+        let rest : EachOf P (flat_map child_links x.children ++ carried_links x.carried) = each_back P
         (flat_map partner_links x.partners) (flat_map child_links x.children ++ carried_links x.carried) named in
-        both Q (map (λ (p : model.Partner). p.person) x.partners) (map (λ (p : model.Child). p.person) x.children)
+        each_both Q (map (λ (p : model.Partner). p.person) x.partners) (map (λ (p : model.Child). p.person) x.children)
         (of_map P Q partner_links (λ p. p.person) (λ p k. person_tag (get c.records p.person) k.0) x.partners
-        (front P (flat_map partner_links x.partners)
+        (each_front P (flat_map partner_links x.partners)
         (flat_map child_links x.children ++ carried_links x.carried) named))
         (of_map P Q child_links (λ p. p.person) (λ p k. person_tag (get c.records p.person) k.0) x.children
-        (front P (flat_map child_links x.children) (carried_links x.carried) rest))
+        (each_front P (flat_map child_links x.children) (carried_links x.carried) rest))
 
     pub record_readable : (n : ℕ) (t : Tree Record) → IsWithOwned c.records n t
         → IsReadable (known_before c.records n) (known_of c.records) a n t
@@ -373,9 +360,9 @@ module _ (c : Content) (sound : IsSound c) where
     record_readable n (node (kind.Source s) f) h = (source_readable n s h.0, h.1)
     record_readable n (node (kind.Person p) f) h = record {
       owned = owned_readable n (kind.Person p) person_tags (list_of f) h.0 (λ tag e. e) h.1;
-      child_in = each (IsSideIn c.records) (λ s. IsKnown (codes "FAM") (known_of c.records) s.family) side_known
+      child_in = each_more (IsSideIn c.records) (λ s. IsKnown (codes "FAM") (known_of c.records) s.family) side_known
           (a.child_in n) (around.child_in n);
-      partner_in = each (IsSideIn c.records) (λ s. IsKnown (codes "FAM") (known_of c.records) s.family) side_known
+      partner_in = each_more (IsSideIn c.records) (λ s. IsKnown (codes "FAM") (known_of c.records) s.family) side_known
           (a.partner_in n) (around.partner_in n);
       untaken = sound.rules.untaken n (kind.Person p) h.0;
     }

@@ -79,6 +79,8 @@ use Rattle.archive_looks.specs.Applied.{Plans}
 use Rattle.archive_steps.proofs.Keeping.{IsFit}
 use Rattle.archive_steps.proofs.Same.{put_same}
 use Rattle.archive_steps.proofs.Worded.{maybe_date, text_found}
+use Rattle.archive_merge.proofs.Alike.{entries_alike}
+use Rattle.commands.proofs.Chains.{both_answered}
 
 -- an entry at a number
 pub entry_fits : (c : Content) (n : ℕ) (e : model.Entry)
@@ -109,11 +111,6 @@ entry_fits c n e alike free keys named written place mentions = record {
 }
 
 -- ---- the mentions that a row gives
-taken : {A B : Type 0} (r : Result A RefusalKind) (f : A → Result B RefusalKind) (b : B) → and_then r f ≡ Ok b
-    → (a : A) × (r ≡ Ok a) × (f a ≡ Ok b)
-taken (Ok a) f b e = (a, refl, e)
-taken (Err k) f b e = absurd cc
-
 role_found : (k : EntryKind) (o : Option Role) (r : Role) → role_for k o ≡ Ok r → is_role_of k r ≡ true
 role_found k None r e = absurd cc
 role_found k (Some s) r e =
@@ -132,9 +129,9 @@ pub record IsTaken (k : EntryKind) (m : model.Mention) : Type 0 where
 mention_found : (k : EntryKind) (g : GivenMention) (m : model.Mention) → IsUtf8 g.name
     → mention_in k g ≡ Ok m → IsTaken k m
 mention_found k g m utf8 e =
-    let r = taken (role_in k g.role)
+    let r = both_answered (role_in k g.role)
     (λ r. and_then (text_in g.name) (λ t. Ok (record { role = r; name = t; link = None }))) m e in
-    let t = taken (text_in g.name) (λ t. Ok (record { role = r.0; name = t; link = None })) m r.2 in
+    let t = both_answered (text_in g.name) (λ t. Ok (record { role = r.0; name = t; link = None })) m r.2 in
     let made : model.Mention = record { role = r.0; name = t.0; link = None } in
     let same : made ≡ m = let f = t.2 in cc in
     subst (IsTaken k) same
@@ -144,8 +141,8 @@ pub mentions_found : (k : EntryKind) (gs : List GivenMention) (ms : List model.M
     → mentions_in k gs ≡ Ok ms → EachOf (IsTaken k) ms × (length ms ≡ length gs)
 mentions_found k [] ms utf8 e = let same : [] ≡ ms = cc in (subst (EachOf (IsTaken k)) same tt, ap length (sym same))
 mentions_found k (g ∷ gs) ms utf8 e =
-    let x = taken (mention_in k g) (λ x. and_then (mentions_in k gs) (λ xs. Ok (x ∷ xs))) ms e in
-    let xs = taken (mentions_in k gs) (λ xs. Ok (x.0 ∷ xs)) ms x.2 in
+    let x = both_answered (mention_in k g) (λ x. and_then (mentions_in k gs) (λ xs. Ok (x ∷ xs))) ms e in
+    let xs = both_answered (mentions_in k gs) (λ xs. Ok (x.0 ∷ xs)) ms x.2 in
     let rest = mentions_found k gs xs.0 utf8.1 xs.1 in
     let same : x.0 ∷ xs.0 ≡ ms = let f = xs.2 in cc in (
       subst (EachOf (IsTaken k)) same (mention_found k g x.0 utf8.0 x.1, rest.0),
@@ -178,7 +175,7 @@ pub record IsGivenBy (source : ℕ) (row : EntryRow) (e : model.Entry) : Type 0 
 pub entry_found : (source : ℕ) (row : EntryRow) (e : model.Entry) → IsUtf8Entry row → entry_of source row ≡ Ok e
     → IsGivenBy source row e
 entry_found source row e utf8 given =
-    let p = taken (text_in row.page)
+    let p = both_answered (text_in row.page)
     (λ p. and_then (text_in row.text)
     (λ t. and_then (each date_in row.date) (λ d. and_then (mentions_in row.kind row.mentions) (λ ms.
     Ok (record {
@@ -191,7 +188,7 @@ entry_found source row e utf8 given =
       text = t;
       mentions = ms;
     }))))) e given in
-    let t = taken (text_in row.text)
+    let t = both_answered (text_in row.text)
     (λ t. and_then (each date_in row.date) (λ d. and_then (mentions_in row.kind row.mentions) (λ ms.
     Ok (record {
       source = source;
@@ -203,7 +200,7 @@ entry_found source row e utf8 given =
       text = t;
       mentions = ms;
     })))) e p.2 in
-    let d = taken (each date_in row.date) (λ d. and_then (mentions_in row.kind row.mentions) (λ ms.
+    let d = both_answered (each date_in row.date) (λ d. and_then (mentions_in row.kind row.mentions) (λ ms.
     Ok (record {
       source = source;
       kind = row.kind;
@@ -214,7 +211,7 @@ entry_found source row e utf8 given =
       text = t.0;
       mentions = ms;
     }))) e t.2 in
-    let ms = taken (mentions_in row.kind row.mentions) (λ ms.
+    let ms = both_answered (mentions_in row.kind row.mentions) (λ ms.
     Ok (record {
       source = source;
       kind = row.kind;
@@ -284,18 +281,6 @@ new_entry_fits c source row e u sound given stands placed free =
     given.mentions
 
 -- ---- another link of a mention
-entries_alike : (w : Wanted) (p q : model.Entry) → is_wanted w (kind.Entry p) ≡ is_wanted w (kind.Entry q)
-entries_alike a_place p q = refl
-entries_alike a_repo p q = refl
-entries_alike a_source p q = refl
-entries_alike a_person p q = refl
-entries_alike a_holder p q = refl
-entries_alike a_cited p q = refl
-entries_alike at_level_0 p q = refl
-
-entries_are : (p q : model.Entry) → IsAlike (kind.Entry p) (kind.Entry q)
-entries_are p q = record { wanted = λ w. entries_alike w p q; events = refl; written = refl; room = refl }
-
 -- who it is of stands, and the reason is a text
 abbrev pub LinkAt : Content → Option model.Link → Type 0
 LinkAt c None = Unit {0}
@@ -365,7 +350,7 @@ relinked_fits c n e k link sound at there =
     (sym (take-append-drop i e.mentions)) mentions.1 in
     let place : List Link = field_links a_place e.place in
     entry_fits c n (with_link k link e) (over c n (kind.Entry e) (kind.Entry (with_link k link e)) at
-    (entries_are e (with_link k link e)))
+    (entries_alike e (with_link k link e)))
     (not_fresh c n (kind.Entry e) at)
     (λ f is j other.
     let same : with_link k link e ≡ f = cc in

@@ -26,13 +26,14 @@ use Rattle.std.proofs.Common.{
   arith,
 }
 use Rattle.std.proofs.lemmas.Grind.{flat_map-append}
-use Rattle.std.proofs.lemmas.List.{map_push}
+use Rattle.std.proofs.lemmas.List.{map_push, append-nil, append_assoc}
 use Rattle.std.proofs.lemmas.List.Folds.{list_any-append}
 use Rattle.std.specs.Prelude.{◌&&◌, Option, Some, None, option_map, IfSome, codes}
 use Rattle.std.proofs.lemmas.Bool.Decides.{nat_tests}
 use Rattle.std.specs.FinMap.{get}
 use Rattle.std.specs.List.{list_all, list_any, flat_map}
 use Rattle.std.specs.Str.{bytes_eq}
+use Rattle.std.proofs.lemmas.Bool.{and_parts, or_parts}
 use Rattle.record_fields.specs.declared.date.Date.{Date}
 use Rattle.record_fields.specs.declared.words.Sex.{Sex}
 use Rattle.record_text.specs.Text.{IsText, is_word}
@@ -101,16 +102,13 @@ use Rattle.archive_looks.specs.declared.looks.Owner.TheVariants as owner
 use Rattle.archive_state.proofs.Each.{each_both, each_front, each_back}
 use Rattle.archive_state.proofs.Keeping.{IsAlike}
 use Rattle.archive_steps.proofs.Keeping.{IsFit}
+use Rattle.archive_merge.proofs.Alike.{events_alike, families_alike, persons_alike}
 
 -- ---- lists
-no_more : {A : Type 0} (xs : List A) → xs ++ [] ≡ xs
-no_more [] = refl
-no_more (x ∷ xs) = ap (λ l. x ∷ l) (no_more xs)
-
 -- one more that gives nothing
 none_more : {X A : Type 0} (f : X → List A) (xs : List X) (x : X) → f x ≡ []
     → flat_map f (xs ++ (x ∷ [])) ≡ flat_map f xs
-none_more f xs x e = flat_map-append f xs (x ∷ []) ∙ ap (λ l. flat_map f xs ++ (l ++ [])) e ∙ no_more (flat_map f xs)
+none_more f xs x e = flat_map-append f xs (x ∷ []) ∙ ap (λ l. flat_map f xs ++ (l ++ [])) e ∙ append-nil (flat_map f xs)
 
 -- one more of which all is right
 each_push : {X A : Type 0} (P : A → Type 0) (f : X → List A) (xs : List X) (x : X) (ys : List A)
@@ -123,14 +121,6 @@ each_push P f xs x ys h k =
 
 map_one : {X Y : Type 0} (f : X → Y) (xs : List X) (x : X) → map f xs ++ (f x ∷ []) ≡ map f (xs ++ (x ∷ []))
 map_one f xs x = sym (map_push f xs x)
-
-joined_right : {A : Type 0} (xs ys zs : List A) → (xs ++ ys) ++ zs ≡ xs ++ (ys ++ zs)
-joined_right [] ys zs = refl
-joined_right (x ∷ xs) ys zs = ap (λ l. x ∷ l) (joined_right xs ys zs)
-
-and_true : (a b : Bool) → (a && b) ≡ true → (a ≡ true) × (b ≡ true)
-and_true true b e = (refl, e)
-and_true false b e = absurd cc
 
 any_of : {X Y : Type 0} (p : Y → Bool) (f : X → Y) (xs : List X) → list_any p (map f xs) ≡ list_any (λ x. p (f x)) xs
 any_of p f [] = refl
@@ -156,33 +146,6 @@ not_fresh c n r at none = let both : Some r ≡ None = sym at ∙ none in absurd
 it_is : (c : Content) (n : ℕ) (r old : Record) → get c.records n ≡ Some r → get c.records n ≡ Some old → r ≡ old
 it_is c n r old e f = let both : Some r ≡ Some old = sym e ∙ f in cc
 
-persons_alike : (w : Wanted) (p q : model.Person) → is_wanted w (kind.Person p) ≡ is_wanted w (kind.Person q)
-persons_alike a_place p q = refl
-persons_alike a_repo p q = refl
-persons_alike a_source p q = refl
-persons_alike a_person p q = refl
-persons_alike a_holder p q = refl
-persons_alike a_cited p q = refl
-persons_alike at_level_0 p q = refl
-
-families_alike : (w : Wanted) (p q : model.Family) → is_wanted w (kind.Family p) ≡ is_wanted w (kind.Family q)
-families_alike a_place p q = refl
-families_alike a_repo p q = refl
-families_alike a_source p q = refl
-families_alike a_person p q = refl
-families_alike a_holder p q = refl
-families_alike a_cited p q = refl
-families_alike at_level_0 p q = refl
-
-events_alike : (w : Wanted) (p q : model.Event) → is_wanted w (kind.Event p) ≡ is_wanted w (kind.Event q)
-events_alike a_place p q = refl
-events_alike a_repo p q = refl
-events_alike a_source p q = refl
-events_alike a_person p q = refl
-events_alike a_holder p q = refl
-events_alike a_cited p q = refl
-events_alike at_level_0 p q = refl
-
 -- a record of the kind of the one that is there
 pub over : (c : Content) (n : ℕ) (r new : Record) → get c.records n ≡ Some r → IsAlike r new → (old : Record)
     → get c.records n ≡ Some old → IsAlike old new
@@ -191,22 +154,13 @@ over c n r new at alike old e = subst (λ x. IsAlike x new) (it_is c n r old at 
 pub anew : (c : Content) (new : Record) → IsSound c → (old : Record) → get c.records c.next ≡ Some old → IsAlike old new
 anew c new sound old e = absurd (none_at_next c sound old e)
 
-persons_are : (p q : model.Person) → IsAlike (kind.Person p) (kind.Person q)
-persons_are p q = record { wanted = λ w. persons_alike w p q; events = refl; written = refl; room = refl }
-
-families_are : (p q : model.Family) → IsAlike (kind.Family p) (kind.Family q)
-families_are p q = record { wanted = λ w. families_alike w p q; events = refl; written = refl; room = refl }
-
-events_are : (p q : model.Event) → IsAlike (kind.Event p) (kind.Event q)
-events_are p q = record { wanted = λ w. events_alike w p q; events = refl; written = refl; room = refl }
-
 -- ---- carried lines
 -- what a field leaves, it leaves where the record has more
 untaken_more : (field : Tree Line → Field) (some more : Field → Bool) → ((x : Field) → some x ≡ true → more x ≡ true)
     → (ts : Lines) → AreUntaken field some ts → AreUntaken field more ts
 untaken_more field some more h [] u = refl
 untaken_more field some more h (t ∷ ts) u =
-    let both : (some (field t) ≡ true) × (list_all (λ v. some (field v)) ts ≡ true) = and_true (some (field t))
+    let both : (some (field t) ≡ true) × (list_all (λ v. some (field v)) ts ≡ true) = and_parts (some (field t))
     (list_all (λ v. some (field v)) ts) u in
     λ i. h (field t) both.0 i && untaken_more field some more h ts both.1 i
 
@@ -268,7 +222,7 @@ person_over : (c : Content) (n : ℕ) (p q : model.Person) → IsSound c → get
 person_over c n p q sound at linked carry written own sex names =
     let field : Tree Line → Field = person_field (known_of c.records) in
     person_fits c n q
-    (over c n (kind.Person p) (kind.Person q) at (persons_are p q))
+    (over c n (kind.Person p) (kind.Person q) at (persons_alike p q))
     (not_fresh c n (kind.Person p) at)
     (subst (EachOf (Stands c.records)) (sym linked) (sound.named n (kind.Person p) at))
     (subst (λ l. EachOf IsOfRecords (flat_map tags l)) (sym carry) (sound.rules.tags n (kind.Person p) at))
@@ -376,28 +330,20 @@ new_family_fits c husband wife sound h w other =
     (subst (λ l. EachOf IsText (flat_map line_texts l)) (sym (partners_carry husband wife)) tt)
     refl (partners_room husband wife, tt, none_within 98)
 
-first_no : (a b : Bool) → (a || b) ≡ false → a ≡ false
-first_no true b e = absurd cc
-first_no false b e = refl
-
-second_no : (a b : Bool) → (a || b) ≡ false → b ≡ false
-second_no true b e = absurd cc
-second_no false b e = e
-
 -- a number that is not among those that are once
 once_more : (ns : List ℕ) (n : ℕ) → IsOnce ns → list_any (λ m. m == n) ns ≡ false → IsOnce (ns ++ (n ∷ []))
 once_more [] n h e = (refl, tt)
 once_more (m ∷ ns) n h e = (
   list_any-append (λ k. k == m) ns (n ∷ []) ∙ ap (λ b. b || ((n == m) || false)) h.0 ∙ ap (λ b. b || false)
-      (equal_back m n false (first_no (m == n) (list_any (λ k. k == n) ns) e)),
-  once_more ns n h.1 (second_no (m == n) (list_any (λ k. k == n) ns) e),
+      (equal_back m n false (or_parts (m == n) (list_any (λ k. k == n) ns) e).0),
+  once_more ns n h.1 (or_parts (m == n) (list_any (λ k. k == n) ns) e).1,
 )
 
 pub member_more : (f : model.Family) (n : ℕ) → members (with_child n f) ≡ members f ++ (n ∷ [])
 member_more f n =
     let person : model.Child → ℕ = λ c. c.person in
     ap (λ l. map (λ (p : model.Partner). p.person) f.partners ++ l) (sym (map_one person f.children (plain_child n)))
-    ∙ sym (joined_right (map (λ (p : model.Partner). p.person) f.partners) (map person f.children) (n ∷ []))
+    ∙ sym (append_assoc (map (λ (p : model.Partner). p.person) f.partners) (map person f.children) (n ∷ []))
 
 no_member : (f : model.Family) (n : ℕ) → (is_partner n f || is_child n f) ≡ false
     → list_any (λ m. m == n) (members f) ≡ false
@@ -426,7 +372,7 @@ add_child_fits c n f person sound at stands other =
     (none_more (λ (x : model.Child). x.carried ++ x.carried_by_person) f.children (plain_child person) refl) in
     let room : HasRoom None (kind.Family f) = sound.rules.levels n (kind.Family f) at in
     family_fits c n (with_child person f)
-    (over c n (kind.Family f) (kind.Family (with_child person f)) at (families_are f (with_child person f)))
+    (over c n (kind.Family f) (kind.Family (with_child person f)) at (families_alike f (with_child person f)))
     (not_fresh c n (kind.Family f) at)
     (each_both P (flat_map partner_links f.partners)
     (flat_map child_links (f.children ++ (plain_child person ∷ [])) ++ carried_links f.carried) front more)
@@ -482,7 +428,7 @@ is_one : (tags : List (List ℕ)) (tag : List ℕ) → list_all is_fine tags ≡
     → is_fine tag ≡ true
 is_one [] tag h e = absurd cc
 is_one (t ∷ ts) tag h e =
-    let both : (is_fine t ≡ true) × (list_all is_fine ts ≡ true) = and_true (is_fine t) (list_all is_fine ts) h in
+    let both : (is_fine t ≡ true) × (list_all is_fine ts ≡ true) = and_parts (is_fine t) (list_all is_fine ts) h in
     elim (bytes_eq tag t) as (λ b. bytes_eq tag t ≡ b → (b || list_any (bytes_eq tag) ts) ≡ true → is_fine tag ≡ true) [
       | true ↦ λ same f. ap is_fine (bytes_are tag t same) ∙ both.0
       | false ↦ λ same f. is_one ts tag both.1 f
@@ -594,7 +540,7 @@ event_over : (c : Content) (n : ℕ) (e f : model.Event) → IsSound c → get c
 event_over c n e f sound at owner tag named carry written place own date put took placed_room took_room =
     let field : Tree Line → Field = event_field (known_of c.records) in
     event_fits c n f
-    (over c n (kind.Event e) (kind.Event f) at (events_are e f))
+    (over c n (kind.Event e) (kind.Event f) at (events_alike e f))
     (not_fresh c n (kind.Event e) at)
     named
     (subst IsOfRecords (sym tag) (sound.rules.tags n (kind.Event e) at).0, carry)

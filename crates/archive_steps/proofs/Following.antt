@@ -41,6 +41,7 @@ use Rattle.receipts.specs.declared.answer.Answer.{Answer}
 use Rattle.archive_state.specs.Content.{Content}
 use Rattle.archive_state.specs.Sound.{IsSound}
 use Rattle.std.specs.Str.{IsUtf8}
+use Rattle.std.proofs.lemmas.Bool.{not-true}
 use Rattle.commands.specs.Rows.{and_then}
 use Rattle.commands.specs.Sound.{WhereSome}
 use Rattle.commands.specs.declared.row_command.RowCommand.{RowCommand}
@@ -70,12 +71,11 @@ use Rattle.archive_looks.specs.Checks.{
 }
 use Rattle.archive_looks.specs.Entries.{entry_at, key_is_free, not_empty, reason_in, texts_fit}
 use Rattle.archive_looks.proofs.Likes.{entry_is_found}
-use Rattle.archive_merge.specs.Steps.{merge_step, undo_step}
+use Rattle.archive_merge.specs.Steps.{RowStep, merge_step, undo_step}
 use Rattle.archive_merge.proofs.Drawing.{merge_draws, merge_uses_none, undo_draws, undo_uses_none}
 use Rattle.archive_merge.proofs.Stepping.{merged_by, merged_sound, undone_by, undone_sound}
 use Rattle.archive_steps.proofs.Entered.{LinkAt, entry_found, new_entry_fits, relinked_fits}
 use Rattle.archive_steps.specs.Steps.{
-  RowStep,
   entry_of,
   has_mention,
   relinked,
@@ -143,6 +143,7 @@ use Rattle.archive_steps.proofs.Fitting.{
   amend_event_fits,
   add_participant_fits,
 }
+use Rattle.commands.proofs.Chains.{both_answered}
 
 -- an accepted step leaves receipts as they are, draws the numbers of what it makes, uses no number again, and
 -- where W holds leaves a sound archive sound
@@ -266,15 +267,6 @@ each_passed : {A : Type 0} (r : Result A RefusalKind) (u : Unit {0}) → passed 
 each_passed (Ok a) u e = e
 each_passed (Err k) u e = e
 
-both_passed : {A B : Type 0} (r : Result A RefusalKind) (f : A → Result B RefusalKind) (b : B) → and_then r f ≡ Ok b
-    → (a : A) × (r ≡ Ok a) × (f a ≡ Ok b)
-both_passed (Ok a) f b e = (a, refl, e)
-both_passed (Err k) f b e = absurd cc
-
-not_true : (b : Bool) → not b ≡ true → b ≡ false
-not_true true e = absurd cc
-not_true false e = refl
-
 tag_found : (o : Owner) (t tag : List ℕ) → tag_in o t ≡ Ok tag → is_tag_of o tag ≡ true
 tag_found o t tag e = elim (is_tag_of o t) as (λ b. is_tag_of o t ≡ b → (if b then Ok t else Err NotOfKind) ≡ Ok tag
     → is_tag_of o tag ≡ true) [
@@ -293,7 +285,7 @@ maybe_place : (c : Content) (n : Option ℕ) (u : Unit {0}) → passed (each (sa
 maybe_place c None u e = tt
 maybe_place c (Some n) u e =
     let said = passes (said_place_at c n) u (each_passed (said_place_at c n) u e) in
-    let place = both_passed (place_at c n) (λ p. need (is_said n c.records n p) BadText) said.0 said.1 in
+    let place = both_answered (place_at c n) (λ p. need (is_said n c.records n p) BadText) said.0 said.1 in
     (place_stands (get c.records n) place.0 place.1, said_has_part c n said.1)
 
 maybe_repo : (c : Content) (n : Option ℕ) (u : Unit {0}) → passed (each (demanded_at c demand.Repo) n)
@@ -313,7 +305,7 @@ maybe_parent c (Some n) u e =
 -- words that are taken as the name of a place
 name_found : (words t : List ℕ) → IsUtf8 words → place_name_in words ≡ Ok t → IsText t × IsNormal t
 name_found words t utf8 e =
-    let b = both_passed (text_in words) place_name t e in
+    let b = both_answered (text_in words) place_name t e in
     let n = name_taken b.0 t b.2 in
     (subst IsText n.0 (text_found words b.0 utf8 b.1), n.1)
 
@@ -321,15 +313,16 @@ name_found words t utf8 e =
 event_tag_found : (c : Content) (owner : ℕ) (place : Option ℕ) (t tag : List ℕ) → event_tag c owner place t ≡ Ok tag
     → (o : Owner) × (owner_at c owner ≡ Ok o) × PlaceAt c place × (is_tag_of o tag ≡ true)
 event_tag_found c owner place t tag e =
-    let o = both_passed (owner_at c owner) (λ o. and_then (passed (each (said_place_at c) place)) (λ _. tag_in o t)) tag
+    let o = both_answered (owner_at c owner) (λ o. and_then (passed (each (said_place_at c) place)) (λ _. tag_in o t))
+    tag
     e in
-    let p = both_passed (passed (each (said_place_at c) place)) (λ _. tag_in o.0 t) tag o.2 in
+    let p = both_answered (passed (each (said_place_at c) place)) (λ _. tag_in o.0 t) tag o.2 in
     (o.0, o.1, maybe_place c place p.0 p.1, tag_found o.0 t tag p.2)
 
 -- why a mention is of a person
 reason_found : (words t : List ℕ) → IsUtf8 words → reason_in words ≡ Ok t → IsText t
 reason_found words t utf8 e =
-    let b = both_passed (text_in words) not_empty t e in
+    let b = both_answered (text_in words) not_empty t e in
     subst IsText (some_text b.0 t b.2) (text_found words b.0 utf8 b.1)
   where
     some_text : (x y : List ℕ) → not_empty x ≡ Ok y → x ≡ y
@@ -392,7 +385,7 @@ row_follows c (row_command.Family husband wife) =
     need_follows (Unit {0}) c (not (is_same husband wife)) SamePerson _
     (λ other. creates_follows (Unit {0}) c (kind.Family family)
     (λ w sound. new_family_fits c husband wife sound (maybe_person c husband h first) (maybe_person c wife w second)
-    (not_true (is_same husband wife) other)))))
+    (not-true (is_same husband wife) other)))))
 row_follows c (row_command.Child family person) =
     then_follows (Unit {0}) c (family_at c family) _
     (λ f found. then_follows (Unit {0}) c (passed (person_at c person)) _ (λ u there.
@@ -400,7 +393,7 @@ row_follows c (row_command.Child family person) =
     let at : get c.records family ≡ Some (kind.Family f) = family_found (get c.records family) f found in
     replaces_follows (Unit {0}) c family (kind.Family f) (kind.Family (with_child person f)) at
     (λ w sound. add_child_fits c family f person sound at (one_person c person u there)
-    (not_true (is_partner person f || is_child person f) other)))))
+    (not-true (is_partner person f || is_child person f) other)))))
 row_follows c (row_command.Event owner tag value date place) =
     then_follows (IsUtf8 tag × IsUtf8 value × WhereSome IsUtf8Date date) c (text_in tag) _
     (λ t i. then_follows (IsUtf8 tag × IsUtf8 value × WhereSome IsUtf8Date date) c (text_in value) _
@@ -489,4 +482,4 @@ row_follows c (row_command.Undo slip) = undo_follows c slip
 row_follows c (row_command.Remove number) =
     then_follows (Unit {0}) c (record_at c number) _
     (λ u there. need_follows (Unit {0}) c (not (is_named c number)) StillNamed _ (λ alone.
-    removes_follows (Unit {0}) c number (not_true (is_named c number) alone)))
+    removes_follows (Unit {0}) c number (not-true (is_named c number) alone)))

@@ -24,6 +24,7 @@ use Rattle.std.specs.FinMap.{find, get, remove, entries, get-entries, get-remove
 use Rattle.std.specs.List.{list_any, filter}
 use Rattle.std.specs.Ordering.{nat_cmp, eq_by_cmp, is_eq}
 use Rattle.std.specs.declared.cmp.Ordering.TheVariants.{Less, Equal, Greater}
+use Rattle.std.proofs.lemmas.Bool.{or_parts}
 use Rattle.record_kinds.specs.declared.record.Record.{Record}
 use Rattle.record_links.specs.Links.{links, is_among}
 use Rattle.archive_state.specs.Content.{Content, Records}
@@ -36,27 +37,19 @@ use Rattle.archive_looks.specs.Checks.{is_named}
 abbrev is_other : ℕ → ℕ → Bool
 is_other k n = not (n == k)
 
-first_no : (a b : Bool) → (a || b) ≡ false → a ≡ false
-first_no true b e = absurd cc
-first_no false b e = refl
-
-second_no : (a b : Bool) → (a || b) ≡ false → b ≡ false
-second_no true b e = absurd cc
-second_no false b e = e
-
 not_other : (k n : ℕ) → is_other k n ≡ false → n ≡ k
 not_other k n e = grind (arith)
 
 -- those that name the number, with one more looked at: that one does not, or it is the number itself
 rest_of : (k : ℕ) (b : Bool) (e : ℕ × Record) (es : List (ℕ × Record)) → list_any (is_other k)
     (map (λ x. x.0) (cond b (e ∷ es) es)) ≡ false → list_any (is_other k) (map (λ x. x.0) es) ≡ false
-rest_of k true e es h = second_no (is_other k e.0) (list_any (is_other k) (map (λ x. x.0) es)) h
+rest_of k true e es h = (or_parts (is_other k e.0) (list_any (is_other k) (map (λ x. x.0) es)) h).1
 rest_of k false e es h = h
 
 this_one : (k : ℕ) (b : Bool) (e : ℕ × Record) (es : List (ℕ × Record)) → (e.0 ≡ k → ⊥)
     → list_any (is_other k) (map (λ x. x.0) (cond b (e ∷ es) es)) ≡ false → b ≡ false
 this_one k true e es other h =
-    absurd (other (not_other k e.0 (first_no (is_other k e.0) (list_any (is_other k) (map (λ x. x.0) es)) h)))
+    absurd (other (not_other k e.0 (or_parts (is_other k e.0) (list_any (is_other k) (map (λ x. x.0) es)) h).0))
 this_one k false e es other h = refl
 
 -- of a list of records with their numbers, where none at another number names k

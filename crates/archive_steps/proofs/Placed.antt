@@ -3,6 +3,7 @@ use Rattle.std.proofs.Common.{◌≡◌, ℕ, ◌+◌, ◌<◌, ◌≤◌, List,
 use Rattle.std.specs.Prelude.{Option, Some, None, option_map, IfSome, if◌then◌else◌}
 use Rattle.std.proofs.lemmas.Bool.Decides.{nat_tests}
 use Rattle.std.specs.FinMap.{get, insert}
+use Rattle.std.proofs.lemmas.Bool.{lt-ltb}
 use Rattle.record_text.specs.Text.{IsText}
 use Rattle.record_kinds.specs.Model as model
 use Rattle.record_kinds.specs.declared.record.Record.{Record}
@@ -74,9 +75,6 @@ below_next : (c : Content) (parent : Option ℕ) → IsSound c → PlacedAt c pa
 below_next c None sound h = tt
 below_next c (Some q) sound h = let up = stands_as a_place (get c.records q) h in (sound.rules.numbered q up.0 up.1).1
 
-is_less : (a b : ℕ) → a < b → nat_lt a b ≡ true
-is_less a b h = grind (arith, nat_tests)
-
 -- its path is the one that was measured
 under_is : (c : Content) (name : List ℕ) (all parent : Option ℕ) → IsSound c → PlacedAt c parent
     → path_under c.next (path_of (after c name all)) name parent ≡ new_path c.records name parent
@@ -84,7 +82,7 @@ under_is c name all None sound h = refl
 under_is c name all (Some q) sound h =
     let up = stands_as a_place (get c.records q) h in
     let less : q < c.next = (sound.rules.numbered q up.0 up.1).1 in
-    ap (λ b. if b then option_map (path_below name) (path_of (after c name all) q) else None) (is_less q c.next less)
+    ap (λ b. if b then option_map (path_below name) (path_of (after c name all) q) else None) (lt-ltb q c.next less)
     ∙ ap (option_map (path_below name))
     (sym (path_within c.records (after c name all) (still c name all sound) sound.named q up.0 up.1))
 

@@ -27,6 +27,7 @@ use Rattle.archive_steps.specs.Steps.{plain_repo, plain_source, plain_citation, 
 use Rattle.archive_steps.proofs.Fitting.{fresh_at_next, anew, none_within}
 use Rattle.archive_steps.proofs.Keeping.{IsFit}
 use Rattle.archive_steps.proofs.Worded.{text_found}
+use Rattle.commands.proofs.Chains.{both_answered}
 
 -- the repository stands there, where a number is given
 abbrev pub RepoAt : Content → Option ℕ → Type 0
@@ -138,11 +139,6 @@ new_citation_fits c owner source page quality sound is of cites = record {
 }
 
 -- ---- the words of a source
-both_are : {A B : Type 0} (r : Result A RefusalKind) (f : A → Result B RefusalKind) (b : B) → and_then r f ≡ Ok b
-    → (a : A) × (r ≡ Ok a) × (f a ≡ Ok b)
-both_are (Ok a) f b e = (a, refl, e)
-both_are (Err k) f b e = absurd cc
-
 none_or_text : (t : List ℕ) → IsText t → IsMaybeText (or_no_text t)
 none_or_text [] is = tt
 none_or_text (b ∷ bs) is = (is, tt)
@@ -151,7 +147,7 @@ none_or_text (b ∷ bs) is = (is, tt)
 pub maybe_text_found : (words : List ℕ) (o : Option (List ℕ)) → IsUtf8 words → maybe_text_in words
     ≡ Ok o → IsMaybeText o
 maybe_text_found words o utf8 e =
-    let t = both_are (text_in words) (λ t. Ok (or_no_text t)) o e in
+    let t = both_answered (text_in words) (λ t. Ok (or_no_text t)) o e in
     let same : or_no_text t.0 ≡ o = let f : Ok (or_no_text t.0) ≡ Ok o = t.2 in cc in
     subst IsMaybeText same (none_or_text t.0 (text_found words t.0 utf8 t.1))
 
@@ -171,18 +167,19 @@ pub source_found : (title author publisher : List ℕ) (repo : Option ℕ) (call
     → IsUtf8 title → IsUtf8 author → IsUtf8 publisher → IsUtf8 call_number
     → given_source title author publisher repo call_number ≡ Ok s → IsGiven s repo
 source_found title author publisher repo call_number s t-utf8 a-utf8 p-utf8 n-utf8 e =
-    let t = both_are (text_in title)
+    let t = both_answered (text_in title)
     (λ t. and_then (maybe_text_in author)
     (λ a. and_then (maybe_text_in publisher) (λ p. and_then (maybe_text_in call_number) (λ n.
     and_then (need (not (lacks_repo repo n)) BadText) (λ _. Ok (plain_source t a p repo n)))))) s e in
-    let a = both_are (maybe_text_in author)
+    let a = both_answered (maybe_text_in author)
     (λ a. and_then (maybe_text_in publisher) (λ p. and_then (maybe_text_in call_number) (λ n.
     and_then (need (not (lacks_repo repo n)) BadText) (λ _. Ok (plain_source t.0 a p repo n))))) s t.2 in
-    let p = both_are (maybe_text_in publisher) (λ p. and_then (maybe_text_in call_number) (λ n.
+    let p = both_answered (maybe_text_in publisher) (λ p. and_then (maybe_text_in call_number) (λ n.
     and_then (need (not (lacks_repo repo n)) BadText) (λ _. Ok (plain_source t.0 a.0 p repo n)))) s a.2 in
-    let n = both_are (maybe_text_in call_number)
+    let n = both_answered (maybe_text_in call_number)
     (λ n. and_then (need (not (lacks_repo repo n)) BadText) (λ _. Ok (plain_source t.0 a.0 p.0 repo n))) s p.2 in
-    let u = both_are (need (not (lacks_repo repo n.0)) BadText) (λ _. Ok (plain_source t.0 a.0 p.0 repo n.0)) s n.2 in
+    let u = both_answered (need (not (lacks_repo repo n.0)) BadText)
+    (λ _. Ok (plain_source t.0 a.0 p.0 repo n.0)) s n.2 in
     let same : s ≡ plain_source t.0 a.0 p.0 repo n.0 = let f : Ok (plain_source t.0 a.0 p.0 repo n.0)
     ≡ Ok s = u.2 in cc in
     record {

@@ -72,11 +72,7 @@ use Rattle.archive_looks.specs.Checks.{
 }
 use Rattle.archive_looks.specs.Entries.{texts_fit, reason_in, mentions_in, entry_at, key_is_free}
 use Rattle.archive_looks.specs.declared.kinds.Demand.TheVariants as demand
-use Rattle.archive_merge.specs.Steps.{merge_step, undo_step}
-
--- what an accepted command of one row leaves, and its answer; or its refusal, which has no place
-abbrev pub RowStep : Type 0
-RowStep = Result (Content × Answer) RefusalKind
+use Rattle.archive_merge.specs.Steps.{RowStep, merge_step, undo_step}
 
 -- a new record at the next number, where one is left
 abbrev pub creates : Content → Record → RowStep

@@ -1,5 +1,6 @@
 -- Known bytes have one batch of entries.
 use Rattle.std.proofs.Common.{◌≡◌, ◌∙◌, ◌∷◌, ℕ, List, [], Option, None, Some, Result, Ok, Err, ap, refl, sym, subst}
+use Rattle.std.proofs.lemmas.Option.{same_Some}
 use Rattle.csv.specs.Machine.{Read, next_record}
 use Rattle.csv.specs.Reading.{Reached}
 use Rattle.csv.specs.declared.parser.Config.{Config}
@@ -14,10 +15,6 @@ clash : {A G : Type 0} (o : Option A) (a : A) → o ≡ Some a → o ≡ None �
 clash None a e n = absurd cc
 clash (Some b) a e n = absurd cc
 
-the_one : {A : Type 0} (o : Option A) (a b : A) → o ≡ Some a → o ≡ Some b → a ≡ b
-the_one None a b e f = absurd cc
-the_one (Some c) a b e f = cc
-
 module _ (cfg : Config) where
   -- all rows of bytes, from a state to where none is left
   same_rows : (more others : List Row) (s sa sb : State) (xs ya yb : List ℕ) → Reached cfg s xs more sa ya
@@ -28,7 +25,7 @@ module _ (cfg : Config) where
   same_rows [] (b ∷ others) s sa sb xs ya yb h e g f = clash (next_record cfg s [] [] xs) g.0 g.1 (rw (h.0, h.1) e)
   same_rows (a ∷ more) [] s sa sb xs ya yb h e g f = clash (next_record cfg s [] [] xs) h.0 h.1 (rw (g.0, g.1) f)
   same_rows (a ∷ more) (b ∷ others) s sa sb xs ya yb h e g f =
-      let p : g.0 ≡ h.0 = the_one (next_record cfg s [] [] xs) g.0 h.0 g.1 h.1 in
+      let p : g.0 ≡ h.0 = same_Some g.0 h.0 (sym g.1 ∙ h.1) in
       let rest = same_rows more others h.0.1 sa sb h.0.2 ya yb h.3 e
       (subst (λ (q : Read). Reached cfg q.1 q.2 others sb yb) p g.3) f in
       let first : a ≡ b = h.2 ∙ sym (ap (λ (q : Read). q.0) p) ∙ sym g.2 in

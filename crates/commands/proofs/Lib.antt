@@ -1,4 +1,5 @@
 pub mod Again
+pub mod Chains
 pub mod Dated
 pub mod Heard
 pub mod Items

@@ -26,6 +26,8 @@ use Rattle.std.specs.List.{flat_map, list_all, list_any}
 use Rattle.std.proofs.Common.{ap, sym, ◌∙◌, subst, arith, append_assoc}
 use Rattle.std.proofs.lemmas.Bool.Decides.{nat_tests}
 use Rattle.std.proofs.lemmas.Fmt.{decimal_injective}
+use Rattle.std.proofs.lemmas.Bool.{and_parts, or_from}
+use Rattle.std.proofs.lemmas.List.{append-nil}
 use Rattle.csv.specs.Machine.{Read, next_record}
 use Rattle.csv.specs.Reading.{default_config}
 use Rattle.csv.specs.Writing.{default_writer, fields_text, is_blank, needs_byte, row_text}
@@ -61,23 +63,12 @@ use Rattle.commands.proofs.Numbers.{decimal_digits}
 plain-digit : (c : ℕ) → is_ascii_digit c ≡ true → needs_byte default_writer c ≡ false
 plain-digit c h = grind (arith, nat_tests)
 
-or-false : (a b : Bool) → a ≡ false → b ≡ false → (a || b) ≡ false
-or-false a b e f = rw e f
-
-and-left : (a b : Bool) → (a && b) ≡ true → a ≡ true
-and-left true b e = refl
-and-left false b e = absurd cc
-
-and-right : (a b : Bool) → (a && b) ≡ true → b ≡ true
-and-right true b e = e
-and-right false b e = absurd cc
-
 plain-digits : (ds : List ℕ) → list_all is_ascii_digit ds ≡ true → list_any (needs_byte default_writer) ds ≡ false
 plain-digits [] h = refl
 plain-digits (c ∷ cs) h =
-    or-false (needs_byte default_writer c) (list_any (needs_byte default_writer) cs)
-    (plain-digit c (and-left (is_ascii_digit c) (list_all is_ascii_digit cs) h))
-    (plain-digits cs (and-right (is_ascii_digit c) (list_all is_ascii_digit cs) h))
+    or_from (needs_byte default_writer c) (list_any (needs_byte default_writer) cs)
+    (plain-digit c (and_parts (is_ascii_digit c) (list_all is_ascii_digit cs) h).0)
+    (plain-digits cs (and_parts (is_ascii_digit c) (list_all is_ascii_digit cs) h).1)
 
 -- `entries,`, digits and LF are a row
 plain-row : (word ds tail : List ℕ) → list_any (needs_byte default_writer) word ≡ false
@@ -120,10 +111,6 @@ some-cons a more e = absurd cc
 some-row : (row : List (List ℕ)) → BeginsWithVerb row → row ≢ []
 some-row [] h = absurd h
 some-row (word ∷ fields) h = some-cons word fields
-
-append-nil : (xs : List ℕ) → xs ++ [] ≡ xs
-append-nil [] = refl
-append-nil (x ∷ xs) = ap (λ (t : List ℕ). x ∷ t) (append-nil xs)
 
 -- the bytes are the first row and what stands behind it
 begins : (w : Wording) → IsSoundWording w → row_text default_writer (first-row w) ++ behind w ≡ written w

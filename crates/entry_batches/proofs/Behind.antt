@@ -33,6 +33,7 @@ use Rattle.std.specs.Prelude.{◌≢◌, zero, suc, Option, Some, None, Result, 
 use Rattle.std.proofs.lemmas.Bool.Decides.{nat_tests}
 use Rattle.std.specs.FinMap.{get, insert, entries}
 use Rattle.std.specs.List.{list_any}
+use Rattle.std.proofs.lemmas.Bool.{and_parts}
 use Rattle.record_text.specs.declared.refusal.RefusalKind.{RefusalKind}
 use Rattle.record_text.specs.declared.refusal.RefusalKind.TheVariants.{BadText, DuplicateEntry, NoSuch, WrongKind}
 use Rattle.record_fields.proofs.Items.{same_item}
@@ -51,7 +52,7 @@ use Rattle.archive_state.specs.Content.{Content, Records}
 use Rattle.archive_state.specs.Entries.{HasKey, IsEntryAt}
 use Rattle.archive_state.specs.declared.changes.Numbered.{Numbered}
 use Rattle.commands.specs.Rows.{and_then}
-use Rattle.archive_looks.proofs.Likes.{key_free, none_there}
+use Rattle.archive_looks.proofs.Likes.{key_free, none_there, same_kind}
 use Rattle.archive_looks.specs.Checks.{
   demanded_at,
   demanded_in,
@@ -66,6 +67,7 @@ use Rattle.archive_looks.specs.Checks.{
 use Rattle.archive_looks.specs.Entries.{is_like, key_is_free}
 use Rattle.archive_looks.specs.declared.kinds.Demand.TheVariants as demand
 use Rattle.entry_batches.specs.Batches.{is_drawn, is_like_row, key_is_new, place_behind, with_made}
+use Rattle.entry_batches.proofs.Keyed.{any_behind}
 
 -- ---- numbers that follow each other
 abbrev pub IsFrom : ℕ → List Numbered → Type 0
@@ -133,17 +135,6 @@ puts_behind m [] p = refl
 puts_behind m (q ∷ ps) p = puts_behind (insert m q.number q.«record») ps p
 
 -- ---- the test for a key is that for its parts
-first_yes : (a b : Bool) → (a && b) ≡ true → a ≡ true
-first_yes true b e = refl
-first_yes false b e = absurd cc
-
-second_yes : (a b : Bool) → (a && b) ≡ true → b ≡ true
-second_yes true b e = e
-second_yes false b e = absurd cc
-
-same_kind : (a b : EntryKind) → entry_kind_word a ≡ entry_kind_word b → a ≡ b
-same_kind a b e = let both : Some a ≡ Some b = sym (entry_kind_back a) ∙ ap entry_kind_of e ∙ entry_kind_back b in cc
-
 module _ (source : ℕ) (k : EntryKind) (page : List ℕ) (item : Item) where
   has_key : (e : model.Entry) → HasKey source k page item e → is_like source k page item (kind.Entry e) ≡ true
   has_key e (is, same, on, of) =
@@ -156,22 +147,22 @@ module _ (source : ℕ) (k : EntryKind) (page : List ℕ) (item : Item) where
 
   key_of : (e : model.Entry) → is_like source k page item (kind.Entry e) ≡ true → HasKey source k page item e
   key_of e h =
-      let rest = second_yes (e.source == source)
+      let rest = (and_parts (e.source == source)
       (bytes_eq (entry_kind_word e.kind) (entry_kind_word k) &&
-      (bytes_eq e.page page && e.item.number == item.number)) h in
-      let last = second_yes (bytes_eq (entry_kind_word e.kind) (entry_kind_word k))
-      (bytes_eq e.page page && e.item.number == item.number) rest in (
+      (bytes_eq e.page page && e.item.number == item.number)) h).1 in
+      let last = (and_parts (bytes_eq (entry_kind_word e.kind) (entry_kind_word k))
+      (bytes_eq e.page page && e.item.number == item.number) rest).1 in (
         eqb-true e.source source
-            (first_yes (e.source == source)
+            (and_parts (e.source == source)
             (bytes_eq (entry_kind_word e.kind) (entry_kind_word k) &&
-            (bytes_eq e.page page && e.item.number == item.number)) h),
+            (bytes_eq e.page page && e.item.number == item.number)) h).0,
         same_kind e.kind k (bytes_are (entry_kind_word e.kind) (entry_kind_word k)
-            (first_yes (bytes_eq (entry_kind_word e.kind) (entry_kind_word k))
-            (bytes_eq e.page page && e.item.number == item.number) rest)),
-        bytes_are e.page page (first_yes (bytes_eq e.page page) (e.item.number == item.number) last),
+            (and_parts (bytes_eq (entry_kind_word e.kind) (entry_kind_word k))
+            (bytes_eq e.page page && e.item.number == item.number) rest).0),
+        bytes_are e.page page (and_parts (bytes_eq e.page page) (e.item.number == item.number) last).0,
         same_item e.item item
             (eqb-true e.item.number item.number
-            (second_yes (bytes_eq e.page page) (e.item.number == item.number) last)),
+            (and_parts (bytes_eq e.page page) (e.item.number == item.number) last).1),
       )
 
 -- ---- a record in place of none
@@ -325,19 +316,6 @@ same_test source e f same =
     ap (λ b. b && (bytes_eq (entry_kind_word e.kind) (entry_kind_word f.kind) &&
     (bytes_eq e.page f.page && e.item.number == f.item.number))) (eq-eqb e.source source same)
 
-any_more : (f : Numbered → Bool) (made : List Numbered) (p : Numbered) → list_any f (made ++ (p ∷ []))
-    ≡ (list_any f made || f p)
-any_more f [] p = sym (none_more (f p))
-  where
-    none_more : (b : Bool) → b ≡ (b || false)
-    none_more true = refl
-    none_more false = refl
-any_more f (q ∷ made) p = ap (λ b. f q || b) (any_more f made p) ∙ grouped (f q) (list_any f made) (f p)
-  where
-    grouped : (a b x : Bool) → (a || (b || x)) ≡ ((a || b) || x)
-    grouped true b x = refl
-    grouped false b x = refl
-
 both_needed : (r : Result (Unit {0}) RefusalKind) (a b : Bool)
     → and_then (and_then r (λ _. need (not a) DuplicateEntry)) (λ _. need (not b) DuplicateEntry)
     ≡ and_then r (λ _. need (not (a || b)) DuplicateEntry)
@@ -418,7 +396,7 @@ module _ (c : Content) (source : ℕ) (made : List Numbered) (e : model.Entry) (
       ∙ ap (λ r. and_then r (λ _. need (not new) DuplicateEntry)) (is.keys f)
       ∙ both_needed (key_is_free c.records source f.kind f.page f.item) old new
       ∙ ap (λ b. and_then (key_is_free c.records source f.kind f.page f.item) (λ _. need (not b) DuplicateEntry))
-      (sym (any_more (λ (p : Numbered). is_like_row f p.«record») made (put_of c made e)))
+      (sym (any_behind (λ (p : Numbered). is_like_row f p.«record») made (put_of c made e)))
 
   more_sourced : demanded_in demand.Source (get (insert before number (kind.Entry e)) source) ≡ Ok tt
   more_sourced = ap (demanded_in demand.Source) (put_elsewhere before number (kind.Entry e) source not_here)

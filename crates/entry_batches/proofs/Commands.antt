@@ -85,16 +85,12 @@ use Rattle.entry_batches.proofs.Behind.{
   taken,
   untouched,
 }
+use Rattle.commands.proofs.Chains.{both_answered}
 
 -- ---- the entry of a row is of the source
-went_on : {A B : Type 0} (r : Result A RefusalKind) (f : A → Result B RefusalKind) (b : B) → and_then r f ≡ Ok b
-    → (a : A) × (r ≡ Ok a) × (f a ≡ Ok b)
-went_on (Ok a) f b e = (a, refl, e)
-went_on (Err k) f b e = absurd cc
-
 given_source : (source : ℕ) (row : EntryRow) (e : model.Entry) → entry_of source row ≡ Ok e → e.source ≡ source
 given_source source row e h =
-    let p = went_on (text_in row.page)
+    let p = both_answered (text_in row.page)
     (λ p. and_then (text_in row.text)
     (λ t. and_then (each date_in row.date) (λ d. and_then (mentions_in row.kind row.mentions) (λ ms.
     Ok (record {
@@ -107,7 +103,7 @@ given_source source row e h =
       text = t;
       mentions = ms;
     }))))) e h in
-    let t = went_on (text_in row.text)
+    let t = both_answered (text_in row.text)
     (λ t. and_then (each date_in row.date) (λ d. and_then (mentions_in row.kind row.mentions) (λ ms.
     Ok (record {
       source = source;
@@ -119,7 +115,7 @@ given_source source row e h =
       text = t;
       mentions = ms;
     })))) e p.2 in
-    let d = went_on (each date_in row.date) (λ d. and_then (mentions_in row.kind row.mentions) (λ ms.
+    let d = both_answered (each date_in row.date) (λ d. and_then (mentions_in row.kind row.mentions) (λ ms.
     Ok (record {
       source = source;
       kind = row.kind;
@@ -130,7 +126,7 @@ given_source source row e h =
       text = t.0;
       mentions = ms;
     }))) e t.2 in
-    let ms = went_on (mentions_in row.kind row.mentions) (λ ms.
+    let ms = both_answered (mentions_in row.kind row.mentions) (λ ms.
     Ok (record {
       source = source;
       kind = row.kind;
@@ -157,19 +153,19 @@ given_source source row e h =
 row_source : (c : Content) (source : ℕ) (made : List Numbered) (row : EntryRow) (e : model.Entry)
     → row_entry c source made row ≡ Ok e → e.source ≡ source
 row_source c source made row e h =
-    let a = went_on (texts_fit row) (λ _. and_then (passed (each (place_behind c (length made)) row.place))
+    let a = both_answered (texts_fit row) (λ _. and_then (passed (each (place_behind c (length made)) row.place))
     (λ _. and_then (entry_of source row)
     (λ x. and_then (key_is_free c.records source x.kind x.page x.item)
     (λ _. and_then (key_is_new made x) (λ _. Ok x))))) e h in
-    let b = went_on (passed (each (place_behind c (length made)) row.place))
+    let b = both_answered (passed (each (place_behind c (length made)) row.place))
     (λ _. and_then (entry_of source row)
     (λ x. and_then (key_is_free c.records source x.kind x.page x.item)
     (λ _. and_then (key_is_new made x) (λ _. Ok x)))) e a.2 in
-    let x = went_on (entry_of source row) (λ x. and_then (key_is_free c.records source x.kind x.page x.item)
+    let x = both_answered (entry_of source row) (λ x. and_then (key_is_free c.records source x.kind x.page x.item)
     (λ _. and_then (key_is_new made x) (λ _. Ok x))) e b.2 in
-    let k = went_on (key_is_free c.records source x.0.kind x.0.page x.0.item)
+    let k = both_answered (key_is_free c.records source x.0.kind x.0.page x.0.item)
     (λ _. and_then (key_is_new made x.0) (λ _. Ok x.0)) e x.2 in
-    let n = went_on (key_is_new made x.0) (λ _. Ok x.0) e k.2 in
+    let n = both_answered (key_is_new made x.0) (λ _. Ok x.0) e k.2 in
     let same : x.0 ≡ e = let f = n.2 in cc in
     given_source source row e (x.1 ∙ ap Ok same)
 

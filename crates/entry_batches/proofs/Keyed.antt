@@ -26,6 +26,7 @@ use Rattle.std.specs.Prelude.{Ok, Err, Some, decimal, bytes_eq}
 use Rattle.std.specs.BTreeSet.{BTreeSet, contains_text}
 use Rattle.std.specs.List.{list_any}
 use Rattle.std.specs.declared.string.String.{String}
+use Rattle.std.proofs.lemmas.Bool.{and_parts, or_parts, and_from}
 use Rattle.record_text.specs.declared.refusal.RefusalKind.TheVariants.{DuplicateEntry}
 use Rattle.record_fields.specs.Bytes.{bytes_are, bytes_same}
 use Rattle.record_fields.specs.Words.{entry_kind_word}
@@ -49,14 +50,6 @@ head_same a b xs ys e = cc
 tail_same : (a b : ℕ) (xs ys : List ℕ) → a ∷ xs ≡ b ∷ ys → xs ≡ ys
 tail_same a b xs ys e = cc
 
-first_no : (a b : Bool) → (a || b) ≡ false → a ≡ false
-first_no true b e = absurd cc
-first_no false b e = refl
-
-second_no : (a b : Bool) → (a || b) ≡ false → b ≡ false
-second_no true b e = absurd cc
-second_no false b e = e
-
 no_zero : (x : ℕ) → (x == 0) ≡ false → x ≡ 0 → ⊥
 no_zero x e same = let both : true ≡ false = sym (eq-eqb x 0 same) ∙ e in absurd cc
 
@@ -64,12 +57,12 @@ parted : (a b p q : List ℕ) → list_any (λ x. x == 0) a ≡ false → list_a
     → a ++ 0 ∷ p ≡ b ++ 0 ∷ q → (a ≡ b) × (p ≡ q)
 parted [] [] p q ha hb e = (refl, tail_same 0 0 p q e)
 parted [] (y ∷ b) p q ha hb e =
-    absurd (no_zero y (first_no (y == 0) (list_any (λ x. x == 0) b) hb) (sym (head_same 0 y p (b ++ 0 ∷ q) e)))
+    absurd (no_zero y (or_parts (y == 0) (list_any (λ x. x == 0) b) hb).0 (sym (head_same 0 y p (b ++ 0 ∷ q) e)))
 parted (x ∷ a) [] p q ha hb e =
-    absurd (no_zero x (first_no (x == 0) (list_any (λ z. z == 0) a) ha) (head_same x 0 (a ++ 0 ∷ p) q e))
+    absurd (no_zero x (or_parts (x == 0) (list_any (λ z. z == 0) a) ha).0 (head_same x 0 (a ++ 0 ∷ p) q e))
 parted (x ∷ a) (y ∷ b) p q ha hb e =
-    let more = parted a b p q (second_no (x == 0) (list_any (λ z. z == 0) a) ha)
-    (second_no (y == 0) (list_any (λ z. z == 0) b) hb) (tail_same x y (a ++ 0 ∷ p) (b ++ 0 ∷ q) e) in
+    let more = parted a b p q (or_parts (x == 0) (list_any (λ z. z == 0) a) ha).1
+    (or_parts (y == 0) (list_any (λ z. z == 0) b) hb).1 (tail_same x y (a ++ 0 ∷ p) (b ++ 0 ∷ q) e) in
     let first : x ≡ y = head_same x y (a ++ 0 ∷ p) (b ++ 0 ∷ q) e in
     (ap (λ z. z ∷ a) first ∙ ap (λ l. y ∷ l) more.0, more.1)
 
@@ -88,17 +81,6 @@ same_number i j e =
     let same : i ≡ j = cc in ap (λ (x : Item). x.number) same
 
 -- ---- the test on texts is the test on entries
-both_yes : (a b : Bool) → a ≡ true → b ≡ true → (a && b) ≡ true
-both_yes a b e f = rw (e, f) refl
-
-first_yes : (a b : Bool) → (a && b) ≡ true → a ≡ true
-first_yes true b e = refl
-first_yes false b e = absurd cc
-
-second_yes : (a b : Bool) → (a && b) ≡ true → b ≡ true
-second_yes true b e = e
-second_yes false b e = absurd cc
-
 one_test : (a b : Bool) → (a ≡ true → b ≡ true) → (b ≡ true → a ≡ true) → a ≡ b
 one_test true b f g = sym (f refl)
 one_test false true f g = g refl
@@ -112,22 +94,22 @@ like_words e f h =
     (decimal f.item.number ++ 0 ∷ f.page) (kind_plain e.kind) (kind_plain f.kind) words in
     let i = parted (decimal e.item.number) (decimal f.item.number) e.page f.page (item_plain e.item)
     (item_plain f.item) k.1 in
-    both_yes (bytes_eq (entry_kind_word f.kind) (entry_kind_word e.kind))
+    and_from (bytes_eq (entry_kind_word f.kind) (entry_kind_word e.kind))
     (bytes_eq f.page e.page && f.item.number == e.item.number)
     (bytes_same (entry_kind_word f.kind) (entry_kind_word e.kind) (sym k.0))
-    (both_yes (bytes_eq f.page e.page) (f.item.number == e.item.number) (bytes_same f.page e.page (sym i.1))
+    (and_from (bytes_eq f.page e.page) (f.item.number == e.item.number) (bytes_same f.page e.page (sym i.1))
     (eq-eqb f.item.number e.item.number (sym (same_number e.item f.item i.0))))
 
 words_like : (e f : model.Entry) → is_like_row e (kind.Entry f) ≡ true → bytes_eq (key_words e) (key_words f) ≡ true
 words_like e f h =
     let k = bytes_are (entry_kind_word f.kind) (entry_kind_word e.kind)
-    (first_yes (bytes_eq (entry_kind_word f.kind) (entry_kind_word e.kind))
-    (bytes_eq f.page e.page && f.item.number == e.item.number) h) in
-    let rest = second_yes (bytes_eq (entry_kind_word f.kind) (entry_kind_word e.kind))
-    (bytes_eq f.page e.page && f.item.number == e.item.number) h in
-    let p = bytes_are f.page e.page (first_yes (bytes_eq f.page e.page) (f.item.number == e.item.number) rest) in
+    (and_parts (bytes_eq (entry_kind_word f.kind) (entry_kind_word e.kind))
+    (bytes_eq f.page e.page && f.item.number == e.item.number) h).0 in
+    let rest = (and_parts (bytes_eq (entry_kind_word f.kind) (entry_kind_word e.kind))
+    (bytes_eq f.page e.page && f.item.number == e.item.number) h).1 in
+    let p = bytes_are f.page e.page (and_parts (bytes_eq f.page e.page) (f.item.number == e.item.number) rest).0 in
     let n : f.item.number ≡ e.item.number = eqb-true f.item.number e.item.number
-    (second_yes (bytes_eq f.page e.page) (f.item.number == e.item.number) rest) in
+    (and_parts (bytes_eq f.page e.page) (f.item.number == e.item.number) rest).1 in
     let words : entry_kind_word e.kind ++ (0 ∷ (decimal e.item.number ++ (0 ∷ e.page))) ≡ entry_kind_word f.kind
     ++ (0 ∷ (decimal f.item.number ++ (0 ∷ f.page))) =
     ap (λ (w : List ℕ). w ++ (0 ∷ (decimal e.item.number ++ (0 ∷ e.page)))) (sym k)

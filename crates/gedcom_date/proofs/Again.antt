@@ -42,6 +42,7 @@ use Rattle.std.specs.Int.{IsInRange}
 use Rattle.std.proofs.lemmas.Bool.Decides.{nat_tests}
 use Rattle.std.proofs.lemmas.Fmt.{decimal_digit, decimal_step}
 use Rattle.std.proofs.lemmas.List.Splits.{length-slice_split}
+use Rattle.std.proofs.lemmas.Bool.{and_parts}
 use Rattle.gedcom_date.specs.Words.{words, filled, is_space, Without}
 use Rattle.calendar_days.specs.Calendars.{last_month, IsCounted, IsExtent, HasDay, counted}
 use Rattle.calendar_days.specs.Told.{Told, Exists}
@@ -94,9 +95,9 @@ use Rattle.gedcom_date.specs.declared.approximation.Approximation.TheVariants.{A
 use Rattle.gedcom_date.specs.declared.keyword.Keyword.TheVariants.{Interpreted}
 use Rattle.calendar_days.proofs.Counts.{month_days_bounds}
 use Rattle.gedcom_date.proofs.Cuts.{whole_word}
-use Rattle.gedcom_date.proofs.Phrases.{and_left, and_right}
 use Rattle.gedcom_date.proofs.Quiet.{is_bracket, any_append}
 use Rattle.gedcom_date.proofs.Fitting.{words_any, after_bare}
+use Rattle.gedcom_date.proofs.Numbers.{longer}
 
 -- the words of two texts with a space between
 onto_append : (x : ℕ) (parts rest : List (List ℕ)) → 0 < length parts → onto_first x (parts ++ rest)
@@ -209,9 +210,6 @@ day_number_of n low high = elim (less n 10) [
   | inr h ↦ two_number n h high
 ]
 
-longer : (w : List ℕ) (n : ℕ) → IsNumber 2 w n → IsNumber 4 w n
-longer w n h = (h.0, (h.1.0, omega (arith, h.1.1)), h.2, h.3)
-
 year_number_of : (n : ℕ) → 1 ≤ n → n < 10000 → IsNumber 4 (decimal n) n
 year_number_of n low high = elim (less n 100) [
   | inl h ↦ longer (decimal n) n (day_number_of n low h)
@@ -227,8 +225,8 @@ digit_space d h = grind (arith, nat_tests)
 digits_space : (ds : List ℕ) → list_all is_ascii_digit ds ≡ true → list_any is_space ds ≡ false
 digits_space [] h = refl
 digits_space (d ∷ ds) h = rw (
-  digit_space d (and_left (is_ascii_digit d) (list_all is_ascii_digit ds) h),
-  digits_space ds (and_right (is_ascii_digit d) (list_all is_ascii_digit ds) h),
+  digit_space d (and_parts (is_ascii_digit d) (list_all is_ascii_digit ds) h).0,
+  digits_space ds (and_parts (is_ascii_digit d) (list_all is_ascii_digit ds) h).1,
 ) refl
 
 number_word : (most : ℕ) (w : List ℕ) (n : ℕ) → IsNumber most w n → IsWord w

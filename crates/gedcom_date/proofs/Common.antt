@@ -1,10 +1,6 @@
 -- Small facts on options that several proofs use.
 use Rattle.std.proofs.Common.{◌≡◌, true, false, Option, Some, None, IfSome}
 
--- an option has one value
-pub same_some : {A : Type 0} (o : Option A) (a b : A) → o ≡ Some a → o ≡ Some b → a ≡ b
-same_some o a b h k = cc
-
 -- none is not some
 pub none_some : {A : Type 0} → false ≡ true → A
 none_some h = absurd cc

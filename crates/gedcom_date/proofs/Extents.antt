@@ -34,6 +34,7 @@ use Rattle.std.specs.Option.{option_map_or}
 use Rattle.std.specs.Char.{is_ascii_digit, to_ascii_lowercase}
 use Rattle.std.specs.List.{list_all}
 use Rattle.std.proofs.lemmas.Bool.Decides.{nat_tests}
+use Rattle.std.proofs.lemmas.Bool.{and_parts}
 use Rattle.gedcom_date.specs.Words.{Reads}
 use Rattle.calendar_days.specs.Told.{Told}
 use Rattle.gedcom_date.specs.Grammar.{IsNumber, IsYearWord, IsExtentOf, IsEscape, IsDateOf}
@@ -58,7 +59,6 @@ use Rattle.calendar_days.specs.declared.calendar.Extent.TheVariants.{BeforeChris
 use Rattle.gedcom_date.proofs.Numbers.{number_only, number_is}
 use Rattle.gedcom_date.proofs.Names.{reads_is, reads_only, reads_as, month_only, month_is}
 use Rattle.gedcom_date.proofs.Years.{year_only, year_is, day_only, day_is, joined_only, joined_is}
-use Rattle.gedcom_date.proofs.Phrases.{and_left, and_right}
 use Rattle.gedcom_date.proofs.Quiet.{AllQuiet, extent_quiet, digit_reads}
 
 -- a word of a year does not end in B.C.
@@ -67,7 +67,7 @@ two_left t o h a b r = let e = reads_is (a ∷ b ∷ t ∷ o ∷ []) (codes "B.C
     let f : to_ascii_lowercase o ≡ 46 = cc in absurd (grind (arith, nat_tests))
 
 both_true : (a b : Bool) → (a && b) ≡ true → (a ≡ true → b ≡ true → ⊥) → ⊥
-both_true a b e h = h (and_left a b e) (and_right a b e)
+both_true a b e h = h (and_parts a b e).0 (and_parts a b e).1
 
 no_mark : (b : Bool) (w : List ℕ) → (nat_lt 4 (length w) && reads (drop (length w - 4) w) (codes "B.C.")) ≡ b
     → (nat_lt 4 (length w) ≡ true → reads (drop (length w - 4) w) (codes "B.C.") ≡ true → ⊥)
@@ -90,8 +90,8 @@ year_no_mark : (w : List ℕ) (y : Year) → IsYearWord w y → joined_before_ch
 year_no_mark w (Single n) h = no_mark (nat_lt 4 (length w) && reads (drop (length w - 4) w) (codes "B.C.")) w refl
     (λ long r. absurd (grind (arith, nat_tests, long, h.1.1)))
 year_no_mark w (Double n) h =
-    let last : is_ascii_digit h.2 ≡ true = and_left (is_ascii_digit h.2) true
-    (and_right (is_ascii_digit h.1) (list_all is_ascii_digit (h.2 ∷ [])) h.6) in
+    let last : is_ascii_digit h.2 ≡ true = (and_parts (is_ascii_digit h.2) true
+    (and_parts (is_ascii_digit h.1) (list_all is_ascii_digit (h.2 ∷ [])) h.6).1).0 in
     subst (λ (l : List ℕ). joined_before_christ l ≡ None) (sym h.3)
     (no_mark _ (h.0 ++ 47 ∷ h.1 ∷ h.2 ∷ []) refl (double_mark h.0 h.1 h.2 n h.4 last))
 
@@ -99,12 +99,12 @@ year_no_mark w (Double n) h =
 front_other : (most : ℕ) (ds rest : List ℕ) (n : ℕ) → IsNumber most ds n → reads (ds ++ rest) (codes "B.C.") ≡ false
 front_other most [] rest n h = absurd (omega (arith, h.1.0))
 front_other most (d ∷ ds) rest n h = digit_reads d (ds ++ rest) 66 (codes ".C.")
-    (and_left (is_ascii_digit d) (list_all is_ascii_digit ds) h.0) refl
+    (and_parts (is_ascii_digit d) (list_all is_ascii_digit ds) h.0).0 refl
 
 number_other : (most : ℕ) (ds : List ℕ) (n : ℕ) → IsNumber most ds n → reads ds (codes "B.C.") ≡ false
 number_other most [] n h = absurd (omega (arith, h.1.0))
 number_other most (d ∷ ds) n h = digit_reads d ds 66 (codes ".C.")
-    (and_left (is_ascii_digit d) (list_all is_ascii_digit ds) h.0) refl
+    (and_parts (is_ascii_digit d) (list_all is_ascii_digit ds) h.0).0 refl
 
 year_other : (w : List ℕ) (y : Year) → IsYearWord w y → reads w (codes "B.C.") ≡ false
 year_other w (Single n) h = number_other 4 w n h

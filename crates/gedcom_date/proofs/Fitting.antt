@@ -30,6 +30,8 @@ use Rattle.std.proofs.Common.{
 use Rattle.std.specs.Option.{option_map_or}
 use Rattle.std.specs.List.{list_any, slice_split, onto_first}
 use Rattle.std.proofs.lemmas.Bool.Decides.{nat_tests}
+use Rattle.std.proofs.lemmas.Bool.{or_right}
+use Rattle.std.proofs.Math.Bool.{or_assoc}
 use Rattle.gedcom_date.specs.Words.{Reads, words, filled, is_space}
 use Rattle.calendar_days.specs.Told.{Told}
 use Rattle.gedcom_date.specs.Form.{
@@ -275,14 +277,6 @@ first_none : (a : Bool) → ((a || false) || false) ≡ (a || false)
 first_none true = refl
 first_none false = refl
 
-or_assoc : (a b c : Bool) → ((a || b) || c) ≡ (a || (b || c))
-or_assoc true b c = refl
-or_assoc false b c = refl
-
-or_true : (a b : Bool) → b ≡ true → (a || b) ≡ true
-or_true true b h = refl
-or_true false b h = h
-
 first_any : (c : ℕ) (parts : List (List ℕ)) → list_any (list_any is_bracket) (onto_first c parts)
     ≡ (is_bracket c || list_any (list_any is_bracket) parts)
 first_any c [] = first_none (is_bracket c)
@@ -314,7 +308,7 @@ words_any text = filled_any (slice_split is_space text) ∙ split_any text
 
 bracket_at : (front rest : List ℕ) → list_any is_bracket (front ++ 40 ∷ rest) ≡ true
 bracket_at [] rest = refl
-bracket_at (b ∷ bs) rest = or_true (is_bracket b) (list_any is_bracket (bs ++ 40 ∷ rest)) (bracket_at bs rest)
+bracket_at (b ∷ bs) rest = or_right (is_bracket b) (list_any is_bracket (bs ++ 40 ∷ rest)) (bracket_at bs rest)
 
 phrased_any : (text front phrase : List ℕ) → IsPhrased text front phrase → list_any is_bracket text ≡ true
 phrased_any text front phrase is = ap (list_any is_bracket)

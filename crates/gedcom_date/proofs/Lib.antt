@@ -5,7 +5,6 @@ pub mod Numbers
 pub mod Parts
 pub mod Phrases
 pub mod Dates
-pub mod Shorts
 pub mod Behind
 pub mod Names
 pub mod Years

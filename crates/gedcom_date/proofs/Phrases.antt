@@ -21,16 +21,9 @@ use Rattle.std.proofs.Common.{
   arith,
 }
 use Rattle.std.specs.List.{list_all}
+use Rattle.std.proofs.lemmas.Bool.{and_parts}
 use Rattle.gedcom_date.specs.Words.{is_space, Without}
 use Rattle.gedcom_date.specs.Grammar.{IsPhrased}
-
-pub and_left : (a b : Bool) → (a && b) ≡ true → a ≡ true
-and_left true b h = refl
-and_left false b h = absurd cc
-
-pub and_right : (a b : Bool) → (a && b) ≡ true → b ≡ true
-and_right true b h = h
-and_right false b h = absurd cc
 
 -- the facts of a list but for its first
 pub without_tail : (c x : ℕ) (xs : List ℕ) → Without c (x ∷ xs) → Without c xs
@@ -40,7 +33,7 @@ without_head : (c : ℕ) (xs : List ℕ) → Without c (c ∷ xs) → ⊥
 without_head c xs none = none 0 (omega arith) refl
 
 all_tail : (x : ℕ) (xs : List ℕ) → list_all is_space (x ∷ xs) ≡ true → list_all is_space xs ≡ true
-all_tail x xs all = and_right (is_space x) (list_all is_space xs) all
+all_tail x xs all = (and_parts (is_space x) (list_all is_space xs) all).1
 
 head_of : (x y : ℕ) (xs ys : List ℕ) → x ∷ xs ≡ y ∷ ys → x ≡ y
 head_of x y xs ys e = cc
@@ -50,7 +43,7 @@ tail_of x y xs ys e = cc
 
 -- among spaces there is nothing else
 no_other : (c : ℕ) (xs ys : List ℕ) → is_space c ≡ false → list_all is_space (xs ++ c ∷ ys) ≡ true → ⊥
-no_other c [] ys other all = absurd (let h = and_left (is_space c) (list_all is_space ys) all in cc)
+no_other c [] ys other all = absurd (let h = (and_parts (is_space c) (list_all is_space ys) all).0 in cc)
 no_other c (x ∷ xs) ys other all = no_other c xs ys other (all_tail x (xs ++ c ∷ ys) all)
 
 -- the first place of a byte is one
@@ -92,7 +85,7 @@ space_is : (x : ℕ) → is_space x ≡ true → x ≡ 32
 space_is x h = grind arith
 
 ended : (x : ℕ) (xs : List ℕ) → list_all is_space (x ∷ xs) ≡ true → Ended (x ∷ xs)
-ended x [] all = ([], ap (λ (h : ℕ). h ∷ []) (space_is x (and_left (is_space x) true all)))
+ended x [] all = ([], ap (λ (h : ℕ). h ∷ []) (space_is x (and_parts (is_space x) true all).0))
 ended x (y ∷ ys) all = let more = ended y ys (all_tail x (y ∷ ys) all) in
     (x ∷ more.0, ap (λ (l : List ℕ). x ∷ l) more.1)
 
@@ -106,8 +99,8 @@ not_tail x xs none = λ front e. none (x ∷ front) (ap (λ (l : List ℕ). x �
 front_all : (xs ys : List ℕ) → list_all is_space (xs ++ ys) ≡ true → list_all is_space xs ≡ true
 front_all [] ys all = refl
 front_all (x ∷ xs) ys all =
-    let here = and_left (is_space x) (list_all is_space (xs ++ ys)) all in
-    let more = front_all xs ys (and_right (is_space x) (list_all is_space (xs ++ ys)) all) in
+    let here = (and_parts (is_space x) (list_all is_space (xs ++ ys)) all).0 in
+    let more = front_all xs ys (and_parts (is_space x) (list_all is_space (xs ++ ys)) all).1 in
     rw (here, more) refl
 
 -- what stands before the spaces at an end, up to its bracket

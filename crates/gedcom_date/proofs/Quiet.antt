@@ -34,6 +34,7 @@ use Rattle.std.proofs.Common.{
 use Rattle.std.specs.Char.{is_ascii_digit, to_ascii_lowercase}
 use Rattle.std.specs.List.{list_all, list_any, slice_get}
 use Rattle.std.proofs.lemmas.Bool.Decides.{nat_tests}
+use Rattle.std.proofs.lemmas.Bool.{and_parts}
 use Rattle.gedcom_date.specs.Words.{Reads}
 use Rattle.calendar_days.specs.Told.{Told}
 use Rattle.gedcom_date.specs.Grammar.{IsNumber, IsYearWord, IsMonthWord, IsExtentOf, IsEscape, IsDateOf, month_names}
@@ -45,7 +46,6 @@ use Rattle.calendar_days.specs.declared.calendar.Year.TheVariants.{Single, Doubl
 use Rattle.calendar_days.specs.declared.calendar.Extent.{Extent}
 use Rattle.calendar_days.specs.declared.calendar.Extent.TheVariants.{BeforeChrist, Whole, Month, Day}
 use Rattle.gedcom_date.proofs.Names.{reads_as, keyword_as, beyond}
-use Rattle.gedcom_date.proofs.Phrases.{and_left, and_right}
 
 abbrev pub is_bracket : ℕ → Bool
 is_bracket b = b == 40
@@ -142,8 +142,8 @@ digit_bracket d h = grind (arith, nat_tests)
 digits_bare : (ds : List ℕ) → list_all is_ascii_digit ds ≡ true → list_any is_bracket ds ≡ false
 digits_bare [] h = refl
 digits_bare (d ∷ ds) h = rw (
-  digit_bracket d (and_left (is_ascii_digit d) (list_all is_ascii_digit ds) h),
-  digits_bare ds (and_right (is_ascii_digit d) (list_all is_ascii_digit ds) h),
+  digit_bracket d (and_parts (is_ascii_digit d) (list_all is_ascii_digit ds) h).0,
+  digits_bare ds (and_parts (is_ascii_digit d) (list_all is_ascii_digit ds) h).1,
 ) refl
 
 any_cons : (p : ℕ → Bool) (x : ℕ) (xs ys : List ℕ) (b : Bool) → (b || list_any p xs) ≡ false
@@ -158,7 +158,7 @@ any_append p (x ∷ xs) ys h k = any_cons p x xs ys (p x) h (λ e. any_append p 
 
 number_quiet : (most : ℕ) (ds : List ℕ) (n : ℕ) → IsNumber most ds n → Quiet ds
 number_quiet most [] n h = absurd (omega (arith, h.1.0))
-number_quiet most (d ∷ ds) n h = digit_quiet d ds (and_left (is_ascii_digit d) (list_all is_ascii_digit ds) h.0)
+number_quiet most (d ∷ ds) n h = digit_quiet d ds (and_parts (is_ascii_digit d) (list_all is_ascii_digit ds) h.0).0
     (digits_bare (d ∷ ds) h.0)
 
 -- a number and more
@@ -166,7 +166,7 @@ behind_quiet : (most : ℕ) (ds rest : List ℕ) (n : ℕ) → IsNumber most ds 
     → Quiet (ds ++ rest)
 behind_quiet most [] rest n h bare = absurd (omega (arith, h.1.0))
 behind_quiet most (d ∷ ds) rest n h bare = digit_quiet d (ds ++ rest)
-    (and_left (is_ascii_digit d) (list_all is_ascii_digit ds) h.0)
+    (and_parts (is_ascii_digit d) (list_all is_ascii_digit ds) h.0).0
     (any_append is_bracket (d ∷ ds) rest (digits_bare (d ∷ ds) h.0) bare)
 
 pub year_quiet : (w : List ℕ) (y : Year) → IsYearWord w y → Quiet w

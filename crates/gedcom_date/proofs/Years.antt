@@ -46,23 +46,19 @@ use Rattle.std.proofs.lemmas.Bool.Decides.{nat_tests}
 use Rattle.std.proofs.lemmas.List.{take-append-drop}
 use Rattle.std.proofs.lemmas.List.Sums.{split_at_first}
 use Rattle.std.proofs.Math.Seq.{take-append_seam, drop-append_seam}
+use Rattle.std.proofs.lemmas.Bool.{and_parts}
 use Rattle.gedcom_date.specs.Words.{Reads}
 use Rattle.gedcom_date.specs.Grammar.{IsNumber, IsYearWord, value_from}
 use Rattle.gedcom_date.specs.Reading.{reads, number_of, double_of, year_of, day_of, joined_before_christ}
 use Rattle.calendar_days.specs.declared.calendar.Year.{Year}
 use Rattle.calendar_days.specs.declared.calendar.Year.TheVariants.{Single, Double}
-use Rattle.gedcom_date.proofs.Numbers.{number_only, number_is}
+use Rattle.gedcom_date.proofs.Numbers.{number_only, number_is, longer}
 use Rattle.gedcom_date.proofs.Names.{reads_is, reads_only}
-use Rattle.gedcom_date.proofs.Phrases.{and_left, and_right}
-
--- a day of one or two digits
-as_year : (w : List ℕ) (n : ℕ) → IsNumber 2 w n → IsNumber 4 w n
-as_year w n h = (h.0, (h.1.0, omega (arith, h.1.1)), h.2, h.3)
 
 pub day_only : (w : List ℕ) (n : ℕ) → IsNumber 2 w n → day_of w ≡ Some n
 unfolding day_of
 day_only w n h = let short : nat_le (length w) 2 ≡ true = grind (arith, nat_tests, h.1.1) in
-    rw short (number_only w n (as_year w n h))
+    rw short (number_only w n (longer w n h))
 
 if_some : (b : Bool) (o : Option ℕ) (n : ℕ) → cond b o None ≡ Some n → (b ≡ true) × (o ≡ Some n)
 if_some true o n h = (refl, h)
@@ -83,16 +79,16 @@ digit_no_stroke d h = grind (arith, nat_tests)
 pub no_stroke : (ds : List ℕ) → list_all is_ascii_digit ds ≡ true → position_or_len (λ b. b == 47) ds ≡ length ds
 no_stroke [] h = refl
 no_stroke (d ∷ ds) h =
-    let here = digit_no_stroke d (and_left (is_ascii_digit d) (list_all is_ascii_digit ds) h) in
-    let more = no_stroke ds (and_right (is_ascii_digit d) (list_all is_ascii_digit ds) h) in
+    let here = digit_no_stroke d (and_parts (is_ascii_digit d) (list_all is_ascii_digit ds) h).0 in
+    let more = no_stroke ds (and_parts (is_ascii_digit d) (list_all is_ascii_digit ds) h).1 in
     rw here (omega (arith, more))
 
 stroke_at : (ds rest : List ℕ) → list_all is_ascii_digit ds ≡ true → position_or_len (λ b. b == 47)
     (ds ++ 47 ∷ rest) ≡ length ds
 stroke_at [] rest h = refl
 stroke_at (d ∷ ds) rest h =
-    let here = digit_no_stroke d (and_left (is_ascii_digit d) (list_all is_ascii_digit ds) h) in
-    let more = stroke_at ds rest (and_right (is_ascii_digit d) (list_all is_ascii_digit ds) h) in
+    let here = digit_no_stroke d (and_parts (is_ascii_digit d) (list_all is_ascii_digit ds) h).0 in
+    let more = stroke_at ds rest (and_parts (is_ascii_digit d) (list_all is_ascii_digit ds) h).1 in
     rw here (omega (arith, more))
 
 same_length : (w : List ℕ) → (length w == length w) ≡ true
@@ -107,9 +103,9 @@ drop_past (d ∷ ds) x rest = let e : suc (length ds) + 1 ≡ suc (length ds + 1
 two_only : (n t o : ℕ) → n ≤ 9998 → list_all is_ascii_digit (t ∷ o ∷ []) ≡ true → value_from 0 (t ∷ o ∷ [])
     ≡ (n + 1) % 100 → double_of (Some n) (t ∷ o ∷ []) ≡ Some (Double n)
 two_only n t o high digits value =
-    let td = and_left (is_ascii_digit t) (list_all is_ascii_digit (o ∷ [])) digits in
-    let od = and_left (is_ascii_digit o) true
-    (and_right (is_ascii_digit t) (list_all is_ascii_digit (o ∷ [])) digits) in
+    let td = (and_parts (is_ascii_digit t) (list_all is_ascii_digit (o ∷ [])) digits).0 in
+    let od = (and_parts (is_ascii_digit o) true
+    (and_parts (is_ascii_digit t) (list_all is_ascii_digit (o ∷ [])) digits).1).0 in
     let le : nat_le n 9998 ≡ true = grind (arith, nat_tests) in
     let eq : (10 * (t - 48) + (o - 48) == (n + 1) % 100) ≡ true = grind (arith, nat_tests) in
     rw (td, od, le, eq) refl

@@ -30,7 +30,7 @@ use Rattle.std.proofs.Common.{
 }
 use Rattle.std.specs.List.{list_all, list_any, All}
 use Rattle.std.specs.Fmt.{decimal}
-use Rattle.std.proofs.lemmas.Bool.{cases_lt}
+use Rattle.std.proofs.lemmas.Bool.{cases_lt, and_parts}
 use Rattle.std.proofs.lemmas.Bool.Decides.{nat_tests}
 use Rattle.std.proofs.lemmas.Fmt.{decimal_digit, decimal_step}
 use Rattle.std.proofs.lemmas.List.Sums.{AllPass-from_list_all}
@@ -41,7 +41,6 @@ use Rattle.gedcom_line.specs.Reading.{Parts}
 use Rattle.gedcom_line.specs.Line.{Stops, IsNumber, HasXref, HasTag, IsPiece, IsText, Line}
 use Rattle.gedcom_line.specs.Spelling.{xref_text, raw_text, spelling, is_inner, IsInner, IsXref, IsLine}
 use Rattle.gedcom_line.specs.declared.class.Class.TheVariants.{Digit, Word}
-use Rattle.gedcom_line.proofs.Steps.{both}
 use Rattle.gedcom_line.proofs.Spans.{in_class_ascii}
 
 -- what a character of one kind is not
@@ -64,10 +63,11 @@ is_digit_of : (n : ℕ) → n < 10 → is_digit (48 + n) ≡ true
 is_digit_of n h = grind (arith, nat_tests)
 
 -- characters within a line
-pub all-append : (p : ℕ → Bool) (a b : List ℕ) → list_all p a ≡ true → list_all p b ≡ true → list_all p (a ++ b) ≡ true
+pub all-append : {X : Type 0} (p : X → Bool) (a b : List X) → list_all p a ≡ true → list_all p b ≡ true
+    → list_all p (a ++ b) ≡ true
 all-append p [] b h k = k
 all-append p (x ∷ xs) b h k =
-    let r = both (p x) (list_all p xs) h in
+    let r = and_parts (p x) (list_all p xs) h in
     rw (r.0, all-append p xs b r.1 k) refl
 
 pub inner-append : (a b : List ℕ) → IsInner a → IsInner b → IsInner (a ++ b)
@@ -77,7 +77,7 @@ all_map : (p q : ℕ → Bool) (t : List ℕ) → ((b : ℕ) → p b ≡ true �
     → list_all q t ≡ true
 all_map p q [] f h = refl
 all_map p q (x ∷ xs) f h =
-    let r = both (p x) (list_all p xs) h in
+    let r = and_parts (p x) (list_all p xs) h in
     rw (f x r.0, all_map p q xs f r.1) refl
 
 pub inner_nil : IsInner []
@@ -105,7 +105,7 @@ inner_no_nul x h = grind (arith, nat_tests)
 no_nul : (t : List ℕ) → list_all is_inner t ≡ true → list_any (λ x. eqb x 0) t ≡ false
 no_nul [] h = refl
 no_nul (x ∷ xs) h =
-    let r = both (is_inner x) (list_all is_inner xs) h in
+    let r = and_parts (is_inner x) (list_all is_inner xs) h in
     let a : eqb x 0 ≡ false = inner_no_nul x r.0 in
     rw (a, no_nul xs r.1) refl
 
@@ -116,7 +116,7 @@ inner_no_end x h = grind (arith, nat_tests)
 pub inner_piece : (t : List ℕ) → list_all is_inner t ≡ true → IsPiece t
 inner_piece [] h = refl
 inner_piece (x ∷ xs) h =
-    let r = both (is_inner x) (list_all is_inner xs) h in
+    let r = and_parts (is_inner x) (list_all is_inner xs) h in
     let a : is_end x ≡ false = inner_no_end x r.0 in
     rw (a, inner_piece xs r.1) refl
 
@@ -136,7 +136,7 @@ level_of_digit n h =
       number = omega arith;
       starts = λ rest. w;
       blank = λ rest e.
-          let r = both (is_white (48 + n)) (list_all is_white rest) e in absurd cc;
+          let r = and_parts (is_white (48 + n)) (list_all is_white rest) e in absurd cc;
     }
 
 level_of_two : (n a b : ℕ) → a < 10 → b < 10 → n ≡ 10 * a + b → Level n ((48 + a) ∷ (48 + b) ∷ [])
@@ -149,7 +149,7 @@ level_of_two n a b ha hb e =
       number = omega arith;
       starts = λ rest. w;
       blank = λ rest h.
-          let r = both (is_white (48 + a)) (list_all is_white ((48 + b) ∷ rest)) h in absurd cc;
+          let r = and_parts (is_white (48 + a)) (list_all is_white ((48 + b) ∷ rest)) h in absurd cc;
     }
 
 level_is : (n : ℕ) → n ≤ 99 → Level n (decimal n)
@@ -167,7 +167,7 @@ tag_starts : (tag rest : List ℕ) → list_all is_word tag ≡ true → 0 < len
     × Stops is_at (tag ++ rest)
 tag_starts [] rest h s = absurd (omega arith)
 tag_starts (c ∷ cs) rest h s =
-    let r = both (is_word c) (list_all is_word cs) h in
+    let r = and_parts (is_word c) (list_all is_word cs) h in
     (word_not_space c r.0, word_not_at c r.0)
 
 has_tag : (tag raw : List ℕ) → list_all is_word tag ≡ true → 0 < length tag → length tag ≤ 31

@@ -40,7 +40,7 @@ use Rattle.std.proofs.Common.{
 use Rattle.std.specs.Prelude.{unwrap_or}
 use Rattle.std.proofs.lemmas.List.{take_all}
 use Rattle.std.proofs.lemmas.List.Sums.{sum_by-append, sum_by-cons, count_by-le-length}
-use Rattle.std.proofs.lemmas.Bool.{eqb-true, cases_order, le-leb, lt-leb}
+use Rattle.std.proofs.lemmas.Bool.{eqb-true, cases_order, le-leb, lt-leb, cases_Bool}
 use Rattle.gedcom_line.specs.Escape.{NoAt, begins_escape, escaped_from, escaped}
 use Rattle.gedcom_line.specs.Split.{
   begins_char,
@@ -52,12 +52,7 @@ use Rattle.gedcom_line.specs.Split.{
   greatest,
   cut_len,
 }
-use Rattle.gedcom_line.proofs.Doubled.{escaped_skip, escaped_all, cases_bool, marks_inside, marks_begin, marks_pair}
-
--- the greatest number that passes
-pub greatest_yes : (test : ℕ → Bool) (n : ℕ) → 0 < n → test n ≡ true → greatest test n ≡ Some n
-greatest_yes test zero lt h = absurd (omega arith)
-greatest_yes test (suc n) lt h = rw h refl
+use Rattle.gedcom_line.proofs.Doubled.{escaped_skip, escaped_all, marks_inside, marks_begin, marks_pair}
 
 pub greatest_no : (test : ℕ → Bool) (n : ℕ) → 0 < n → test n ≡ false → greatest test n ≡ greatest test (n - 1)
 greatest_no test zero lt h = absurd (omega arith)
@@ -96,9 +91,9 @@ char_count-le-length a = count_by-le-length begins_char a
 -- one more character of a text as it is written
 at_step : (i : Bool) (cs : List ℕ) → ((j : Bool) × (escaped_from i (64 ∷ cs) ≡ 64 ∷ escaped_from j cs))
     ⊎ (escaped_from i (64 ∷ cs) ≡ 64 ∷ 64 ∷ escaped_from false cs)
-at_step i cs = elim (cases_bool i) [
+at_step i cs = elim (cases_Bool i) [
   | inl h ↦ inl (false, marks_inside i cs h)
-  | inr h ↦ elim (cases_bool (begins_escape cs)) [
+  | inr h ↦ elim (cases_Bool (begins_escape cs)) [
     | inl b ↦ inl (true, marks_begin i cs h b)
     | inr b ↦
         inr (marks_pair i cs h b)
@@ -107,7 +102,7 @@ at_step i cs = elim (cases_bool i) [
 
 pub escaped_step : (i : Bool) (c : ℕ) (cs : List ℕ) → ((j : Bool) × (escaped_from i (c ∷ cs) ≡ c ∷ escaped_from j cs))
     ⊎ (escaped_from i (c ∷ cs) ≡ c ∷ c ∷ escaped_from false cs)
-escaped_step i c cs = elim (cases_bool (eqb c 64)) [
+escaped_step i c cs = elim (cases_Bool (eqb c 64)) [
   | inl e ↦ subst (λ (x : ℕ). ((j : Bool) × (escaped_from i (x ∷ cs) ≡ x ∷ escaped_from j cs))
       ⊎ (escaped_from i (x ∷ cs) ≡ x ∷ x ∷ escaped_from false cs)) (sym (eqb-true c 64 e)) (at_step i cs)
   | inr e ↦ inl (i, rw e refl)

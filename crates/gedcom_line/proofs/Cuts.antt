@@ -46,7 +46,7 @@ use Rattle.std.proofs.lemmas.List.{take-append-drop, append-nil, length-take-le,
 use Rattle.std.proofs.lemmas.List.Concat.{flat_map-append}
 use Rattle.std.proofs.lemmas.List.Splits.{slice_split_at, slice_split_none}
 use Rattle.std.proofs.lemmas.Str.{length-encode, len_utf8_bounds, IsCharBoundary-past_char, IsUtf8-drop}
-use Rattle.std.proofs.lemmas.Bool.{eqb-true, leb-true, leb-false, cases_order, le-leb, not-true}
+use Rattle.std.proofs.lemmas.Bool.{eqb-true, leb-true, leb-false, cases_order, le-leb, not-true, and_parts, cases_Bool}
 use Rattle.std.proofs.lemmas.Bool.Decides.{nat_tests}
 use Rattle.gedcom_line.specs.Escape.{escaped}
 use Rattle.gedcom_line.specs.Split.{
@@ -76,14 +76,13 @@ use Rattle.gedcom_line.specs.Split.{
 use Rattle.gedcom_line.specs.declared.splitting.Mark.{Mark}
 use Rattle.gedcom_line.specs.declared.splitting.TextPart.{TextPart}
 use Rattle.gedcom_line.specs.declared.splitting.Mark.TheVariants.{Conc, Cont}
-use Rattle.gedcom_line.proofs.Steps.{both, eqb_false, eqb_no}
-use Rattle.gedcom_line.proofs.Doubled.{cases_bool}
+use Rattle.gedcom_line.proofs.Steps.{eqb_false, eqb_no}
 use Rattle.gedcom_line.proofs.Counts.{char_count-le-length, escaped_le_double, short_nil}
 
 -- what the greatest number is
 pub greatest_gives : (test : ℕ → Bool) (n k : ℕ) → greatest test n ≡ Some k → (0 < k) × (k ≤ n) × (test k ≡ true)
 greatest_gives test zero k e = absurd cc
-greatest_gives test (suc n) k e = elim (cases_bool (test (suc n))) [
+greatest_gives test (suc n) k e = elim (cases_Bool (test (suc n))) [
   | inl h ↦ let s : Some (suc n) ≡ Some k = sym (rw h refl) ∙ e in let same : suc n ≡ k = cc in
       (omega arith, omega arith, ap test (sym same) ∙ h)
   | inr h ↦ let s : greatest test n ≡ Some k = sym (rw h refl) ∙ e in let r = greatest_gives test n k s in
@@ -92,7 +91,7 @@ greatest_gives test (suc n) k e = elim (cases_bool (test (suc n))) [
 
 pub greatest_most : (test : ℕ → Bool) (n k j : ℕ) → greatest test n ≡ Some k → 0 < j → j ≤ n → test j ≡ true → j ≤ k
 greatest_most test zero k j e lt le h = absurd cc
-greatest_most test (suc n) k j e lt le h = elim (cases_bool (test (suc n))) [
+greatest_most test (suc n) k j e lt le h = elim (cases_Bool (test (suc n))) [
   | inl t ↦ let s : Some (suc n) ≡ Some k = sym (rw t refl) ∙ e in let same : suc n ≡ k = cc in omega arith
   | inr t ↦ elim (cases_order j (suc n)) [
     | inl same ↦ let bad : true ≡ false = sym h ∙ ap test same ∙ t in absurd cc
@@ -103,7 +102,7 @@ greatest_most test (suc n) k j e lt le h = elim (cases_bool (test (suc n))) [
 
 pub greatest_none : (test : ℕ → Bool) (n j : ℕ) → greatest test n ≡ None → 0 < j → j ≤ n → test j ≡ true → ⊥
 greatest_none test zero j e lt le h = absurd (omega arith)
-greatest_none test (suc n) j e lt le h = elim (cases_bool (test (suc n))) [
+greatest_none test (suc n) j e lt le h = elim (cases_Bool (test (suc n))) [
   | inl t ↦ let s : Some (suc n) ≡ None = sym (rw t refl) ∙ e in absurd cc
   | inr t ↦ elim (cases_order j (suc n)) [
     | inl same ↦ let bad : true ≡ false = sym h ∙ ap test same ∙ t in absurd cc
@@ -119,12 +118,12 @@ begins_is b h le = grind (arith, nat_tests)
 begins_bad : (b : ℕ) → (128 ≤ b → 192 ≤ b) → begins_char b ≡ false → ⊥
 begins_bad b h e = grind (arith, nat_tests)
 
-begins_from : (b : ℕ) → (128 ≤ b → 192 ≤ b) → begins_char b ≡ true
-begins_from b h = elim (cases_bool (begins_char b)) [ inl e ↦ e | inr e ↦ absurd (begins_bad b h e) ]
+pub begins_from : (b : ℕ) → (128 ≤ b → 192 ≤ b) → begins_char b ≡ true
+begins_from b h = elim (cases_Bool (begins_char b)) [ inl e ↦ e | inr e ↦ absurd (begins_bad b h e) ]
 
 pub may_true : (s : List ℕ) (p : ℕ) → 0 < p → p < length s → may_cut s p ≡ true → MayCut s p
 may_true s p lt le h =
-    let b = both (begins_char (get_or s p 0)) (is_short (take p s)) h in
+    let b = and_parts (begins_char (get_or s p 0)) (is_short (take p s)) h in
     record {
       some = lt;
       more = le;
@@ -140,8 +139,8 @@ may_from s p m = rw (
 
 pub good_true : (s : List ℕ) (p : ℕ) → 0 < p → p < length s → is_good_cut s p ≡ true → IsGoodCut s p
 good_true s p lt le h =
-    let b = both (not (eqb (get_or s (p - 1) 0) 32) && not (eqb (get_or s p 0) 32)) (may_cut s p) h in
-    let a = both (not (eqb (get_or s (p - 1) 0) 32)) (not (eqb (get_or s p 0) 32)) b.0 in
+    let b = and_parts (not (eqb (get_or s (p - 1) 0) 32) && not (eqb (get_or s p 0) 32)) (may_cut s p) h in
+    let a = and_parts (not (eqb (get_or s (p - 1) 0) 32)) (not (eqb (get_or s p 0) 32)) b.0 in
     record {
       may = may_true s p lt le b.1;
       before = eqb_no (get_or s (p - 1) 0) 32 (not-true _ a.0);
@@ -249,11 +248,11 @@ parts_long n s h = rw h refl
 
 fuel_same : (m n : ℕ) (s : List ℕ) → IsUtf8 s → length s ≤ m → length s ≤ n → parts_by m s ≡ parts_by n s
 fuel_same zero zero s u a b = refl
-fuel_same zero (suc n) s u a b = elim (cases_bool (is_short s))
+fuel_same zero (suc n) s u a b = elim (cases_Bool (is_short s))
     [ inl h ↦ parts_short zero s h ∙ sym (parts_short (suc n) s h) | inr h ↦ absurd (omega (arith, short_nil s h)) ]
-fuel_same (suc m) zero s u a b = elim (cases_bool (is_short s))
+fuel_same (suc m) zero s u a b = elim (cases_Bool (is_short s))
     [ inl h ↦ parts_short (suc m) s h ∙ sym (parts_short zero s h) | inr h ↦ absurd (omega (arith, short_nil s h)) ]
-fuel_same (suc m) (suc n) s u a b = elim (cases_bool (is_short s)) [
+fuel_same (suc m) (suc n) s u a b = elim (cases_Bool (is_short s)) [
   | inl h ↦ parts_short (suc m) s h ∙ sym (parts_short (suc n) s h)
   | inr h ↦ parts_long m s h ∙ ap (λ (x : List (List ℕ)). take (cut_len s) s ∷ x)
       (fuel_same m n (drop (cut_len s) s) (cut_rest s u h) (omega (arith, cut_shorter s u h))
@@ -279,11 +278,11 @@ cons_parts s p rest [] long e cut h = absurd h
 cons_parts s p rest (q ∷ ps) long e cut h = (long, (rest, (e, (cut, h))))
 
 parts_hold : (n : ℕ) (s : List ℕ) → IsUtf8 s → length s ≤ n → Parts s (parts_by n s)
-parts_hold zero s u le = elim (cases_bool (is_short s)) [
+parts_hold zero s u le = elim (cases_Bool (is_short s)) [
   | inl h ↦ rw (parts_short zero s h) (refl, leb-true (char_count (escaped s)) 200 h)
   | inr h ↦ absurd (omega (arith, short_nil s h))
 ]
-parts_hold (suc n) s u le = elim (cases_bool (is_short s)) [
+parts_hold (suc n) s u le = elim (cases_Bool (is_short s)) [
   | inl h ↦ rw (parts_short (suc n) s h) (refl, leb-true (char_count (escaped s)) 200 h)
   | inr h ↦
       let m = cut_may_be s u h in
@@ -302,7 +301,7 @@ segment_parts_hold s u = parts_hold (length s) s u (omega arith)
 join_parts : (n : ℕ) (s : List ℕ) → flat_map (λ x. x) (parts_by n s) ≡ s
 unfolding parts_by
 join_parts zero s = append-nil s
-join_parts (suc n) s = elim (cases_bool (is_short s)) [
+join_parts (suc n) s = elim (cases_Bool (is_short s)) [
   | inl h ↦ rw h (append-nil s)
   | inr h ↦ rw (h, join_parts n (drop (cut_len s) s)) (take-append-drop (cut_len s) s)
 ]
@@ -319,7 +318,7 @@ added_marked m p ps = append_assoc (between m) p (flat_map added (marked Conc ps
 parts_head : (n : ℕ) (s : List ℕ) → (p : List ℕ) × ((ps : List (List ℕ)) × (parts_by n s ≡ p ∷ ps))
 unfolding parts_by
 parts_head zero s = (s, ([], refl))
-parts_head (suc n) s = elim (cases_bool (is_short s)) [
+parts_head (suc n) s = elim (cases_Bool (is_short s)) [
   | inl h ↦ (s, ([], rw h refl))
   | inr h ↦ (take (cut_len s) s, (parts_by n (drop (cut_len s) s), rw h refl))
 ]
@@ -354,7 +353,7 @@ onto_added x (p ∷ ps) xs e =
 
 split_added : (t : List ℕ) → flat_map (λ s. 10 ∷ s) (slice_split is_lf t) ≡ 10 ∷ t
 split_added [] = refl
-split_added (x ∷ xs) = elim (cases_bool (is_lf x)) [
+split_added (x ∷ xs) = elim (cases_Bool (is_lf x)) [
   | inl h ↦ rw (h, split_added xs) (ap (λ (y : ℕ). 10 ∷ y ∷ xs) (sym (eqb-true x 10 h)))
   | inr h ↦ rw h (onto_added x (slice_split is_lf xs) xs (split_added xs))
 ]
@@ -365,7 +364,7 @@ canonical_added t = segments_added (slice_split is_lf t) ∙ split_added t
 
 split_head : (t : List ℕ) → (s : List ℕ) × ((ss : List (List ℕ)) × (slice_split is_lf t ≡ s ∷ ss))
 split_head [] = ([], ([], refl))
-split_head (x ∷ xs) = elim (cases_bool (is_lf x)) [
+split_head (x ∷ xs) = elim (cases_Bool (is_lf x)) [
   | inl h ↦ ([], (slice_split is_lf xs, rw h refl))
   | inr h ↦ let r = split_head xs in (x ∷ r.0, (r.1.0, rw (h, r.1.1) refl))
 ]
@@ -433,8 +432,3 @@ pieces_turn out new xs ys rest t e h f so_far =
 pub pieces_end : (out new : List Part) (rest t : List ℕ) → NoLf rest → new ≡ out ++ marked Cont (segment_parts rest)
     → out ++ canonical rest ≡ canonical t → new ≡ canonical t
 pieces_end out new rest t h f so_far = f ∙ ap (λ (x : List Part). out ++ x) (sym (canonical_last rest h)) ∙ so_far
-
--- no text has one part, which is empty
-pub canonical_nil : canonical [] ≡ record { mark = Cont; text = [] } ∷ []
-unfolding canonical segment_parts parts_by
-canonical_nil = refl

@@ -33,12 +33,12 @@ use Rattle.std.proofs.Common.{
 use Rattle.std.specs.Prelude.{is_some, unwrap_or}
 use Rattle.std.specs.List.{position_or_len, before_first, after_first, list_all}
 use Rattle.std.specs.Option.{option_map_or}
-use Rattle.std.proofs.lemmas.Bool.{eqb-true, ltb-true, not-true}
+use Rattle.std.proofs.lemmas.Bool.{eqb-true, ltb-true, not-true, and_parts, cases_Bool}
 use Rattle.std.proofs.lemmas.List.{append-nil}
 use Rattle.gedcom_line.specs.Words.{is_at}
 use Rattle.gedcom_line.specs.Past.{past_char}
 use Rattle.gedcom_line.specs.Escape.{NoAt, ends_escape, begins_escape, escaped_from, escaped, unescaped, past_pair}
-use Rattle.gedcom_line.proofs.Steps.{both, eqb_false, eqb_no, at_parts, all_front}
+use Rattle.gedcom_line.proofs.Steps.{eqb_false, eqb_no, at_parts, all_front}
 
 pub tail_no_at : (c : ℕ) (cs : List ℕ) → NoAt (c ∷ cs) → NoAt cs
 tail_no_at c cs h = λ i lt. h (suc i) (omega arith)
@@ -119,7 +119,7 @@ marks_pair i after h b = rw (h, b) refl
 ends_after : (front ds : List ℕ) → list_all (λ b. not (is_at b)) front ≡ true → Ends true (front ++ 64 ∷ 32 ∷ ds)
 ends_after [] ds h = inl (refl, (ds, refl))
 ends_after (c ∷ cs) ds h =
-    let k = both (not (is_at c)) (list_all (λ b. not (is_at b)) cs) h in
+    let k = and_parts (not (is_at c)) (list_all (λ b. not (is_at b)) cs) h in
     inr (eqb_no c 64 (not-true (is_at c) k.0), ends_after cs ds k.1)
 
 pub space_after : (t : List ℕ) → is_some (past_char 32 t) ≡ true → (ds : List ℕ) × (t ≡ 32 ∷ ds)
@@ -132,9 +132,9 @@ space_after (c ∷ cs) e = elim (eqb c 32) as (λ v. eqb c 32 ≡ v → is_some 
 
 ends_made : (es : List ℕ) → ends_escape es ≡ true → Ends true es
 ends_made es e =
-    let a = both (ltb 0 (position_or_len is_at es) && ltb (position_or_len is_at es) (length es))
+    let a = and_parts (ltb 0 (position_or_len is_at es) && ltb (position_or_len is_at es) (length es))
     (is_some (past_char 32 (after_first is_at es))) e in
-    let b = both (ltb 0 (position_or_len is_at es)) (ltb (position_or_len is_at es) (length es)) a.0 in
+    let b = and_parts (ltb 0 (position_or_len is_at es)) (ltb (position_or_len is_at es) (length es)) a.0 in
     let s = space_after (after_first is_at es) a.1 in
     let whole : es ≡ before_first is_at es ++ 64 ∷ 32 ∷ s.0 = at_parts es (ltb-true _ _ b.1)
     ∙ ap (λ (x : List ℕ). before_first is_at es ++ 64 ∷ x) s.1 in
@@ -171,15 +171,11 @@ end_step c cs ds e f h =
     let plain : past_pair (escaped_from false cs) ≡ escaped_from false cs = rw f refl in
     rw e (unescaped_at (escaped_from false cs) ∙ rw (plain, h) refl)
 
-pub cases_bool : (b : Bool) → (b ≡ true) ⊎ (b ≡ false)
-cases_bool true = inl refl
-cases_bool false = inr refl
-
 outside_step : (c : ℕ) (cs : List ℕ) → unescaped (escaped_from false cs) ≡ cs
     → (Ends true cs → unescaped (escaped_from true cs) ≡ cs) → unescaped (escaped_from false (c ∷ cs)) ≡ c ∷ cs
-outside_step c cs h k = elim (cases_bool (eqb c 64)) [
+outside_step c cs h k = elim (cases_Bool (eqb c 64)) [
   | inr e ↦ plain_step false c cs e h
-  | inl e ↦ elim (cases_bool (begins_escape cs)) [
+  | inl e ↦ elim (cases_Bool (begins_escape cs)) [
     | inl f ↦ begin_step c cs (eqb-true c 64 e) f k
     | inr f ↦
         pair_step c cs (eqb-true c 64 e) f h

@@ -35,7 +35,7 @@ use Rattle.std.proofs.Common.{
 use Rattle.std.specs.Prelude.{is_some}
 use Rattle.std.specs.List.{position_or_len, before_first, after_first, list_all, flat_map}
 use Rattle.std.specs.Option.{option_map_or}
-use Rattle.std.proofs.lemmas.Bool.{eqb-true, ltb-true, not-true}
+use Rattle.std.proofs.lemmas.Bool.{eqb-true, ltb-true, not-true, and_parts, cases_Bool}
 use Rattle.std.proofs.lemmas.List.{length-take-le}
 use Rattle.std.proofs.lemmas.List.Sums.{AllPass-from_list_all}
 use Rattle.gedcom_line.specs.Words.{is_at}
@@ -54,16 +54,8 @@ use Rattle.gedcom_line.specs.Escape.{
   escaped_from,
   escaped,
 }
-use Rattle.gedcom_line.proofs.Steps.{both, eqb_no, at_parts, all_front, before_len}
-use Rattle.gedcom_line.proofs.Doubled.{
-  cases_bool,
-  space_after,
-  head_no_at,
-  tail_no_at,
-  escaped_skip,
-  marks_begin,
-  marks_pair,
-}
+use Rattle.gedcom_line.proofs.Steps.{eqb_no, at_parts, all_front, before_len}
+use Rattle.gedcom_line.proofs.Doubled.{space_after, head_no_at, tail_no_at, escaped_skip, marks_begin, marks_pair}
 use Rattle.gedcom_line.proofs.Fronts.{ends_spelled}
 use Rattle.gedcom_line.proofs.Segments.{front_one}
 
@@ -94,9 +86,9 @@ begins_has : (cs : List ℕ) → begins_escape cs ≡ true → (body : List ℕ)
 begins_has cs e =
     let k = hash_after cs e in
     let es : List ℕ = k.0 in
-    let a = both (ltb 0 (position_or_len is_at es) && ltb (position_or_len is_at es) (length es))
+    let a = and_parts (ltb 0 (position_or_len is_at es) && ltb (position_or_len is_at es) (length es))
     (is_some (past_char 32 (after_first is_at es))) k.1.1 in
-    let b = both (ltb 0 (position_or_len is_at es)) (ltb (position_or_len is_at es) (length es)) a.0 in
+    let b = and_parts (ltb 0 (position_or_len is_at es)) (ltb (position_or_len is_at es) (length es)) a.0 in
     let s = space_after (after_first is_at es) a.1 in
     let size : length (before_first is_at es) ≡ position_or_len is_at es = length-take-le (position_or_len is_at es) es
     (omega (arith, ltb-true _ _ b.1)) in
@@ -170,11 +162,11 @@ escape_made cs body rest h r = record {
 escaped_by : (n : ℕ) (t : List ℕ) → length t ≤ n → IsEscaped t (escaped t)
 escaped_by n [] le = record { elements = []; cut = refl; each = refl }
 escaped_by zero (c ∷ cs) le = absurd (omega arith)
-escaped_by (suc n) (c ∷ cs) le = elim (cases_bool (eqb c 64)) [
+escaped_by (suc n) (c ∷ cs) le = elim (cases_Bool (eqb c 64)) [
   | inr k ↦ char_made c cs k (escaped_by n cs (omega arith))
   | inl k ↦
       subst (λ (x : ℕ). IsEscaped (x ∷ cs) (escaped (x ∷ cs))) (sym (eqb-true c 64 k))
-      (elim (cases_bool (begins_escape cs)) [
+      (elim (cases_Bool (begins_escape cs)) [
         | inr b ↦ pair_made cs b (escaped_by n cs (omega arith))
         | inl b ↦ let h = begins_has cs b in
             escape_made cs h.0 h.1.0 h.1.1 (escaped_by n h.1.0 (omega (arith, escape_shorter cs h.0 h.1.0 h.1.1)))

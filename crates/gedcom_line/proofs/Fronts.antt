@@ -47,15 +47,15 @@ use Rattle.std.specs.Int.{div_ceil}
 use Rattle.std.proofs.lemmas.Grind.{div_ceil_times}
 use Rattle.std.proofs.Math.Seq.{drop-append-add}
 use Rattle.std.proofs.Math.Numerals.{one-add}
-use Rattle.std.proofs.lemmas.Bool.{eqb-true, ltb-true, lt-ltb, lt-leb, leb-false, cases_lt}
+use Rattle.std.proofs.lemmas.Bool.{eqb-true, ltb-true, lt-ltb, lt-leb, leb-false, cases_lt, and_parts, cases_Bool}
 use Rattle.std.proofs.lemmas.Bool.Decides.{nat_tests}
 use Rattle.std.proofs.lemmas.List.{take-append-drop, take-take, take_all, length-take-le}
 use Rattle.gedcom_line.specs.Words.{is_at}
 use Rattle.gedcom_line.specs.Past.{past_char}
 use Rattle.gedcom_line.specs.Escape.{NoAt, ends_escape, begins_escape, escaped_from, escaped}
 use Rattle.gedcom_line.specs.Split.{begins_char, char_count, front_len, is_short}
-use Rattle.gedcom_line.proofs.Steps.{both, at_parts, all_front, before_len}
-use Rattle.gedcom_line.proofs.Doubled.{cases_bool, space_after, marks_begin, marks_pair}
+use Rattle.gedcom_line.proofs.Steps.{at_parts, all_front, before_len}
+use Rattle.gedcom_line.proofs.Doubled.{space_after, marks_begin, marks_pair}
 use Rattle.gedcom_line.proofs.Counts.{
   char_count-append,
   char_count-cons,
@@ -80,9 +80,9 @@ ends_spelled front after h some =
 
 ends_more : (cs more : List ℕ) → ends_escape cs ≡ true → ends_escape (cs ++ more) ≡ true
 ends_more cs more e =
-    let a = both (ltb 0 (position_or_len is_at cs) && ltb (position_or_len is_at cs) (length cs))
+    let a = and_parts (ltb 0 (position_or_len is_at cs) && ltb (position_or_len is_at cs) (length cs))
     (is_some (past_char 32 (after_first is_at cs))) e in
-    let b = both (ltb 0 (position_or_len is_at cs)) (ltb (position_or_len is_at cs) (length cs)) a.0 in
+    let b = and_parts (ltb 0 (position_or_len is_at cs)) (ltb (position_or_len is_at cs) (length cs)) a.0 in
     let s = space_after (after_first is_at cs) a.1 in
     let front : List ℕ = before_first is_at cs in
     let size : length front ≡ position_or_len is_at cs = length-take-le (position_or_len is_at cs) cs
@@ -125,7 +125,7 @@ Near t = (char_count (escaped_from true t) ≤ 1 + char_count (escaped_from fals
     × (char_count (escaped_from false t) ≤ 1 + char_count (escaped_from true t))
 
 near_at : (cs : List ℕ) → Near cs → Near (64 ∷ cs)
-near_at cs h = elim (cases_bool (begins_escape cs)) [
+near_at cs h = elim (cases_Bool (begins_escape cs)) [
   | inl b ↦ (
     omega (arith, count_inside cs, count_begin cs b, h.0, h.1),
     omega (arith, count_inside cs, count_begin cs b, h.0, h.1),
@@ -135,7 +135,7 @@ near_at cs h = elim (cases_bool (begins_escape cs)) [
 
 near : (t : List ℕ) → Near t
 near [] = (omega arith, omega arith)
-near (c ∷ cs) = elim (cases_bool (eqb c 64)) [
+near (c ∷ cs) = elim (cases_Bool (eqb c 64)) [
   | inl e ↦ subst (λ (x : ℕ). Near (x ∷ cs)) (sym (eqb-true c 64 e)) (near_at cs (near cs))
   | inr e ↦ (
     omega (arith, count_plain true c cs e, count_plain false c cs e, (near cs).0),
@@ -165,9 +165,9 @@ grows_inside : (cs more : List ℕ) → Grows false cs more → Grows true (64 �
 grows_inside cs more h = omega (arith, count_inside cs, count_inside (cs ++ more), h)
 
 grows_outside : (cs more : List ℕ) → Grows false cs more → Grows true cs more → Grows false (64 ∷ cs) more
-grows_outside cs more h k = elim (cases_bool (begins_escape cs)) [
+grows_outside cs more h k = elim (cases_Bool (begins_escape cs)) [
   | inl b ↦ omega (arith, count_begin cs b, count_begin (cs ++ more) (begins_more cs more b), k)
-  | inr b ↦ elim (cases_bool (begins_escape (cs ++ more))) [
+  | inr b ↦ elim (cases_Bool (begins_escape (cs ++ more))) [
     | inl d ↦ omega (arith, count_pair cs b, count_begin (cs ++ more) d, k, (near cs).0)
     | inr d ↦ omega (arith, count_pair cs b, count_pair (cs ++ more) d, h)
   ]
@@ -179,7 +179,7 @@ grows_at false cs more h k = grows_outside cs more h k
 
 grows : (i : Bool) (t more : List ℕ) → Grows i t more
 grows i [] more = omega (arith, escaped_chars i more)
-grows i (c ∷ cs) more = elim (cases_bool (eqb c 64)) [
+grows i (c ∷ cs) more = elim (cases_Bool (eqb c 64)) [
   | inl e ↦ subst (λ (x : ℕ). Grows i (x ∷ cs) more) (sym (eqb-true c 64 e))
       (grows_at i cs more (grows false cs more) (grows true cs more))
   | inr e ↦ omega (arith, count_plain i c cs e, count_plain i c (cs ++ more) e, grows i cs more)

@@ -33,7 +33,7 @@ use Rattle.std.specs.Char.{encode_utf8, IsScalar}
 use lib.Utf8.{scalar}
 use Rattle.std.specs.List.{list_all, position_or_len}
 use Rattle.std.specs.Str.{IsUtf8, encode_utf8_all, all_scalars}
-use Rattle.std.proofs.lemmas.Bool.{eqb-true, cases_eq, cases_lt, not-true, not-false}
+use Rattle.std.proofs.lemmas.Bool.{eqb-true, cases_eq, cases_lt, not-true, not-false, and_parts, cases_Bool}
 use Rattle.std.proofs.lemmas.Bool.Decides.{nat_tests}
 use Rattle.std.proofs.lemmas.List.{append-nil, take_all}
 use Rattle.std.proofs.lemmas.List.Sums.{split_at_first, prefix_len_stops, AllPass-from_list_all}
@@ -66,10 +66,10 @@ use Rattle.gedcom_line.specs.Split.{
 use Rattle.gedcom_line.specs.Spelling.{is_inner, is_textual, IsInner}
 use Rattle.gedcom_line.specs.declared.splitting.Mark.{Mark}
 use Rattle.gedcom_line.specs.declared.splitting.Mark.TheVariants.{Conc, Cont}
-use Rattle.gedcom_line.proofs.Steps.{both, eqb_no, all_front}
-use Rattle.gedcom_line.proofs.Doubled.{escaped_skip, cases_bool}
+use Rattle.gedcom_line.proofs.Steps.{eqb_no, all_front}
+use Rattle.gedcom_line.proofs.Doubled.{escaped_skip}
 use Rattle.gedcom_line.proofs.Counts.{escaped_step}
-use Rattle.gedcom_line.proofs.Written.{in_front, in_back}
+use Rattle.gedcom_line.proofs.Written.{all_parts}
 use Rattle.gedcom_line.proofs.Cuts.{cut_may_be, canonical_step, canonical_last}
 
 -- one character more is UTF-8 still
@@ -82,7 +82,7 @@ step_utf8 i cs h = elim (escaped_step i 64 cs) [
   | inr s ↦ rw s (at_utf8 (64 ∷ escaped_from false cs) (at_utf8 (escaped_from false cs) (h false)))
 ]
 
-char_no_at : (c : ℕ) → (c ≡ 64 → ⊥) → NoAt (encode_utf8 c)
+pub char_no_at : (c : ℕ) → (c ≡ 64 → ⊥) → NoAt (encode_utf8 c)
 char_no_at c h = λ i lt e. h (inside_one c [] (encode_utf8 c) i (sym (append-nil (encode_utf8 c))) lt
     (omega (arith, e)) ∙ e)
 
@@ -90,7 +90,7 @@ chars_utf8 : (cs : List ℕ) (i : Bool) → all_scalars cs ≡ true → IsUtf8 (
 chars_utf8 [] i h = IsUtf8-nil
 chars_utf8 (c ∷ cs) i h =
     let rest : List ℕ = encode_utf8_all cs in
-    let r : IsScalar c × (all_scalars cs ≡ true) = both (scalar c) (all_scalars cs) h in
+    let r : IsScalar c × (all_scalars cs ≡ true) = and_parts (scalar c) (all_scalars cs) h in
     elim (cases_eq c 64) [
       | inl e ↦
           let one : encode_utf8 c ++ rest ≡ 64 ∷ rest = ap (λ (x : ℕ). encode_utf8 x ++ rest) e
@@ -103,7 +103,7 @@ chars_utf8 (c ∷ cs) i h =
 escaped_each : (p : ℕ → Bool) (i : Bool) (t : List ℕ) → list_all p t ≡ true → list_all p (escaped_from i t) ≡ true
 escaped_each p i [] h = refl
 escaped_each p i (c ∷ cs) h =
-    let r = both (p c) (list_all p cs) h in
+    let r = and_parts (p c) (list_all p cs) h in
     elim (escaped_step i c cs) [
       | inl s ↦ rw (s.1, r.0) (escaped_each p s.0 cs r.1)
       | inr s ↦ rw (s, r.0) (escaped_each p false cs r.1)
@@ -121,14 +121,14 @@ all-take : (p : ℕ → Bool) (n : ℕ) (t : List ℕ) → list_all p t ≡ true
 all-take p zero t h = refl
 all-take p (suc n) [] h = refl
 all-take p (suc n) (x ∷ xs) h =
-    let r = both (p x) (list_all p xs) h in
+    let r = and_parts (p x) (list_all p xs) h in
     rw (r.0, all-take p n xs r.1) refl
 
 all-drop : (p : ℕ → Bool) (n : ℕ) (t : List ℕ) → list_all p t ≡ true → list_all p (drop n t) ≡ true
 all-drop p zero t h = h
 all-drop p (suc n) [] h = refl
 all-drop p (suc n) (x ∷ xs) h =
-    let r = both (p x) (list_all p xs) h in
+    let r = and_parts (p x) (list_all p xs) h in
     all-drop p n xs r.1
 
 -- each part of a list of parts
@@ -147,7 +147,7 @@ each-append P (x ∷ xs) b h k = (h.0, each-append P xs b h.1 k)
 parts_inner : (n : ℕ) (s : List ℕ) → IsInner s → Each IsInner (parts_by n s)
 unfolding parts_by
 parts_inner zero s h = (h, tt)
-parts_inner (suc n) s h = elim (cases_bool (is_short s)) [
+parts_inner (suc n) s h = elim (cases_Bool (is_short s)) [
   | inl e ↦ rw e (h, tt)
   | inr e ↦
       let m = (cut_may_be s h.utf8 e).whole in
@@ -173,8 +173,8 @@ inner_all : (t : List ℕ) → list_all is_textual t ≡ true → list_all (λ b
     → list_all is_inner t ≡ true
 inner_all [] h k = refl
 inner_all (x ∷ xs) h k =
-    let r = both (is_textual x) (list_all is_textual xs) h in
-    let s = both (not (is_lf x)) (list_all (λ b. not (is_lf b)) xs) k in
+    let r = and_parts (is_textual x) (list_all is_textual xs) h in
+    let s = and_parts (not (is_lf x)) (list_all (λ b. not (is_lf b)) xs) k in
     rw (inner_char x r.0 (not-true (is_lf x) s.0), inner_all xs r.1 s.1) refl
 
 pub no_lf_of : (t : List ℕ) → list_all (λ b. not (is_lf b)) t ≡ true → NoLf t
@@ -229,10 +229,10 @@ canonical_inner (suc n) t u h le = elim (cases_lt (position_or_len is_lf t) (len
       let parts : list_all is_textual (c.front ++ 10 ∷ c.rest) ≡ true = ap (list_all is_textual) (sym c.parts) ∙ h in
       let front : IsInner c.front = record {
         utf8 = c.front_utf8;
-        each = inner_all c.front (in_front is_textual c.front (10 ∷ c.rest) parts) c.none;
+        each = inner_all c.front (all_parts is_textual c.front (10 ∷ c.rest) parts).0 c.none;
       } in
       rw (canonical_step t c.front c.rest c.parts (no_lf_of c.front c.none))
       (each-append IsInner (marked Cont (segment_parts c.front)) (canonical c.rest) (segment_inner c.front front)
-      (canonical_inner n c.rest c.rest_utf8 (in_back is_textual c.front (10 ∷ c.rest) parts)
+      (canonical_inner n c.rest c.rest_utf8 (all_parts is_textual c.front (10 ∷ c.rest) parts).1
       (omega (arith, c.shorter))))
 ]

@@ -30,7 +30,7 @@ use Rattle.std.proofs.Common.{
 use Rattle.std.specs.Prelude.{unwrap_or}
 use Rattle.std.specs.Fmt.{decimal}
 use Rattle.std.specs.List.{flat_map, slice_split}
-use Rattle.std.proofs.lemmas.Bool.{leb-true}
+use Rattle.std.proofs.lemmas.Bool.{leb-true, cases_Bool}
 use Rattle.gedcom_line.specs.Escape.{escaped}
 use Rattle.gedcom_line.specs.Reading.{Parts}
 use Rattle.gedcom_line.specs.Line.{IsName}
@@ -52,7 +52,6 @@ use Rattle.gedcom_line.specs.Split.{
   is_lf,
 }
 use Rattle.gedcom_line.specs.declared.splitting.Mark.TheVariants.{Cont}
-use Rattle.gedcom_line.proofs.Doubled.{cases_bool}
 use Rattle.gedcom_line.proofs.Counts.{char_count-append, char_count-le-length, escaped_le_double, short_nil}
 use Rattle.gedcom_line.proofs.Cuts.{greatest_gives, may_true, good_true}
 use Rattle.gedcom_line.proofs.Again.{level_digits}
@@ -108,15 +107,6 @@ spelling_chars l h k =
       char_count-append l.tag (raw_text l.raw),
     )
 
--- the same with its line end
-pub line_chars : (l : Parts) → IsLine l → char_count l.raw ≤ 200 → char_count (spelling l ++ 10 ∷ []) ≤ 301
-line_chars l h k = omega (
-  arith,
-  spelling_chars l h k,
-  char_count-append (spelling l) (10 ∷ []),
-  char_count-le-length (10 ∷ []),
-)
-
 -- what stands before a cut is short and not empty
 few_short : (t : List ℕ) → length t ≤ 100 → IsShort t
 few_short t le = omega (arith, char_count-le-length (escaped t), escaped_le_double false t)
@@ -138,7 +128,7 @@ cut_short s = chosen_short s (greatest (is_good_cut s) (length s - 1)) (greatest
 parts_by_short : (n : ℕ) (s : List ℕ) → length s ≤ n → Each IsShort (parts_by n s)
 unfolding parts_by
 parts_by_short zero s le = (few_short s (omega arith), tt)
-parts_by_short (suc n) s le = elim (cases_bool (is_short s)) [
+parts_by_short (suc n) s le = elim (cases_Bool (is_short s)) [
   | inl e ↦ rw e (leb-true (char_count (escaped s)) 200 e, tt)
   | inr e ↦ rw e (
     (cut_short s).1,

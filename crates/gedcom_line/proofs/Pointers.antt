@@ -33,7 +33,7 @@ use Rattle.std.proofs.Common.{
 }
 use Rattle.std.specs.Option.{option_map_or}
 use Rattle.std.specs.List.{position_or_len, before_first, after_first, prefix_len, list_all}
-use Rattle.std.proofs.lemmas.Bool.{eqb-true, lt-ltb, ltb-true}
+use Rattle.std.proofs.lemmas.Bool.{eqb-true, lt-ltb, ltb-true, cases_Bool}
 use Rattle.std.proofs.lemmas.List.{take_at}
 use Rattle.std.proofs.Math.Seq.{drop-append-add}
 use Rattle.std.proofs.Math.Numerals.{one-add}
@@ -56,7 +56,7 @@ use Rattle.gedcom_line.proofs.Steps.{
   is_name_of,
   ref_front,
 }
-use Rattle.gedcom_line.proofs.Doubled.{cases_bool, begins_made, marks_begin, marks_pair}
+use Rattle.gedcom_line.proofs.Doubled.{begins_made, marks_begin, marks_pair}
 
 and_mid : (a b c : Bool) → b ≡ false → (a && b && c) ≡ false
 and_mid true b c h = rw h refl
@@ -81,7 +81,7 @@ other_start : (c : ℕ) (cs : List ℕ) → eqb c 64 ≡ false → pointer_from 
 other_start c cs h = rw h refl
 
 at_start : (cs : List ℕ) → pointer_from (skip is_space (escaped (64 ∷ cs))) ≡ None
-at_start cs = elim (cases_bool (begins_escape cs)) [
+at_start cs = elim (cases_Bool (begins_escape cs)) [
   | inr b ↦ ap (λ (x : List ℕ). pointer_from (skip is_space x)) (marks_pair false cs refl b)
       ∙ from_at (64 ∷ 64 ∷ escaped_from false cs) 64 (escaped_from false cs) refl refl
   | inl b ↦
@@ -93,13 +93,13 @@ at_start cs = elim (cases_bool (begins_escape cs)) [
 
 escaped_start : (t : List ℕ) → pointer_from (skip is_space (escaped t)) ≡ None
 escaped_start [] = refl
-escaped_start (c ∷ cs) = elim (cases_bool (eqb c 64)) [
+escaped_start (c ∷ cs) = elim (cases_Bool (eqb c 64)) [
   | inl e ↦ subst (λ (x : ℕ). pointer_from (skip is_space (escaped (x ∷ cs))) ≡ None)
       (sym (eqb-true c 64 e)) (at_start cs)
   | inr e ↦
       let out : escaped (c ∷ cs) ≡ c ∷ escaped cs = rw e refl in
       ap (λ (x : List ℕ). pointer_from (skip is_space x)) out
-      ∙ elim (cases_bool (is_space c)) [
+      ∙ elim (cases_Bool (is_space c)) [
         | inl s ↦ rw (s, one-add) (escaped_start cs)
         | inr s ↦
             rw s (other_start c (escaped cs) e)

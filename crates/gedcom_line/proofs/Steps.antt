@@ -44,7 +44,7 @@ use Rattle.std.proofs.Common.{
 use Rattle.std.specs.List.{prefix_len, list_all, position_or_len, before_first, after_first}
 use Rattle.std.specs.Cmp.Derive.{both_true}
 use Rattle.std.proofs.lemmas.List.Sums.{split_at_first, passes_at_first}
-use Rattle.std.proofs.lemmas.Bool.{eqb-true, leb-true, ltb-true, ltb-false, lt-ltb, le-leb, le-ltb}
+use Rattle.std.proofs.lemmas.Bool.{eqb-true, leb-true, ltb-true, ltb-false, lt-ltb, le-leb, le-ltb, and_parts, or_parts}
 use Rattle.std.proofs.lemmas.List.{take-append-drop}
 use Rattle.std.proofs.lemmas.List.Folds.{length-prefix_len}
 use Rattle.std.proofs.Math.Seq.{drop-append_seam, take-append_seam, drop-append-add}
@@ -64,18 +64,6 @@ use Rattle.gedcom_line.specs.Reading.{
   xref_at,
   tag_at,
 }
-
-pub either : (a b : Bool) → (a || b) ≡ true → (a ≡ true) ⊎ (b ≡ true)
-either true b e = inl refl
-either false b e = inr e
-
-pub neither : (a b : Bool) → (a || b) ≡ false → (a ≡ false) × (b ≡ false)
-neither true b e = absurd cc
-neither false b e = (refl, e)
-
-pub both : (a b : Bool) → (a && b) ≡ true → (a ≡ true) × (b ≡ true)
-both true b e = (refl, e)
-both false b e = absurd cc
 
 -- the front that passes, and the rest
 pub stops_skip : (p : ℕ → Bool) (t : List ℕ) → Stops p (drop (prefix_len p t) t)
@@ -100,7 +88,7 @@ pub front_len : (p : ℕ → Bool) (front rest : List ℕ) → list_all p front 
 front_len p [] [] a s = refl
 front_len p [] (b ∷ bs) a s = rw s refl
 front_len p (b ∷ bs) rest a s =
-    let h = both (p b) (list_all p bs) a in
+    let h = and_parts (p b) (list_all p bs) a in
     rw (h.0, one-add, front_len p bs rest h.1 s) refl
 
 pub spans_only : (p : ℕ → Bool) (t front rest : List ℕ) → Spans p t front rest → (take (prefix_len p t) t ≡ front)
@@ -161,19 +149,19 @@ spans_gap t gap rest s some =
 
 -- numbers
 pub digit_in : (b : ℕ) → is_digit b ≡ true → (48 ≤ b) × (b ≤ 57)
-digit_in b h = let k = both (leb 48 b) (leb b 57) h in (leb-true 48 b k.0, leb-true b 57 k.1)
+digit_in b h = let k = and_parts (leb 48 b) (leb b 57) h in (leb-true 48 b k.0, leb-true b 57 k.1)
 
 pub number_spelled : (ds : List ℕ) (n : ℕ) → list_all is_digit ds ≡ true → number_of ds ≡ Some n → IsNumber ds n
 number_spelled [] n a e = absurd cc
 number_spelled (x ∷ []) n a e =
     let h : x - 48 ≡ n = cc in
-    let d = digit_in x (both (is_digit x) true a).0 in
+    let d = digit_in x (and_parts (is_digit x) true a).0 in
     omega (arith, d.0)
 number_spelled (x ∷ y ∷ []) n a e =
     let h : 10 * (x - 48) + (y - 48) ≡ n = cc in
-    let b = both (is_digit x) (is_digit y && true) a in
+    let b = and_parts (is_digit x) (is_digit y && true) a in
     let d = digit_in x b.0 in
-    let c = digit_in y (both (is_digit y) true b.1).0 in
+    let c = digit_in y (and_parts (is_digit y) true b.1).0 in
     omega (arith, d.0, c.0)
 number_spelled (x ∷ y ∷ z ∷ ds) n a e = absurd cc
 
@@ -181,9 +169,9 @@ pub spelled_number : (ds : List ℕ) (n : ℕ) → list_all is_digit ds ≡ true
 spelled_number [] n a e = absurd e
 spelled_number (x ∷ []) n a e = ap Some (omega arith)
 spelled_number (x ∷ y ∷ []) n a e =
-    let b = both (is_digit x) (is_digit y && true) a in
+    let b = and_parts (is_digit x) (is_digit y && true) a in
     let d = digit_in x b.0 in
-    let c = digit_in y (both (is_digit y) true b.1).0 in
+    let c = digit_in y (and_parts (is_digit y) true b.1).0 in
     ap Some (omega (arith, d.0, c.0))
 spelled_number (x ∷ y ∷ z ∷ ds) n a e = absurd e
 
@@ -250,7 +238,7 @@ before_len name after a = front_len (λ b. not (is_at b)) name (64 ∷ after) a 
 
 pub name_is : (name : List ℕ) → is_name name ≡ true → list_all (λ b. not (is_at b)) name ≡ true → IsName name
 name_is [] e a = absurd cc
-name_is (c ∷ cs) e a = let h = both (is_word c) (leb (length (c ∷ cs)) 62) e in (h.0, a, leb-true _ 62 h.1)
+name_is (c ∷ cs) e a = let h = and_parts (is_word c) (leb (length (c ∷ cs)) 62) e in (h.0, a, leb-true _ 62 h.1)
 
 pub is_name_of : (name : List ℕ) → IsName name → (is_name name ≡ true) × (list_all (λ b. not (is_at b)) name ≡ true)
 is_name_of [] n = absurd n
@@ -280,7 +268,7 @@ xref_spelled t x rest e = elim (past_at t) [
       let after : List ℕ = after_first is_at h.0 in
       let c = chosen_some (ltb (position_or_len is_at h.0) (length h.0) && is_name name)
       (after_gap after >>= λ rest. Some (Some (take (length name + 2) t), rest)) (x, rest) f in
-      let ok = both (ltb (position_or_len is_at h.0) (length h.0)) (is_name name) c.0 in
+      let ok = and_parts (ltb (position_or_len is_at h.0) (length h.0)) (is_name name) c.0 in
       let b = bind_some (after_gap after) (λ rest. Some (Some (take (length name + 2) t), rest)) (x, rest) c.1 in
       let same : (Some (take (length name + 2) t), b.0) ≡ (x, rest) = some_is (Some (take (length name + 2) t), b.0)
       (x, rest) b.2 in
@@ -345,7 +333,7 @@ tag_spelled t tag raw e =
     let n : ℕ = prefix_len is_word t in
     let g = guard_some (eqb n 0 || ltb 31 n) (value_after (skip is_word t) >>= λ raw. Some (take n t, raw))
     (tag, raw) e in
-    let no = neither (eqb n 0) (ltb 31 n) g.0 in
+    let no = or_parts (eqb n 0) (ltb 31 n) g.0 in
     let b = bind_some (value_after (skip is_word t)) (λ raw. Some (take n t, raw)) (tag, raw) g.1 in
     let same : (take n t, b.0) ≡ (tag, raw) = some_is (take n t, b.0) (tag, raw) b.2 in
     let st : take n t ≡ tag = ap (λ (y : List ℕ × List ℕ). y.0) same in

@@ -34,7 +34,7 @@ use Rattle.std.proofs.Common.{
 use Rattle.std.specs.List.{list_all, list_any}
 use Rattle.std.specs.Option.{ok_or}
 use Rattle.std.specs.Str.{IsUtf8, is_utf8, bytes_eq}
-use Rattle.std.proofs.lemmas.Bool.{eqb-true, not-true}
+use Rattle.std.proofs.lemmas.Bool.{eqb-true, not-true, and_parts, or_cases}
 use Rattle.std.proofs.lemmas.Slice.Eq.{bytes_eq-Decides}
 use Rattle.std.proofs.lemmas.Str.{is_utf8-from_IsUtf8, IsUtf8-from_is_utf8, IsUtf8-from_ascii}
 use Rattle.gedcom_line.specs.Words.{is_white}
@@ -57,8 +57,6 @@ use Rattle.gedcom_line.specs.declared.fault.LineKind.TheVariants.{NotUtf8, BadLe
 use Rattle.gedcom_line.proofs.Steps.{
   spans_only,
   some_is,
-  both,
-  either,
   eqb_false,
   level_spelled,
   spelled_level,
@@ -97,7 +95,7 @@ chosen false x y z e = inr (refl, e)
 
 -- CONC and CONT
 continuation_is : (t : List ℕ) → is_continuation t ≡ true → IsContinuation t
-continuation_is t h = elim (either (bytes_eq t (codes "CONC")) (bytes_eq t (codes "CONT")) h) [
+continuation_is t h = elim (or_cases (bytes_eq t (codes "CONC")) (bytes_eq t (codes "CONT")) h) [
   | inl k ↦ inl ((bytes_eq-Decides t (codes "CONC")).0 k)
   | inr k ↦ inr ((bytes_eq-Decides t (codes "CONT")).0 k)
 ]
@@ -106,7 +104,7 @@ no_continuation : (t : List ℕ) → ¬ (IsContinuation t) → is_continuation t
 no_continuation t h = elim (is_continuation t) as (λ v. is_continuation t ≡ v → v ≡ false)
     [ true ↦ λ e. absurd (h (continuation_is t e)) | false ↦ λ e. refl ] refl
 
-is_continuation_of : (t : List ℕ) → IsContinuation t → is_continuation t ≡ true
+pub is_continuation_of : (t : List ℕ) → IsContinuation t → is_continuation t ≡ true
 is_continuation_of t (inl h) = rw h refl
 is_continuation_of t (inr h) = rw h refl
 
@@ -142,7 +140,7 @@ put_fault : (n : ℕ) (x : Option (List ℕ)) (t : List ℕ × List ℕ) (k : Li
 put_fault n x t k e =
     elim (chosen (eqb n 99 && not (is_continuation t.0)) (Err BadLevel)
     (Ok (record { level = n; xref = x; tag = t.0; raw = t.1 })) (Err k) e) [
-      | inl h ↦ let b = both (eqb n 99) (not (is_continuation t.0)) h.0 in (
+      | inl h ↦ let b = and_parts (eqb n 99) (not (is_continuation t.0)) h.0 in (
         err_is {A = Parts} BadLevel k h.1,
         (
           eqb-true n 99 b.0,
@@ -216,7 +214,7 @@ blank_utf8 b h = IsUtf8-from_ascii b
 blank_no_nul : (b : List ℕ) → IsBlank b → list_any (λ x. eqb x 0) b ≡ false
 blank_no_nul [] h = refl
 blank_no_nul (x ∷ xs) h =
-    let k = both (is_white x) (list_all is_white xs) h in
+    let k = and_parts (is_white x) (list_all is_white xs) h in
     let no : eqb x 0 ≡ false = eqb_false x 0
     (λ e. let bad : is_white 0 ≡ true = subst (λ (y : ℕ). is_white y ≡ true) e k.0 in absurd cc) in
     rw (no, blank_no_nul xs k.1) refl

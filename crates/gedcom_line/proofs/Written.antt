@@ -38,13 +38,14 @@ use Rattle.std.specs.Str.{IsUtf8, IsCharBoundary}
 use Rattle.std.proofs.Math.Seq.{get_or-append_seam, take-append_seam, drop-append_seam}
 use Rattle.std.proofs.lemmas.Bool.Decides.{nat_tests}
 use Rattle.std.proofs.lemmas.Str.{IsUtf8-take, IsUtf8-drop, IsUtf8-past_char, IsCharBoundary-after_ascii, encode_ascii}
+use Rattle.std.proofs.lemmas.Bool.{and_parts, or_parts}
 use Rattle.gedcom_line.specs.Words.{is_digit, is_end, in_class}
 use Rattle.gedcom_line.specs.Reading.{Parts}
 use Rattle.gedcom_line.specs.Line.{Spans, IsNumber, HasLevel, HasXref, HasTag, IsPiece, IsText, Line}
 use Rattle.gedcom_line.specs.Spelling.{spelling, is_inner, IsInner, IsXref, IsLine}
 use Rattle.gedcom_line.specs.declared.class.Class.{Class}
 use Rattle.gedcom_line.specs.declared.class.Class.TheVariants.{White, Digit, Space, Word}
-use Rattle.gedcom_line.proofs.Steps.{both, neither, digit_in}
+use Rattle.gedcom_line.proofs.Steps.{digit_in}
 use Rattle.gedcom_line.proofs.Spans.{in_class_ascii}
 use Rattle.gedcom_line.proofs.Again.{line_again, inner_nil}
 
@@ -55,21 +56,21 @@ inner_char b h k = grind (arith, nat_tests)
 inner_each : (t : List ℕ) → list_any (λ x. eqb x 0) t ≡ false → IsPiece t → list_all is_inner t ≡ true
 inner_each [] h k = refl
 inner_each (x ∷ xs) h k =
-    let n = neither (eqb x 0) (list_any (λ y. eqb y 0) xs) h in
-    let e = neither (is_end x) (list_any is_end xs) k in
+    let n = or_parts (eqb x 0) (list_any (λ y. eqb y 0) xs) h in
+    let e = or_parts (is_end x) (list_any is_end xs) k in
     let c : is_inner x ≡ true = inner_char x n.0 e.0 in
     rw (c, inner_each xs n.1 e.1) refl
 
 text_inner : (b : List ℕ) → IsText b → IsInner b
 text_inner b t = record { utf8 = t.utf8; each = inner_each b t.no_nul t.piece }
 
-pub in_front : (p : ℕ → Bool) (a b : List ℕ) → list_all p (a ++ b) ≡ true → list_all p a ≡ true
-in_front p [] b h = refl
-in_front p (x ∷ xs) b h = let r = both (p x) (list_all p (xs ++ b)) h in rw (r.0, in_front p xs b r.1) refl
-
-pub in_back : (p : ℕ → Bool) (a b : List ℕ) → list_all p (a ++ b) ≡ true → list_all p b ≡ true
-in_back p [] b h = h
-in_back p (x ∷ xs) b h = let r = both (p x) (list_all p (xs ++ b)) h in in_back p xs b r.1
+pub all_parts : {X : Type 0} (p : X → Bool) (a b : List X) → list_all p (a ++ b) ≡ true
+    → (list_all p a ≡ true) × (list_all p b ≡ true)
+all_parts p [] b h = (refl, h)
+all_parts p (x ∷ xs) b h =
+    let r = and_parts (p x) (list_all p (xs ++ b)) h in
+    let k = all_parts p xs b r.1 in
+    (rw (r.0, k.0) refl, k.1)
 
 -- behind characters of a class
 utf8_behind_one : (x : ℕ) (t : List ℕ) → x < 128 → IsUtf8 (x ∷ t) → IsUtf8 t
@@ -78,11 +79,11 @@ utf8_behind_one x t lt u = IsUtf8-past_char (x ∷ t) t x u (rw (encode_ascii x 
 utf8_behind : (k : Class) (a t : List ℕ) → list_all (in_class k) a ≡ true → IsUtf8 (a ++ t) → IsUtf8 t
 utf8_behind k [] t h u = u
 utf8_behind k (x ∷ xs) t h u =
-    let r = both (in_class k x) (list_all (in_class k) xs) h in
+    let r = and_parts (in_class k x) (list_all (in_class k) xs) h in
     utf8_behind k xs t r.1 (utf8_behind_one x (xs ++ t) (in_class_ascii k x r.0) u)
 
 inner_behind : (k : Class) (a t : List ℕ) → list_all (in_class k) a ≡ true → IsInner (a ++ t) → IsInner t
-inner_behind k a t h i = record { utf8 = utf8_behind k a t h i.utf8; each = in_back is_inner a t i.each }
+inner_behind k a t h i = record { utf8 = utf8_behind k a t h i.utf8; each = (all_parts is_inner a t i.each).1 }
 
 -- behind what a class spans
 inner_spanned : (k : Class) (text front rest : List ℕ) → Spans (in_class k) text front rest
@@ -95,11 +96,11 @@ level_inner b n rest h i = inner_spanned Space h.after h.gap rest h.spaced
 
 number_low : (ds : List ℕ) (n : ℕ) → list_all is_digit ds ≡ true → IsNumber ds n → n ≤ 99
 number_low [] n a e = absurd e
-number_low (x ∷ []) n a e = let d = digit_in x (both (is_digit x) true a).0 in omega (arith, d.1, e)
+number_low (x ∷ []) n a e = let d = digit_in x (and_parts (is_digit x) true a).0 in omega (arith, d.1, e)
 number_low (x ∷ y ∷ []) n a e =
-    let b = both (is_digit x) (is_digit y && true) a in
+    let b = and_parts (is_digit x) (is_digit y && true) a in
     let d = digit_in x b.0 in
-    let c = digit_in y (both (is_digit y) true b.1).0 in
+    let c = digit_in y (and_parts (is_digit y) true b.1).0 in
     omega (arith, d.1, c.1, e)
 number_low (x ∷ y ∷ z ∷ ds) n a e = absurd e
 
@@ -136,11 +137,11 @@ cut_inner name after i =
     record {
       front = record {
         utf8 = subst IsUtf8 front (IsUtf8-take t (length x) i.utf8 b);
-        each = in_front is_inner x after each;
+        each = (all_parts is_inner x after each).0;
       };
       back = record {
         utf8 = subst IsUtf8 back (IsUtf8-drop t (length x) i.utf8 b);
-        each = in_back is_inner x after each;
+        each = (all_parts is_inner x after each).1;
       };
     }
 

@@ -27,25 +27,21 @@ use Rattle.std.proofs.Common.{
   inr,
   ◌⊎◌,
 }
-use Rattle.std.proofs.lemmas.Bool.{not-true}
+use Rattle.std.proofs.lemmas.Bool.{not-true, and_parts, cases_Bool}
 use Rattle.std.specs.List.{prefix_len, list_all}
 use Rattle.std.proofs.Math.Numerals.{one-add}
 use Rattle.std.proofs.lemmas.List.{take_all}
 use Rattle.gedcom_line.specs.Words.{is_end}
 use Rattle.gedcom_line.specs.Line.{IsPiece}
-use Rattle.gedcom_line.proofs.Steps.{both, all_front}
+use Rattle.gedcom_line.proofs.Steps.{all_front}
 use Rattle.gedcom_rules.specs.Pieces.{pieces, onto_first, IsCut}
-
-pub cases_bool : (b : Bool) → (b ≡ true) ⊎ (b ≡ false)
-cases_bool true = inl refl
-cases_bool false = inr refl
 
 -- no terminator
 pub none_ended : (b : List ℕ) → length b ≤ prefix_len (λ x. not (is_end x)) b → ((pieces b).ended ≡ [])
     × ((pieces b).open_ ≡ b)
 unfolding pieces
 none_ended [] h = (refl, refl)
-none_ended (x ∷ xs) h = elim (cases_bool (is_end x)) [
+none_ended (x ∷ xs) h = elim (cases_Bool (is_end x)) [
   | inl e ↦ let bad : suc (length xs) ≤ 0 = rw e at h in absurd (omega arith)
   | inr e ↦ let g : suc (length xs) ≤ 1 + prefix_len (λ x. not (is_end x)) xs = rw e at h in
       let k = none_ended xs (omega arith) in rw (e, k.0, k.1) (refl, refl)
@@ -57,7 +53,7 @@ pub first_ended : (b : List ℕ) (n : ℕ) → n ≡ prefix_len (λ x. not (is_e
     × ((pieces b).open_ ≡ (pieces (drop (n + 1) b)).open_)
 unfolding pieces
 first_ended [] n e h = absurd (omega arith)
-first_ended (x ∷ xs) n e h = elim (cases_bool (is_end x)) [
+first_ended (x ∷ xs) n e h = elim (cases_Bool (is_end x)) [
   | inl f ↦ let z : n ≡ 0 = rw f at e in rw (z, f) (refl, refl)
   | inr f ↦
       let m : ℕ = prefix_len (λ x. not (is_end x)) xs in
@@ -71,7 +67,7 @@ first_ended (x ∷ xs) n e h = elim (cases_bool (is_end x)) [
 pub cut_parts : (b : List ℕ) (n : ℕ) → n ≡ prefix_len (λ x. not (is_end x)) b → n < length b
     → IsCut b (take n b) (drop (n + 1) b)
 cut_parts [] n e h = absurd (omega arith)
-cut_parts (x ∷ xs) n e h = elim (cases_bool (is_end x)) [
+cut_parts (x ∷ xs) n e h = elim (cases_Bool (is_end x)) [
   | inl f ↦ let z : n ≡ 0 = rw f at e in rw z (record { end = x; ends = f; parts = refl })
   | inr f ↦
       let m : ℕ = prefix_len (λ x. not (is_end x)) xs in
@@ -89,7 +85,7 @@ whole_rest b n = take_all (length b - n) (drop n b) (omega (arith, length-drop n
 none_any : (t : List ℕ) → list_all (λ x. not (is_end x)) t ≡ true → IsPiece t
 none_any [] h = refl
 none_any (x ∷ xs) h =
-    let r = both (not (is_end x)) (list_all (λ y. not (is_end y)) xs) h in
+    let r = and_parts (not (is_end x)) (list_all (λ y. not (is_end y)) xs) h in
     let e : is_end x ≡ false = not-true (is_end x) r.0 in
     rw (e, none_any xs r.1) refl
 
@@ -114,7 +110,7 @@ onto_whole x (p ∷ ps) rest e h = ((rw e h.0.0, h.0.1), h.1)
 pub pieces_whole : (b : List ℕ) → AllPieces (pieces b).ended × IsPiece (pieces b).open_
 unfolding pieces
 pieces_whole [] = (tt, refl)
-pieces_whole (x ∷ xs) = elim (cases_bool (is_end x)) [
+pieces_whole (x ∷ xs) = elim (cases_Bool (is_end x)) [
   | inl e ↦ rw e ((refl, (pieces_whole xs).0), (pieces_whole xs).1)
   | inr e ↦ rw e (onto_whole x (pieces xs).ended (pieces xs).open_ e (pieces_whole xs))
 ]

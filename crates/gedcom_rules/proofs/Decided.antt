@@ -29,14 +29,13 @@ use Rattle.std.proofs.Common.{
   Result,
 }
 use Rattle.std.specs.Prelude.{is_some}
-use Rattle.std.proofs.lemmas.Bool.{ltb-true}
-use Rattle.gedcom_line.proofs.Steps.{both, either}
+use Rattle.std.proofs.lemmas.Bool.{ltb-true, and_parts, or_cases, cases_Bool}
 use Rattle.gedcom_rules.specs.declared.fault.TreeKind.TheVariants.{TooLong, FileTooLarge}
 use Rattle.gedcom_rules.specs.Pieces.{file_pieces, skip_mark}
 use Rattle.gedcom_rules.specs.Rules.{Progress, progress_of}
 use Rattle.gedcom_rules.specs.Faults.{max_line, max_file, Fault, FaultIn, overflows, within, extra, Decides, IsOpen}
 use Rattle.gedcom_rules.specs.Judging.{start, run, fault_behind, open_fault, decided}
-use Rattle.gedcom_rules.proofs.Cuts.{cases_bool, pieces_whole}
+use Rattle.gedcom_rules.proofs.Cuts.{pieces_whole}
 use Rattle.gedcom_rules.proofs.Runs.{Ran, ran, clean_run, fault_run}
 use Rattle.gedcom_rules.proofs.Limits.{no_extra, extra_large}
 
@@ -47,7 +46,7 @@ some_is x y e = cc
 open_decides : (b : List ℕ) (r : Result Progress Fault) → Ran [] (file_pieces (within b)).ended r → (f : Fault)
     → open_fault (file_pieces (within b)).open_ (extra b) r ≡ Some f → Decides b f
 open_decides b (Err g) h f e = inl (subst (FaultIn [] (file_pieces (within b)).ended) (some_is g f e) h)
-open_decides b (Ok q) h f e = elim (cases_bool (overflows (file_pieces (within b)).open_ (extra b))) [
+open_decides b (Ok q) h f e = elim (cases_Bool (overflows (file_pieces (within b)).open_ (extra b))) [
   | inl o ↦
       let at : fault_behind q.count TooLong ≡ f = some_is (fault_behind q.count TooLong) f (rw o at e) in
       inr (record {
@@ -57,7 +56,7 @@ open_decides b (Ok q) h f e = elim (cases_bool (overflows (file_pieces (within b
             ∙ ap (λ (p : Progress). Some (p.count + 1)) h.1.1;
         kind = inl (sym (ap (λ (g : Fault). g.kind) at), o);
       })
-  | inr o ↦ elim (cases_bool (is_some (extra b))) [
+  | inr o ↦ elim (cases_Bool (is_some (extra b))) [
     | inl x ↦
         let at : fault_behind q.count FileTooLarge ≡ f = some_is (fault_behind q.count FileTooLarge) f
         (rw (o, x) at e) in
@@ -112,9 +111,9 @@ decided_one b f g x y =
 open_small : (rest : List ℕ) (next : Option ℕ) (r : Result Progress Fault) → open_fault rest next r ≡ None
     → is_some next ≡ false
 open_small rest next (Err f) e = absurd cc
-open_small rest next (Ok p) e = elim (cases_bool (overflows rest next)) [
+open_small rest next (Ok p) e = elim (cases_Bool (overflows rest next)) [
   | inl o ↦ let bad : Some (fault_behind p.count TooLong) ≡ None = rw o at e in absurd cc
-  | inr o ↦ elim (cases_bool (is_some next)) [
+  | inr o ↦ elim (cases_Bool (is_some next)) [
     | inl x ↦ let bad : Some (fault_behind p.count FileTooLarge) ≡ None = rw (o, x) at e in absurd cc
     | inr x ↦ x
   ]
@@ -129,7 +128,7 @@ decided_small b e = no_extra b
 large_open : (rest : List ℕ) (next : Option ℕ) (r : Result Progress Fault) → is_some next ≡ true
     → (f : Fault) × (open_fault rest next r ≡ Some f)
 large_open rest next (Err f) h = (f, refl)
-large_open rest next (Ok p) h = elim (cases_bool (overflows rest next)) [
+large_open rest next (Ok p) h = elim (cases_Bool (overflows rest next)) [
   | inl o ↦ (fault_behind p.count TooLong, rw o refl)
   | inr o ↦ (fault_behind p.count FileTooLarge, rw (o, h) refl)
 ]
@@ -141,7 +140,7 @@ large_decided b lt = large_open (file_pieces (within b)).open_ (extra b) (run st
 
 -- a line that has not ended, where no byte follows
 pub no_overflow : (rest : List ℕ) → overflows rest None ≡ true → max_line < length rest
-no_overflow rest h = elim (either (ltb max_line (length rest)) (eqb (length rest) max_line && false) h) [
+no_overflow rest h = elim (or_cases (ltb max_line (length rest)) (eqb (length rest) max_line && false) h) [
   | inl a ↦ ltb-true max_line (length rest) a
-  | inr a ↦ absurd (let k = both (eqb (length rest) max_line) false a in let bad : false ≡ true = k.1 in cc)
+  | inr a ↦ absurd (let k = and_parts (eqb (length rest) max_line) false a in let bad : false ≡ true = k.1 in cc)
 ]

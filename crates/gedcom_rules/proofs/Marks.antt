@@ -25,12 +25,11 @@ use Rattle.std.proofs.Common.{
   eq-eqb,
 }
 use Rattle.std.proofs.Math.Bool.{and-false}
-use Rattle.std.proofs.lemmas.Bool.{cases_eq}
+use Rattle.std.proofs.lemmas.Bool.{cases_eq, cases_Bool}
 use Rattle.std.proofs.lemmas.Bool.Decides.{nat_tests}
 use Rattle.gedcom_line.specs.Words.{is_end}
 use Rattle.gedcom_line.proofs.Steps.{eqb_false}
 use Rattle.gedcom_rules.specs.Pieces.{Pieces, pieces, onto_first, skip_mark, file_pieces}
-use Rattle.gedcom_rules.proofs.Cuts.{cases_bool}
 
 -- the open rest goes on
 abbrev pub on : Pieces → List ℕ → Pieces
@@ -45,7 +44,7 @@ onto_on x (p ∷ ps) o c h = refl
 pub pieces-append : (b c : List ℕ) → pieces (b ++ c) ≡ on (pieces b) c
 unfolding pieces
 pieces-append [] c = refl
-pieces-append (x ∷ xs) c = elim (cases_bool (is_end x)) [
+pieces-append (x ∷ xs) c = elim (cases_Bool (is_end x)) [
   | inl h ↦ rw (h, pieces-append xs c) refl
   | inr h ↦ rw (h, pieces-append xs c) (onto_on x (pieces xs).ended (pieces xs).open_ c h)
 ]
@@ -58,7 +57,7 @@ open_le_onto x (p ∷ ps) o = omega arith
 open_le : (t : List ℕ) → length (pieces t).open_ ≤ length t
 unfolding pieces
 open_le [] = omega arith
-open_le (x ∷ xs) = elim (cases_bool (is_end x)) [
+open_le (x ∷ xs) = elim (cases_Bool (is_end x)) [
   | inl h ↦ rw h (let k = open_le xs in omega arith)
   | inr h ↦ rw h (let k = open_le xs in let g = open_le_onto x (pieces xs).ended (pieces xs).open_ in omega arith)
 ]
@@ -75,7 +74,7 @@ onto_open x xs (p ∷ ps) o le h k = absurd (omega arith)
 open_is_all : (t : List ℕ) → length (pieces t).open_ ≡ length t → AllOpen (pieces t) t
 unfolding pieces
 open_is_all [] h = (refl, refl)
-open_is_all (x ∷ xs) h = elim (cases_bool (is_end x)) [
+open_is_all (x ∷ xs) h = elim (cases_Bool (is_end x)) [
   | inl e ↦ let k : length (pieces xs).open_ ≡ suc (length xs) = rw e at h in absurd (let g = open_le xs in omega arith)
   | inr e ↦
       let k : length (onto_first x (pieces xs).ended (pieces xs).open_).open_ ≡ suc (length xs) = rw e at h in
@@ -90,13 +89,13 @@ pub skip_le : (b : List ℕ) → length (skip_mark b) ≤ length b
 skip_le [] = omega arith
 skip_le (a ∷ []) = omega arith
 skip_le (a ∷ b ∷ []) = omega arith
-skip_le (a ∷ b ∷ c ∷ bs) = elim (cases_bool (is_mark a b c)) [ inl h ↦ rw h (omega arith) | inr h ↦ rw h (omega arith) ]
+skip_le (a ∷ b ∷ c ∷ bs) = elim (cases_Bool (is_mark a b c)) [ inl h ↦ rw h (omega arith) | inr h ↦ rw h (omega arith) ]
 
 skip_same : (b : List ℕ) → length (skip_mark b) ≡ length b → skip_mark b ≡ b
 skip_same [] h = refl
 skip_same (a ∷ []) h = refl
 skip_same (a ∷ b ∷ []) h = refl
-skip_same (a ∷ b ∷ c ∷ bs) h = elim (cases_bool (is_mark a b c)) [
+skip_same (a ∷ b ∷ c ∷ bs) h = elim (cases_Bool (is_mark a b c)) [
   | inl e ↦ let k : length bs ≡ length (a ∷ b ∷ c ∷ bs) = rw e at h in absurd (omega arith)
   | inr e ↦ rw e refl
 ]
@@ -135,25 +134,25 @@ short_mark a (b ∷ c ∷ cs) h = rw (end_no_mark a h) refl
 
 second_mark : (a b : ℕ) (c : List ℕ) → is_end b ≡ true → skip_mark (a ∷ b ∷ c) ≡ a ∷ b ∷ c
 second_mark a b [] h = refl
-second_mark a b (c ∷ cs) h = elim (cases_bool (eqb a 239)) [
+second_mark a b (c ∷ cs) h = elim (cases_Bool (eqb a 239)) [
   | inl e ↦ rw (e, end_no_second b h) refl
   | inr e ↦ rw e refl
 ]
 
 skip-append : (b c : List ℕ) → (length (file_pieces b).open_ ≡ length b → ⊥) → skip_mark (b ++ c) ≡ skip_mark b ++ c
 skip-append [] c h = absurd (h nil_open)
-skip-append (a ∷ []) c h = elim (cases_bool (is_end a)) [
+skip-append (a ∷ []) c h = elim (cases_Bool (is_end a)) [
   | inl e ↦ short_mark a c e
   | inr e ↦ absurd (h (open_one a e))
 ]
-skip-append (a ∷ b ∷ []) c h = elim (cases_bool (is_end a)) [
+skip-append (a ∷ b ∷ []) c h = elim (cases_Bool (is_end a)) [
   | inl e ↦ short_mark a (b ∷ c) e
-  | inr e ↦ elim (cases_bool (is_end b)) [
+  | inr e ↦ elim (cases_Bool (is_end b)) [
     | inl f ↦ second_mark a b c f
     | inr f ↦ absurd (h (open_two a b e f))
   ]
 ]
-skip-append (a ∷ b ∷ d ∷ bs) c h = elim (cases_bool (is_mark a b d)) [ inl e ↦ rw e refl | inr e ↦ rw e refl ]
+skip-append (a ∷ b ∷ d ∷ bs) c h = elim (cases_Bool (is_mark a b d)) [ inl e ↦ rw e refl | inr e ↦ rw e refl ]
 
 end_no_third : (x : ℕ) → is_end x ≡ true → eqb x 191 ≡ false
 end_no_third x h = grind (arith, nat_tests)
@@ -163,13 +162,13 @@ pub skip_end : (p t : List ℕ) (e : ℕ) → is_end e ≡ true → skip_mark (p
 skip_end [] t e h = short_mark e t h
 skip_end (a ∷ []) t e h = second_mark a e t h
 skip_end (a ∷ b ∷ []) t e h = rw (end_no_third e h, and-false (eqb a 239 && eqb b 187)) refl
-skip_end (a ∷ b ∷ c ∷ bs) t e h = elim (cases_bool (is_mark a b c)) [ inl k ↦ rw k refl | inr k ↦ rw k refl ]
+skip_end (a ∷ b ∷ c ∷ bs) t e h = elim (cases_Bool (is_mark a b c)) [ inl k ↦ rw k refl | inr k ↦ rw k refl ]
 
 pub skip_ge : (b : List ℕ) → length b ≤ length (skip_mark b) + 3
 skip_ge [] = omega arith
 skip_ge (a ∷ []) = omega arith
 skip_ge (a ∷ b ∷ []) = omega arith
-skip_ge (a ∷ b ∷ c ∷ bs) = elim (cases_bool (is_mark a b c)) [ inl h ↦ rw h (omega arith) | inr h ↦ rw h (omega arith) ]
+skip_ge (a ∷ b ∷ c ∷ bs) = elim (cases_Bool (is_mark a b c)) [ inl h ↦ rw h (omega arith) | inr h ↦ rw h (omega arith) ]
 
 -- how an open line goes on: with the mark taken off where it is all that there was
 abbrev pub resumed : ℕ → List ℕ → List ℕ → List ℕ
@@ -195,7 +194,7 @@ kept_mark : (b c : List ℕ) → 3 ≤ length b → length (skip_mark b) ≡ len
 kept_mark [] c h e = absurd (omega arith)
 kept_mark (x ∷ []) c h e = absurd (omega arith)
 kept_mark (x ∷ y ∷ []) c h e = absurd (omega arith)
-kept_mark (x ∷ y ∷ z ∷ bs) c h e = elim (cases_bool (is_mark x y z)) [
+kept_mark (x ∷ y ∷ z ∷ bs) c h e = elim (cases_Bool (is_mark x y z)) [
   | inl m ↦ let k : length bs ≡ length (x ∷ y ∷ z ∷ bs) = rw m at e in absurd (omega arith)
   | inr m ↦ rw m refl
 ]

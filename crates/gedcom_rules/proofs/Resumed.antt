@@ -25,29 +25,28 @@ use Rattle.std.proofs.Common.{
   arith,
 }
 use Rattle.std.specs.List.{list_any}
+use Rattle.std.proofs.lemmas.Bool.{or_parts, cases_Bool}
 use Rattle.gedcom_line.specs.Words.{is_end}
 use Rattle.gedcom_line.specs.Line.{IsPiece}
-use Rattle.gedcom_line.proofs.Steps.{neither}
 use Rattle.gedcom_rules.specs.Pieces.{pieces, skip_mark, from_start, IsCut}
-use Rattle.gedcom_rules.proofs.Cuts.{cases_bool}
 use Rattle.gedcom_rules.proofs.Marks.{is_mark, resumed, skip_end, skip_ge}
 
 pub resumed_is : (total : ℕ) (rest c : List ℕ) → resumed total rest c ≡ from_start (eqb total (length rest)) (rest ++ c)
-resumed_is total rest c = elim (cases_bool (eqb total (length rest))) [ inl h ↦ rw h refl | inr h ↦ rw h refl ]
+resumed_is total rest c = elim (cases_Bool (eqb total (length rest))) [ inl h ↦ rw h refl | inr h ↦ rw h refl ]
 
 -- bytes that no terminator ends
 pub piece-append : (p q : List ℕ) → IsPiece p → IsPiece q → IsPiece (p ++ q)
 piece-append [] q h k = k
-piece-append (x ∷ xs) q h k = let n = neither (is_end x) (list_any is_end xs) h in
+piece-append (x ∷ xs) q h k = let n = or_parts (is_end x) (list_any is_end xs) h in
     rw (n.0, piece-append xs q n.1 k) refl
 
 skip_piece : (b : List ℕ) → IsPiece b → IsPiece (skip_mark b)
 skip_piece [] h = h
 skip_piece (x ∷ []) h = h
 skip_piece (x ∷ y ∷ []) h = h
-skip_piece (x ∷ y ∷ z ∷ bs) h = elim (cases_bool (is_mark x y z)) [
-  | inl m ↦ rw m (neither (is_end z) (list_any is_end bs)
-      (neither (is_end y) (list_any is_end (z ∷ bs)) (neither (is_end x) (list_any is_end (y ∷ z ∷ bs)) h).1).1).1
+skip_piece (x ∷ y ∷ z ∷ bs) h = elim (cases_Bool (is_mark x y z)) [
+  | inl m ↦ rw m (or_parts (is_end z) (list_any is_end bs)
+      (or_parts (is_end y) (list_any is_end (z ∷ bs)) (or_parts (is_end x) (list_any is_end (y ∷ z ∷ bs)) h).1).1).1
   | inr m ↦ rw m h
 ]
 
@@ -59,7 +58,7 @@ pub piece_open : (b : List ℕ) → IsPiece b → ((pieces b).ended ≡ []) × (
 unfolding pieces
 piece_open [] h = (refl, refl)
 piece_open (x ∷ xs) h =
-    let n = neither (is_end x) (list_any is_end xs) h in
+    let n = or_parts (is_end x) (list_any is_end xs) h in
     let k = piece_open xs n.1 in
     rw (n.0, k.0, k.1) (refl, refl)
 
@@ -69,7 +68,7 @@ piece_ended : (p t : List ℕ) (e : ℕ) → IsPiece p → is_end e ≡ true
 unfolding pieces
 piece_ended [] t e h k = rw k (refl, refl)
 piece_ended (x ∷ xs) t e h k =
-    let n = neither (is_end x) (list_any is_end xs) h in
+    let n = or_parts (is_end x) (list_any is_end xs) h in
     let r = piece_ended xs t e n.1 k in
     rw (n.0, r.0, r.1) (refl, refl)
 

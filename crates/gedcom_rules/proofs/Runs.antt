@@ -40,12 +40,12 @@ use Rattle.std.proofs.Common.{
 }
 use Rattle.std.specs.Prelude.{option_map}
 use Rattle.std.specs.List.{list_all, list_any, flat_map}
-use Rattle.std.proofs.lemmas.Bool.{eqb-true, ltb-true, ltb-false, le-ltb, lt-ltb}
+use Rattle.std.proofs.lemmas.Bool.{eqb-true, ltb-true, ltb-false, le-ltb, lt-ltb, and_parts, cases_Bool}
 use Rattle.std.proofs.lemmas.List.Concat.{flat_map-append}
 use Rattle.gedcom_line.specs.Reading.{Parts, is_continuation}
 use Rattle.gedcom_line.specs.Escape.{unescaped}
 use Rattle.gedcom_line.specs.Line.{IsBlank, Line}
-use Rattle.gedcom_line.proofs.Steps.{both, eqb_false, eqb_no}
+use Rattle.gedcom_line.proofs.Steps.{eqb_false, eqb_no}
 use Rattle.gedcom_rules.specs.declared.fault.TreeKind.{TreeKind}
 use Rattle.gedcom_rules.specs.Rules.{
   Progress,
@@ -72,7 +72,7 @@ use Rattle.gedcom_rules.specs.Judging.{
   run,
   fault_behind,
 }
-use Rattle.gedcom_rules.proofs.Cuts.{cases_bool, AllPieces}
+use Rattle.gedcom_rules.proofs.Cuts.{AllPieces}
 use Rattle.gedcom_rules.proofs.Judged.{judge_blank, judge_keeps, judge_faulty, judged}
 use Rattle.std.proofs.Math.Bool.{and-false, and-true, or-false}
 
@@ -129,8 +129,8 @@ pub belongs_deeper : (n : ℕ) (ms : List Parts) (l : Parts) → list_all (λ m.
     (is_continuation l.tag && eqb l.level (n + 1)) (l ∷ []) []
 belongs_deeper n [] l a h = rw h refl
 belongs_deeper n (m ∷ ms) l a h =
-    let r = both (ltb n m.level) (list_all (λ k. ltb n k.level) ms) a in
-    rw r.0 (elim (cases_bool (is_continuation m.tag && eqb m.level (n + 1))) [
+    let r = and_parts (ltb n m.level) (list_all (λ k. ltb n k.level) ms) a in
+    rw r.0 (elim (cases_Bool (is_continuation m.tag && eqb m.level (n + 1))) [
       | inl e ↦ rw e (ap (λ (x : List Parts). m ∷ x) (belongs_deeper n ms l r.1 h))
       | inr e ↦ rw e (belongs_deeper n ms l r.1 h)
     ])
@@ -141,7 +141,7 @@ sub_sub a b c = omega arith
 continued_step : (n : ℕ) (m l : Parts) (more : List Parts)
     → standing m (more ++ cond (is_continuation l.tag && eqb l.level (n + 1)) (l ∷ []) []) ≡ continue_at n l
     (standing m more)
-continued_step n m l more = elim (cases_bool (is_continuation l.tag && eqb l.level (n + 1))) [
+continued_step n m l more = elim (cases_Bool (is_continuation l.tag && eqb l.level (n + 1))) [
   | inl e ↦
       let joined : unescaped m.raw ++ flat_map adds (more ++ l ∷ []) ≡ (unescaped m.raw ++ flat_map adds more)
       ++ adds l = ap (λ (x : List ℕ). unescaped m.raw ++ x)
@@ -164,17 +164,17 @@ at_deeper n (m ∷ ms) l h k =
     let deep : ltb n l.level ≡ true = lt-ltb n l.level (omega (arith, other, ltb-false l.level n k)) in
     let all : list_all (λ j. ltb n j.level) (ms ++ l ∷ []) ≡ list_all (λ j. ltb n j.level) ms = all-push
     (λ j. ltb n j.level) ms l ∙ rw deep (and-true (list_all (λ j. ltb n j.level) ms)) in
-    rw all (elim (cases_bool (eqb m.level n && list_all (λ j. ltb n j.level) ms)) [
-      | inl e ↦ rw e (ap Some (ap (standing m) (belongs_deeper n ms l (both (eqb m.level n) _ e).1 deep)
+    rw all (elim (cases_Bool (eqb m.level n && list_all (λ j. ltb n j.level) ms)) [
+      | inl e ↦ rw e (ap Some (ap (standing m) (belongs_deeper n ms l (and_parts (eqb m.level n) _ e).1 deep)
           ∙ continued_step n m l (belongs n ms)))
       | inr e ↦ rw e (at_deeper n ms l h k)
     ])
 
 pub standing-push : (ls : List Parts) (l : Parts) (n : ℕ) → standing_at n (ls ++ l ∷ []) ≡ above_after
     (λ k. standing_at k ls) l n
-standing-push ls l n = elim (cases_bool (eqb l.level n)) [
+standing-push ls l n = elim (cases_Bool (eqb l.level n)) [
   | inl e ↦ rw e (at_own n ls l e)
-  | inr e ↦ elim (cases_bool (ltb l.level n)) [
+  | inr e ↦ elim (cases_Bool (ltb l.level n)) [
     | inl k ↦ rw (e, k) (at_lower n ls l e k)
     | inr k ↦ rw (e, k) (at_deeper n ls l e k)
   ]
@@ -318,12 +318,6 @@ fault_run before ps f h =
     ∙ ap (then_run (λ q. run q (h.bad ∷ h.back))) (clean_run before h.front h.lines h.clean)
     ∙ run_bad (progress_of h.lines) h.bad h.back f.kind (judge_faulty h.lines h.bad f.kind h.kind)
     ∙ ap (λ (n : Option ℕ). Err (record { kind = f.kind; at = n })) (sym h.at)
-
--- the loop's steps
-pub run_next : (p : Progress) (found : Option Parts) (b : List ℕ) (bs : List (List ℕ)) → judge p b ≡ Ok found
-    → run p (b ∷ bs) ≡ run (next p found) bs
-unfolding run
-run_next p found b bs h = rw h refl
 
 pub run_err : (p : Progress) (b : List ℕ) (bs : List (List ℕ)) (k : TreeKind) → judge p b ≡ Err k
     → run p (b ∷ bs) ≡ Err (fault_behind p.count k)

@@ -33,17 +33,16 @@ use Rattle.std.proofs.Common.{
 use Rattle.std.specs.List.{count_by, fold, list_any}
 use Rattle.std.specs.Str.{bytes_eq}
 use Rattle.std.specs.Char.{to_ascii_lowercase}
-use Rattle.std.proofs.lemmas.Bool.{eqb-true}
-use Rattle.std.proofs.lemmas.List.{length-take}
+use Rattle.std.proofs.lemmas.Bool.{eqb-true, or_parts, cases_Bool}
+use Rattle.std.proofs.lemmas.List.{length-take, length-map}
 use Rattle.std.proofs.lemmas.Slice.Eq.{bytes_eq-Decides}
 use Rattle.gedcom_line.specs.Words.{is_space}
 use Rattle.gedcom_line.specs.Reading.{skip}
 use Rattle.gedcom_line.specs.Split.{begins_char, char_count}
 use Rattle.gedcom_line.specs.Escape.{unescaped, past_pair}
-use Rattle.gedcom_line.proofs.Steps.{neither, eqb_no}
+use Rattle.gedcom_line.proofs.Steps.{eqb_no}
 use Rattle.gedcom_line.proofs.Doubled.{unescaped_cons, unescaped_at}
 use Rattle.gedcom_rules.specs.Rules.{is_set}
-use Rattle.gedcom_rules.proofs.Cuts.{cases_bool}
 
 -- the text of what is left of a value; second: the byte before it is the first @ of what may be a pair
 abbrev pub left : Bool → List ℕ → List ℕ
@@ -55,39 +54,6 @@ past_other b bs h = rw h refl
 
 left_at : (bs : List ℕ) → length (left false (64 ∷ bs)) ≡ 1 + length (left (eqb 64 64) bs)
 left_at bs = ap length (unescaped_at bs) ∙ omega arith
-
-left_one : (second : Bool) (b : ℕ) (bs : List ℕ) → (second && eqb b 64) ≡ false → length (left second (b ∷ bs))
-    ≡ 1 + length (left (eqb b 64) bs)
-left_one true b bs h = rw (past_other b bs h, h, unescaped_cons b bs (eqb_no b 64 h)) (omega arith)
-left_one false b bs h = elim (cases_bool (eqb b 64)) [
-  | inl e ↦ subst (λ (x : ℕ). length (left false (x ∷ bs)) ≡ 1 + length (left (eqb x 64) bs))
-      (sym (eqb-true b 64 e)) (left_at bs)
-  | inr e ↦ rw (e, unescaped_cons b bs (eqb_no b 64 e)) (omega arith)
-]
-
-left_pair : (second : Bool) (b : ℕ) (bs : List ℕ) → (second && eqb b 64) ≡ true → left second (b ∷ bs) ≡ left false bs
-left_pair true b bs h = rw (eqb-true b 64 h) refl
-left_pair false b bs h = absurd cc
-
--- one byte more
-pub size_one : (raw : List ℕ) (i len : ℕ) (second : Bool) → i < length raw → len + length (left second (drop i raw))
-    ≡ length (unescaped raw) → (second && eqb (get_or raw i 0) 64) ≡ false
-    → len + 1 + length (left (eqb (get_or raw i 0) 64) (drop (i + 1) raw)) ≡ length (unescaped raw)
-size_one raw i len second lt h e =
-    let cut : drop i raw ≡ get_or raw i 0 ∷ drop (i + 1) raw = drop-cons raw i 0 lt
-    ∙ ap (λ (k : ℕ). get_or raw i 0 ∷ drop k raw) (sym (add-one i)) in
-    let one : length (left second (drop i raw)) ≡ 1 + length (left (eqb (get_or raw i 0) 64) (drop (i + 1) raw)) = ap
-    (λ (t : List ℕ). length (left second t)) cut ∙ left_one second (get_or raw i 0) (drop (i + 1) raw) e in
-    omega (arith, one, h)
-
-pub size_pair : (raw : List ℕ) (i len : ℕ) (second : Bool) → i < length raw → len + length (left second (drop i raw))
-    ≡ length (unescaped raw) → (second && eqb (get_or raw i 0) 64) ≡ true → len + length (left false (drop (i + 1) raw))
-    ≡ length (unescaped raw)
-size_pair raw i len second lt h e =
-    let cut : drop i raw ≡ get_or raw i 0 ∷ drop (i + 1) raw = drop-cons raw i 0 lt
-    ∙ ap (λ (k : ℕ). get_or raw i 0 ∷ drop k raw) (sym (add-one i)) in
-    sym (ap (λ (t : List ℕ). len + length t)
-    (ap (left second) cut ∙ left_pair second (get_or raw i 0) (drop (i + 1) raw) e)) ∙ h
 
 -- characters: each @ of a pair is one
 counted_from : (bs : List ℕ) (n : ℕ) → fold (λ a x. a + cond (begins_char x) 1 0) n bs ≡ n + count_by begins_char bs
@@ -114,13 +80,13 @@ chars_pair bs t h = omega (arith, counted_cons 64 bs, h)
 left_chars : (second : Bool) (bs : List ℕ) → Even bs (left second bs)
 left_chars true [] = refl
 left_chars false [] = refl
-left_chars true (b ∷ bs) = elim (cases_bool (eqb b 64)) [
+left_chars true (b ∷ bs) = elim (cases_Bool (eqb b 64)) [
   | inl e ↦ subst (λ (x : ℕ). Even (x ∷ bs) (left true (x ∷ bs))) (sym (eqb-true b 64 e))
       (chars_pair bs (unescaped bs) (left_chars false bs))
   | inr e ↦ subst (Even (b ∷ bs)) (sym (ap unescaped (past_other b bs e) ∙ unescaped_cons b bs (eqb_no b 64 e)))
       (chars_other b bs (unescaped bs) (left_chars false bs))
 ]
-left_chars false (b ∷ bs) = elim (cases_bool (eqb b 64)) [
+left_chars false (b ∷ bs) = elim (cases_Bool (eqb b 64)) [
   | inl e ↦ subst (λ (x : ℕ). Even (x ∷ bs) (left false (x ∷ bs))) (sym (eqb-true b 64 e))
       (subst (Even (64 ∷ bs)) (sym (unescaped_at bs))
       (chars_other 64 bs (unescaped (past_pair bs)) (left_chars true bs)))
@@ -136,25 +102,6 @@ text_chars_are raw = left_chars false raw
 pub no_pair : (raw : List ℕ) → list_any (λ x. eqb x 64) raw ≡ false → unescaped raw ≡ raw
 no_pair [] h = refl
 no_pair (b ∷ bs) h =
-    let r = neither (eqb b 64) (list_any (λ x. eqb x 64) bs) h in
+    let r = or_parts (eqb b 64) (list_any (λ x. eqb x 64) bs) h in
     let other : b ≡ 64 → ⊥ = eqb_no b 64 r.0 in
     unescaped_cons b bs other ∙ ap (λ (x : List ℕ). b ∷ x) (no_pair bs r.1)
-
--- names of character sets
-length-map : (f : ℕ → ℕ) (xs : List ℕ) → length (map f xs) ≡ length xs
-length-map f [] = refl
-length-map f (x ∷ xs) = ap suc (length-map f xs)
-
-pub set_short : (t name : List ℕ) → length (skip is_space t) < length name → is_set t name ≡ false
-set_short t name h = elim
-    (cases_bool (bytes_eq (map to_ascii_lowercase (take (length name) (skip is_space t)))
-    (map to_ascii_lowercase name))) [
-      | inl e ↦
-          let same = (bytes_eq-Decides (map to_ascii_lowercase (take (length name) (skip is_space t)))
-          (map to_ascii_lowercase name)).0 e in
-          let size : length (take (length name) (skip is_space t)) ≡ length name = sym
-          (length-map to_ascii_lowercase (take (length name) (skip is_space t))) ∙ ap length same
-          ∙ length-map to_ascii_lowercase name in
-          absurd (omega (arith, size, h, length-take (length name) (skip is_space t)))
-      | inr e ↦ rw e refl
-    ]

@@ -4,7 +4,7 @@ ghost use Rattle.std.specs.Prelude.{◌≡◌, ◌<◌, ◌∷◌, [], not, Matc
 ghost use Rattle.std.specs.List.{prefix_len};
 ghost use Rattle.gedcom_line.specs.Words.{is_end as end_test};
 ghost use Rattle.gedcom_line.specs.Line.{IsPiece};
-ghost use Rattle.gedcom_rules.specs.Pieces.{pieces, skip_mark as unmarked, IsCut};
+ghost use Rattle.gedcom_rules.specs.Pieces.{pieces, IsCut};
 
 /// Whether the byte ends a line.
 pub(crate) fn is_end(byte: u8) -> bool
@@ -35,15 +35,5 @@ pub fn cut(bytes: &[u8]) -> Option<(&[u8], &[u8])>
         Some((&bytes[..at], &bytes[at + 1..]))
     } else {
         None
-    }
-}
-
-/// The bytes behind a byte order mark, or all where none stands at the front.
-pub fn skip_mark(bytes: &[u8]) -> &[u8]
-    ensures { result.now ≡ unmarked bytes.now }
-{
-    match bytes {
-        [0xEF, 0xBB, 0xBF, rest @ ..] => rest,
-        _ => bytes,
     }
 }

@@ -17,7 +17,7 @@ pub mod laws;
 mod seen;
 mod standing;
 
-pub use cutting::{cut, skip_mark};
+pub use cutting::cut;
 pub use deciding::{MAX_FILE, judge_end, judge_open, too_long};
 pub use fault::{TreeFault, TreeKind};
 pub use judging::{MAX_LINE, judge_piece};

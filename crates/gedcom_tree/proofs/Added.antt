@@ -26,15 +26,13 @@ use Rattle.std.proofs.Common.{
 use Rattle.std.specs.Option.{option_map_or}
 use Rattle.std.specs.Str.{bytes_eq}
 use Rattle.std.specs.Prelude.{codes}
-use Rattle.std.proofs.lemmas.Bool.{ltb-false, eq-eqb}
+use Rattle.std.proofs.lemmas.Bool.{ltb-false, eq-eqb, or_parts, cases_Bool}
 use Rattle.gedcom_line.specs.Reading.{Parts, is_continuation}
-use Rattle.gedcom_line.proofs.Steps.{neither}
 use Rattle.gedcom_rules.specs.Rules.{Progress, role_of, is_continued, is_trailer}
 use Rattle.gedcom_tree.specs.Forest.{Item}
 use Rattle.gedcom_rules.specs.Judging.{after, judge}
 use Rattle.gedcom_tree.specs.Reading.{Nodes, grow_line, grow, grow_read}
 use Rattle.gedcom_tree.specs.Depth.{node_depth, IsDeep}
-use Rattle.gedcom_rules.proofs.Cuts.{cases_bool}
 use Rattle.gedcom_rules.proofs.Judged.{judge_some, judge_none}
 use Rattle.gedcom_rules.proofs.Unbroken.{Unbroken, unbroken}
 use Rattle.gedcom_rules.proofs.Levels.{first_level}
@@ -57,9 +55,9 @@ not_below q l u c e =
 pub unbroken_fits : (q : Progress) (l : Parts) (n : ℕ) → Unbroken q l → IsDeep q n → l.level ≤ n
 unbroken_fits q l n u d =
     let deep : n ≡ node_depth q = d u.done in
-    elim (cases_bool (eqb q.count 0)) [
+    elim (cases_Bool (eqb q.count 0)) [
       | inl e ↦ omega (arith, first_level q l u e)
-      | inr e ↦ elim (cases_bool (option_map_or (λ s. is_continued s.role) (q.above q.last) false)) [
+      | inr e ↦ elim (cases_Bool (option_map_or (λ s. is_continued s.role) (q.above q.last) false)) [
         | inl c ↦
             let at : n ≡ q.last = rw (e, c) at deep in
             omega (arith, at, ltb-false (q.last + 1) l.level u.jump, not_below q l u c)
@@ -78,13 +76,13 @@ pub judged_below : (q : Progress) (p : List ℕ) (l : Parts) → judge q p ≡ O
 judged_below q p l h t = omega (arith, (unbroken_continues q l (unbroken q l (judge_some q p l h).1) t).deeper)
 
 role_continued : (t : List ℕ) → is_continued (role_of t) ≡ is_continuation t
-role_continued t = elim (cases_bool (is_continuation t)) [
+role_continued t = elim (cases_Bool (is_continuation t)) [
   | inl e ↦ rw e refl
-  | inr e ↦ rw e (elim (cases_bool (bytes_eq t (codes "CHAR"))) [
+  | inr e ↦ rw e (elim (cases_Bool (bytes_eq t (codes "CHAR"))) [
     | inl f ↦ rw f refl
-    | inr f ↦ rw f (elim (cases_bool (bytes_eq t (codes "GEDC"))) [
+    | inr f ↦ rw f (elim (cases_Bool (bytes_eq t (codes "GEDC"))) [
       | inl g ↦ rw g refl
-      | inr g ↦ rw g (elim (cases_bool (bytes_eq t (codes "VERS"))) [
+      | inr g ↦ rw g (elim (cases_Bool (bytes_eq t (codes "VERS"))) [
         | inl k ↦ rw k refl
         | inr k ↦ rw k refl
       ])
@@ -125,7 +123,7 @@ pub deep_line : (q r : Progress) (l : Parts) (n : ℕ) → r ≡ after q l
     → (is_trailer l ≡ false → n ≡ cond (is_continuation l.tag) l.level (l.level + 1)) → IsDeep r n
 deep_line q r l n e h = λ d.
     let done : (after q l).done ≡ false = ap (λ (x : Progress). x.done) (sym e) ∙ d in
-    h (neither q.done (is_trailer l) done).1 ∙ sym (node_depth_after q l) ∙ ap node_depth (sym e)
+    h (or_parts q.done (is_trailer l) done).1 ∙ sym (node_depth_after q l) ∙ ap node_depth (sym e)
 
 pub deep_blank : (q r : Progress) (n : ℕ) → r ≡ q → IsDeep q n → IsDeep r n
 deep_blank q r n e h = subst (λ (x : Progress). IsDeep x n) (sym e) h

@@ -34,10 +34,9 @@ use Rattle.std.proofs.Common.{
 use Rattle.std.specs.Option.{option_map_or}
 use Rattle.std.specs.List.{flat_map, list_any}
 use Rattle.std.specs.Str.{bytes_eq}
-use Rattle.std.proofs.lemmas.Bool.{eqb-true, leb-true, le-ltb, not-true}
+use Rattle.std.proofs.lemmas.Bool.{eqb-true, leb-true, le-ltb, not-true, and_parts}
 use Rattle.gedcom_line.specs.Reading.{Parts}
 use Rattle.gedcom_line.specs.Spelling.{spelling}
-use Rattle.gedcom_line.proofs.Steps.{both}
 use Rattle.gedcom_line.proofs.Again.{inner_nil}
 use Rattle.gedcom_line.proofs.Counts.{char_count-nil}
 use Rattle.gedcom_rules.specs.Pieces.{all_pieces}
@@ -92,8 +91,8 @@ guarded false b h e = absurd cc
 header_heads : (h u : Bool) (i : Item) (is : List Item) → keeps_header h u (i ∷ is) ≡ true
     → Heads h u i × (keeps_header (head_after h i) (gedcom_after u i) is ≡ true)
 header_heads h u i is k =
-    let a = both _ (keeps_header (head_after h i) (gedcom_after u i) is) k in
-    let b = both _ _ a.0 in (
+    let a = and_parts _ (keeps_header (head_after h i) (gedcom_after u i) is) k in
+    let b = and_parts _ _ a.0 in (
       record {
         charset = guarded (h && eqb i.level 1 && bytes_eq i.tag (codes "CHAR")) (is_charset_node i.value) b.0;
         version = guarded (h && eqb i.level 2 && bytes_eq i.tag (codes "VERS") && u) (is_version_node i.value) b.1;
@@ -104,15 +103,15 @@ header_heads h u i is k =
 heads_after : (h u : Bool) (i : Item) → Heads h u i → Heads (head_after h i) (gedcom_after u i) i
 heads_after h u i a = record {
   charset = λ e.
-      let b = both (head_after h i && eqb i.level 1) (bytes_eq i.tag (codes "CHAR")) e in
-      let c = both (head_after h i) (eqb i.level 1) b.0 in
-      let d = both h (not (eqb i.level 0)) c.0 in
+      let b = and_parts (head_after h i && eqb i.level 1) (bytes_eq i.tag (codes "CHAR")) e in
+      let c = and_parts (head_after h i) (eqb i.level 1) b.0 in
+      let d = and_parts h (not (eqb i.level 0)) c.0 in
       a.charset (rw (d.0, c.1, b.1) refl);
   version = λ e.
-      let b = both (head_after h i && eqb i.level 2 && bytes_eq i.tag (codes "VERS")) (gedcom_after u i) e in
-      let c = both (head_after h i && eqb i.level 2) (bytes_eq i.tag (codes "VERS")) b.0 in
-      let d = both (head_after h i) (eqb i.level 2) c.0 in
-      let f = both h (not (eqb i.level 0)) d.0 in
+      let b = and_parts (head_after h i && eqb i.level 2 && bytes_eq i.tag (codes "VERS")) (gedcom_after u i) e in
+      let c = and_parts (head_after h i && eqb i.level 2) (bytes_eq i.tag (codes "VERS")) b.0 in
+      let d = and_parts (head_after h i) (eqb i.level 2) c.0 in
+      let f = and_parts h (not (eqb i.level 0)) d.0 in
       let two : i.level ≡ 2 = eqb-true i.level 2 d.1 in
       let one : eqb i.level 1 ≡ false = ap (λ (n : ℕ). eqb n 1) two in
       let under : u ≡ true = (rw one at b.1) in
@@ -169,9 +168,9 @@ items_keep : (is : List Item) (q : Progress) (level : ℕ) (h u : Bool) → Stan
     → Keeps q (lines_of is ++ trailer ∷ [])
 items_keep [] q level h u s n r d k = rw lines_nil (trailer_keeps q level h u s)
 items_keep (i ∷ is) q level h u s n r d k =
-    let rise = both (leb i.level (level + 1)) (rises i.level is) r in
+    let rise = and_parts (leb i.level (level + 1)) (rises i.level is) r in
     let low : i.level ≤ level + 1 = leb-true i.level (level + 1) rise.0 in
-    let apart = both (not (option_map_or (λ x. list_any (is_called x) is) i.xref false)) (are_distinct is) d in
+    let apart = and_parts (not (option_map_or (λ x. list_any (is_called x) is) i.xref false)) (are_distinct is) d in
     let heads = header_heads h u i is k in
     node_lines_keep q i is (head_after h i) (gedcom_after u i) n.0 (own_unbroken q level h u i is s n.0 low heads.0)
     (heads_after h u i heads.0) (own_stands q level h u i is s n.0 low (not-true _ apart.0))
@@ -179,7 +178,7 @@ items_keep (i ∷ is) q level h u s n r d k =
 
 -- the first node
 first_head : (i : Item) → (eqb i.level 0 && bytes_eq i.tag (codes "HEAD")) ≡ true → i.level ≡ 0
-first_head i h = eqb-true i.level 0 (both (eqb i.level 0) (bytes_eq i.tag (codes "HEAD")) h).0
+first_head i h = eqb-true i.level 0 (and_parts (eqb i.level 0) (bytes_eq i.tag (codes "HEAD")) h).0
 
 no_names : (o : Option (List ℕ)) → option_map_or (λ x. false) o false ≡ false
 no_names None = refl
@@ -226,7 +225,8 @@ forest_keeps [] h = absurd (let bad : false ≡ true = h.head in cc)
 forest_keeps (i ∷ is) h =
     let n : IsNodeOf i = h.nodes.0 in
     let top : i.level ≡ 0 = first_head i h.head in
-    let apart = both (not (option_map_or (λ x. list_any (is_called x) is) i.xref false)) (are_distinct is) h.names in
+    let apart = and_parts (not (option_map_or (λ x. list_any (is_called x) is) i.xref false))
+    (are_distinct is) h.names in
     node_lines_keep start i is true false n (first_unbroken i n h.head) (first_heads i top)
     (first_stands i is n top (not-true _ apart.0))
     (λ p s. items_keep is p i.level true false s h.nodes.1 (subst (λ (k : ℕ). rises k is ≡ true) (sym top) h.levels)

@@ -25,9 +25,8 @@ use Rattle.std.proofs.Common.{
 }
 use Rattle.std.specs.Option.{option_eq}
 use Rattle.std.specs.Str.{bytes_eq}
-use Rattle.std.proofs.lemmas.Bool.{eqb-true}
+use Rattle.std.proofs.lemmas.Bool.{eqb-true, and_parts}
 use Rattle.gedcom_line.specs.Value.{Meaning, Text, Pointer}
-use Rattle.gedcom_line.proofs.Steps.{both}
 use Rattle.gedcom_tree.specs.Comparing.{is_same_value, is_same_item, are_same}
 use Rattle.gedcom_tree.specs.Forest.{Item}
 use Rattle.gedcom_tree.specs.Text.{unnumbered, IsSame}
@@ -63,10 +62,10 @@ same_value (Pointer p) (Pointer q) h = ap Pointer (equal_names p q h)
 
 same_item : (i j : Item) → is_same_item i j ≡ true → unnumbered i ≡ unnumbered j
 same_item i j h =
-    let a = both (eqb i.level j.level)
+    let a = and_parts (eqb i.level j.level)
     (option_eq bytes_eq i.xref j.xref && (bytes_eq i.tag j.tag && is_same_value i.value j.value)) h in
-    let b = both (option_eq bytes_eq i.xref j.xref) (bytes_eq i.tag j.tag && is_same_value i.value j.value) a.1 in
-    let c = both (bytes_eq i.tag j.tag) (is_same_value i.value j.value) b.1 in
+    let b = and_parts (option_eq bytes_eq i.xref j.xref) (bytes_eq i.tag j.tag && is_same_value i.value j.value) a.1 in
+    let c = and_parts (bytes_eq i.tag j.tag) (is_same_value i.value j.value) b.1 in
     let level = eqb-true i.level j.level a.0 in
     let xref = same_xref i.xref j.xref b.0 in
     let tag = equal_names i.tag j.tag c.0 in
@@ -81,7 +80,7 @@ told_same [] [] h = refl
 told_same [] (j ∷ js) h = absurd cc
 told_same (i ∷ is) [] h = absurd cc
 told_same (i ∷ is) (j ∷ js) h =
-    let r = both (is_same_item i j) (are_same is js) h in
+    let r = and_parts (is_same_item i j) (are_same is js) h in
     ap (λ (x : Item). x ∷ map unnumbered is) (same_item i j r.0) ∙ ap (λ (x : List Item). unnumbered j ∷ x)
     (told_same is js r.1)
 

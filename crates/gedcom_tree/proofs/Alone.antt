@@ -33,7 +33,7 @@ use Rattle.std.proofs.Common.{
 use Rattle.std.specs.Char.{to_ascii_lowercase}
 use Rattle.std.specs.List.{list_all, list_any, prefix_len}
 use Rattle.std.specs.Str.{bytes_eq}
-use Rattle.std.proofs.lemmas.Bool.{leb-true, le-leb, not-true}
+use Rattle.std.proofs.lemmas.Bool.{leb-true, le-leb, not-true, and_parts, or_parts, or_cases}
 use Rattle.std.proofs.lemmas.Bool.Decides.{nat_tests}
 use Rattle.std.proofs.lemmas.List.{take-append-drop}
 use Rattle.std.proofs.lemmas.List.Sums.{AllPass-from_list_all}
@@ -44,7 +44,7 @@ use Rattle.gedcom_line.specs.Words.{is_space}
 use Rattle.gedcom_line.specs.Split.{char_count, IsShort, canonical, marked}
 use Rattle.gedcom_line.specs.Value.{Meaning, Text, Pointer, meaning}
 use Rattle.gedcom_line.specs.declared.splitting.Mark.TheVariants.{Cont}
-use Rattle.gedcom_line.proofs.Steps.{both, either, neither, eqb_no, all_front}
+use Rattle.gedcom_line.proofs.Steps.{eqb_no, all_front}
 use Rattle.gedcom_line.proofs.Again.{all-append}
 use Rattle.gedcom_line.proofs.Counts.{char_count-cons, char_count-le-length, escaped_step}
 use Rattle.gedcom_line.proofs.Cuts.{canonical_last, segment_short}
@@ -54,6 +54,7 @@ use Rattle.gedcom_tree.specs.Forest.{own_raw, more_parts}
 use Rattle.gedcom_rules.specs.Rules.{is_set, is_charset, is_version, is_version_value, max_header_text}
 use Rattle.gedcom_tree.specs.Text.{IsNodeValue, is_charset_node, is_version_node}
 use Rattle.gedcom_tree.proofs.Numbered.{marked_pointer}
+use Rattle.gedcom_line.proofs.Fronts.{escaped_chars}
 
 -- a text of one part
 each_not : (c : ℕ) (t : List ℕ) → list_all (λ b. not (eqb b c)) t ≡ true → (i : ℕ) → i < length t → get_or t i 0 ≢ c
@@ -69,14 +70,14 @@ lower_all : (p : ℕ → Bool) → ((b : ℕ) → p (to_ascii_lowercase b) ≡ t
     → list_all p (map to_ascii_lowercase t) ≡ true → list_all p t ≡ true
 lower_all p f [] h = refl
 lower_all p f (b ∷ bs) h =
-    let r = both (p (to_ascii_lowercase b)) (list_all p (map to_ascii_lowercase bs)) h in
+    let r = and_parts (p (to_ascii_lowercase b)) (list_all p (map to_ascii_lowercase bs)) h in
     rw (f b r.0, lower_all p f bs r.1) refl
 
 space_all : (p : ℕ → Bool) → ((b : ℕ) → is_space b ≡ true → p b ≡ true) → (t : List ℕ) → list_all is_space t ≡ true
     → list_all p t ≡ true
 space_all p f [] h = refl
 space_all p f (b ∷ bs) h =
-    let r = both (is_space b) (list_all is_space bs) h in
+    let r = and_parts (is_space b) (list_all is_space bs) h in
     rw (f b r.0, space_all p f bs r.1) refl
 
 set_all : (p : ℕ → Bool) → ((b : ℕ) → is_space b ≡ true → p b ≡ true)
@@ -85,7 +86,7 @@ set_all : (p : ℕ → Bool) → ((b : ℕ) → is_space b ≡ true → p b ≡ 
 set_all p f g t name n h =
     let s : List ℕ = skip is_space t in
     let k : ℕ = length name in
-    let r = both (bytes_eq (map to_ascii_lowercase (take k s)) (map to_ascii_lowercase name))
+    let r = and_parts (bytes_eq (map to_ascii_lowercase (take k s)) (map to_ascii_lowercase name))
     (list_all is_space (drop k s)) h in
     let same : map to_ascii_lowercase (take k s) ≡ map to_ascii_lowercase
     name = (bytes_eq-Decides (map to_ascii_lowercase (take k s)) (map to_ascii_lowercase name)).0 r.0 in
@@ -101,10 +102,10 @@ charset_all : (p : ℕ → Bool) → ((b : ℕ) → is_space b ≡ true → p b 
     → list_all p (map to_ascii_lowercase (codes "ASCII")) ≡ true → (t : List ℕ) → is_charset t ≡ true
     → list_all p t ≡ true
 charset_all p f g a b c t h =
-    let r = both (leb (length t) max_header_text) _ h in
-    elim (either (is_set t (codes "UTF-8") || is_set t (codes "UTF8")) (is_set t (codes "ASCII")) r.1) [
+    let r = and_parts (leb (length t) max_header_text) _ h in
+    elim (or_cases (is_set t (codes "UTF-8") || is_set t (codes "UTF8")) (is_set t (codes "ASCII")) r.1) [
       | inr e ↦ set_all p f g t (codes "ASCII") c e
-      | inl e ↦ elim (either (is_set t (codes "UTF-8")) (is_set t (codes "UTF8")) e) [
+      | inl e ↦ elim (or_cases (is_set t (codes "UTF-8")) (is_set t (codes "UTF8")) e) [
         | inl k ↦ set_all p f g t (codes "UTF-8") a k
         | inr k ↦ set_all p f g t (codes "UTF8") b k
       ]
@@ -128,7 +129,7 @@ charset_plain t h = escaped_all false t
 
 charset_short : (t : List ℕ) → is_charset t ≡ true → IsShort t
 charset_short t h =
-    let r = both (leb (length t) max_header_text) _ h in
+    let r = and_parts (leb (length t) max_header_text) _ h in
     let few : char_count (escaped t) ≤ length t = rw (charset_plain t h) (char_count-le-length t) in
     omega (arith, few, leb-true (length t) max_header_text r.0)
 
@@ -148,36 +149,22 @@ charset_again (Text t) h = record {
 }
 charset_again (Pointer p) h = absurd cc
 
--- escaping makes at most two characters of one
-escaped_double : (i : Bool) (t : List ℕ) → char_count (escaped_from i t) ≤ 2 * char_count t
-escaped_double i [] = omega arith
-escaped_double i (c ∷ cs) = elim (escaped_step i c cs) [
-  | inl s ↦ rw (s.1, char_count-cons c cs, char_count-cons c (escaped_from s.0 cs))
-      (omega (arith, escaped_double s.0 cs))
-  | inr s ↦ rw (
-    s,
-    char_count-cons c cs,
-    char_count-cons c (c ∷ escaped_from false cs),
-    char_count-cons c (escaped_from false cs),
-  ) (omega (arith, escaped_double false cs))
-]
-
 none_all : (t : List ℕ) → list_any (λ b. eqb b 10) t ≡ false → list_all (λ b. not (eqb b 10)) t ≡ true
 none_all [] h = refl
 none_all (b ∷ bs) h =
-    let n = neither (eqb b 10) (list_any (λ x. eqb x 10) bs) h in
+    let n = or_parts (eqb b 10) (list_any (λ x. eqb x 10) bs) h in
     rw (n.0, none_all bs n.1) refl
 
 version_one : (t : List ℕ) → is_version t ≡ true → list_any (λ b. eqb b 10) t ≡ false
     → canonical t ≡ record { mark = Cont; text = t } ∷ []
 version_one t h n =
-    let r = both _ (leb (char_count t) max_header_text) h in
-    one_part t (none_all t n) (omega (arith, escaped_double false t, leb-true (char_count t) max_header_text r.1))
+    let r = and_parts _ (leb (char_count t) max_header_text) h in
+    one_part t (none_all t n) (omega (arith, escaped_chars false t, leb-true (char_count t) max_header_text r.1))
 
 pub version_again : (v : Meaning) → IsNodeValue v → is_version_node v ≡ true
     → OneLine (λ raw. is_version_value (meaning raw) ≡ true) v
 version_again (Text t) w h =
-    let r = both (is_version t) (not (list_any (λ b. eqb b 10) t)) h in
+    let r = and_parts (is_version t) (not (list_any (λ b. eqb b 10) t)) h in
     let one : canonical t ≡ record { mark = Cont; text = t } ∷ [] = version_one t r.0 (not-true _ r.1) in
     record { reads = rw (one, escaped_no_pointer t, unescaped-escaped t) r.0; alone = rw one refl }
 version_again (Pointer p) w h = record { reads = rw (pointer_meant p p (marked_pointer p w)) refl; alone = refl }

@@ -29,10 +29,10 @@ use Rattle.std.proofs.Common.{
 }
 use Rattle.std.specs.Prelude.{option_map, is_some}
 use Rattle.std.specs.Option.{option_map_or}
-use Rattle.std.proofs.lemmas.Bool.{eqb-true, ltb-true}
+use Rattle.std.proofs.lemmas.Bool.{eqb-true, ltb-true, and_parts, cases_Bool}
 use Rattle.gedcom_line.specs.Reading.{Parts, is_continuation}
 use Rattle.gedcom_line.specs.Value.{value_of}
-use Rattle.gedcom_line.proofs.Steps.{both, eqb_false}
+use Rattle.gedcom_line.proofs.Steps.{eqb_false}
 use Rattle.gedcom_rules.specs.declared.standing.Role.{Role}
 use Rattle.gedcom_rules.specs.Rules.{
   Progress,
@@ -50,7 +50,6 @@ use Rattle.gedcom_rules.specs.Rules.{
 }
 use Rattle.gedcom_rules.specs.Continuing.{belongs}
 use Rattle.gedcom_rules.specs.Judging.{continue_at, after}
-use Rattle.gedcom_rules.proofs.Cuts.{cases_bool}
 use Rattle.gedcom_rules.proofs.Unbroken.{Unbroken}
 use Rattle.gedcom_rules.proofs.Bools.{counted}
 use Rattle.gedcom_tree.proofs.Fitting.{Fits, above_own, above_deeper, above_kept, parent_at}
@@ -60,7 +59,7 @@ use Rattle.std.proofs.Math.Bool.{and-true}
 pub role_kept : (test : Role → Bool) (n : ℕ) (l : Parts) (o : Option Standing)
     → option_map_or (λ s. test s.role) (option_map (continue_at n l) o) false ≡ option_map_or (λ s. test s.role) o false
 role_kept test n l None = refl
-role_kept test n l (Some s) = elim (cases_bool (is_continuation l.tag && eqb l.level (n + 1)))
+role_kept test n l (Some s) = elim (cases_Bool (is_continuation l.tag && eqb l.level (n + 1)))
     [ inl e ↦ rw e refl | inr e ↦ rw e refl ]
 
 pub role_above : (test : Role → Bool) (q : Progress) (l : Parts) (n : ℕ) → n < l.level
@@ -103,7 +102,7 @@ may_go_on_kept q l n s c h k =
 refused : (q : Progress) (l : Parts) (n : ℕ) (s : Standing) → Unbroken q l → q.above n ≡ Some s
     → may_go_on q n s ≡ false → (is_continuation l.tag && eqb l.level (n + 1)) ≡ true → ⊥
 refused q l n s u a m c =
-    let r = both (is_continuation l.tag) (eqb l.level (n + 1)) c in
+    let r = and_parts (is_continuation l.tag) (eqb l.level (n + 1)) c in
     let above : parent q l.level ≡ Some s = parent_at q l.level n r.1 ∙ a in
     let k : l.level ≡ n + 1 = eqb-true l.level (n + 1) r.1 in
     let less : n ≡ l.level - 1 = omega arith in
@@ -124,9 +123,9 @@ refused q l n s u a m c =
 pub closed_none : (n : ℕ) (q : Progress) (ls : List Parts) (s : Standing) → eqb q.count 0 ≡ false → q.above n ≡ Some s
     → may_go_on q n s ≡ false → Fits q ls → belongs n ls ≡ []
 closed_none n q [] s c a m f = refl
-closed_none n q (l ∷ ls) s c a m f = elim (cases_bool (ltb n l.level)) [
+closed_none n q (l ∷ ls) s c a m f = elim (cases_Bool (ltb n l.level)) [
   | inr e ↦ rw e refl
-  | inl e ↦ elim (cases_bool (is_continuation l.tag && eqb l.level (n + 1))) [
+  | inl e ↦ elim (cases_Bool (is_continuation l.tag && eqb l.level (n + 1))) [
     | inl k ↦ absurd (refused q l n s f.0.rules a m k)
     | inr k ↦
         let deep : n < l.level = ltb-true n l.level e in
@@ -141,11 +140,6 @@ own_none : (q : Progress) (l : Parts) (ls : List Parts) → Fits (after q l) ls
     → may_go_on (after q l) l.level (standing l []) ≡ false → belongs l.level ls ≡ []
 own_none q l ls f m = closed_none l.level (after q l) ls (standing l []) (counted q.count) (above_own q l) m f
 
--- nothing goes on with a pointer
-pub pointer_none : (q : Progress) (l : Parts) (ls : List Parts) → is_text (value_of l) ≡ false → Fits (after q l) ls
-    → belongs l.level ls ≡ []
-pointer_none q l ls t f = own_none q l ls f (rw t refl)
-
 -- nor with the line that names the character set
 by_set : (a b c : Bool) → b ≡ true → (a && not b && not c) ≡ false
 by_set true b c e = rw e refl
@@ -155,7 +149,8 @@ pub set_none : (q : Progress) (l : Parts) (ls : List Parts) → eqb q.count 0 �
     → names_set q l.level (role_of l.tag) ≡ true → Fits (after q l) ls → belongs l.level ls ≡ []
 set_none q l ls c h f =
     let level : l.level ≡ 1 = eqb-true l.level 1
-    (both q.in_head (eqb l.level 1) (both (q.in_head && eqb l.level 1) (is_charset_tag (role_of l.tag)) h).0).1 in
+    (and_parts q.in_head (eqb l.level 1)
+    (and_parts (q.in_head && eqb l.level 1) (is_charset_tag (role_of l.tag)) h).0).1 in
     let named : names_set (after q l) l.level (role_of l.tag) ≡ true = names_set_kept q l l.level (role_of l.tag) c
     (omega arith) ∙ h in
     own_none q l ls f (by_set (is_text (value_of l)) (names_set (after q l) l.level (role_of l.tag))

@@ -35,6 +35,3 @@ reads_computed n (l ∷ ls) f (inr h) = rw (
   node_computed n l (belongs l.level ls) h.1.0 h.1.1.1.1.0,
   reads_computed (n + 1) ls h.1.1.0 h.1.1.1.1.1,
 ) (sym h.1.1.1.0)
-
-pub reads_same : (n : ℕ) (ls : List Parts) (f g : List Item) → Reads n ls f → Reads n ls g → f ≡ g
-reads_same n ls f g a b = sym (reads_computed n ls f a) ∙ reads_computed n ls g b

@@ -30,6 +30,7 @@ use Rattle.std.proofs.Common.{
 }
 use Rattle.std.specs.List.{flat_map}
 use Rattle.std.specs.Str.{bytes_eq}
+use Rattle.std.proofs.lemmas.Bool.{cases_Bool}
 use Rattle.gedcom_line.specs.Reading.{Parts, is_continuation}
 use Rattle.gedcom_line.specs.Split.{Part, canonical, added}
 use Rattle.gedcom_line.specs.Value.{Text, Pointer}
@@ -42,7 +43,6 @@ use Rattle.gedcom_tree.specs.Forest.{Item, part_line, first_text, rest_parts, ow
 use Rattle.gedcom_rules.specs.Continuing.{adds}
 use Rattle.gedcom_rules.specs.Judging.{after}
 use Rattle.gedcom_tree.specs.Text.{IsNodeValue, IsNodeOf}
-use Rattle.gedcom_rules.proofs.Cuts.{cases_bool}
 use Rattle.gedcom_rules.proofs.Unbroken.{Unbroken, unbroken_none}
 use Rattle.gedcom_tree.proofs.Lines.{Keeps}
 use Rattle.gedcom_tree.proofs.Numbered.{part_adds, joined_first}
@@ -116,9 +116,9 @@ pub more_keeps : (i : Item) (h u : Bool) (is : List Item) (rest : List Parts) (q
     → Stands q i.level h u is → q.above i.level ≡ Some (standing (own_line i) [])
     → ((p : Progress) → Stands p i.level h u is → Keeps p rest)
     → Keeps q (map (part_line (i.level + 1)) (more_parts i.value) ++ rest)
-more_keeps i h u is rest q n a s top k = elim (cases_bool (h && eqb i.level 1 && bytes_eq i.tag (codes "CHAR"))) [
+more_keeps i h u is rest q n a s top k = elim (cases_Bool (h && eqb i.level 1 && bytes_eq i.tag (codes "CHAR"))) [
   | inl e ↦ alone_keeps i q rest (charset_again i.value (a.charset e)).alone (k q s)
-  | inr e ↦ elim (cases_bool (h && eqb i.level 2 && bytes_eq i.tag (codes "VERS") && u)) [
+  | inr e ↦ elim (cases_Bool (h && eqb i.level 2 && bytes_eq i.tag (codes "VERS") && u)) [
     | inl f ↦ alone_keeps i q rest (version_again i.value n.value (a.version f)).alone (k q s)
     | inr f ↦
         let unnamed : Unnamed i.level h u is

@@ -32,7 +32,7 @@ use Rattle.std.proofs.Common.{
 }
 use Rattle.std.specs.Prelude.{find}
 use Rattle.std.specs.List.{list_any}
-use Rattle.std.proofs.lemmas.Bool.{cases_lt}
+use Rattle.std.proofs.lemmas.Bool.{cases_lt, cases_Bool}
 use Rattle.gedcom_line.specs.Reading.{Parts}
 use Rattle.gedcom_line.specs.declared.fault.LineKind.{LineKind}
 use Rattle.gedcom_line.specs.declared.fault.LineKind.TheVariants as line
@@ -59,7 +59,7 @@ use Rattle.gedcom_tree.specs.File.{untrailed, ReadsFile}
 use Rattle.gedcom_rules.specs.Judging.{start, judge, advance, then_run, run, fault_behind, open_fault, decided}
 use Rattle.gedcom_tree.specs.Reading.{Nodes, no_nodes, grow, grown, reader_of, ended, finished}
 use Rattle.gedcom_tree.specs.State.{Finishes}
-use Rattle.gedcom_rules.proofs.Cuts.{cases_bool, AllPieces, pieces_whole, all_pieces-push}
+use Rattle.gedcom_rules.proofs.Cuts.{AllPieces, pieces_whole, all_pieces-push}
 use Rattle.gedcom_tree.specs.Streams.{IsOfFile}
 use Rattle.gedcom_rules.proofs.Judged.{judge_long}
 use Rattle.gedcom_rules.proofs.Runs.{Ran, ran, clean_run, fault_run, run-push}
@@ -111,7 +111,7 @@ IsRead b (Err f) = FaultOf b f
 run_finishes : (b : List ℕ) → length b ≤ max_file → (r : Result Progress Fault) → Ran [] (all_pieces b) r
     → IsRead b (ended ((grown no_nodes (all_pieces b)).items) r)
 run_finishes b s (Err f) h = inr (s, inl h)
-run_finishes b s (Ok q) h = elim (cases_bool (list_any is_trailer h.0)) [
+run_finishes b s (Ok q) h = elim (cases_Bool (list_any is_trailer h.0)) [
   | inl e ↦
       let d : q.done ≡ true = ap (λ (p : Progress). p.done) h.1.1 ∙ e in
       rw d (record { size = s; lines = h.0; clean = h.1.0; ended = e; forest = clean_reads (all_pieces b) h.0 h.1.0 })
@@ -181,7 +181,7 @@ small_run : (b : List ℕ) (f : Fault) → length b ≤ max_file → (r : Result
     → run start (file_pieces b).ended ≡ r → open_fault (file_pieces b).open_ None r ≡ Some f
     → finished (reader_of b) ≡ Err f
 small_run b f s (Err g) e h = seen_err b g e ∙ ap (λ (x : Fault). Err x) (some_is g f h)
-small_run b f s (Ok q) e h = elim (cases_bool (overflows (file_pieces b).open_ None)) [
+small_run b f s (Ok q) e h = elim (cases_Bool (overflows (file_pieces b).open_ None)) [
   | inl o ↦
       let k : fault_behind q.count TooLong ≡ f = some_is (fault_behind q.count TooLong) f (rw o at h) in
       seen_long b q e (no_overflow (file_pieces b).open_ o) ∙ ap (λ (x : Fault). Err x) k
@@ -213,7 +213,7 @@ kind_is x y e = cc
 found_in : (test : TreeKind → Bool) (ks : List TreeKind) → AllOfFile ks → (k : TreeKind)
     → find test ks ≡ Some k → IsOfFile k
 found_in test [] a k h = absurd cc
-found_in test (j ∷ js) a k h = elim (cases_bool (test j)) [
+found_in test (j ∷ js) a k h = elim (cases_Bool (test j)) [
   | inl e ↦ subst IsOfFile (kind_is j k (rw e at h)) a.0
   | inr e ↦ found_in test js a.1 k (rw e at h)
 ]

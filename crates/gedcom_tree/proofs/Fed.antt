@@ -31,7 +31,7 @@ use Rattle.std.proofs.Common.{
 }
 use Rattle.std.specs.Option.{option_map}
 use Rattle.std.specs.Prelude.{slice_get}
-use Rattle.std.proofs.lemmas.Bool.{ltb-false}
+use Rattle.std.proofs.lemmas.Bool.{ltb-false, cases_Bool}
 use Rattle.std.proofs.lemmas.List.{take_all}
 use Rattle.gedcom_line.specs.Line.{IsPiece}
 use Rattle.gedcom_rules.specs.declared.fault.TreeFault.{TreeFault}
@@ -60,7 +60,7 @@ use Rattle.gedcom_rules.specs.Views.{progress, fault_view}
 use Rattle.gedcom_tree.specs.declared.ended.Lines.{Lines}
 use Rattle.gedcom_tree.specs.Lines.{IsSound, Leads, Blames, IsReading, reader_view, trace_view, nodes_so_far}
 use Rattle.gedcom_tree.proofs.Traced.{traced_start, trace_run-append}
-use Rattle.gedcom_rules.proofs.Cuts.{cases_bool, pieces_whole}
+use Rattle.gedcom_rules.proofs.Cuts.{pieces_whole}
 use Rattle.gedcom_rules.proofs.Limits.{within-append, extra-append, within_small, extra_small}
 use Rattle.gedcom_rules.proofs.Marks.{resumed, file_pieces-append}
 use Rattle.gedcom_rules.proofs.Resumed.{resumed_is}
@@ -223,14 +223,6 @@ fed_reading old new rest left piece front total next r e x l o d c =
       sound = l.sound;
       count = c;
     }
-
--- a line that has not ended and decides nothing is not too long
-pub open_short : (rest : List ℕ) (next : Option ℕ) (p : Progress) → open_fault rest next (Ok p) ≡ None
-    → length rest ≤ max_line
-open_short rest next p e = elim (cases_bool (ltb max_line (length rest))) [
-  | inl l ↦ let bad : Some (fault_behind p.count TooLong) ≡ None = rw l at e in absurd cc
-  | inr l ↦ ltb-false max_line (length rest) l
-]
 
 open_of : (b : List ℕ) → (reader_of b).open_ ≡ (file_pieces b).open_
 unfolding reader_of

@@ -33,7 +33,7 @@ use Rattle.std.proofs.Common.{
   None,
 }
 use Rattle.std.specs.Prelude.{option_map}
-use Rattle.std.proofs.lemmas.Bool.{eqb-true, le-ltb}
+use Rattle.std.proofs.lemmas.Bool.{eqb-true, le-ltb, cases_Bool}
 use Rattle.std.proofs.lemmas.List.{append-nil}
 use Rattle.gedcom_line.specs.Words.{is_white, is_digit, is_space, is_word}
 use Rattle.gedcom_line.specs.Reading.{Parts, is_continuation}
@@ -45,7 +45,6 @@ use Rattle.gedcom_rules.specs.Rules.{Progress, Standing, progress_of, is_trailer
 use Rattle.gedcom_rules.specs.Faults.{max_line, Clean}
 use Rattle.gedcom_tree.specs.File.{untrailed}
 use Rattle.gedcom_rules.specs.Judging.{continue_at, after}
-use Rattle.gedcom_rules.proofs.Cuts.{cases_bool}
 use Rattle.gedcom_rules.proofs.Runs.{progress-push}
 use Rattle.gedcom_rules.proofs.Unbroken.{Unbroken, unbroken}
 use Rattle.gedcom_tree.proofs.Trailed.{untrailed_cons, untrailed_trailer}
@@ -100,7 +99,7 @@ raw_le p l h =
 -- clean pieces have such lines
 front_fits : (q : Progress) (p : List ℕ) (l : Parts) (ls : List Parts) → length p ≤ max_line → Line p l → Unbroken q l
     → Fits (after q l) (untrailed ls) → Fits q (untrailed (l ∷ ls))
-front_fits q p l ls s h u f = elim (cases_bool (is_trailer l)) [
+front_fits q p l ls s h u f = elim (cases_Bool (is_trailer l)) [
   | inl e ↦ rw (untrailed_trailer l ls e) tt
   | inr e ↦ rw (untrailed_cons l ls e)
       (record { line = line_parts p l h; size = omega (arith, raw_le p l h); other = e; rules = u }, f)

@@ -26,9 +26,9 @@ use Rattle.std.proofs.Common.{
 use Rattle.std.proofs.lemmas.Slice.Eq.{bytes_eq-Decides}
 use Rattle.std.specs.Str.{bytes_eq}
 use Rattle.std.specs.Prelude.{codes}
+use Rattle.std.proofs.lemmas.Bool.{and_parts, cases_Bool}
 use Rattle.gedcom_line.specs.Reading.{Parts, is_continuation}
 use Rattle.gedcom_line.specs.Line.{Line, IsBlank}
-use Rattle.gedcom_line.proofs.Steps.{both}
 use Rattle.gedcom_line.proofs.Whole.{line_reading, blank_reading}
 use Rattle.gedcom_rules.specs.Rules.{progress_of, is_trailer}
 use Rattle.gedcom_rules.specs.Faults.{Clean}
@@ -36,17 +36,9 @@ use Rattle.gedcom_tree.specs.File.{untrailed}
 use Rattle.gedcom_tree.specs.Forest.{Item, node_of, forest_of, extended}
 use Rattle.gedcom_rules.specs.Continuing.{adds}
 use Rattle.gedcom_tree.specs.Reading.{Nodes, no_nodes, grow_line, grow_read, grow, grown}
-use Rattle.gedcom_rules.proofs.Cuts.{cases_bool}
 use Rattle.gedcom_rules.proofs.Unbroken.{Unbroken, unbroken}
 use Rattle.gedcom_tree.proofs.Trailed.{untrailed_all, untrailed-push}
 use Rattle.gedcom_tree.proofs.Joined.{forest_of-push, forest_longer, Continues, unbroken_continues}
-
--- the trailer continues nothing
-pub trailer_own : (l : Parts) → is_trailer l ≡ true → is_continuation l.tag ≡ false
-trailer_own l h =
-    let tag : l.tag ≡ codes "TRLR" = (bytes_eq-Decides l.tag (codes "TRLR")).0
-    (both (eqb l.level 0) (bytes_eq l.tag (codes "TRLR")) h).1 in
-    rw tag refl
 
 grow_blank : (g : Nodes) (p : List ℕ) → IsBlank p → grow g p ≡ g
 unfolding grow
@@ -73,11 +65,11 @@ line_step : (before : List Parts) (l : Parts) → Unbroken (progress_of before) 
 line_step before l u =
     let w : untrailed before ≡ before = untrailed_all before u.done in
     let v : untrailed (before ++ l ∷ []) ≡ before ++ cond (is_trailer l) [] (l ∷ []) = untrailed-push before l u.done in
-    elim (cases_bool (is_trailer l)) [
+    elim (cases_Bool (is_trailer l)) [
       | inl e ↦ rw (e, w) (ap (forest_of 1) (sym (v ∙ rw e (append-nil before))))
       | inr e ↦
           let more : before ++ l ∷ [] ≡ untrailed (before ++ l ∷ []) = sym (v ∙ rw e refl) in
-          elim (cases_bool (is_continuation l.tag)) [
+          elim (cases_Bool (is_continuation l.tag)) [
             | inl t ↦ rw (e, t, w) (sym (joined_step before l (unbroken_continues (progress_of before) l u t) t)
                 ∙ ap (forest_of 1) more)
             | inr t ↦

@@ -29,8 +29,7 @@ use Rattle.std.proofs.Common.{
 }
 use Rattle.std.proofs.lemmas.List.{append-nil, map-append}
 use Rattle.std.specs.List.{list_all}
-use Rattle.std.proofs.lemmas.Bool.{lt-ltb, le-ltb, eq-eqb}
-use Rattle.gedcom_line.proofs.Steps.{both}
+use Rattle.std.proofs.lemmas.Bool.{lt-ltb, le-ltb, eq-eqb, and_parts}
 use Rattle.gedcom_tree.specs.Forest.{Item, longer, longer_node, extended}
 use Rattle.gedcom_tree.specs.Flat.{value_said, flat, flats, flat_step, all_at, said, flat_open, built}
 use Rattle.gedcom_tree.specs.declared.node.Node.{Node}
@@ -39,6 +38,7 @@ use Rattle.gedcom_tree.specs.declared.node.Node.TheOpen.{Node-F}
 use Rattle.gedcom_tree.specs.declared.node.Node.TheFolds.{fold_out-Node, ind-Node}
 use Rattle.gedcom_tree.proofs.Joined.{extended_deeper}
 use Rattle.std.proofs.Math.Bool.{and-false}
+use Rattle.gedcom_line.proofs.Again.{all-append}
 
 pub flat_out : (n : Node) (level : ℕ) → flat n level ≡ said level n ∷ flats (level + 1) (out-Node n).children.items
 flat_out n level = ap (λ (f : ℕ → List Item). f level) (fold_out-Node (ℕ → List Item) flat_step n)
@@ -143,22 +143,14 @@ opened roots path more n level m d leaf =
     ∙ ap (λ (x : List Item). flat_open 0 path ++ x) (flat_leaf n level leaf))
     ∙ sym (append_assoc (flats 0 roots) (flat_open 0 path) (said level n ∷ []))
 
-pub all_closed : (roots path : List Node) → length path ≡ 0 → built roots path ≡ flats 0 roots
-all_closed roots [] h = append-nil (flats 0 roots)
-all_closed roots (p ∷ ps) h = absurd (omega arith)
-
 -- all nodes below a node are deeper
 abbrev IsDeeper : Node → Type 0
 IsDeeper n = (k level : ℕ) → k < level → list_all (λ j. ltb k j.level) (flat n level) ≡ true
 
-all_both : (p : Item → Bool) (a b : List Item) → list_all p a ≡ true → list_all p b ≡ true → list_all p (a ++ b) ≡ true
-all_both p [] b h g = g
-all_both p (x ∷ xs) b h g = let r = both (p x) (list_all p xs) h in rw (r.0, all_both p xs b r.1 g) refl
-
 children_deeper : (es : List ((n : Node) × IsDeeper n)) (k level : ℕ) → k < level
     → list_all (λ j. ltb k j.level) (flats level (map (λ e. e.0) es)) ≡ true
 children_deeper [] k level h = refl
-children_deeper (e ∷ es) k level h = all_both (λ j. ltb k j.level) (flat e.0 level) (flats level (map (λ d. d.0) es))
+children_deeper (e ∷ es) k level h = all-append (λ j. ltb k j.level) (flat e.0 level) (flats level (map (λ d. d.0) es))
     (e.1 k level h) (children_deeper es k level h)
 
 flat_deeper : (n : Node) → IsDeeper n
@@ -174,7 +166,7 @@ flat_deeper = ind-Node IsDeeper (λ x y is k level h.
 
 pub flats_deeper : (ns : List Node) (k level : ℕ) → k < level → list_all (λ j. ltb k j.level) (flats level ns) ≡ true
 flats_deeper [] k level h = refl
-flats_deeper (n ∷ ns) k level h = all_both (λ j. ltb k j.level) (flat n level) (flats level ns)
+flats_deeper (n ∷ ns) k level h = all-append (λ j. ltb k j.level) (flat n level) (flats level ns)
     (flat_deeper n k level h) (flats_deeper ns k level h)
 
 -- the last node of a level gets a longer text

@@ -37,7 +37,6 @@ use Rattle.std.specs.Prelude.{IfErr, OnErr}
 use Rattle.std.proofs.Math.ListN.{drop_of_length-le}
 use Rattle.std.specs.List.{flat_map, list_all}
 use Rattle.std.proofs.lemmas.List.Concat.{flat_map-append}
-use Rattle.gedcom_line.proofs.Steps.{both}
 use Rattle.gedcom_tree.specs.Forest.{Item}
 use Rattle.gedcom_tree.specs.Flat.{flat, flats}
 use Rattle.gedcom_tree.specs.Text.{node_text, IsLow}
@@ -46,17 +45,16 @@ use Rattle.std.specs.Io.KnownBytes.{Appends}
 use Rattle.std.proofs.KnownBytes.{Appends-nil, Appends-trans}
 use Rattle.std.proofs.Math.Seq.{take-append-add}
 use Rattle.std.proofs.lemmas.List.{take-append-le, take_all}
+use Rattle.std.proofs.lemmas.Bool.{and_parts}
 use Rattle.devices.specs.Devices.{AppendsBeginning}
 use Rattle.gedcom_tree.specs.Streams.{Handed}
+use Rattle.gedcom_line.proofs.Written.{all_parts}
 
 -- of the whole text the writer has a front, the buffer what follows it, and the rest is still to come
 pub record Going (old new : Option (List ℕ)) (whole out rest : List ℕ) : Type 0 where
   pub front : List ℕ
   pub taken : Appends old new front
   pub parts : front ++ (out ++ rest) ≡ whole
-
-pub going_begin : (a : Option (List ℕ)) (whole out : List ℕ) → out ≡ [] → Going a a whole out whole
-going_begin a whole out e = record { front = []; taken = Appends-nil a; parts = ap (λ (x : List ℕ). x ++ whole) e }
 
 pub going_on : (a b c : Option (List ℕ)) (whole out t rest more left : List ℕ) → Going a b whole out rest
     → rest ≡ t ++ left → Handed b c (out ++ t) more → Going a c whole more left
@@ -87,13 +85,6 @@ going_stops a b c whole out t rest left g e h =
       subst (Appends a c) (sym begun) (Appends-trans a b c g.front (take n bytes) g.taken h.2),
     )
 
--- all that is left goes out
-pub going_ends : (a b c : Option (List ℕ)) (whole out t rest bytes : List ℕ) → Going a b whole out rest → rest ≡ t
-    → bytes ≡ out ++ t → Appends b c bytes → Appends a c whole
-going_ends a b c whole out t rest bytes g e k h =
-    subst (Appends a c) (ap (λ (x : List ℕ). g.front ++ x) (k ∙ ap (λ (x : List ℕ). out ++ x) (sym e)) ∙ g.parts)
-    (Appends-trans a b c g.front bytes g.taken h)
-
 -- nothing goes out any more
 pub going_rests : (a b : Option (List ℕ)) (whole out rest : List ℕ) → Going a b whole out rest
     → AppendsBeginning a b whole
@@ -117,21 +108,13 @@ node_next nodes i n end_ lt at =
     ∙ ap (λ (x : List ℕ). x ++ end_) (flat_map-append node_text (flat n 0) (flats 0 more))
     ∙ append_assoc (flat_map node_text (flat n 0)) (flat_map node_text (flats 0 more)) end_
 
-all_split : (p : Item → Bool) (a b : List Item) → list_all p (a ++ b) ≡ true → (list_all p a ≡ true)
-    × (list_all p b ≡ true)
-all_split p [] b h = (refl, h)
-all_split p (x ∷ xs) b h =
-    let r = both (p x) (list_all p (xs ++ b)) h in
-    let k = all_split p xs b r.1 in
-    (rw (r.0, k.0) refl, k.1)
-
 pub low_next : (nodes : List Node) (i : ℕ) (n : Node) → i < length nodes → n ≡ get_or nodes i n
     → IsLow (flats 0 (drop i nodes)) → IsLow (flat n 0) × IsLow (flats 0 (drop (i + 1) nodes))
 low_next nodes i n lt at h =
     let more : List Node = drop (i + 1) nodes in
     let cut : drop i nodes ≡ n ∷ more = drop-cons nodes i n lt ∙ ap (λ (x : Node). x ∷ drop (suc i) nodes) (sym at)
     ∙ ap (λ (k : ℕ). n ∷ drop k nodes) (sym (add-one i)) in
-    all_split (λ j. leb j.level 98) (flat n 0) (flats 0 more) (subst (λ (x : List Node). IsLow (flats 0 x)) cut h)
+    all_parts (λ j. leb j.level 98) (flat n 0) (flats 0 more) (subst (λ (x : List Node). IsLow (flats 0 x)) cut h)
 
 pub node_last : (nodes : List Node) (i : ℕ) (end_ : List ℕ) → length nodes ≤ i
     → flat_map node_text (flats 0 (drop i nodes)) ++ end_ ≡ end_ ++ []

@@ -35,14 +35,14 @@ use Rattle.std.specs.Prelude.{is_some}
 use Rattle.std.specs.Option.{option_map_or}
 use Rattle.std.specs.List.{list_all, list_any}
 use Rattle.std.specs.Str.{bytes_eq}
-use Rattle.std.proofs.lemmas.Bool.{eqb-true, not-true, not-false}
+use Rattle.std.proofs.lemmas.Bool.{eqb-true, not-true, not-false, and_parts, cases_Bool}
 use Rattle.std.proofs.lemmas.Bool.Decides.{nat_tests}
 use Rattle.std.proofs.lemmas.Slice.Eq.{bytes_eq-Decides}
 use Rattle.gedcom_line.specs.Reading.{Parts, is_continuation}
 use Rattle.gedcom_line.specs.Escape.{unescaped}
 use Rattle.gedcom_line.specs.Spelling.{is_inner, IsInner}
 use Rattle.gedcom_line.specs.Value.{Text, Pointer, meaning, value_of, pointer_in}
-use Rattle.gedcom_line.proofs.Steps.{both, eqb_no}
+use Rattle.gedcom_line.proofs.Steps.{eqb_no}
 use Rattle.gedcom_rules.specs.Rules.{
   Progress,
   Standing,
@@ -62,7 +62,6 @@ use Rattle.gedcom_rules.specs.Continuing.{belongs}
 use Rattle.gedcom_tree.specs.Forest.{continued, forest_of}
 use Rattle.gedcom_rules.specs.Judging.{after}
 use Rattle.gedcom_tree.specs.Text.{is_charset_node, is_version_node, keeps_header}
-use Rattle.gedcom_rules.proofs.Cuts.{cases_bool}
 use Rattle.gedcom_rules.proofs.Unbroken.{Unbroken}
 use Rattle.gedcom_tree.proofs.Fitting.{Fit, Fits, above_own}
 use Rattle.gedcom_tree.proofs.Valued.{unescaped_each}
@@ -124,7 +123,7 @@ inner_no_lf x h = grind (arith, nat_tests)
 no_lf : (t : List ℕ) → list_all is_inner t ≡ true → list_any (λ b. eqb b 10) t ≡ false
 no_lf [] h = refl
 no_lf (x ∷ xs) h =
-    let r = both (is_inner x) (list_all is_inner xs) h in
+    let r = and_parts (is_inner x) (list_all is_inner xs) h in
     rw (inner_no_lf x r.0, no_lf xs r.1) refl
 
 version_meant : (raw : List ℕ) (o : Option (List ℕ)) → IsInner raw
@@ -167,7 +166,7 @@ below_gedcom q l under u b h two on = elim (b h on) [
 
 -- a continuation is not at level 0
 below_zero : (q : Progress) (l : Parts) → Unbroken q l → is_continuation l.tag ≡ true → eqb l.level 0 ≡ false
-below_zero q l u c = elim (cases_bool (eqb l.level 0)) [
+below_zero q l u c = elim (cases_Bool (eqb l.level 0)) [
   | inr e ↦ e
   | inl e ↦
       let g = u.goes_on in
@@ -183,7 +182,7 @@ in_head_before : (q : Progress) (l : Parts) → eqb q.count 0 ≡ false → (aft
     → (q.in_head ≡ true) × (eqb l.level 0 ≡ false)
 in_head_before q l c h =
     let k : (q.in_head && not (eqb l.level 0)) ≡ true = rw c at h in
-    let r = both q.in_head (not (eqb l.level 0)) k in
+    let r = and_parts q.in_head (not (eqb l.level 0)) k in
     (r.0, not-true (eqb l.level 0) r.1)
 
 -- a deeper line leaves what stands open at level 1
@@ -201,7 +200,7 @@ under_deeper q l under c u one = λ h on.
 
 under_continuation : (q : Progress) (l : Parts) (under : Bool) → eqb q.count 0 ≡ false → Under q under
     → is_continuation l.tag ≡ true → Under (after q l) under
-under_continuation q l under c u k = elim (cases_bool (eqb l.level 1)) [
+under_continuation q l under c u k = elim (cases_Bool (eqb l.level 1)) [
   | inr e ↦ under_deeper q l under c u e
   | inl e ↦ λ h on. inr (subst (λ (n : ℕ). option_map_or (λ s. is_continued s.role) ((after q l).above n) false ≡ true)
       (eqb-true l.level 1 e) (continued_open q l k))
@@ -216,7 +215,7 @@ gedcom_open q l e t =
 
 under_node : (q : Progress) (l : Parts) (under : Bool) → eqb q.count 0 ≡ false → Under q under
     → Under (after q l) (cond (eqb l.level 1) (bytes_eq l.tag (codes "GEDC")) under)
-under_node q l under c u = elim (cases_bool (eqb l.level 1)) [
+under_node q l under c u = elim (cases_Bool (eqb l.level 1)) [
   | inr e ↦ subst (Under (after q l)) (sym (ap (λ (b : Bool). cond b (bytes_eq l.tag (codes "GEDC")) under) e))
       (under_deeper q l under c u e)
   | inl e ↦ subst (Under (after q l)) (sym (ap (λ (b : Bool). cond b (bytes_eq l.tag (codes "GEDC")) under) e))
@@ -251,7 +250,7 @@ pub fits_header : (n : ℕ) (q : Progress) (ls : List Parts) (under : Bool) → 
     → Fits q ls → keeps_header q.in_head under (forest_of n ls) ≡ true
 unfolding forest_of
 fits_header n q [] under c u f = refl
-fits_header n q (l ∷ ls) under c u f = elim (cases_bool (is_continuation l.tag)) [
+fits_header n q (l ∷ ls) under c u f = elim (cases_Bool (is_continuation l.tag)) [
   | inl k ↦
       let level : eqb l.level 0 ≡ false = below_zero q l f.0.rules k in
       let some : 0 < l.level = omega (arith, eqb_no l.level 0 level) in

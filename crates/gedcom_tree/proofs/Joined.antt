@@ -38,16 +38,15 @@ use Rattle.std.proofs.Common.{
 use Rattle.std.specs.Prelude.{is_some}
 use Rattle.std.specs.Option.{option_map_or}
 use Rattle.std.specs.List.{list_all, flat_map}
-use Rattle.std.proofs.lemmas.Bool.{eqb-true, ltb-true, lt-ltb, le-ltb, not-false, eq-eqb}
+use Rattle.std.proofs.lemmas.Bool.{eqb-true, ltb-true, lt-ltb, le-ltb, not-false, eq-eqb, and_parts, cases_Bool}
 use Rattle.std.proofs.lemmas.List.Concat.{flat_map-append}
 use Rattle.gedcom_line.specs.Reading.{Parts, is_continuation}
 use Rattle.gedcom_line.specs.Escape.{unescaped}
 use Rattle.gedcom_line.specs.Value.{Meaning, Text, Pointer, meaning}
-use Rattle.gedcom_line.proofs.Steps.{both, eqb_false}
+use Rattle.gedcom_line.proofs.Steps.{eqb_false}
 use Rattle.gedcom_rules.specs.Rules.{Progress, Standing, standing, standing_at, is_continued, may_go_on}
 use Rattle.gedcom_tree.specs.Forest.{Item, continued, node_of, forest_of, longer, extended}
 use Rattle.gedcom_rules.specs.Continuing.{belongs, adds}
-use Rattle.gedcom_rules.proofs.Cuts.{cases_bool}
 use Rattle.gedcom_rules.proofs.Runs.{belongs_deeper}
 use Rattle.gedcom_rules.proofs.Unbroken.{Unbroken}
 use Rattle.std.proofs.Math.Bool.{and-false, or-true}
@@ -66,7 +65,7 @@ belongs-push n (m ∷ ms) l h = rw (belongs-push n ms l h) refl
 pub belongs_closed : (n : ℕ) (ms : List Parts) (l : Parts) → list_all (λ m. ltb n m.level) ms ≡ false
     → belongs n (ms ++ l ∷ []) ≡ belongs n ms
 belongs_closed n [] l h = absurd cc
-belongs_closed n (m ∷ ms) l h = elim (cases_bool (ltb n m.level)) [
+belongs_closed n (m ∷ ms) l h = elim (cases_Bool (ltb n m.level)) [
   | inl e ↦ let rest : list_all (λ k. ltb n k.level) ms ≡ false = rw e at h in rw (e, belongs_closed n ms l rest) refl
   | inr e ↦ rw e refl
 ]
@@ -84,7 +83,7 @@ forest_of-push n [] l h = rw h (ap (λ (k : ℕ). node_of k l [] ∷ []) (omega 
 forest_of-push n (m ∷ ms) l h =
     let none : (is_continuation l.tag && eqb l.level (m.level + 1)) ≡ false = rw h refl in
     let at : n + 1 + length ms ≡ n + suc (length ms) = omega arith in
-    elim (cases_bool (is_continuation m.tag)) [
+    elim (cases_Bool (is_continuation m.tag)) [
       | inl e ↦ rw e (forest_of-push (n + 1) ms l h ∙ ap (λ (k : ℕ). forest_of (n + 1) ms ++ node_of k l [] ∷ []) at)
       | inr e ↦ rw (e, belongs-push m.level ms l none)
           (ap (λ (f : List Item). node_of n m (belongs m.level ms) ∷ f)
@@ -106,8 +105,8 @@ deeper_items : (k n : ℕ) (ms : List Parts) → list_all (λ m. ltb k m.level) 
 unfolding forest_of
 deeper_items k n [] a = refl
 deeper_items k n (m ∷ ms) a =
-    let r = both (ltb k m.level) (list_all (λ j. ltb k j.level) ms) a in
-    elim (cases_bool (is_continuation m.tag)) [
+    let r = and_parts (ltb k m.level) (list_all (λ j. ltb k j.level) ms) a in
+    elim (cases_Bool (is_continuation m.tag)) [
       | inl e ↦ rw e (deeper_items k (n + 1) ms r.1)
       | inr e ↦ rw (e, r.0) (deeper_items k (n + 1) ms r.1)
     ]
@@ -120,8 +119,8 @@ same_items : (k n : ℕ) (ms : List Parts) (c : Parts) → list_all (λ m. ltb k
 unfolding forest_of
 same_items k n [] c a t h = rw t refl
 same_items k n (m ∷ ms) c a t h =
-    let r = both (ltb k m.level) (list_all (λ j. ltb k j.level) ms) a in
-    elim (cases_bool (is_continuation m.tag)) [
+    let r = and_parts (ltb k m.level) (list_all (λ j. ltb k j.level) ms) a in
+    elim (cases_Bool (is_continuation m.tag)) [
       | inl e ↦ rw e (same_items k (n + 1) ms c r.1 t h)
       | inr e ↦ rw (
         e,
@@ -134,12 +133,12 @@ pub extended_deeper : (k : ℕ) (t : List ℕ) (is : List Item) → list_all (λ
     → extended k t is ≡ is
 extended_deeper k t [] a = refl
 extended_deeper k t (i ∷ is) a =
-    let r = both (ltb k i.level) (list_all (λ j. ltb k j.level) is) a in
+    let r = and_parts (ltb k i.level) (list_all (λ j. ltb k j.level) is) a in
     rw (eqb_false i.level k (above_deeper k i.level r.0), extended_deeper k t is r.1) refl
 
 -- a node of the level is among them
 own_line : (m : Parts) (more : List Parts) → is_continued (standing m more).role ≡ false → is_continuation m.tag ≡ false
-own_line m more h = elim (cases_bool (is_continuation m.tag)) [
+own_line m more h = elim (cases_Bool (is_continuation m.tag)) [
   | inl e ↦ let bad : true ≡ false = rw e at h in absurd cc
   | inr e ↦ e
 ]
@@ -159,14 +158,14 @@ not_deeper : (k n : ℕ) (ms : List Parts) (s : Standing) → standing_at k ms �
     → list_all (λ j. ltb k j.level) (forest_of n ms) ≡ false
 unfolding forest_of
 not_deeper k n [] s h o = absurd cc
-not_deeper k n (m ∷ ms) s h o = elim (cases_bool (eqb m.level k && list_all (λ j. ltb k j.level) ms)) [
+not_deeper k n (m ∷ ms) s h o = elim (cases_Bool (eqb m.level k && list_all (λ j. ltb k j.level) ms)) [
   | inl e ↦
       let own : is_continuation m.tag ≡ false = own_of m (belongs k ms) s (rw e at h) o in
-      let same : m.level ≡ k = eqb-true m.level k (both (eqb m.level k) _ e).0 in
+      let same : m.level ≡ k = eqb-true m.level k (and_parts (eqb m.level k) _ e).0 in
       rw (own, same, not_below k) refl
   | inr e ↦
       let rest : standing_at k ms ≡ Some s = rw e at h in
-      elim (cases_bool (is_continuation m.tag)) [
+      elim (cases_Bool (is_continuation m.tag)) [
         | inl c ↦ rw c (not_deeper k (n + 1) ms s rest o)
         | inr c ↦ rw (c, not_deeper k (n + 1) ms s rest o) (and-false (ltb k m.level))
       ]
@@ -176,7 +175,7 @@ not_deeper k n (m ∷ ms) s h o = elim (cases_bool (eqb m.level k && list_all (�
 pub belongs_past : (k : ℕ) (m : Parts) (ms : List Parts) (c : Parts)
     → (eqb m.level k && list_all (λ j. ltb k j.level) ms) ≡ false → c.level ≡ k + 1
     → belongs m.level (ms ++ c ∷ []) ≡ belongs m.level ms
-belongs_past k m ms c e h = elim (cases_bool (eqb m.level k)) [
+belongs_past k m ms c e h = elim (cases_Bool (eqb m.level k)) [
   | inl q ↦
       let same : m.level ≡ k = eqb-true m.level k q in
       let closed : list_all (λ j. ltb k j.level) ms ≡ false = rw q at e in
@@ -191,10 +190,10 @@ pub forest_longer : (n k : ℕ) (ls : List Parts) (c : Parts) (s : Standing) →
     → forest_of n (ls ++ c ∷ []) ≡ extended k (adds c) (forest_of n ls)
 unfolding forest_of
 forest_longer n k [] c s h o t l = absurd cc
-forest_longer n k (m ∷ ms) c s h o t l = elim (cases_bool (eqb m.level k && list_all (λ j. ltb k j.level) ms)) [
+forest_longer n k (m ∷ ms) c s h o t l = elim (cases_Bool (eqb m.level k && list_all (λ j. ltb k j.level) ms)) [
   | inl e ↦
       let own : is_continuation m.tag ≡ false = own_of m (belongs k ms) s (rw e at h) o in
-      let r = both (eqb m.level k) (list_all (λ j. ltb k j.level) ms) e in
+      let r = and_parts (eqb m.level k) (list_all (λ j. ltb k j.level) ms) e in
       let same : m.level ≡ k = eqb-true m.level k r.0 in
       let deep : ltb k c.level ≡ true = lt-ltb k c.level (omega (arith, l)) in
       let one : (is_continuation c.tag && eqb c.level (k + 1)) ≡ true = rw (t, l) (eq-eqb (k + 1) (k + 1) refl) in
@@ -212,7 +211,7 @@ forest_longer n k (m ∷ ms) c s h o t l = elim (cases_bool (eqb m.level k && li
       (n + 1) ms) (continued-push (meaning m.raw) (belongs k ms) c))
   | inr e ↦
       let rest : standing_at k ms ≡ Some s = rw e at h in
-      elim (cases_bool (is_continuation m.tag)) [
+      elim (cases_Bool (is_continuation m.tag)) [
         | inl g ↦ rw g (forest_longer (n + 1) k ms c s rest o t l)
         | inr g ↦
             rw (g, belongs_past k m ms c e l, not_deeper k (n + 1) ms s rest o, and-false (eqb m.level k))
@@ -233,10 +232,10 @@ above_some : (q : Progress) (level : ℕ) (o : Option Standing) → o ≡ q.abov
     → option_map_or (λ s. is_continued s.role) o false ≡ false → option_map_or (may_go_on q level) o false ≡ true
     → (s : Standing) × ((q.above level ≡ Some s) × ((s.text ≡ true) × (is_continued s.role ≡ false)))
 above_some q level None e c g = absurd cc
-above_some q level (Some s) e c g = (s, (sym e, ((both s.text _ (both _ _ g).0).0, c)))
+above_some q level (Some s) e c g = (s, (sym e, ((and_parts s.text _ (and_parts _ _ g).0).0, c)))
 
 pub unbroken_continues : (q : Progress) (l : Parts) → Unbroken q l → is_continuation l.tag ≡ true → Continues q l
-unbroken_continues q l u t = elim (cases_bool (eqb l.level 0)) [
+unbroken_continues q l u t = elim (cases_Bool (eqb l.level 0)) [
   | inl e ↦
       let h : (is_some l.xref || true) ≡ false = rw (t, e) at u.goes_on in
       absurd (let bad : true ≡ false = sym (or-true (is_some l.xref)) ∙ h in cc)
@@ -264,12 +263,3 @@ unbroken_continues q l u t = elim (cases_bool (eqb l.level 0)) [
     some_level : (n : ℕ) → eqb n 0 ≡ false → n ≡ n - 1 + 1
     some_level zero h = absurd (let bad : true ≡ false = h in cc)
     some_level (suc n) h = omega arith
-
--- the line has no cross reference
-pub continues_unnamed : (q : Progress) (l : Parts) → Unbroken q l → is_continuation l.tag ≡ true
-    → is_some l.xref ≡ false
-continues_unnamed q l u t = left (is_some l.xref) _ (rw t at u.goes_on)
-  where
-    left : (a b : Bool) → (a || b) ≡ false → a ≡ false
-    left true b h = absurd cc
-    left false b h = refl

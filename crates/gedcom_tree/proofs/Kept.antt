@@ -35,12 +35,12 @@ use Rattle.std.specs.Prelude.{option_map}
 use Rattle.std.specs.Option.{option_map_or}
 use Rattle.std.specs.List.{list_any}
 use Rattle.std.specs.Str.{bytes_eq}
-use Rattle.std.proofs.lemmas.Bool.{eqb-true, le-ltb, cases_lt}
+use Rattle.std.proofs.lemmas.Bool.{eqb-true, le-ltb, cases_lt, and_parts, cases_Bool}
 use Rattle.std.proofs.lemmas.Slice.Eq.{bytes_eq-Decides}
 use Rattle.gedcom_line.specs.Reading.{Parts, is_continuation}
 use Rattle.gedcom_line.specs.Split.{Part}
 use Rattle.gedcom_line.specs.Value.{meaning, value_of}
-use Rattle.gedcom_line.proofs.Steps.{both, eqb_false, eqb_no}
+use Rattle.gedcom_line.proofs.Steps.{eqb_false, eqb_no}
 use Rattle.gedcom_rules.specs.declared.standing.Role.{Role}
 use Rattle.gedcom_rules.specs.Rules.{
   Progress,
@@ -61,7 +61,6 @@ use Rattle.gedcom_tree.specs.Forest.{Item, mark_tag, own_line, own_raw, part_lin
 use Rattle.gedcom_rules.specs.Continuing.{adds}
 use Rattle.gedcom_rules.specs.Judging.{continue_at, above_after, after}
 use Rattle.gedcom_tree.specs.Text.{IsNodeOf, is_called, is_charset_node, is_version_node}
-use Rattle.gedcom_rules.proofs.Cuts.{cases_bool}
 use Rattle.gedcom_rules.proofs.Unbroken.{Unbroken}
 use Rattle.gedcom_tree.proofs.Numbered.{mark_continues}
 use Rattle.gedcom_tree.proofs.Alone.{charset_again, version_again}
@@ -101,7 +100,7 @@ above_own above l = rw (eq-eqb l.level l.level refl) refl
 role_kept : (f : Role → Bool) (n : ℕ) (l : Parts) (o : Option Standing) → option_map_or (λ s. f s.role)
     (option_map (continue_at n l) o) false ≡ option_map_or (λ s. f s.role) o false
 role_kept f n l None = refl
-role_kept f n l (Some s) = elim (cases_bool (is_continuation l.tag && eqb l.level (n + 1)))
+role_kept f n l (Some s) = elim (cases_Bool (is_continuation l.tag && eqb l.level (n + 1)))
     [ inl e ↦ rw e refl | inr e ↦ rw e refl ]
 
 role_below : (f : Role → Bool) (above : ℕ → Option Standing) (l : Parts) (n : ℕ) → n < l.level
@@ -118,7 +117,7 @@ pub name_apart : (o : Option (List ℕ)) (is : List Item) (x : List ℕ)
     → option_map_or (λ y. list_any (is_called y) is) o false ≡ false → list_any (is_called x) is ≡ true
     → option_map_or (bytes_eq x) o false ≡ false
 name_apart None is x h k = refl
-name_apart (Some y) is x h k = elim (cases_bool (bytes_eq x y)) [
+name_apart (Some y) is x h k = elim (cases_Bool (bytes_eq x y)) [
   | inr e ↦ e
   | inl e ↦
       let same : x ≡ y = (bytes_eq-Decides x y).0 e in
@@ -144,7 +143,7 @@ open_after above i level own rise h k le = elim (cases_lt k i.level) [
 gedcom_own : (q : Progress) (level : ℕ) (h u : Bool) (i : Item) (is : List Item) → Stands q level h u (i ∷ is)
     → is_continuation i.tag ≡ false → i.level ≤ level + 1 → 1 ≤ i.level → h ≡ true
     → option_map_or (λ s. is_gedcom_tag s.role) (above_after q.above (own_line i) 1) false ≡ gedcom_after u i
-gedcom_own q level h u i is s own rise ge hh = elim (cases_bool (eqb i.level 1)) [
+gedcom_own q level h u i is s own rise ge hh = elim (cases_Bool (eqb i.level 1)) [
   | inl e ↦ role_at is_gedcom_tag q.above (own_line i) 1 (eqb-true i.level 1 e) ∙ gedcom_role i.tag own ∙ rw e refl
   | inr e ↦
       let other : i.level ≡ 1 → ⊥ = eqb_no i.level 1 e in
@@ -164,7 +163,7 @@ own_stands q level h u i is s n rise apart = record {
   names = λ x k.
       let free : q.named x ≡ false = s.names x (rw k (or-true (is_called x i))) in
       rw free (name_apart i.xref is x apart k);
-  gedcom = λ ge hh. gedcom_own q level h u i is s n.own rise ge (both h (not (eqb i.level 0)) hh).0;
+  gedcom = λ ge hh. gedcom_own q level h u i is s n.own rise ge (and_parts h (not (eqb i.level 0)) hh).0;
 }
 
 -- behind a continuation
@@ -211,10 +210,10 @@ set_is q level h u i is s own = rw (s.in_head, charset_role i.tag own) refl
 pub version_is : (q : Progress) (level : ℕ) (h u : Bool) (i : Item) (is : List Item) → Stands q level h u is
     → is_continuation i.tag ≡ false → i.level ≤ level + 1 → names_version q i.level (role_of i.tag)
     ≡ (h && eqb i.level 2 && bytes_eq i.tag (codes "VERS") && u)
-version_is q level h u i is s own rise = elim (cases_bool (h && eqb i.level 2)) [
+version_is q level h u i is s own rise = elim (cases_Bool (h && eqb i.level 2)) [
   | inr e ↦ rw (s.in_head, e) refl
   | inl e ↦
-      let r = both h (eqb i.level 2) e in
+      let r = and_parts h (eqb i.level 2) e in
       let two : i.level ≡ 2 = eqb-true i.level 2 r.1 in
       rw (s.in_head, version_role i.tag own, s.gedcom (omega (arith, two, rise)) r.0) refl
 ]
@@ -231,7 +230,7 @@ name_free q i is f = elim (i.xref) as (λ o. i.xref ≡ o → option_map_or q.na
 own_above : (q : Progress) (level n : ℕ) → n ≤ level + 1
     → ((k : ℕ) → k ≤ level → option_map_or (λ s. is_continued s.role) (q.above k) false ≡ false)
     → option_map_or (λ s. is_continued s.role) (parent q n) false ≡ false
-own_above q level n rise h = elim (cases_bool (eqb n 0)) [
+own_above q level n rise h = elim (cases_Bool (eqb n 0)) [
   | inl e ↦ rw e refl
   | inr e ↦ rw e (h (n - 1) (omega (arith, rise)))
 ]
@@ -239,7 +238,7 @@ own_above q level n rise h = elim (cases_bool (eqb n 0)) [
 own_charset : (q : Progress) (level : ℕ) (h u : Bool) (i : Item) (is : List Item) → Stands q level h u is → IsNodeOf i
     → Heads h u i → (names_set q i.level (role_of i.tag) && not (is_charset (own_raw i.value))) ≡ false
 own_charset q level h u i is s n k = rw (set_is q level h u i is s n.own)
-    (elim (cases_bool (h && eqb i.level 1 && bytes_eq i.tag (codes "CHAR"))) [
+    (elim (cases_Bool (h && eqb i.level 1 && bytes_eq i.tag (codes "CHAR"))) [
       | inr e ↦ rw e refl
       | inl e ↦ let good : is_charset (own_raw i.value) ≡ true = (charset_again i.value (k.charset e)).reads in
           rw (e, good) refl
@@ -249,7 +248,7 @@ own_version : (q : Progress) (level : ℕ) (h u : Bool) (i : Item) (is : List It
     → i.level ≤ level + 1 → Heads h u i
     → (names_version q i.level (role_of i.tag) && not (is_version_value (value_of (own_line i)))) ≡ false
 own_version q level h u i is s n rise k = rw (version_is q level h u i is s n.own rise)
-    (elim (cases_bool (h && eqb i.level 2 && bytes_eq i.tag (codes "VERS") && u)) [
+    (elim (cases_Bool (h && eqb i.level 2 && bytes_eq i.tag (codes "VERS") && u)) [
       | inr e ↦ rw e refl
       | inl e ↦
           let good : is_version_value (meaning (own_raw i.value))

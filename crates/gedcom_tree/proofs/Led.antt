@@ -33,9 +33,8 @@ use Rattle.std.proofs.Common.{
 }
 use Rattle.std.specs.Prelude.{is_some}
 use Rattle.std.specs.List.{list_all}
-use Rattle.std.proofs.lemmas.Bool.{lt-ltb}
+use Rattle.std.proofs.lemmas.Bool.{lt-ltb, or_parts, cases_Bool}
 use Rattle.gedcom_line.specs.Reading.{Parts, is_continuation}
-use Rattle.gedcom_line.proofs.Steps.{neither}
 use Rattle.gedcom_rules.specs.declared.fault.TreeKind.{TreeKind}
 use Rattle.gedcom_rules.specs.declared.fault.TreeKind.TheVariants.{TooLong}
 use Rattle.gedcom_rules.specs.Rules.{Progress, is_trailer}
@@ -45,7 +44,6 @@ use Rattle.gedcom_rules.specs.Depth.{depth}
 use Rattle.gedcom_rules.specs.Faults.{Fault, max_line}
 use Rattle.gedcom_rules.specs.Judging.{start, after, next, judge, advance, fault_behind, open_fault}
 use Rattle.gedcom_rules.proofs.Bools.{counted}
-use Rattle.gedcom_rules.proofs.Cuts.{cases_bool}
 use Rattle.gedcom_rules.proofs.Judged.{judge_some, judge_long}
 use Rattle.gedcom_rules.proofs.Unbroken.{Unbroken, unbroken}
 use Rattle.gedcom_tree.specs.Forest.{Item, node_of, extended}
@@ -75,7 +73,7 @@ names-append (i ∷ is) b = ap (λ (x : List (List ℕ)). name_on i.xref ++ x) (
 
 names_extended : (n : ℕ) (t : List ℕ) (items : List Item) → names_of (extended n t items) ≡ names_of items
 names_extended n t [] = refl
-names_extended n t (i ∷ is) = elim (cases_bool (eqb i.level n && list_all (λ j. ltb n j.level) is)) [
+names_extended n t (i ∷ is) = elim (cases_Bool (eqb i.level n && list_all (λ j. ltb n j.level) is)) [
   | inl e ↦ rw e (ap (λ (x : List (List ℕ)). name_on i.xref ++ x) (names_extended n t is))
   | inr e ↦ rw e (ap (λ (x : List (List ℕ)). name_on i.xref ++ x) (names_extended n t is))
 ]
@@ -84,7 +82,7 @@ names_extended n t (i ∷ is) = elim (cases_bool (eqb i.level n && list_all (λ 
 no_name : (q : Progress) (l : Parts) → Unbroken q l → is_continuation l.tag ≡ true → l.xref ≡ None
 no_name q l u t =
     let g : (is_some l.xref || _) ≡ false = rw t at u.goes_on in
-    none_is l.xref (neither (is_some l.xref) _ g).0
+    none_is l.xref (or_parts (is_some l.xref) _ g).0
   where
     none_is : (o : Option (List ℕ)) → is_some o ≡ false → o ≡ None
     none_is None h = refl
@@ -93,7 +91,7 @@ no_name q l u t =
 -- one line more
 line_names : (q : Progress) (l : Parts) (m : ℕ) (items : List Item) → Unbroken q l → is_trailer l ≡ false
     → names_of (grow_line m items l) ≡ names_of items ++ name_on l.xref
-line_names q l m items u e = elim (cases_bool (is_continuation l.tag)) [
+line_names q l m items u e = elim (cases_Bool (is_continuation l.tag)) [
   | inl t ↦ rw (e, t, no_name q l u t) (names_extended (l.level - 1) (adds l) items ∙ sym (append-nil (names_of items)))
   | inr t ↦ rw (e, t) (names-append items (node_of m l [] ∷ []) ∙ ap (λ (x : List (List ℕ)). names_of items ++ x)
       (append-nil (name_on l.xref)))
@@ -101,7 +99,7 @@ line_names q l m items u e = elim (cases_bool (is_continuation l.tag)) [
 
 more_names : (q : Progress) (l : Parts) (m : ℕ) (items : List Item) (x : Option (List ℕ)) → Unbroken q l → x ≡ None
     → names_view (grow_line m items l) (cond (is_trailer l) l.xref x) ≡ names_view items x ++ name_on l.xref
-more_names q l m items x u n = elim (cases_bool (is_trailer l)) [
+more_names q l m items x u n = elim (cases_Bool (is_trailer l)) [
   | inl e ↦ rw (e, n, append-nil (names_of items)) refl
   | inr e ↦
       let none : cond (is_trailer l) l.xref x ≡ None = rw e n in
@@ -127,7 +125,7 @@ pub plain_line : (q r : Progress) (p : List ℕ) (l : Parts) (x y : Option (List
     → r ≡ after q l → (q.done ≡ false → x ≡ None) → y ≡ cond (is_trailer l) l.xref x → r.done ≡ false → y ≡ None
 plain_line q r p l x y h e plain t d =
     let both : (q.done || is_trailer l) ≡ false = ap (λ (s : Progress). s.done) (sym e) ∙ d in
-    let n = neither q.done (is_trailer l) both in
+    let n = or_parts q.done (is_trailer l) both in
     t ∙ rw n.1 (plain n.0)
 
 pub plain_blank : (q r : Progress) (x : Option (List ℕ)) → r ≡ q → (q.done ≡ false → x ≡ None)

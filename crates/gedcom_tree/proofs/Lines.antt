@@ -24,11 +24,11 @@ use Rattle.std.specs.List.{flat_map}
 use Rattle.std.proofs.lemmas.Fmt.{decimal_digit}
 use Rattle.std.proofs.Common.{arith}
 use Rattle.std.proofs.lemmas.List.Concat.{flat_map-append}
+use Rattle.std.proofs.lemmas.Bool.{or_parts}
 use Rattle.gedcom_line.specs.Words.{is_end}
 use Rattle.gedcom_line.specs.Reading.{Parts}
 use Rattle.gedcom_line.specs.Line.{IsPiece}
 use Rattle.gedcom_line.specs.Spelling.{spelling, xref_text, raw_text, IsLine}
-use Rattle.gedcom_line.proofs.Steps.{neither}
 use Rattle.gedcom_line.proofs.Again.{line_again, spelling_inner, inner_piece}
 use Rattle.gedcom_rules.specs.Pieces.{Pieces, pieces, skip_mark, file_pieces, all_pieces}
 use Rattle.gedcom_rules.specs.Rules.{Progress, progress_of, first_broken}
@@ -71,7 +71,7 @@ pieces_line : (t rest : List ℕ) → IsPiece t → pieces (t ++ 10 ∷ rest) �
 unfolding pieces
 pieces_line [] rest h = refl
 pieces_line (x ∷ xs) rest h =
-    let n = neither (is_end x) _ h in
+    let n = or_parts (is_end x) _ h in
     rw (n.0, pieces_line xs rest n.1) refl
 
 pieces_lines : (q : Progress) (ls : List Parts) → Keeps q ls → pieces (flat_map line_text ls)

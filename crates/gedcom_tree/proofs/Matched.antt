@@ -32,8 +32,7 @@ use Rattle.std.proofs.Common.{
 }
 use Rattle.std.proofs.Math.ListN.{drop_of_length-le}
 use Rattle.std.specs.List.{list_all}
-use Rattle.std.proofs.lemmas.Bool.{ltb-true, eqb-true}
-use Rattle.gedcom_line.proofs.Steps.{both}
+use Rattle.std.proofs.lemmas.Bool.{ltb-true, eqb-true, and_parts}
 use Rattle.gedcom_tree.specs.Forest.{Item}
 use Rattle.gedcom_tree.specs.Flat.{flat, flats, said}
 use Rattle.gedcom_tree.specs.Text.{unnumbered, IsSame}
@@ -72,17 +71,17 @@ parted : (k : ℕ) (a b p q : List Item) → are_deeper k a ≡ true → are_dee
 parted k [] [] p q da db hp hq e = (refl, e)
 parted k [] (j ∷ js) [] q da db hp hq e = absurd cc
 parted k [] (j ∷ js) (i ∷ is) q da db hp hq e =
-    absurd (apart k j i (both (ltb k j.level) (are_deeper k js) db).0 hp
+    absurd (apart k j i (and_parts (ltb k j.level) (are_deeper k js) db).0 hp
     (sym (heads (unnumbered i) (unnumbered j) (map unnumbered is) (map unnumbered (js ++ q)) e)))
 parted k (i ∷ is) [] p [] da db hp hq e = absurd cc
 parted k (i ∷ is) [] p (j ∷ js) da db hp hq e =
-    absurd (apart k i j (both (ltb k i.level) (are_deeper k is) da).0 hq
+    absurd (apart k i j (and_parts (ltb k i.level) (are_deeper k is) da).0 hq
     (heads (unnumbered i) (unnumbered j) (map unnumbered (is ++ p)) (map unnumbered js) e))
 parted k (i ∷ is) (j ∷ js) p q da db hp hq e =
     let first : unnumbered i ≡ unnumbered j = heads (unnumbered i) (unnumbered j) (map unnumbered (is ++ p))
     (map unnumbered (js ++ q)) e in
-    let r = parted k is js p q (both (ltb k i.level) (are_deeper k is) da).1
-    (both (ltb k j.level) (are_deeper k js) db).1 hp hq
+    let r = parted k is js p q (and_parts (ltb k i.level) (are_deeper k is) da).1
+    (and_parts (ltb k j.level) (are_deeper k js) db).1 hp hq
     (tails (unnumbered i) (unnumbered j) (map unnumbered (is ++ p)) (map unnumbered (js ++ q)) e) in
     (ap (λ (x : Item). x ∷ map unnumbered is) first ∙ ap (λ (x : List Item). unnumbered j ∷ x) r.0, r.1)
 

@@ -28,22 +28,15 @@ use Rattle.std.specs.Str.{IsUtf8, encode_utf8_all, all_scalars}
 use Rattle.std.specs.Fmt.{decimal}
 use Rattle.std.proofs.lemmas.Bool.Decides.{nat_tests}
 use Rattle.std.proofs.lemmas.Str.{IsCharBoundary-start, IsUtf8-encode, length-encode, len_utf8_bounds}
+use Rattle.std.proofs.lemmas.Bool.{and_parts, cases_Bool}
 use Rattle.gedcom_line.specs.Reading.{Parts}
 use Rattle.gedcom_line.specs.Spelling.{spelling, xref_text, raw_text, IsXref, IsLine}
 use Rattle.gedcom_line.specs.Split.{begins_char, char_count}
-use Rattle.gedcom_line.proofs.Steps.{both}
 use Rattle.gedcom_line.proofs.Again.{level_digits}
 use Rattle.gedcom_line.proofs.Counts.{char_count-append, char_count-cons}
 use Rattle.gedcom_line.proofs.Lengths.{name_length}
 use Rattle.gedcom_rules.specs.Faults.{max_line}
-use Rattle.gedcom_rules.proofs.Cuts.{cases_bool}
-
--- a character of UTF-8 has four bytes at most
-begins_bad : (b : ℕ) → (128 ≤ b → 192 ≤ b) → begins_char b ≡ false → ⊥
-begins_bad b h e = grind (arith, nat_tests)
-
-begins_from : (b : ℕ) → (128 ≤ b → 192 ≤ b) → begins_char b ≡ true
-begins_from b h = elim (cases_bool (begins_char b)) [ inl e ↦ e | inr e ↦ absurd (begins_bad b h e) ]
+use Rattle.gedcom_line.proofs.Cuts.{begins_from}
 
 some_char : (t : List ℕ) → IsUtf8 t → 0 < length t → 1 ≤ char_count t
 some_char [] u h = absurd (omega arith)
@@ -55,7 +48,7 @@ some_char (b ∷ bs) u h =
 chars_bytes : (cs : List ℕ) → all_scalars cs ≡ true → length (encode_utf8_all cs) ≤ 4 * char_count (encode_utf8_all cs)
 chars_bytes [] h = omega arith
 chars_bytes (c ∷ cs) h =
-    let r = both (scalar c) (all_scalars cs) h in
+    let r = and_parts (scalar c) (all_scalars cs) h in
     let size : length (encode_utf8 c) ≡ len_utf8 c = length-encode c in
     let one : 1 ≤ char_count (encode_utf8 c) = some_char (encode_utf8 c) (IsUtf8-encode c r.0)
     (omega (arith, size, (len_utf8_bounds c).0)) in

@@ -27,14 +27,13 @@ use Rattle.std.proofs.Common.{
 use Rattle.std.specs.Option.{option_map_or}
 use Rattle.std.specs.List.{list_any}
 use Rattle.std.specs.Str.{bytes_eq}
-use Rattle.std.proofs.lemmas.Bool.{ltb-false, le-leb, cases_eq}
+use Rattle.std.proofs.lemmas.Bool.{ltb-false, le-leb, cases_eq, or_right, or_left, cases_Bool}
 use Rattle.std.proofs.lemmas.Slice.Eq.{bytes_eq-Decides}
 use Rattle.gedcom_line.specs.Reading.{Parts, is_continuation}
 use Rattle.gedcom_rules.specs.Rules.{Progress, Standing, has_name, is_continued, parent}
 use Rattle.gedcom_tree.specs.Forest.{forest_of}
 use Rattle.gedcom_rules.specs.Judging.{after}
 use Rattle.gedcom_tree.specs.Text.{rises, is_called, are_distinct}
-use Rattle.gedcom_rules.proofs.Cuts.{cases_bool}
 use Rattle.gedcom_rules.proofs.Unbroken.{Unbroken}
 use Rattle.gedcom_tree.proofs.Fitting.{Fits, above_own, parent_at}
 
@@ -67,7 +66,7 @@ unfolding forest_of
 fits_rises n k q [] b f = refl
 fits_rises n k q (l ∷ ls) b f =
     let le : l.level ≤ k + 1 = next_le q k l f.0.rules b in
-    elim (cases_bool (is_continuation l.tag)) [
+    elim (cases_Bool (is_continuation l.tag)) [
       | inl c ↦ rw c (fits_rises (n + 1) k (after q l) ls (inr (le, continued_open q l c)) f.1)
       | inr c ↦ rw (c, le-leb l.level (k + 1) le) (fits_rises (n + 1) l.level (after q l) ls (inl (omega arith)) f.1)
     ]
@@ -79,17 +78,10 @@ equal_names x y e = (bytes_eq-Decides x y).0 e
 own_name : (q : Progress) (l : Parts) (x : List ℕ) → (o : Option (List ℕ)) → l.xref ≡ o
     → option_map_or q.named o false ≡ false → q.named x ≡ true → option_map_or (bytes_eq x) o false ≡ false
 own_name q l x None e u h = refl
-own_name q l x (Some y) e u h = elim (cases_bool (bytes_eq x y)) [
+own_name q l x (Some y) e u h = elim (cases_Bool (bytes_eq x y)) [
   | inr k ↦ k
   | inl k ↦ absurd (let named : q.named y ≡ true = subst (λ (z : List ℕ). q.named z ≡ true) (equal_names x y k) h in cc)
 ]
-
-or_left : (a b : Bool) → a ≡ true → (a || b) ≡ true
-or_left a b h = rw h refl
-
-or_right : (a b : Bool) → b ≡ true → (a || b) ≡ true
-or_right true b h = refl
-or_right false b h = h
 
 not_again : (n : ℕ) (q : Progress) (ls : List Parts) (x : List ℕ) → q.named x ≡ true → Fits q ls
     → list_any (is_called x) (forest_of n ls) ≡ false
@@ -97,7 +89,7 @@ unfolding forest_of
 not_again n q [] x h f = refl
 not_again n q (l ∷ ls) x h f =
     let k = not_again (n + 1) (after q l) ls x (or_left (q.named x) (has_name x l) h) f.1 in
-    elim (cases_bool (is_continuation l.tag)) [
+    elim (cases_Bool (is_continuation l.tag)) [
       | inl c ↦ rw c k
       | inr c ↦ rw (c, own_name q l x l.xref refl f.0.rules.name h) k
     ]
@@ -115,7 +107,7 @@ unfolding forest_of
 fits_distinct n q [] f = refl
 fits_distinct n q (l ∷ ls) f =
     let k = fits_distinct (n + 1) (after q l) ls f.1 in
-    elim (cases_bool (is_continuation l.tag)) [
+    elim (cases_Bool (is_continuation l.tag)) [
       | inl c ↦ rw c k
       | inr c ↦ rw (c, apart (n + 1) q l ls l.xref refl f.1) k
     ]

@@ -30,7 +30,8 @@ use Rattle.std.proofs.Common.{
 }
 use Rattle.std.specs.List.{flat_map, list_any}
 use Rattle.std.specs.Str.{bytes_eq}
-use Rattle.std.proofs.lemmas.Bool.{ltb-true, lt-ltb}
+use Rattle.std.proofs.lemmas.Bool.{ltb-true, lt-ltb, cases_Bool}
+use Rattle.std.proofs.lemmas.List.{length-map}
 use Rattle.gedcom_line.specs.Escape.{escaped, unescaped}
 use Rattle.gedcom_line.specs.Reading.{Parts, is_continuation}
 use Rattle.gedcom_line.specs.Spelling.{IsXref}
@@ -58,7 +59,6 @@ use Rattle.gedcom_tree.specs.Forest.{
 }
 use Rattle.gedcom_rules.specs.Continuing.{belongs, adds}
 use Rattle.gedcom_tree.specs.Text.{IsNodeValue, EachNode, unnumbered, IsSame}
-use Rattle.gedcom_rules.proofs.Cuts.{cases_bool}
 
 -- the node with another number
 abbrev pub renumbered : ℕ → Item → Item
@@ -146,7 +146,7 @@ belongs_others level other (p ∷ ps) rest h =
 
 belongs_later : (level : ℕ) (is : List Item) → EachNode is → belongs level (lines_of is) ≡ []
 belongs_later level [] h = rw lines_nil refl
-belongs_later level (j ∷ js) h = rw (lines_cons j js) (elim (cases_bool (ltb level j.level)) [
+belongs_later level (j ∷ js) h = rw (lines_cons j js) (elim (cases_Bool (ltb level j.level)) [
   | inl e ↦ rw (e, h.0.own) (belongs_others level (j.level + 1) (more_parts j.value) (lines_of js)
       (omega (arith, ltb-true level j.level e)) ∙ belongs_later level js h.1)
   | inr e ↦ rw e refl
@@ -159,10 +159,6 @@ reads_parts level (p ∷ ps) n rest f h =
     let e : n + length (p ∷ ps) ≡ (n + 1) + length ps = omega arith in
     inl (mark_continues p.mark, reads_parts level ps (n + 1) rest f (subst (λ (k : ℕ). Reads k rest f) e h))
 
-map_length : {A B : Type 0} (f : A → B) (xs : List A) → length (map f xs) ≡ length xs
-map_length f [] = refl
-map_length f (x ∷ xs) = omega (arith, map_length f xs)
-
 pub lines_read : (n : ℕ) (f : List Item) → EachNode f → Reads n (lines_of f) (numbered n f)
 lines_read n [] h = rw lines_nil refl
 lines_read n (i ∷ is) h =
@@ -173,7 +169,7 @@ lines_read n (i ∷ is) h =
     let value : IsValue (own_raw i.value) (belongs i.level (map (part_line (i.level + 1)) ps ++ lines_of is))
     i.value = subst (λ (x : List Parts). IsValue (own_raw i.value) x i.value) (sym more)
     (value_again (i.level + 1) i.value h.0.value) in
-    let at : next ≡ (n + 1) + length ps = omega (arith, map_length (part_line (i.level + 1)) ps) in
+    let at : next ≡ (n + 1) + length ps = omega (arith, length-map ps (part_line (i.level + 1))) in
     let rest : Reads ((n + 1) + length ps) (lines_of is) (numbered next is) = subst
     (λ (k : ℕ). Reads k (lines_of is) (numbered next is)) at (lines_read next is h.1) in
     rw (lines_cons i is) (inr (

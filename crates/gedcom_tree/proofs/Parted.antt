@@ -1,7 +1,7 @@
 -- The lines of a node are lines, and none is too long.
 use Rattle.std.proofs.Common.{◌≡◌, ℕ, ◌<◌, ◌≤◌, true, ltb, leb, ◌&&◌, List, [], ◌∷◌, length, refl, inl, inr, arith}
 use Rattle.std.specs.List.{list_all}
-use Rattle.std.proofs.lemmas.Bool.{leb-true, ltb-true}
+use Rattle.std.proofs.lemmas.Bool.{leb-true, ltb-true, and_parts}
 use Rattle.gedcom_line.specs.Words.{is_word}
 use Rattle.gedcom_line.specs.Line.{IsContinuation}
 use Rattle.gedcom_line.specs.Reading.{Parts}
@@ -10,7 +10,6 @@ use Rattle.gedcom_line.specs.Split.{char_count, IsShort, Part, canonical, EachPa
 use Rattle.gedcom_line.specs.Value.{Meaning, Text, Pointer}
 use Rattle.gedcom_line.specs.declared.splitting.Mark.{Mark}
 use Rattle.gedcom_line.specs.declared.splitting.Mark.TheVariants.{Conc, Cont}
-use Rattle.gedcom_line.proofs.Steps.{both}
 use Rattle.gedcom_line.proofs.Again.{inner_nil}
 use Rattle.gedcom_line.proofs.Counts.{char_count-nil}
 use Rattle.gedcom_line.proofs.Inner.{escaped_inner, canonical_inner}
@@ -66,8 +65,8 @@ record Tag (tag : List ℕ) : Type 0 where
 
 tag_is : (tag : List ℕ) → is_tag tag ≡ true → Tag tag
 tag_is tag h =
-    let a = both (list_all is_word tag && ltb 0 (length tag)) (leb (length tag) 31) h in
-    let b = both (list_all is_word tag) (ltb 0 (length tag)) a.0 in
+    let a = and_parts (list_all is_word tag && ltb 0 (length tag)) (leb (length tag) 31) h in
+    let b = and_parts (list_all is_word tag) (ltb 0 (length tag)) a.0 in
     record { words = b.0; some = ltb-true 0 (length tag) b.1; short = leb-true (length tag) 31 a.1 }
 
 pub own_written : (i : Item) → IsNodeOf i → Written (own_line i)

@@ -22,20 +22,20 @@ use Rattle.std.proofs.Common.{
   arith,
 }
 use Rattle.std.specs.List.{list_any, slice_split}
-use Rattle.std.proofs.lemmas.Bool.{le-leb}
+use Rattle.std.proofs.lemmas.Bool.{le-leb, or_parts}
 use Rattle.gedcom_line.specs.Escape.{escaped_from, escaped, unescaped}
 use Rattle.gedcom_line.specs.Split.{char_count, is_short, is_lf, parts_by, segment_parts, canonical}
 use Rattle.gedcom_line.specs.Value.{Text}
 use Rattle.gedcom_line.specs.declared.splitting.Mark.TheVariants.{Cont}
 use Rattle.gedcom_line.proofs.Counts.{few_bytes, char_count-le-length}
-use Rattle.gedcom_line.proofs.Steps.{neither}
 use Rattle.gedcom_tree.specs.Text.{line_text, node_text}
+use Rattle.gedcom_line.proofs.Cuts.{parts_short}
 
 -- without an @ a text is written as it is
 pub escaped_plain : (inside : Bool) (t : List ℕ) → list_any (λ b. eqb b 64) t ≡ false → escaped_from inside t ≡ t
 escaped_plain inside [] h = refl
 escaped_plain inside (b ∷ bs) h =
-    let n = neither (eqb b 64) (list_any (λ x. eqb x 64) bs) h in
+    let n = or_parts (eqb b 64) (list_any (λ x. eqb x 64) bs) h in
     rw n.0 (ap (λ (x : List ℕ). b ∷ x) (escaped_plain inside bs n.1))
 
 -- and read as it is
@@ -43,20 +43,19 @@ pub unescaped_plain : (t : List ℕ) → list_any (λ b. eqb b 64) t ≡ false �
 unescaped_plain [] h = refl
 unescaped_plain (b ∷ []) h = refl
 unescaped_plain (b ∷ c ∷ cs) h =
-    let n = neither (eqb b 64) (list_any (λ x. eqb x 64) (c ∷ cs)) h in
+    let n = or_parts (eqb b 64) (list_any (λ x. eqb x 64) (c ∷ cs)) h in
     rw n.0 (ap (λ (x : List ℕ). b ∷ x) (unescaped_plain (c ∷ cs) n.1))
 
 -- without an LF, and of few bytes, it is one part
 unsplit : (t : List ℕ) → list_any is_lf t ≡ false → slice_split is_lf t ≡ t ∷ []
 unsplit [] h = refl
 unsplit (b ∷ bs) h =
-    let n = neither (is_lf b) (list_any is_lf bs) h in
+    let n = or_parts (is_lf b) (list_any is_lf bs) h in
     rw (n.0, unsplit bs n.1) refl
 
-one_part : (n : ℕ) (s : List ℕ) → is_short s ≡ true → parts_by n s ≡ s ∷ []
 unfolding parts_by
-one_part zero s h = refl
-one_part (suc n) s h = rw h refl
+parts_short zero s h = refl
+parts_short (suc n) s h = rw h refl
 
 pub few_short : (t : List ℕ) → length t ≤ 100 → is_short t ≡ true
 few_short t h = sym (few_bytes t h) ∙ le-leb (length t) 100 h
@@ -69,11 +68,4 @@ plain_short t h k =
 pub canonical_one : (t : List ℕ) → is_short t ≡ true → list_any is_lf t ≡ false
     → canonical t ≡ record { mark = Cont; text = t } ∷ []
 unfolding canonical segment_parts
-canonical_one t h k = rw (unsplit t k, one_part (length t) t h) refl
-
-pub text_one : (line level : ℕ) (xref : Option (List ℕ)) (tag t : List ℕ)
-    → canonical t ≡ record { mark = Cont; text = t } ∷ []
-    → line_text (record { level = level; xref = xref; tag = tag; raw = escaped t }) ≡ node_text
-    (record { line = line; level = level; xref = xref; tag = tag; value = Text t })
-text_one line level xref tag t h =
-    rw h (sym (append-nil (line_text (record { level = level; xref = xref; tag = tag; raw = escaped t }))))
+canonical_one t h k = rw (unsplit t k, parts_short (length t) t h) refl

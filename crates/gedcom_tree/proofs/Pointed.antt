@@ -28,16 +28,15 @@ use Rattle.std.proofs.Common.{
   None,
 }
 use Rattle.std.specs.List.{list_all, prefix_len}
+use Rattle.std.proofs.lemmas.Bool.{and_parts, cases_Bool}
 use Rattle.gedcom_line.specs.Reading.{Parts, is_continuation}
 use Rattle.gedcom_line.specs.Value.{meaning, IsPointer, pointer_in}
-use Rattle.gedcom_line.proofs.Steps.{both}
 use Rattle.gedcom_line.proofs.Pointers.{pointer_is, is_pointer, pointer_meant}
 use Rattle.gedcom_rules.specs.Rules.{Standing, standing, standing_at, is_trailer, progress_of}
 use Rattle.gedcom_rules.specs.Faults.{Clean}
 use Rattle.gedcom_tree.specs.File.{untrailed}
 use Rattle.gedcom_rules.specs.Continuing.{belongs}
 use Rattle.gedcom_tree.specs.Forest.{IsValue, Reads, continued, node_of, forest_of}
-use Rattle.gedcom_rules.proofs.Cuts.{cases_bool}
 use Rattle.gedcom_rules.proofs.Unbroken.{unbroken}
 use Rattle.gedcom_tree.proofs.Joined.{
   belongs-push,
@@ -68,7 +67,7 @@ pointed_deeper : (k : ℕ) (ms : List Parts) (c : Parts) → list_all (λ m. ltb
     → Pointed ms → Pointed (ms ++ c ∷ [])
 pointed_deeper k [] c a h p = (λ o name i. refl, tt)
 pointed_deeper k (m ∷ ms) c a h p =
-    let r = both (ltb k m.level) (list_all (λ j. ltb k j.level) ms) a in (
+    let r = and_parts (ltb k m.level) (list_all (λ j. ltb k j.level) ms) a in (
       λ o name i. belongs_other m.level k ms c h (above_deeper k m.level r.0) ∙ p.0 o name i,
       pointed_deeper k ms c r.1 h p.1,
     )
@@ -84,11 +83,11 @@ no_text m more s name e t o i =
 pub pointed_longer : (k : ℕ) (ls : List Parts) (c : Parts) (s : Standing) → standing_at k ls ≡ Some s → s.text ≡ true
     → c.level ≡ k + 1 → Pointed ls → Pointed (ls ++ c ∷ [])
 pointed_longer k [] c s h t l p = absurd cc
-pointed_longer k (m ∷ ms) c s h t l p = elim (cases_bool (eqb m.level k && list_all (λ j. ltb k j.level) ms)) [
+pointed_longer k (m ∷ ms) c s h t l p = elim (cases_Bool (eqb m.level k && list_all (λ j. ltb k j.level) ms)) [
   | inl e ↦
       let at : Some (standing m (belongs k ms)) ≡ Some s = rw e at h in (
         λ o name i. absurd (no_text m (belongs k ms) s name at t o i),
-        pointed_deeper k ms c (both (eqb m.level k) _ e).1 l p.1,
+        pointed_deeper k ms c (and_parts (eqb m.level k) _ e).1 l p.1,
       )
   | inr e ↦
       let rest : standing_at k ms ≡ Some s = rw e at h in
@@ -101,7 +100,7 @@ clean_pointed before [] lines a h = subst Pointed (sym h) a
 clean_pointed before (p ∷ ps) lines a (s, inl h) = clean_pointed before ps lines a h.1
 clean_pointed before (p ∷ ps) lines a (s, inr h) =
     let u = unbroken (progress_of before) h.0 h.1.1.0 in
-    clean_pointed (before ++ h.0 ∷ []) ps lines (elim (cases_bool (is_continuation h.0.tag)) [
+    clean_pointed (before ++ h.0 ∷ []) ps lines (elim (cases_Bool (is_continuation h.0.tag)) [
       | inl e ↦ let c = unbroken_continues (progress_of before) h.0 u e in
           pointed_longer c.level before h.0 c.above c.at c.text c.deeper a
       | inr e ↦ pointed-push before h.0 e a
@@ -111,8 +110,8 @@ clean_pointed before (p ∷ ps) lines a (s, inr h) =
 belongs_front : (n k : ℕ) (ls : List Parts) → belongs k ls ≡ [] → belongs k (take n ls) ≡ []
 belongs_front zero k ls h = refl
 belongs_front (suc n) k [] h = refl
-belongs_front (suc n) k (l ∷ ls) h = elim (cases_bool (ltb k l.level)) [
-  | inl e ↦ elim (cases_bool (is_continuation l.tag && eqb l.level (k + 1))) [
+belongs_front (suc n) k (l ∷ ls) h = elim (cases_Bool (ltb k l.level)) [
+  | inl e ↦ elim (cases_Bool (is_continuation l.tag && eqb l.level (k + 1))) [
     | inl c ↦ let bad : l ∷ belongs k ls ≡ [] = rw (e, c) at h in absurd cc
     | inr c ↦ let rest : belongs k ls ≡ [] = rw (e, c) at h in rw (e, c) (belongs_front n k ls rest)
   ]
@@ -139,7 +138,7 @@ value_is raw more alone = elim (pointer_in raw) as (λ o. pointer_in raw ≡ o
 pub pointed_reads : (n : ℕ) (ls : List Parts) → Pointed ls → Reads n ls (forest_of n ls)
 unfolding forest_of
 pointed_reads n [] p = refl
-pointed_reads n (l ∷ ls) p = elim (cases_bool (is_continuation l.tag)) [
+pointed_reads n (l ∷ ls) p = elim (cases_Bool (is_continuation l.tag)) [
   | inl e ↦ rw e (inl (refl, pointed_reads (n + 1) ls p.1))
   | inr e ↦ rw e (inr (
     refl,

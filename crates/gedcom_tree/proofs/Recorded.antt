@@ -21,8 +21,8 @@ use Rattle.std.proofs.Common.{
   arith,
 }
 use Rattle.std.specs.List.{count_by, fold, list_all}
-use Rattle.std.proofs.lemmas.Bool.{ltb-true}
-use Rattle.gedcom_line.proofs.Steps.{both, eqb_false}
+use Rattle.std.proofs.lemmas.Bool.{ltb-true, and_parts}
+use Rattle.gedcom_line.proofs.Steps.{eqb_false}
 use Rattle.gedcom_tree.specs.declared.node.Node.{Node}
 use Rattle.gedcom_tree.specs.declared.node.Node.TheViews.{out-Node}
 use Rattle.gedcom_tree.specs.Forest.{Item}
@@ -51,7 +51,7 @@ counted_append (i ∷ is) b = omega (arith, counted_cons i (is ++ b), counted_co
 none_deeper : (is : List Item) → list_all (λ j. ltb 0 j.level) is ≡ true → count_by is_root is ≡ 0
 none_deeper [] h = refl
 none_deeper (i ∷ is) h =
-    let r = both (ltb 0 i.level) (list_all (λ j. ltb 0 j.level) is) h in
+    let r = and_parts (ltb 0 i.level) (list_all (λ j. ltb 0 j.level) is) h in
     let less = ltb-true 0 i.level r.0 in
     let one : ◌≡◌ {A = ℕ} (cond (is_root i) 1 0) 0 = rw (eqb_false i.level 0 (λ e. omega (arith, less, e))) refl in
     omega (arith, counted_cons i is, one, none_deeper is r.1)

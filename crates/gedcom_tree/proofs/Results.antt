@@ -9,7 +9,3 @@ on_ok (Err e) p = tt
 pub ok_then : {A E P Q : Type 0} (r : Result A E) → (P → Q) → OnOk r P → OnOk r Q
 ok_then (Ok x) f p = f p
 ok_then (Err e) f p = tt
-
-pub err_then : {A E : Type 0} {P Q : E → Type 0} (r : Result A E) → ((e : E) → P e → Q e) → IfErr r P → IfErr r Q
-err_then (Ok x) f p = tt
-err_then (Err e) f p = f e p

@@ -2,9 +2,9 @@
 use Rattle.std.proofs.Common.{◌≡◌, ℕ, true, false, List, refl, inl, inr, codes}
 use Rattle.std.specs.Str.{bytes_eq}
 use Rattle.std.proofs.lemmas.Slice.Eq.{bytes_eq-Decides}
+use Rattle.std.proofs.lemmas.Bool.{cases_Bool}
 use Rattle.gedcom_line.specs.Reading.{is_continuation}
 use Rattle.gedcom_rules.specs.Rules.{role_of, is_charset_tag, is_version_tag, is_gedcom_tag, is_continued}
-use Rattle.gedcom_rules.proofs.Cuts.{cases_bool}
 
 -- the tag is one of those that have a role, or none
 record Other (t : List ℕ) : Type 0 where
@@ -15,11 +15,11 @@ record Other (t : List ℕ) : Type 0 where
 
 by_tag : (P : List ℕ → Type 0) (t : List ℕ) → is_continuation t ≡ false → P (codes "CHAR") → P (codes "GEDC")
     → P (codes "VERS") → (Other t → P t) → P t
-by_tag P t own a b c d = elim (cases_bool (bytes_eq t (codes "CHAR"))) [
+by_tag P t own a b c d = elim (cases_Bool (bytes_eq t (codes "CHAR"))) [
   | inl e ↦ rw ((bytes_eq-Decides t (codes "CHAR")).0 e) a
-  | inr e ↦ elim (cases_bool (bytes_eq t (codes "GEDC"))) [
+  | inr e ↦ elim (cases_Bool (bytes_eq t (codes "GEDC"))) [
     | inl f ↦ rw ((bytes_eq-Decides t (codes "GEDC")).0 f) b
-    | inr f ↦ elim (cases_bool (bytes_eq t (codes "VERS"))) [
+    | inr f ↦ elim (cases_Bool (bytes_eq t (codes "VERS"))) [
       | inl g ↦ rw ((bytes_eq-Decides t (codes "VERS")).0 g) c
       | inr g ↦ d (record { own = own; charset = e; gedcom = f; version = g })
     ]

@@ -23,12 +23,12 @@ use Rattle.std.proofs.Common.{
 }
 use Rattle.std.specs.List.{list_any}
 use Rattle.std.specs.Str.{bytes_eq}
-use Rattle.std.proofs.lemmas.Bool.{eqb-true, le-leb, lt-ltb, not-false}
+use Rattle.std.proofs.lemmas.Bool.{eqb-true, le-leb, lt-ltb, not-false, and_parts, cases_Bool}
 use Rattle.std.proofs.lemmas.Slice.Eq.{bytes_eq-Decides}
 use Rattle.gedcom_line.specs.Reading.{Parts, is_continuation}
 use Rattle.gedcom_line.specs.Line.{IsContinuation}
 use Rattle.gedcom_line.specs.Spelling.{IsLine}
-use Rattle.gedcom_line.proofs.Steps.{both, eqb_no}
+use Rattle.gedcom_line.proofs.Steps.{eqb_no}
 use Rattle.gedcom_rules.specs.Rules.{Progress, is_head, is_trailer}
 use Rattle.gedcom_rules.specs.Faults.{Clean}
 use Rattle.gedcom_tree.specs.File.{untrailed, ReadsFile}
@@ -36,7 +36,6 @@ use Rattle.gedcom_tree.specs.Forest.{Item, node_of, forest_of}
 use Rattle.gedcom_rules.specs.Continuing.{belongs}
 use Rattle.gedcom_rules.specs.Judging.{start, after}
 use Rattle.gedcom_tree.specs.Text.{is_tag, IsNodeOf, EachNode, IsForest}
-use Rattle.gedcom_rules.proofs.Cuts.{cases_bool}
 use Rattle.gedcom_rules.proofs.Unbroken.{unbroken}
 use Rattle.gedcom_tree.proofs.Trailed.{untrailed_cons}
 use Rattle.gedcom_tree.proofs.Computed.{reads_computed}
@@ -44,14 +43,12 @@ use Rattle.gedcom_tree.proofs.Fitting.{Fit, Fits, clean_fits}
 use Rattle.gedcom_tree.proofs.Valued.{fit_value}
 use Rattle.gedcom_tree.proofs.Named.{fits_rises, fits_distinct}
 use Rattle.gedcom_tree.proofs.Headed.{fits_header}
-
-continues_of : (t : List ℕ) → IsContinuation t → is_continuation t ≡ true
-continues_of t (inl h) = rw h refl
-continues_of t (inr h) = rw h refl
+use Rattle.gedcom_line.proofs.Whole.{is_continuation_of}
 
 low_level : (l : Parts) → IsLine l → is_continuation l.tag ≡ false → l.level ≤ 98
-low_level l i own = elim (cases_bool (eqb l.level 99)) [
-  | inl e ↦ let c : is_continuation l.tag ≡ true = continues_of l.tag (i.high (eqb-true l.level 99 e)) in absurd cc
+low_level l i own = elim (cases_Bool (eqb l.level 99)) [
+  | inl e ↦ let c : is_continuation l.tag ≡ true = is_continuation_of l.tag (i.high (eqb-true l.level 99 e)) in
+      absurd cc
   | inr e ↦ let n : l.level ≡ 99 → ⊥ = eqb_no l.level 99 e in omega (arith, i.level, n)
 ]
 
@@ -75,7 +72,7 @@ fit_node n q l ls f g own = record {
 fits_nodes : (n : ℕ) (q : Progress) (ls : List Parts) → Fits q ls → EachNode (forest_of n ls)
 unfolding forest_of
 fits_nodes n q [] f = tt
-fits_nodes n q (l ∷ ls) f = elim (cases_bool (is_continuation l.tag)) [
+fits_nodes n q (l ∷ ls) f = elim (cases_Bool (is_continuation l.tag)) [
   | inl c ↦ rw c (fits_nodes (n + 1) (after q l) ls f.1)
   | inr c ↦ rw c (fit_node n q l ls f.0 f.1 c, fits_nodes (n + 1) (after q l) ls f.1)
 ]
@@ -87,7 +84,7 @@ record First (l : Parts) : Type 0 where
 
 first_is : (l : Parts) → is_head l ≡ true → First l
 first_is l h =
-    let r = both (eqb l.level 0) (bytes_eq l.tag (codes "HEAD")) h in
+    let r = and_parts (eqb l.level 0) (bytes_eq l.tag (codes "HEAD")) h in
     record { level = eqb-true l.level 0 r.0; tag = (bytes_eq-Decides l.tag (codes "HEAD")).0 r.1 }
 
 head_own : (l : Parts) → is_head l ≡ true → is_continuation l.tag ≡ false

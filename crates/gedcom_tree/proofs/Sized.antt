@@ -25,21 +25,19 @@ use Rattle.std.proofs.Common.{
   Some,
 }
 use Rattle.std.specs.List.{flat_map}
-use Rattle.std.proofs.lemmas.Bool.{ltb-true, ltb-false}
+use Rattle.std.proofs.lemmas.Bool.{ltb-true, ltb-false, and_parts, cases_Bool}
 use Rattle.gedcom_line.specs.Reading.{Parts, is_continuation}
 use Rattle.gedcom_line.specs.Escape.{unescaped}
-use Rattle.gedcom_line.proofs.Steps.{both}
 use Rattle.gedcom_rules.specs.Rules.{Progress, Standing, standing, max_text, parent}
 use Rattle.gedcom_rules.specs.Continuing.{belongs, adds}
 use Rattle.gedcom_rules.specs.Judging.{after}
-use Rattle.gedcom_rules.proofs.Cuts.{cases_bool}
 use Rattle.gedcom_rules.proofs.Unbroken.{Unbroken}
 use Rattle.gedcom_tree.proofs.Fitting.{Fit, Fits, above_own, above_deeper, above_kept, parent_at}
 
 pub unescaped_le : (t : List ℕ) → length (unescaped t) ≤ length t
 unescaped_le [] = omega arith
 unescaped_le (c ∷ []) = omega arith
-unescaped_le (c ∷ d ∷ cs) = elim (cases_bool (eqb c 64 && eqb d 64)) [
+unescaped_le (c ∷ d ∷ cs) = elim (cases_Bool (eqb c 64 && eqb d 64)) [
   | inl e ↦ rw e (omega (arith, unescaped_le cs))
   | inr e ↦ rw e (omega (arith, unescaped_le (d ∷ cs)))
 ]
@@ -65,11 +63,11 @@ joined_le a b room h k = omega (arith, length-append a b)
 pub continued_le : (n : ℕ) (q : Progress) (ls : List Parts) (s : Standing) → q.above n ≡ Some s → Fits q ls
     → length (flat_map adds (belongs n ls)) ≤ s.room
 continued_le n q [] s a f = omega arith
-continued_le n q (l ∷ ls) s a f = elim (cases_bool (ltb n l.level)) [
+continued_le n q (l ∷ ls) s a f = elim (cases_Bool (ltb n l.level)) [
   | inr e ↦ rw e (omega arith)
-  | inl e ↦ elim (cases_bool (is_continuation l.tag && eqb l.level (n + 1))) [
+  | inl e ↦ elim (cases_Bool (is_continuation l.tag && eqb l.level (n + 1))) [
     | inl c ↦
-        let r = both (is_continuation l.tag) (eqb l.level (n + 1)) c in
+        let r = and_parts (is_continuation l.tag) (eqb l.level (n + 1)) c in
         let less : (after q l).above n ≡ Some (record s { room = s.room - length (adds l) }) =
         above_less q l n s a (ltb-true n l.level e) c in
         rw (e, c) (joined_le (adds l) (flat_map adds (belongs n ls)) s.room (room_left q l n s f.0.rules a r.0 r.1)

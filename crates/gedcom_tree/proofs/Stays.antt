@@ -27,16 +27,15 @@ use Rattle.std.proofs.Common.{
   Err,
   Result,
 }
-use Rattle.std.proofs.lemmas.Bool.{cases_lt, lt-ltb}
+use Rattle.std.proofs.lemmas.Bool.{cases_lt, lt-ltb, or_parts, cases_Bool}
 use Rattle.gedcom_line.specs.Words.{is_end}
 use Rattle.gedcom_line.specs.Line.{IsPiece}
-use Rattle.gedcom_line.proofs.Steps.{neither}
 use Rattle.gedcom_rules.specs.Pieces.{Pieces, pieces, onto_first, skip_mark, file_pieces}
 use Rattle.gedcom_rules.specs.Rules.{Progress}
 use Rattle.gedcom_rules.specs.declared.fault.TreeKind.TheVariants.{TooLong}
 use Rattle.gedcom_rules.specs.Faults.{max_line, max_file, Fault, overflows, within, extra, Decides, FaultOf}
 use Rattle.gedcom_rules.specs.Judging.{start, run, fault_behind, open_fault, decided}
-use Rattle.gedcom_rules.proofs.Cuts.{cases_bool, pieces_whole}
+use Rattle.gedcom_rules.proofs.Cuts.{pieces_whole}
 use Rattle.gedcom_rules.proofs.Judged.{judge_long}
 use Rattle.gedcom_rules.proofs.Runs.{run-append, run_err, run_nil}
 use Rattle.gedcom_rules.proofs.Limits.{within_small, extra_small, within-append, front_same, extra_same}
@@ -78,7 +77,7 @@ first_longer : (o c : List ℕ) → IsPiece o → Longer (length o) (pieces (o +
 unfolding pieces
 first_longer [] c w = any_longer (pieces c).ended (pieces c).open_
 first_longer (x ∷ xs) c w =
-    let n = neither (is_end x) _ w in
+    let n = or_parts (is_end x) _ w in
     rw n.0 (onto_longer x (length xs) (pieces (xs ++ c)).ended (pieces (xs ++ c)).open_ (first_longer xs c n.1))
 
 -- a line that is too long stays so
@@ -103,7 +102,7 @@ decided_more b c f next (Err g) e h =
           (pieces (resumed (length b) (file_pieces b).open_ c)).ended,
       e,
     ) h
-decided_more b c f next (Ok p) e h = elim (cases_bool (overflows (file_pieces b).open_ None)) [
+decided_more b c f next (Ok p) e h = elim (cases_Bool (overflows (file_pieces b).open_ None)) [
   | inr o ↦ absurd (let bad : None ≡ Some f = rw o at h in cc)
   | inl o ↦
       let lt : max_line < length (file_pieces b).open_ = no_overflow (file_pieces b).open_ o in

@@ -72,11 +72,6 @@ known_refused : (known : Option (List ℕ)) (bytes : List ℕ) (Failed : Type 0)
 known_refused known bytes Failed f e (inl m) = inl m
 known_refused known bytes Failed f e (inr h) = inr (inr (h.0, known_fault known bytes f e h.1))
 
-pub unread_refused : (known : Option (List ℕ)) (Failed : Type 0) (f : Fault) → IsLineless OutOfMemory f
-    ⊎ (IsLineless ReadFailed f × Failed) → NotRead known Failed f
-unread_refused known Failed f (inl m) = inl m
-unread_refused known Failed f (inr h) = inr (inl h)
-
 -- each file that goes on so has the fault that is decided
 known_decided : (known left : Option (List ℕ)) (bytes : List ℕ) (f : Fault) → Consumes known left bytes
     → Decides bytes f → IfSome known (λ b. FaultOf b f)
@@ -124,24 +119,6 @@ at_end : (n : ℕ) (left : List ℕ) → 0 < n → [] ≡ take n left → left �
 at_end n [] h e = refl
 at_end zero (x ∷ xs) h e = absurd (omega (arith, h))
 at_end (suc n) (x ∷ xs) h e = absurd cc
-
-pub fed_all : (known mid : Option (List ℕ)) (r : Reader) (total most : ℕ) (piece : List ℕ) → Feeds known mid r total
-    → 0 < most → piece ≡ [] → IfSome mid (λ b. piece ≡ take most b) → HasFed known r
-fed_all known mid r total most piece h s e k = record {
-  bytes = h.bytes;
-  holds = h.holds;
-  all = whole known mid h.bytes h.read k;
-}
-  where
-    whole : (known mid : Option (List ℕ)) (bytes : List ℕ) → Consumes known mid bytes
-        → IfSome mid (λ b. piece ≡ take most b) → IfSome known (λ b. bytes ≡ b)
-    whole None mid bytes c k = tt
-    whole (Some b) None bytes c k = absurd c
-    whole (Some b) (Some l) bytes c k =
-        sym (c ∙ ap (λ (x : List ℕ). bytes ++ x) (at_end most l s (sym e ∙ k)) ∙ append-nil bytes)
-
-pub fed_none : (known : Option (List ℕ)) (r : Reader) → Holds r [] → Feeds known known r 0
-fed_none known r h = record { bytes = []; holds = h; read = Consumes-nil known; count = refl }
 
 -- a reader that was fed all answers what the file is
 pub forest_read : (known : Option (List ℕ)) (bytes : List ℕ) (r : Result (List Item) TreeFault)

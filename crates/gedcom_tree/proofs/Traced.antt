@@ -32,7 +32,7 @@ use Rattle.std.proofs.Common.{
 }
 use Rattle.std.specs.List.{list_any}
 use Rattle.std.specs.Str.{bytes_eq}
-use Rattle.std.proofs.lemmas.Bool.{ltb-true, ltb-false, lt-ltb}
+use Rattle.std.proofs.lemmas.Bool.{ltb-true, ltb-false, lt-ltb, cases_Bool}
 use Rattle.gedcom_line.specs.Reading.{Parts}
 use Rattle.gedcom_line.proofs.Steps.{eqb_false}
 use Rattle.gedcom_rules.specs.declared.fault.TreeKind.{TreeKind}
@@ -52,7 +52,6 @@ use Rattle.gedcom_tree.specs.Reading.{
   trace_run,
   traced,
 }
-use Rattle.gedcom_rules.proofs.Cuts.{cases_bool}
 use Rattle.gedcom_rules.proofs.Runs.{same_function}
 use Rattle.std.proofs.Math.Bool.{or-false}
 
@@ -73,7 +72,7 @@ above_lower above l n h =
 
 standings_after : (above : ℕ → Option Standing) (l : Parts) (n : ℕ)
     → standing_in (table (above_after above l) (l.level + 1)) n ≡ above_after above l n
-standings_after above l n = elim (cases_bool (ltb l.level n)) [
+standings_after above l n = elim (cases_Bool (ltb l.level n)) [
   | inl e ↦ table_out (above_after above l) (l.level + 1) n (omega (arith, ltb-true l.level n e))
       ∙ sym (above_lower above l n (ltb-true l.level n e))
   | inr e ↦ table_in (above_after above l) (l.level + 1) n (omega (arith, ltb-false l.level n e))

@@ -38,7 +38,7 @@ use lib.Utf8.{scalar}
 use Rattle.std.specs.Option.{option_map_or}
 use Rattle.std.specs.List.{list_all, flat_map}
 use Rattle.std.specs.Str.{IsUtf8, IsCharBoundary, bytes_eq, encode_utf8_all, all_scalars}
-use Rattle.std.proofs.lemmas.Bool.{eqb-true, cases_eq}
+use Rattle.std.proofs.lemmas.Bool.{eqb-true, cases_eq, and_parts, cases_Bool}
 use Rattle.std.proofs.lemmas.Bool.Decides.{nat_tests}
 use Rattle.std.proofs.lemmas.List.{append-nil}
 use Rattle.std.proofs.Math.Seq.{get_or-append_seam, take-append_seam, drop-append_seam}
@@ -59,7 +59,7 @@ use Rattle.gedcom_line.specs.Reading.{Parts, is_continuation}
 use Rattle.gedcom_line.specs.Escape.{NoAt, unescaped, past_pair}
 use Rattle.gedcom_line.specs.Spelling.{is_inner, is_textual, IsInner, IsXref}
 use Rattle.gedcom_line.specs.Value.{Text, Pointer, meaning, IsPointer, pointer_in}
-use Rattle.gedcom_line.proofs.Steps.{both, eqb_false}
+use Rattle.gedcom_line.proofs.Steps.{eqb_false}
 use Rattle.gedcom_line.proofs.Doubled.{unescaped_at, unescaped_skip}
 use Rattle.gedcom_line.proofs.Pointers.{is_pointer}
 use Rattle.gedcom_rules.specs.Rules.{Progress}
@@ -67,17 +67,15 @@ use Rattle.gedcom_rules.specs.Continuing.{belongs, adds}
 use Rattle.gedcom_tree.specs.Forest.{continued}
 use Rattle.gedcom_rules.specs.Judging.{after}
 use Rattle.gedcom_tree.specs.Text.{IsNodeValue}
-use Rattle.gedcom_rules.proofs.Cuts.{cases_bool}
 use Rattle.gedcom_tree.proofs.Fitting.{Fit, Fits}
 use Rattle.gedcom_tree.proofs.Sized.{text_le}
+use Rattle.gedcom_line.proofs.Inner.{char_no_at}
+use Rattle.gedcom_line.proofs.Again.{all-append}
+use Rattle.gedcom_line.proofs.Written.{all_parts}
 
 -- one character more is UTF-8 still
 one_utf8 : (c : ℕ) (t : List ℕ) → c < 128 → IsUtf8 t → IsUtf8 (c ∷ t)
 one_utf8 c t h u = IsUtf8-append (c ∷ []) t (IsUtf8-from_ascii (c ∷ []) (IsAscii-cons c [] h IsAscii-nil)) u
-
-char_no_at : (c : ℕ) → (c ≡ 64 → ⊥) → NoAt (encode_utf8 c)
-char_no_at c h = λ i lt e. h (inside_one c [] (encode_utf8 c) i (sym (append-nil (encode_utf8 c))) lt
-    (omega (arith, e)) ∙ e)
 
 past_front : (front rest : List ℕ) → NoAt front → IsUtf8 (unescaped (front ++ rest))
     → IsUtf8 (unescaped (past_pair rest)) → IsUtf8 (unescaped (past_pair (front ++ rest)))
@@ -92,7 +90,7 @@ chars_utf8 : (cs : List ℕ) → all_scalars cs ≡ true → IsUtf8 (unescaped (
 chars_utf8 [] h = (IsUtf8-nil, IsUtf8-nil)
 chars_utf8 (c ∷ cs) h =
     let rest : List ℕ = encode_utf8_all cs in
-    let r : IsScalar c × (all_scalars cs ≡ true) = both (scalar c) (all_scalars cs) h in
+    let r : IsScalar c × (all_scalars cs ≡ true) = and_parts (scalar c) (all_scalars cs) h in
     let k = chars_utf8 cs r.1 in
     elim (cases_eq c 64) [
       | inl e ↦
@@ -117,11 +115,12 @@ pub unescaped_each : (p : ℕ → Bool) (t : List ℕ) → list_all p t ≡ true
 unescaped_each p [] h = refl
 unescaped_each p (c ∷ []) h = h
 unescaped_each p (c ∷ d ∷ cs) h =
-    let r = both (p c) (list_all p (d ∷ cs)) h in
-    elim (cases_bool (eqb c 64 && eqb d 64)) [
+    let r = and_parts (p c) (list_all p (d ∷ cs)) h in
+    elim (cases_Bool (eqb c 64 && eqb d 64)) [
       | inl e ↦
-          let at : p 64 ≡ true = subst (λ (x : ℕ). p x ≡ true) (eqb-true c 64 (both (eqb c 64) (eqb d 64) e).0) r.0 in
-          rw (e, at) (unescaped_each p cs (both (p d) (list_all p cs) r.1).1)
+          let at : p 64 ≡ true = subst (λ (x : ℕ). p x ≡ true)
+          (eqb-true c 64 (and_parts (eqb c 64) (eqb d 64) e).0) r.0 in
+          rw (e, at) (unescaped_each p cs (and_parts (p d) (list_all p cs) r.1).1)
       | inr e ↦ rw (e, r.0) (unescaped_each p (d ∷ cs) r.1)
     ]
 
@@ -132,20 +131,6 @@ pub record IsTextual (t : List ℕ) : Type 0 where
 
 textual_nil : IsTextual []
 textual_nil = record { utf8 = IsUtf8-nil; each = refl }
-
-pub all-append : (p : ℕ → Bool) (a b : List ℕ) → list_all p a ≡ true → list_all p b ≡ true → list_all p (a ++ b) ≡ true
-all-append p [] b h k = k
-all-append p (x ∷ xs) b h k =
-    let r = both (p x) (list_all p xs) h in
-    rw (r.0, all-append p xs b r.1 k) refl
-
-pub all_parts : (p : ℕ → Bool) (a b : List ℕ) → list_all p (a ++ b) ≡ true → (list_all p a ≡ true)
-    × (list_all p b ≡ true)
-all_parts p [] b h = (refl, h)
-all_parts p (x ∷ xs) b h =
-    let r = both (p x) (list_all p (xs ++ b)) h in
-    let k = all_parts p xs b r.1 in
-    (rw (r.0, k.0) refl, k.1)
 
 textual-append : (a b : List ℕ) → IsTextual a → IsTextual b → IsTextual (a ++ b)
 textual-append a b h k = record {
@@ -159,7 +144,7 @@ inner_textual b h = grind (arith, nat_tests)
 inner_each : (t : List ℕ) → list_all is_inner t ≡ true → list_all is_textual t ≡ true
 inner_each [] h = refl
 inner_each (x ∷ xs) h =
-    let r = both (is_inner x) (list_all is_inner xs) h in
+    let r = and_parts (is_inner x) (list_all is_inner xs) h in
     rw (inner_textual x r.0, inner_each xs r.1) refl
 
 unescaped_textual : (raw : List ℕ) → IsInner raw → IsTextual (unescaped raw)
@@ -180,9 +165,9 @@ more_textual : (n : ℕ) (q : Progress) (ls : List Parts) → Fits q ls → IsTe
 more_textual n q [] f = textual_nil
 more_textual n q (l ∷ ls) f =
     let k = more_textual n (after q l) ls f.1 in
-    elim (cases_bool (ltb n l.level)) [
+    elim (cases_Bool (ltb n l.level)) [
       | inr e ↦ rw e textual_nil
-      | inl e ↦ elim (cases_bool (is_continuation l.tag && eqb l.level (n + 1))) [
+      | inl e ↦ elim (cases_Bool (is_continuation l.tag && eqb l.level (n + 1))) [
         | inl c ↦ rw (e, c) (textual-append (adds l) (flat_map adds (belongs n ls)) (adds_textual l f.0.line.raw) k)
         | inr c ↦ rw (e, c) k
       ]

@@ -31,13 +31,12 @@ use Rattle.std.specs.Prelude.{codes, IsTrue}
 use Rattle.std.specs.List.{onto_first, count_by}
 use Rattle.std.proofs.lemmas.List.{append_cancel_left, length-append}
 use Rattle.std.proofs.lemmas.List.Splits.{slice_split-cons_no, length-slice_split}
+use Rattle.std.proofs.lemmas.Bool.{ne_eqb}
 use Rattle.record_shapes.specs.Paths.{joined, trimmed, parts, normal, IsNormal}
 use Rattle.record_shapes.specs.Fields.{path_below}
 use Rattle.place_paths.specs.Cuts.{Without}
 use Rattle.place_paths.proofs.Trimmed.{trimmed_cases}
-
-not_it : (a b : ℕ) → a ≢ b → (a == b) ≡ false
-not_it a b apart = grind (arith)
+use Rattle.archive_state.proofs.PathTexts.{onto_both, parts_some, parts_both, spaced}
 
 pub same_no : IsTrue false → ⊥
 same_no t = cc
@@ -47,7 +46,7 @@ behind_first : (b : ℕ) (bs : List ℕ) → Without 44 (b ∷ bs) → Without 4
 behind_first b bs h = λ i less. h (suc i) (omega arith)
 
 first_is_none : (b : ℕ) (bs : List ℕ) → Without 44 (b ∷ bs) → (b == 44) ≡ false
-first_is_none b bs h = not_it b 44 (h 0 (omega arith))
+first_is_none b bs h = ne_eqb b 44 (h 0 (omega arith))
 
 parts_cut : (part after : List ℕ) → Without 44 part → parts (part ++ (44 ∷ after)) ≡ part ∷ parts after
 parts_cut [] after h = refl
@@ -59,29 +58,6 @@ pub parts_alone : (t : List ℕ) → Without 44 t → parts t ≡ t ∷ []
 parts_alone [] h = refl
 parts_alone (b ∷ bs) h = slice_split-cons_no (λ c. c == 44) b bs (first_is_none b bs h)
     ∙ ap (onto_first b) (parts_alone bs (behind_first b bs h))
-
-pub parts_some : (xs : List ℕ) → (y : List ℕ) × (ys : List (List ℕ)) × (parts xs ≡ y ∷ ys)
-parts_some [] = ([], [], refl)
-parts_some (x ∷ xs) = elim (x == 44) as (λ b. (y : List ℕ) × (ys : List (List ℕ))
-    × (cond b ([] ∷ parts xs) (onto_first x (parts xs)) ≡ y ∷ ys)) [
-      | true ↦ ([], parts xs, refl)
-      | false ↦ let s = parts_some xs in (x ∷ s.0, s.1, ap (onto_first x) s.2)
-    ]
-
-onto_both : (x : ℕ) (xs ys : List (List ℕ)) (y : List ℕ) (more : List (List ℕ)) → xs ≡ y ∷ more
-    → onto_first x (xs ++ ys) ≡ onto_first x xs ++ ys
-onto_both x xs ys y more e = ap (λ l. onto_first x (l ++ ys)) e ∙ sym (ap (λ l. onto_first x l ++ ys) e)
-
-parts_both : (xs ys : List ℕ) → parts (xs ++ (44 ∷ ys)) ≡ parts xs ++ parts ys
-parts_both [] ys = refl
-parts_both (x ∷ xs) ys =
-    let s = parts_some xs in
-    ap (λ l. cond (x == 44) ([] ∷ l) (onto_first x l)) (parts_both xs ys)
-    ∙ elim (x == 44) as (λ b. cond b ([] ∷ (parts xs ++ parts ys)) (onto_first x (parts xs ++ parts ys))
-    ≡ cond b ([] ∷ parts xs) (onto_first x (parts xs)) ++ parts ys) [
-      | true ↦ refl
-      | false ↦ onto_both x (parts xs) (parts ys) s.0 s.1 s.2
-    ]
 
 onto_length : (x : ℕ) (ys : List (List ℕ)) (y : List ℕ) (more : List (List ℕ)) → ys ≡ y ∷ more
     → length (onto_first x ys) ≡ length ys
@@ -99,10 +75,6 @@ pub count_is : (t : List ℕ) → length (parts t) ≡ count_by (λ b. b == 44) 
 count_is t = length-slice_split (λ b. b == 44) t
 
 -- ---- normal texts
-spaced : (ys : List (List ℕ)) (y : List ℕ) (more : List (List ℕ)) → ys ≡ y ∷ more
-    → map trimmed (onto_first 32 ys) ≡ map trimmed ys
-spaced ys y more e = ap (λ l. map trimmed (onto_first 32 l)) e ∙ sym (ap (map trimmed) e)
-
 -- a space in front is none of the text made normal
 behind_space : (t : List ℕ) → normal (32 ∷ t) ≡ normal t
 unfolding normal

@@ -28,10 +28,8 @@ use Rattle.std.proofs.Common.{
 }
 use Rattle.std.specs.Prelude.{if◌then◌else◌}
 use Rattle.std.proofs.lemmas.List.{length-append}
+use Rattle.std.proofs.lemmas.Bool.{eqb-true}
 use Rattle.record_shapes.specs.Paths.{from_word, backwards, trimmed}
-
-is_it : (a b : ℕ) → (a == b) ≡ true → a ≡ b
-is_it a b e = grind (arith)
 
 backwards_push : (xs : List ℕ) (b : ℕ) → backwards (xs ++ (b ∷ [])) ≡ b ∷ backwards xs
 backwards_push [] b = refl
@@ -88,7 +86,7 @@ no_more t = elim (word_cases t) as (λ _. length (from_word t) ≤ length t) [
 as_it_is : (t : List ℕ) → ((rest : List ℕ) → t ≢ 32 ∷ rest) → from_word t ≡ t
 as_it_is [] h = refl
 as_it_is (b ∷ bs) h = elim (b == 32) as (λ x. (b == 32) ≡ x → (if x then from_word bs else b ∷ bs) ≡ b ∷ bs) [
-  | true ↦ λ e. absurd (h bs (ap (λ y. y ∷ bs) (is_it b 32 e)))
+  | true ↦ λ e. absurd (h bs (ap (λ y. y ∷ bs) (eqb-true b 32 e)))
   | false ↦ λ e. refl
 ] refl
 

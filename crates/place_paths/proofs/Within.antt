@@ -26,6 +26,7 @@ use Rattle.std.specs.Prelude.{Option, Some, None, option_map, codes, if◌then�
 use Rattle.std.proofs.lemmas.Bool.Decides.{nat_tests}
 use Rattle.std.proofs.lemmas.List.{length-append}
 use Rattle.std.specs.FinMap.{get}
+use Rattle.std.proofs.lemmas.Bool.{lt-ltb, ltb-true}
 use Rattle.record_kinds.specs.Model as model
 use Rattle.record_kinds.specs.declared.record.Record.{Record}
 use Rattle.record_kinds.specs.declared.record.Record.TheVariants as kind
@@ -76,14 +77,8 @@ too_long k b name (Some above) h = within_measure k b name above ∙ over_two (l
     (length name) (length above) k b h
 
 -- ---- the path of a place
-is_less : (a b : ℕ) → a < b → nat_lt a b ≡ true
-is_less a b h = grind (arith, nat_tests)
-
 is_not_less : (a b : ℕ) → b ≤ a → nat_lt a b ≡ false
 is_not_less a b h = grind (arith, nat_tests)
-
-less_is : (a b : ℕ) → nat_lt a b ≡ true → a < b
-less_is a b h = grind (arith, nat_tests)
 
 -- as many steps as the number says are enough
 under_alike : (n : ℕ) (f g : ℕ → Option (List ℕ)) (name : List ℕ) (parent : Option ℕ) → ((q : ℕ) → q < n → f q ≡ g q)
@@ -92,7 +87,7 @@ under_alike n f g name None h = refl
 under_alike n f g name (Some q) h =
     elim (nat_lt q n) as (λ b. nat_lt q n ≡ b → (if b then option_map (path_below name) (f q) else None)
     ≡ (if b then option_map (path_below name) (g q) else None)) [
-      | true ↦ λ e. ap (option_map (path_below name)) (h q (less_is q n e))
+      | true ↦ λ e. ap (option_map (path_below name)) (h q (ltb-true q n e))
       | false ↦ λ e. refl
     ] refl
 
@@ -229,7 +224,7 @@ within_not_below k b m n q me e is h =
 -- the path below another is as long as the two
 under_less : (m : Records) (n q : ℕ) (name : List ℕ) → q < n → path_under n (path_of m) name (Some q)
     ≡ option_map (path_below name) (path_of m q)
-under_less m n q name h = ap (λ x. if x then option_map (path_below name) (path_of m q) else None) (is_less q n h)
+under_less m n q name h = ap (λ x. if x then option_map (path_below name) (path_of m q) else None) (lt-ltb q n h)
 
 pub within_no_room : (k b : ℕ) (m : Records) (n q : ℕ) (me : Measure) → measured (get m n) ≡ Some me
     → me.parent ≡ Some q → q < n → b < me.bytes + 2 → is_within k b (path_of m n) ≡ false

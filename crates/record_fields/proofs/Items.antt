@@ -74,9 +74,9 @@ item-if i n true e h =
 item-if i n false e h = let good : is_item n (decimal i.number) ≡ true = subst
     (λ (m : ℕ). is_item m (decimal i.number) ≡ true) (sym h) (is-item i) in absurd cc
 
-item-again : (i : Item) → item_of (decimal i.number) ≡ Some i
+pub item_back : (i : Item) → item_of (decimal i.number) ≡ Some i
 unfolding item_of
-item-again i = item-if i (digits_value 10 (decimal i.number))
+item_back i = item-if i (digits_value 10 (decimal i.number))
     (is_item (digits_value 10 (decimal i.number)) (decimal i.number)) refl (value i)
 
 item-spelt : (n : ℕ) (text : List ℕ) (b : Bool) (e : is_item n text ≡ b) (i : Item) → item_if n text b e ≡ Some i
@@ -93,15 +93,12 @@ item-is text i h = item-spelt (digits_value 10 text) text (is_item (digits_value
 
 pub item_read : (text : List ℕ) (r : Option Item) → MatchOption r ((i : Item) → text ≢ decimal i.number)
     (λ i. text ≡ decimal i.number) → r ≡ item_of text
-item_read text (Some i) is = sym (item-again i) ∙ ap item_of (sym is)
+item_read text (Some i) is = sym (item_back i) ∙ ap item_of (sym is)
 item_read text None lacks = none (item_of text) refl
   where
     none : (o : Option Item) → item_of text ≡ o → None ≡ o
     none None e = refl
     none (Some i) e = absurd (lacks i (item-is text i e))
-
-pub item_back : (i : Item) → item_of (decimal i.number) ≡ Some i
-item_back i = item-again i
 
 -- what a text parses as, where it is the decimal of an item
 pub parsed : {E : Type 0} (text : List ℕ) (r : Result ℕ E) → ParsesUnsigned 32 10 text r → (i : Item)

@@ -4,6 +4,7 @@ use Rattle.std.specs.Prelude.{◌||◌, ◌==◌, Option, Some, None, option_map
 use Rattle.std.specs.List.{list_any, flat_map}
 use Rattle.std.proofs.lemmas.List.Folds.{list_any-append}
 use Rattle.std.proofs.lemmas.List.{append-nil}
+use Rattle.std.proofs.Math.Bool.{or-false, or_comm}
 use Rattle.stored_lines.specs.Tree.{Tree, Forest, node, none, more, forest_of, flat, flat_all, relabel, relabel_all}
 use Rattle.stored_lines.specs.Line.{Line, Label, Lines, Branches, label_for, label_of}
 use Rattle.stored_lines.specs.declared.carried.Value.{Value}
@@ -80,16 +81,6 @@ use Rattle.record_links.specs.Links.{
 use Rattle.record_links.specs.Stored.{is_target, some_line_names}
 use Rattle.record_links.proofs.Links.{among_both}
 
-or_false : (a : Bool) → (a || false) ≡ a
-or_false true = refl
-or_false false = refl
-
-or_swap : (a b : Bool) → (a || b) ≡ (b || a)
-or_swap true true = refl
-or_swap true false = refl
-or_swap false true = refl
-or_swap false false = refl
-
 module _ (n : ℕ) where
   -- whether a tree of lines has the number
   abbrev mutual
@@ -133,11 +124,11 @@ module _ (n : ℕ) where
       }
 
   tells_one : {t : Tree Label} {ls : List Link} → Has n t ls → Tells n (t ∷ []) ls
-  tells_one {t} p = record { same = or_false (tree_has n t) ∙ p.same }
+  tells_one {t} p = record { same = or-false (tree_has n t) ∙ p.same }
 
   tells_swap : {bs : Branches} (ls ms : List Link) → Tells n bs (ls ++ ms) → Tells n bs (ms ++ ls)
   tells_swap ls ms p = record {
-    same = p.same ∙ among_both n ls ms ∙ or_swap (is_among n ls) (is_among n ms)
+    same = p.same ∙ among_both n ls ms ∙ or_comm (is_among n ls) (is_among n ms)
         ∙ sym (among_both n ms ls);
   }
 
@@ -157,7 +148,7 @@ module _ (n : ℕ) where
       record { same = ap₂ (λ a b. a || b) p (forest_some below ∙ q.same) ∙ sym (among_both n front ls) }
 
   the_target : (w : Wanted) (m : ℕ) → is_target n (Some m) ≡ is_among n ((m, w) ∷ [])
-  the_target w m = sym (or_false (m == n))
+  the_target w m = sym (or-false (m == n))
 
   if_target : (w : Wanted) (o : Option ℕ) → is_target n o ≡ is_among n (field_links w o)
   if_target w None = refl

@@ -385,10 +385,6 @@ event-kept c a_date e = refl
 event-kept c a_place e = refl
 event-kept c _ e = absurd cc
 
-not-some : {A : Type 0} (o : Option A) → is_some o ≡ false → o ≡ None
-not-some None e = refl
-not-some (Some a) e = absurd cc
-
 abbrev event_apart : model.Event → model.Event
 event_apart e = record {
   owner = 0;

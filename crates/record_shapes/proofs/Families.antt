@@ -23,6 +23,7 @@ use Rattle.std.proofs.Common.{ap, sym, ◌∙◌, append-nil, subst, arith}
 use Rattle.std.proofs.lemmas.Bool.Decides.{nat_tests}
 use Rattle.std.proofs.lemmas.List.{map-append}
 use Rattle.std.proofs.lemmas.List.Elements.{filter-append}
+use Rattle.std.proofs.lemmas.Bool.{or_parts}
 use Rattle.stored_lines.specs.Tree.{Tree}
 use Rattle.stored_lines.specs.Line.{Line, Lines}
 use Rattle.stored_lines.specs.declared.carried.Value.TheVariants as value
@@ -103,15 +104,7 @@ pub each-front : {A : Type 0} (P : A → Type 0) (xs ys : List A) → EachOf P (
 each-front P [] ys h = (tt, h)
 each-front P (x ∷ xs) ys h = let both : EachOf P xs × EachOf P ys = each-front P xs ys h.1 in ((h.0, both.0), both.1)
 
-are-append : (f : Tree Line → Field) (x : Field) (a b : Lines) → Are f x a → Are f x b → Are f x (a ++ b)
-are-append f x [] b h k = k
-are-append f x (t ∷ a) b h k = (h.0, are-append f x a b h.1 k)
-
 -- ---- none twice
-pub or-false : (a b : Bool) → (a || b) ≡ false → (a ≡ false) × (b ≡ false)
-or-false false b e = (refl, e)
-or-false true b e = absurd cc
-
 -- none of the numbers is among those seen
 abbrev Fresh : List ℕ → List ℕ → Type 0
 Fresh seen ns = EachOf (λ n. list_any (λ m. m == n) seen ≡ false) ns
@@ -119,7 +112,7 @@ Fresh seen ns = EachOf (λ n. list_any (λ m. m == n) seen ≡ false) ns
 fresh-more : (n : ℕ) (seen ns : List ℕ) → list_any (λ m. m == n) ns ≡ false → Fresh seen ns → Fresh (n ∷ seen) ns
 fresh-more n seen [] h f = tt
 fresh-more n seen (k ∷ ns) h f =
-    let both : ((k == n) ≡ false) × (list_any (λ m. m == n) ns ≡ false) = or-false (k == n)
+    let both : ((k == n) ≡ false) × (list_any (λ m. m == n) ns ≡ false) = or_parts (k == n)
     (list_any (λ m. m == n) ns) h in
     let other : (n == k) ≡ false = grind (arith, nat_tests, both.0) in
     ((ap (λ b. b || list_any (λ m. m == k) seen) other ∙ f.0), fresh-more n seen ns both.1 f.1)

@@ -20,6 +20,7 @@ use Rattle.std.specs.Prelude.{
 use Rattle.std.specs.List.{filter, list_all}
 use Rattle.std.proofs.Common.{ap, sym, ◌∙◌}
 use Rattle.std.proofs.lemmas.List.Elements.{filter-append}
+use Rattle.std.proofs.lemmas.Bool.{and_parts}
 use Rattle.stored_lines.specs.Tree.{Tree}
 use Rattle.stored_lines.specs.Line.{Line, Lines}
 use Rattle.record_shapes.specs.Forms.{text_of}
@@ -28,10 +29,6 @@ use Rattle.record_shapes.specs.Picking.{all_of, first, text_at, without_first}
 use Rattle.record_shapes.specs.Shapes.{maybe, text_line, text_lines}
 use Rattle.record_shapes.specs.Untaken.{AreUntaken}
 use Rattle.record_shapes.proofs.Fields.{same_field}
-
-and-true : (a b : Bool) → (a && b) ≡ true → (a ≡ true) × (b ≡ true)
-and-true true b e = (refl, e)
-and-true false b e = absurd cc
 
 module _ (field : Tree Line → Field) where
   -- each of the lines is of that field
@@ -44,7 +41,7 @@ module _ (field : Tree Line → Field) where
       → filter (λ t. keep (field t)) ts ≡ ts
   kept_all keep [] h = refl
   kept_all keep (t ∷ ts) h =
-      let both : (keep (field t) ≡ true) × (list_all (λ u. keep (field u)) ts ≡ true) = and-true (keep (field t))
+      let both : (keep (field t) ≡ true) × (list_all (λ u. keep (field u)) ts ≡ true) = and_parts (keep (field t))
       (list_all (λ u. keep (field u)) ts) h in
       ap (λ b. cond b (t ∷ filter (λ u. keep (field u)) ts) (filter (λ u. keep (field u)) ts)) both.0
       ∙ ap (λ (us : Lines). t ∷ us) (kept_all keep ts both.1)
@@ -85,7 +82,7 @@ module _ (field : Tree Line → Field) where
       → all_of field x ts ≡ []
   lacks leaves x [] h n = refl
   lacks leaves x (t ∷ ts) h n =
-      let both : (leaves (field t) ≡ true) × (list_all (λ u. leaves (field u)) ts ≡ true) = and-true (leaves (field t))
+      let both : (leaves (field t) ≡ true) × (list_all (λ u. leaves (field u)) ts ≡ true) = and_parts (leaves (field t))
       (list_all (λ u. leaves (field u)) ts) h in
       elim (is_same (field t) x) as (λ b. is_same (field t) x ≡ b → cond b (t ∷ all_of field x ts)
       (all_of field x ts) ≡ []) [
@@ -157,6 +154,6 @@ module _ (field : Tree Line → Field) where
       → AreUntaken field leaves ts → list_all (λ t. keep (field t)) ts ≡ true
   left_more leaves keep [] m h = refl
   left_more leaves keep (t ∷ ts) m h =
-      let both : (leaves (field t) ≡ true) × (list_all (λ u. leaves (field u)) ts ≡ true) = and-true (leaves (field t))
+      let both : (leaves (field t) ≡ true) × (list_all (λ u. leaves (field u)) ts ≡ true) = and_parts (leaves (field t))
       (list_all (λ u. leaves (field u)) ts) h in
       λ i. m (field t) both.0 i && left_more leaves keep ts m both.1 i

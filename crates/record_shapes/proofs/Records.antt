@@ -19,6 +19,7 @@ use Rattle.std.specs.Prelude.{
 use Rattle.std.specs.List.{list_any, flat_map}
 use Rattle.std.proofs.Common.{ap, sym, ◌∙◌, append-nil}
 use Rattle.std.proofs.lemmas.List.{map-append}
+use Rattle.std.proofs.lemmas.Bool.{or_parts}
 use Rattle.stored_lines.specs.Tree.{Tree, Forest, node, none, forest_of, list_of, relabel_all}
 use Rattle.stored_lines.specs.declared.carried.Value.TheVariants as value
 use Rattle.stored_lines.proofs.Back.{list_of_forest_of}
@@ -181,14 +182,14 @@ read_again earlier known a n (node (kind.Entry e) f) h =
     ∙ ap (entry_or_other (codes "_REG") (value.Text (entry_kind_word e.kind)) (entry_lines a e))
     (entry_back known a e h.0 h.1)) i) None) none) ∙ alone (kind.Entry e) f h.2
 read_again earlier known a n (node (kind.Other o) f) h =
-    let a1 = families.or-false (bytes_eq o.tag (codes "_LOC"))
+    let a1 = or_parts (bytes_eq o.tag (codes "_LOC"))
     (list_any (bytes_eq o.tag) (codes "REPO" ∷ codes "SOUR" ∷ codes "INDI" ∷ codes "FAM" ∷ [])) h.0.own in
-    let a2 = families.or-false (bytes_eq o.tag (codes "REPO"))
+    let a2 = or_parts (bytes_eq o.tag (codes "REPO"))
     (list_any (bytes_eq o.tag) (codes "SOUR" ∷ codes "INDI" ∷ codes "FAM" ∷ [])) a1.1 in
-    let a3 = families.or-false (bytes_eq o.tag (codes "SOUR"))
+    let a3 = or_parts (bytes_eq o.tag (codes "SOUR"))
     (list_any (bytes_eq o.tag) (codes "INDI" ∷ codes "FAM" ∷ [])) a2.1 in
-    let a4 = families.or-false (bytes_eq o.tag (codes "INDI")) (list_any (bytes_eq o.tag) (codes "FAM" ∷ [])) a3.1 in
-    let a5 = families.or-false (bytes_eq o.tag (codes "FAM")) false a4.1 in
+    let a4 = or_parts (bytes_eq o.tag (codes "INDI")) (list_any (bytes_eq o.tag) (codes "FAM" ∷ [])) a3.1 in
+    let a5 = or_parts (bytes_eq o.tag (codes "FAM")) false a4.1 in
     rw (a1.0, a2.0, a3.0, a4.0, a5.0)
     ((λ i. node (read ((ap (λ ts. registered known o.tag o.value ts) (list_of_forest_of o.carried)
     ∙ registered-other known o h.0.no_entry) i) None) none) ∙ alone (kind.Other o) f h.1)

@@ -22,25 +22,20 @@ use Rattle.std.proofs.Common.{sym, subst, ap₂, ◌∙◌, arith}
 use Rattle.std.proofs.lemmas.Fmt.{length-decimal-le}
 use Rattle.std.proofs.lemmas.List.{length-append}
 use Rattle.std.proofs.lemmas.List.Folds.{list_any-append}
+use Rattle.std.proofs.lemmas.Bool.{or_from}
 use Rattle.record_text.specs.Text.{IsPlain, IsText}
 use Rattle.record_fields.proofs.Items.{decimal_is_plain}
 use Rattle.record_fields.specs.declared.item.Item.{Item}
 
-small : (n : ℕ) → n ≤ 999999 → n < 2 ^ 64
-small n h = omega arith
-
 few-digits : (i : Item) → length (decimal i.number) ≤ 6
 few-digits i = let top : i.number ≤ 999999 = i.in_range.1 in
-    length-decimal-le 6 i.number (omega arith) (omega arith) (small i.number i.in_range.1)
-
-neither : (a b : Bool) → a ≡ false → b ≡ false → (a || b) ≡ false
-neither a b e f = ap₂ (λ x y. x || y) e f
+    length-decimal-le 6 i.number (omega arith) (omega arith) (omega (arith, top))
 
 without : (x : ℕ) (ds page : List ℕ) → ((32 == x) || false) ≡ false → list_any (λ b. b == x) ds ≡ false
     → list_any (λ b. b == x) page ≡ false → list_any (λ b. b == x) ((ds ++ codes " ") ++ page) ≡ false
 without x ds page blank e f =
-    let front = list_any-append (λ b. b == x) ds (codes " ") ∙ neither _ _ e blank in
-    list_any-append (λ b. b == x) (ds ++ codes " ") page ∙ neither _ _ front f
+    let front = list_any-append (λ b. b == x) ds (codes " ") ∙ or_from _ _ e blank in
+    list_any-append (λ b. b == x) (ds ++ codes " ") page ∙ or_from _ _ front f
 
 pub key_is_plain : (i : Item) (page text : List ℕ) → text ≡ (decimal i.number ++ codes " ") ++ page → IsText page
     → length page ≤ 1000 → IsPlain text

@@ -18,8 +18,8 @@ pub(crate) enum Finding {
     Row { what: &'static str },
     /// This field is.
     Field { at: Place, what: &'static str },
-    /// One of these two is, and the row does not tell which; or both together.
-    Fields { first: Place, second: Place, what: &'static str },
+    /// One of these two is, and the row does not tell which (`or`), or both are together (`and`).
+    Fields { first: Place, word: &'static str, second: Place, what: &'static str },
     /// The count of the fields behind the verb.
     Count { verb: Verb, has: usize },
 }
@@ -32,9 +32,10 @@ impl Finding {
             Finding::Field { at, what } => field_words(alloc, at, what),
             Finding::Fields {
                 first,
+                word,
                 second,
                 what,
-            } => fields_words(alloc, first, second, what),
+            } => fields_words(alloc, first, word, second, what),
             Finding::Count { verb, has } => count_words(alloc, verb, has),
         }
     }
@@ -48,12 +49,13 @@ fn field_words(alloc: Global, at: Place, what: &str) -> Result<String, AllocErro
 fn fields_words(
     alloc: Global,
     first: Place,
+    word: &str,
     second: Place,
     what: &str,
 ) -> Result<String, AllocError> {
     let Place { number, name } = first;
     let (other, title) = (second.number, second.name);
-    format!(in alloc; "field {number} ({name}) or field {other} ({title}): {what}")
+    format!(in alloc; "field {number} ({name}) {word} field {other} ({title}): {what}")
 }
 
 fn count_words(alloc: Global, verb: Verb, has: usize) -> Result<String, AllocError> {

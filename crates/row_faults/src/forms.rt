@@ -247,6 +247,7 @@ pub(crate) fn bad_number(row: &ByteRecord, what: &'static str) -> Finding {
                 Some(first) => {
                     return Finding::Fields {
                         first: place(verb, first),
+                        word: "or",
                         second: place(verb, at),
                         what,
                     };
@@ -315,6 +316,7 @@ pub(crate) fn fields(row: &ByteRecord, first: usize, second: usize, what: &'stat
     let verb = verb_of(row);
     Finding::Fields {
         first: place(verb, first),
+        word: "and",
         second: place(verb, second),
         what,
     }

@@ -161,9 +161,6 @@ module _ (m : Records) (es : List (ℕ × Record)) (same : (n : ℕ) → get m n
   )
 
   -- ---- rules that look at other records
-  said_part : (path : List ℕ) → Decides (has_part path) (has_part path ≡ true)
-  said_part path = part.itself (has_part path)
-
   said_at : (p : ℕ) → Decides (all_some has_part (path_seen (p + 1) (at es) p))
       ((path : List ℕ) → HasPath m p path → has_part path ≡ true)
   said_at p = (

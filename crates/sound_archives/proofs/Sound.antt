@@ -6,6 +6,7 @@ use Rattle.std.specs.List.{All, filter}
 use Rattle.std.proofs.lemmas.List.Elements.{All-head, filter_passes}
 use Rattle.std.specs.FinMap.{get}
 use Rattle.std.specs.Ordering.{nat_cmp, eq_by_cmp}
+use Rattle.std.proofs.lemmas.Bool.{not-true}
 use Rattle.record_kinds.specs.declared.record.Record.{Record}
 use Rattle.record_shapes.specs.Lists.{EachOf}
 use Rattle.archive_state.specs.declared.slip.Change.{Change}
@@ -109,10 +110,6 @@ none_left q (x ∷ xs) e = elim (q x) as (λ b. q x ≡ b → cond (not b) (x �
       | false ↦ λ is rest. absurd cc
     ] refl e
 
-is_false : (b : Bool) → not b ≡ true → b ≡ false
-is_false true e = sym e
-is_false false e = refl
-
 -- ---- merges
 listed : (P : Slip → Type 0) (n : ℕ) (es : List (ℕ × Slip)) (s : Slip) → EachOf (λ (e : ℕ × Slip). P e.1) es
     → at es n ≡ Some s → P s
@@ -134,7 +131,7 @@ sound a e h = is_sound a (archive_rule_in (λ r. archive_keeps a r ≡ true) (no
     (λ n s there. subst (IsMergeOf s) (sym (same_look s)) (listed IsMerge n a.slips s h (sym (slips_same a n) ∙ there)))
 
 pub unsound : (a : Archive) (r : ArchiveRule) (rs : List ArchiveRule) → broken a ≡ r ∷ rs → ¬ (IsSound (content a))
-unsound a r rs e = not_sound a r (is_false (archive_keeps a r) (All-head (λ x. not (archive_keeps a x) ≡ true) r rs
+unsound a r rs e = not_sound a r (not-true (archive_keeps a r) (All-head (λ x. not (archive_keeps a x) ≡ true) r rs
     (subst (All (λ x. not (archive_keeps a x) ≡ true)) e (filter_passes (λ x. not (archive_keeps a x)) archive_rules))))
 
 -- a slip that is no merge

@@ -24,6 +24,7 @@ use Rattle.std.proofs.Common.{
 use Rattle.std.specs.Prelude.{◌==◌, ◌||◌}
 use Rattle.std.specs.List.{list_any}
 use Rattle.std.specs.FinMap.{get, insert, remove}
+use Rattle.std.proofs.lemmas.Bool.{or_parts, ne_eqb}
 use Rattle.archive_state.specs.Applied.{applied, with_puts, without}
 use Rattle.archive_state.specs.Changes.{Changes}
 use Rattle.archive_state.specs.Content.{Content, Records}
@@ -58,15 +59,12 @@ same_number a b e = grind (arith, e)
 other_number : (a b : ℕ) → (a == b) ≡ false → a ≢ b
 other_number a b e same = grind (arith, e, same)
 
-number_differs : (a b : ℕ) → a ≢ b → (a == b) ≡ false
-number_differs a b h = grind (arith, h)
-
 -- ---- what a map has after removals
 left_at : (ns : List ℕ) (m : Records) (n : ℕ) → EachOf (λ k. k ≢ n) ns → get (without m ns) n ≡ get m n
 left_at [] m n others = refl
 left_at (k ∷ ns) m n others =
     left_at ns (remove m k) n others.1 ∙ got_removed m k n ∙ ap (λ b. cond b None (get m n))
-    (number_differs k n others.0)
+    (ne_eqb k n others.0)
 
 none_stays : (ns : List ℕ) (m : Records) (n : ℕ) → get m n ≡ None → get (without m ns) n ≡ None
 none_stays [] m n none = none
@@ -89,7 +87,7 @@ put_elsewhere [] m n above = refl
 put_elsewhere (p ∷ ps) m n above =
     let differs : p.number ≢ n = λ e. omega (arith, above.0, e) in
     put_elsewhere ps (insert m p.number p.«record») n above.1
-    ∙ got_put m p.number p.«record» n ∙ ap (λ b. cond b (Some p.«record») (get m n)) (number_differs p.number n differs)
+    ∙ got_put m p.number p.«record» n ∙ ap (λ b. cond b (Some p.«record») (get m n)) (ne_eqb p.number n differs)
 
 each_put : (ps : List Numbered) (m : Records) → Ascends (map (λ (p : Numbered). p.number) ps)
     → EachOf (λ (p : Numbered). get (with_puts m ps) p.number ≡ Some p.«record») ps
@@ -101,10 +99,6 @@ each_put (p ∷ ps) m ascends = (
 )
 
 -- ---- numbers that are put and numbers that are taken out
-or_parts : (a b : Bool) → (a || b) ≡ false → (a ≡ false) × (b ≡ false)
-or_parts false b e = (refl, e)
-or_parts true b e = absurd cc
-
 apart_one : (k : ℕ) (ps : List Numbered) → list_any (λ m. m == k) (map (λ (p : Numbered). p.number) ps) ≡ false
     → EachOf (λ (p : Numbered). k ≢ p.number) ps
 apart_one k [] e = tt

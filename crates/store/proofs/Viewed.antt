@@ -148,11 +148,7 @@ pub none_is_bad : (before after : ℕ) (e : Refusal) → before ≡ 0 → after 
 none_is_bad before after e first last rose bad =
     not_risen (subst (λ n. Rose n 0) first (subst (λ n. Rose before n) last (rose (ap is_failure bad))))
 
--- what is said of a refusal, of a result
-pub if_there : {A E : Type 0} {P Q : E → Type 0} (r : Result A E) → ((e : E) → P e → Q e) → IfErr r P → IfErr r Q
-if_there (Ok a) f h = tt
-if_there (Err e) f h = f e h
-
+-- what is said of a result
 pub if_done : {A E P : Type 0} (r : Result A E) → P → OnOk r P
 if_done (Ok a) h = h
 if_done (Err e) h = tt

@@ -40,8 +40,10 @@ use Rattle.archive_state.specs.Referrers.{referrers, naming}
 use Rattle.store_tables.specs.Keyed.{lines_naming}
 use Rattle.store_tables.specs.Rows.{Rows}
 use Rattle.store_rows.specs.Meaning.{Means, has_record}
-use Rattle.store_rows.proofs.Naming.{tell_referrers, first, second, less_is, any_same}
+use Rattle.store_rows.proofs.Naming.{tell_referrers}
 use Rattle.store_rows.proofs.Own.{either_way, it}
+use Rattle.archive_state.proofs.Rising.{first_holds, rest_holds, less_is}
+use Rattle.store_tables.proofs.Coded.{list_any_same}
 
 -- ---- the referrers ascend
 below_named : (n x : ℕ) (es : List (ℕ × Record)) → T (below_all nat_cmp x es)
@@ -52,10 +54,10 @@ below_named n x (e ∷ es) h =
     (map (λ (k : ℕ × Record). k.0) (cond a (e ∷ filter (λ (k : ℕ × Record). is_among n (links k.1)) es)
     (filter (λ (k : ℕ × Record). is_among n (links k.1)) es)))) [
       | true ↦ (
-        less_is (nat_cmp x e.0) (first (is_lt (nat_cmp x e.0)) (below_all nat_cmp x es) h),
-        below_named n x es (second (is_lt (nat_cmp x e.0)) (below_all nat_cmp x es) h),
+        less_is (nat_cmp x e.0) (first_holds (is_lt (nat_cmp x e.0)) (below_all nat_cmp x es) h),
+        below_named n x es (rest_holds (is_lt (nat_cmp x e.0)) (below_all nat_cmp x es) h),
       )
-      | false ↦ below_named n x es (second (is_lt (nat_cmp x e.0)) (below_all nat_cmp x es) h)
+      | false ↦ below_named n x es (rest_holds (is_lt (nat_cmp x e.0)) (below_all nat_cmp x es) h)
     ]
 
 named_rises : (n : ℕ) (es : List (ℕ × Record)) → T (is_sorted nat_cmp es) → IsStrictlySortedBy nat_cmp (naming n es)
@@ -66,10 +68,10 @@ named_rises n (e ∷ es) h =
     (map (λ (k : ℕ × Record). k.0) (cond a (e ∷ filter (λ (k : ℕ × Record). is_among n (links k.1)) es)
     (filter (λ (k : ℕ × Record). is_among n (links k.1)) es)))) [
       | true ↦ (
-        below_named n e.0 es (first (below_all nat_cmp e.0 es) (is_sorted nat_cmp es) h),
-        named_rises n es (second (below_all nat_cmp e.0 es) (is_sorted nat_cmp es) h),
+        below_named n e.0 es (first_holds (below_all nat_cmp e.0 es) (is_sorted nat_cmp es) h),
+        named_rises n es (rest_holds (below_all nat_cmp e.0 es) (is_sorted nat_cmp es) h),
       )
-      | false ↦ named_rises n es (second (below_all nat_cmp e.0 es) (is_sorted nat_cmp es) h)
+      | false ↦ named_rises n es (rest_holds (below_all nat_cmp e.0 es) (is_sorted nat_cmp es) h)
     ]
 
 -- ---- what a set has, as its list has it
@@ -87,7 +89,7 @@ inserted key n now before is = is ∙ ap (λ b. cond b true before) (unsigned_ti
     go false false = refl
 
 has_it : (ks : List ℕ) (q : ℕ) → set.contains nat_cmp (as_set ks) q ≡ list_any (λ k. k == q) ks
-has_it ks q = any_same (λ k. is_eq (nat_cmp q k)) (λ k. k == q) (λ k. unsigned_tied q k ∙ either_way q k) ks
+has_it ks q = list_any_same (λ k. is_eq (nat_cmp q k)) (λ k. k == q) (λ k. unsigned_tied q k ∙ either_way q k) ks
 
 -- those of a list that pass a test
 any_passed : (p : ℕ → Bool) (q : ℕ) (ks : List ℕ) → list_any (λ k. k == q) (filter p ks)

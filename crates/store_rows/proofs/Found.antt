@@ -40,6 +40,8 @@ use Rattle.std.proofs.lemmas.List.{length-append}
 use Rattle.std.proofs.lemmas.List.Folds.{list_any-append}
 use Rattle.std.proofs.Math.Seq.{get_or-append_seam, take-append_seam}
 use Rattle.std.proofs.Common.{take}
+use Rattle.std.proofs.lemmas.Bool.{or_right, or_left, or_cases}
+use Rattle.std.proofs.lemmas.Result.{IfErr-weaker}
 use Rattle.sqlite.specs.State.{State}
 use Rattle.stored_lines.specs.Line.{Label}
 use Rattle.record_text.specs.declared.refusal.RefusalKind.{RefusalKind}
@@ -57,7 +59,7 @@ use Rattle.archive_state.proofs.Climbing.{Goes, path_goes, none_iff}
 use Rattle.store_tables.specs.Keyed.{is_text, is_number, lines_saying, lines_saying_of}
 use Rattle.store_tables.specs.Looking.{Looks}
 use Rattle.store_tables.specs.Rows.{Rows, LineRow, lines_of}
-use Rattle.store_tables.proofs.Calls.{if_ok, if_err}
+use Rattle.store_tables.proofs.Calls.{if_ok}
 use Rattle.store_rows.specs.Finding.{
   IsAmong,
   IsLowestAmong,
@@ -71,9 +73,10 @@ use Rattle.store_rows.specs.Finding.{
 use Rattle.store_rows.specs.declared.finding.Climb.TheVariants as climb
 use Rattle.store_rows.specs.Looking.{Sees}
 use Rattle.store_rows.specs.Meaning.{Means, IsRecordAt}
-use Rattle.store_rows.proofs.Naming.{any_same, and_swap}
+use Rattle.store_rows.proofs.Naming.{and_swap}
 use Rattle.store_rows.proofs.Own.{it}
 use Rattle.store_rows.proofs.Seen.{any_kept, any_map}
+use Rattle.store_tables.proofs.Coded.{list_any_same}
 
 -- ---- one look after another
 pub sees_then : {A B : Type 0} {P : Content → A → Type 0} {Q : Content → B
@@ -86,7 +89,8 @@ sees_then {result = result} h k = record {
         is rows (h.same (k.clean clean) rows was) c means,
       )) (k.read clean);
   same = λ clean. if_ok result (λ b is rows was. is rows (h.same (k.clean clean) rows was)) (k.same clean);
-  refused = λ clean. if_err result (λ kind is rows was. is rows (h.same (k.clean clean) rows was)) (k.refused clean);
+  refused = λ clean. IfErr-weaker result _ _ (λ kind is rows was. is rows (h.same (k.clean clean) rows was))
+      (k.refused clean);
   crash = λ clean rows was. k.crash clean rows (h.same (k.clean clean) rows was);
   clean = λ clean. h.clean (k.clean clean);
 }
@@ -110,29 +114,15 @@ sees_after {a = a} result f h k = record {
   read = λ clean. if_ok result (λ b is rows was c means. f rows c b (h.read (k.clean clean) rows was) means
       (is rows (h.same (k.clean clean) rows was) c means)) (k.read clean);
   same = λ clean. if_ok result (λ b is rows was. is rows (h.same (k.clean clean) rows was)) (k.same clean);
-  refused = λ clean. if_err result (λ kind is rows was. is rows (h.same (k.clean clean) rows was)) (k.refused clean);
+  refused = λ clean. IfErr-weaker result _ _ (λ kind is rows was. is rows (h.same (k.clean clean) rows was))
+      (k.refused clean);
   crash = λ clean rows was. k.crash clean rows (h.same (k.clean clean) rows was);
   clean = λ clean. h.clean (k.clean clean);
 }
 
 -- ---- the lowest, one number more
-either : (a b : Bool) → (a || b) ≡ true → (a ≡ true) ⊎ (b ≡ true)
-either true b h = inl refl
-either false b h = inr h
-
-left_of : (a b : Bool) → a ≡ true → (a || b) ≡ true
-left_of true b h = refl
-left_of false b h = absurd cc
-
-right_of : (a b : Bool) → b ≡ true → (a || b) ≡ true
-right_of true b h = refl
-right_of false b h = h
-
 is_less : (m n : ℕ) → nat_lt m n ≡ true → m < n
 is_less m n h = grind (arith, nat_tests, h)
-
-is_no_less : (m n : ℕ) → nat_lt m n ≡ false → (m < n) → ⊥
-is_no_less m n h less = grind (arith, nat_tests, h, less)
 
 -- the second numbers are the first with one more
 abbrev pub IsWithOne : List ℕ → ℕ → List ℕ → Type 0
@@ -142,7 +132,7 @@ pub one_found : (P : ℕ → Type 0) (ns more : List ℕ) (n : ℕ) (lowest : Op
     → IsLowestAmong P ns lowest → P n → IsLowestAmong P more (Some (lower lowest n))
 one_found P ns more n None grows none here = (
   here,
-  λ k among less. elim (either _ _ (sym (grows k) ∙ among)) [
+  λ k among less. elim (or_cases _ _ (sym (grows k) ∙ among)) [
     | inl old ↦ none k old
     | inr is ↦ let same : n ≡ k = it n k is in absurd (omega (arith, same, less))
   ],
@@ -152,7 +142,7 @@ one_found P ns more n (Some m) grows (there, low) here =
     × ((k : ℕ) → IsAmong k more → k < cond b m n → ¬ (P k))) [
       | true ↦ λ e. (
         there,
-        λ k among less. elim (either _ _ (sym (grows k) ∙ among)) [
+        λ k among less. elim (or_cases _ _ (sym (grows k) ∙ among)) [
           | inl old ↦ low k old less
           | inr is ↦ let same : n ≡ k = it n k is in let under : m < n = is_less m n e in
               absurd (omega (arith, same, less, under))
@@ -160,7 +150,7 @@ one_found P ns more n (Some m) grows (there, low) here =
       )
       | false ↦ λ e. (
         here,
-        λ k among less. elim (either _ _ (sym (grows k) ∙ among)) [
+        λ k among less. elim (or_cases _ _ (sym (grows k) ∙ among)) [
           | inl old ↦ λ p. elim (nat_lt k m) as (λ b. nat_lt k m ≡ b → ⊥) [
             | true ↦ λ f. low k old (is_less k m f) p
             | false ↦ λ f. grind (arith, nat_tests, e, f, less)
@@ -172,13 +162,13 @@ one_found P ns more n (Some m) grows (there, low) here =
 
 pub one_passed : (P : ℕ → Type 0) (ns more : List ℕ) (n : ℕ) (lowest : Option ℕ) → IsWithOne ns n more
     → IsLowestAmong P ns lowest → ¬ (P n) → IsLowestAmong P more lowest
-one_passed P ns more n None grows none other = λ k among p. elim (either _ _ (sym (grows k) ∙ among)) [
+one_passed P ns more n None grows none other = λ k among p. elim (or_cases _ _ (sym (grows k) ∙ among)) [
   | inl old ↦ none k old p
   | inr is ↦ other (subst P (sym (it n k is)) p)
 ]
 one_passed P ns more n (Some m) grows (there, low) other = (
   there,
-  λ k among less p. elim (either _ _ (sym (grows k) ∙ among)) [
+  λ k among less p. elim (or_cases _ _ (sym (grows k) ∙ among)) [
     | inl old ↦ low k old less p
     | inr is ↦ other (subst P (sym (it n k is)) p)
   ],
@@ -202,14 +192,14 @@ first_fronts path rows ns is n name (inr (rest, e, low)) among = absurd (omega (
 pub more_fronts : (at : ℕ) (path : List ℕ) (rows : Rows) (ns more all : List ℕ) → HasBelow at path rows ns
     → HasSaying at path rows more → all ≡ ns ++ more → HasBelow (at + 1) path rows all
 more_fronts at path rows ns more all h k is n name (inl whole) among =
-    ap (list_any (λ j. j == n)) is ∙ list_any-append (λ j. j == n) ns more ∙ left_of _ _ (h n name (inl whole) among)
+    ap (list_any (λ j. j == n)) is ∙ list_any-append (λ j. j == n) ns more ∙ or_left _ _ (h n name (inl whole) among)
 more_fronts at path rows ns more all h k is n name (inr (rest, e, low)) among =
     ap (list_any (λ j. j == n)) is ∙ list_any-append (λ j. j == n) ns more
     ∙ (elim (nat_lt (length name) at) as (λ b. nat_lt (length name) at ≡ b
     → (list_any (λ j. j == n) ns || list_any (λ j. j == n) more) ≡ true) [
-      | true ↦ λ f. left_of _ _ (h n name (inr (rest, e, is_less (length name) at f)) among)
+      | true ↦ λ f. or_left _ _ (h n name (inr (rest, e, is_less (length name) at f)) among)
       | false ↦ λ f. let same : length name ≡ at = grind (arith, nat_tests, f, low) in
-          right_of (list_any (λ j. j == n) ns) _ (k n name rest e same among)
+          or_right (list_any (λ j. j == n) ns) _ (k n name rest e same among)
     ] refl)
 
 pub all_fronts : (at : ℕ) (path : List ℕ) (rows : Rows) (ns : List ℕ) → at ≡ length path → HasBelow at path rows ns
@@ -220,25 +210,6 @@ all_fronts at path rows ns is h n name (inr (rest, e)) among =
     (codes ", " ++ rest) in
     let low : length name < at = omega (arith, long, is) in
     h n name (inr (rest, e, low)) among
-
--- where no comma is, no name ends
-comma_at : (at : ℕ) (path name rest : List ℕ) → path ≡ name ++ (codes ", " ++ rest) → length name ≡ at
-    → get_or path at 0 ≡ 44
-comma_at at path name rest e is = ap (λ t. get_or t at 0) e ∙ ap (λ i. get_or (name ++ (codes ", " ++ rest)) i 0)
-    (sym is) ∙ get_or-append_seam name 44 (32 ∷ rest) 0
-
-pub no_comma : (at : ℕ) (path : List ℕ) (rows : Rows) (ns : List ℕ) → (get_or path at 0 == 44) ≡ false
-    → HasSaying at path rows ns
-no_comma at path rows ns off n name rest e is among =
-    let comma : get_or path at 0 ≡ 44 = comma_at at path name rest e is in
-    let both : (44 == 44) ≡ false = subst (λ b. (b == 44) ≡ false) comma off in absurd cc
-
-pub saying_before : (at : ℕ) (path : List ℕ) (rows : Rows) (ns : List ℕ) → ns ≡ lines_saying (take at path) rows
-    → HasSaying at path rows ns
-saying_before at path rows ns is n name rest e long among =
-    let front : take at path ≡ name = ap (take at) e ∙ ap (λ i. take i (name ++ (codes ", " ++ rest))) (sym long)
-    ∙ take-append_seam name (codes ", " ++ rest) in
-    subst (IsAmong n) (sym (is ∙ ap (λ t. lines_saying t rows) front)) among
 
 -- ---- the line of a place's name
 same_bytes : (xs : List ℕ) → bytes_eq xs xs ≡ true
@@ -252,7 +223,7 @@ said_where says n rows =
     let told = (λ (l : LineRow). says l.line.1) in
     let own = (λ (l : LineRow). l.no == n) in
     any_map (λ k. k == n) (λ (l : LineRow). l.no) (filter told rows.lines) ∙ sym (any_kept told own rows.lines)
-    ∙ any_same (λ l. told l && own l) (λ l. own l && told l) (λ l. and_swap (told l) (own l)) rows.lines
+    ∙ list_any_same (λ l. told l && own l) (λ l. own l && told l) (λ l. and_swap (told l) (own l)) rows.lines
     ∙ any_kept own told rows.lines
     ∙ sym (any_map (λ (x : ℕ × Label). says x.1) (λ (l : LineRow). l.line) (filter own rows.lines))
 
@@ -266,7 +237,7 @@ name_said : (n : ℕ) (rows : Rows) (c : Content) (p : model.Place) → Means ro
 name_said n rows c p means at =
     said_where (λ (l : Label). is_text p.name l.text) n rows
     ∙ ap (list_any (λ (x : ℕ × Label). is_text p.name x.1.text)) (kept_as n rows c (kind.Place p) means at)
-    ∙ left_of (bytes_eq p.name p.name) _ (same_bytes p.name)
+    ∙ or_left (bytes_eq p.name p.name) _ (same_bytes p.name)
 
 place_there : (m : Records) (n : ℕ) (path : List ℕ) → HasPath m n path → (p : model.Place) × IsPlaceAt m n p
 place_there m n path ([], h, e) = absurd h
@@ -305,8 +276,8 @@ key_said n rows c e means at =
     let says = (λ (l : Label). is_text words l.text && is_number e.source l.target) in
     let of : (e.source == e.source) ≡ true = grind (arith, nat_tests) in
     said_where says n rows ∙ ap (list_any (λ (x : ℕ × Label). says x.1)) (kept_as n rows c (kind.Entry e) means at)
-    ∙ right_of (is_text words (Some (entry_kind_word e.kind)) && false) _
-    (left_of (bytes_eq words words && (e.source == e.source)) _ (ap₂ (λ a b. a && b) (same_bytes words) of))
+    ∙ or_right (is_text words (Some (entry_kind_word e.kind)) && false) _
+    (or_left (bytes_eq words words && (e.source == e.source)) _ (ap₂ (λ a b. a && b) (same_bytes words) of))
 
 key_among : (source : ℕ) (k : EntryKind) (page : List ℕ) (item : Item) (rows : Rows) (c : Content) (ns : List ℕ) (n : ℕ)
     → Means rows c → ns ≡ lines_saying_of (key_words item page) source rows

@@ -39,27 +39,8 @@ use Rattle.store_tables.specs.Rows.{Rows, LineRow, lines_of}
 use Rattle.store_rows.specs.Meaning.{Means, IsRecordAt, has_record}
 use Rattle.store_rows.proofs.Own.{either_way}
 use Rattle.store_rows.proofs.Seen.{any_kept, any_map}
-
-pub first : (a b : Bool) → T (a && b) → T a
-first true b p = tt
-first false b p = absurd p
-
-pub second : (a b : Bool) → T (a && b) → T b
-second true b p = p
-second false b p = absurd p
-
-pub less_is : (o : Ordering) → T (is_lt o) → o ≡ Less
-less_is Less p = refl
-less_is Equal p = absurd p
-less_is Greater p = absurd p
-
--- what is below all keys is none of them
-not_there : (k : ℕ) (es : List (ℕ × Record)) → T (below_all nat_cmp k es) → find nat_cmp k es ≡ None
-not_there k [] h = refl
-not_there k (e ∷ es) h =
-    ap (λ o. cond (is_eq o) (Some e.1) (find nat_cmp k es))
-    (less_is (nat_cmp k e.0) (first (is_lt (nat_cmp k e.0)) (below_all nat_cmp k es) h))
-    ∙ not_there k es (second (is_lt (nat_cmp k e.0)) (below_all nat_cmp k es) h)
+use Rattle.archive_state.proofs.Rising.{first_holds, rest_holds, less_is, not_found}
+use Rattle.store_tables.proofs.Coded.{list_any_same}
 
 -- whether a record that may be missing names a number
 abbrev names_at : ℕ → Option Record → Bool
@@ -74,12 +55,12 @@ named_found : (n m : ℕ) (es : List (ℕ × Record)) → T (is_sorted nat_cmp e
     ≡ names_at n (find nat_cmp m es)
 named_found n m [] h = refl
 named_found n m (e ∷ es) h =
-    let more = named_found n m es (second (below_all nat_cmp e.0 es) (is_sorted nat_cmp es) h) in
-    let below = first (below_all nat_cmp e.0 es) (is_sorted nat_cmp es) h in
+    let more = named_found n m es (rest_holds (below_all nat_cmp e.0 es) (is_sorted nat_cmp es) h) in
+    let below = first_holds (below_all nat_cmp e.0 es) (is_sorted nat_cmp es) h in
     (elim (e.0 == m) as (λ b. (e.0 == m) ≡ b → list_any (λ k. k == m) (naming n (e ∷ es)) ≡ names_at n
     (cond b (Some e.1) (find nat_cmp m es))) [
       | true ↦ λ here.
-          let none : find nat_cmp m es ≡ None = not_there m es
+          let none : find nat_cmp m es ≡ None = not_found m es
           (subst (λ k. T (below_all nat_cmp k es)) (sym (is_it m e.0 here)) below) in
           let rest : list_any (λ k. k == m) (naming n es) ≡ false = more ∙ ap (names_at n) none in
           elim (is_among n (links e.1)) as (λ a. list_any (λ k. k == m)
@@ -107,10 +88,6 @@ and_swap true false = refl
 and_swap false true = refl
 and_swap false false = refl
 
-pub any_same : {X : Type 0} (p q : X → Bool) → ((x : X) → p x ≡ q x) → (xs : List X) → list_any p xs ≡ list_any q xs
-any_same p q same [] = refl
-any_same p q same (x ∷ xs) = ap₂ (λ a b. a || b) (same x) (any_same p q same xs)
-
 same_test : (n : ℕ) (o : Option ℕ) → is_number n o ≡ is_target n o
 same_test n None = refl
 same_test n (Some k) = refl
@@ -121,7 +98,7 @@ lines_named n m rows =
     let names = (λ (l : LineRow). is_number n l.line.1.target) in
     let own = (λ (l : LineRow). l.no == m) in
     any_map (λ k. k == m) (λ (l : LineRow). l.no) (filter names rows.lines) ∙ sym (any_kept names own rows.lines)
-    ∙ any_same (λ l. names l && own l) (λ l. own l && is_target n l.line.1.target)
+    ∙ list_any_same (λ l. names l && own l) (λ l. own l && is_target n l.line.1.target)
     (λ l. and_swap (names l) (own l) ∙ ap (λ b. own l && b) (same_test n l.line.1.target)) rows.lines
     ∙ any_kept own (λ l. is_target n l.line.1.target) rows.lines
     ∙ sym (any_map (λ x. is_target n x.1.target) (λ (l : LineRow). l.line) (filter own rows.lines))

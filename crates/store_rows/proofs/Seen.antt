@@ -38,6 +38,8 @@ use Rattle.std.proofs.lemmas.Cmp.{nat_list_cmp_total}
 use Rattle.std.proofs.lemmas.List.Sums.{fold-append}
 use Rattle.std.proofs.lemmas.Map.Text.{is_eq-slice_cmp}
 use Rattle.std.proofs.lemmas.Simd.{map-map}
+use Rattle.std.proofs.Math.Bool.{or-false}
+use Rattle.std.proofs.lemmas.Result.{IfErr-weaker}
 use Rattle.sqlite.specs.State.{State}
 use Rattle.stored_lines.specs.Line.{Label}
 use Rattle.record_text.specs.declared.refusal.RefusalKind.{RefusalKind}
@@ -61,7 +63,7 @@ use Rattle.store_tables.specs.Rows.{
   lines_of,
   slip_lines_of,
 }
-use Rattle.store_tables.proofs.Calls.{if_ok, if_err}
+use Rattle.store_tables.proofs.Calls.{if_ok}
 use Rattle.store_rows.specs.Grouped.{NoRecord, last_kept}
 use Rattle.store_rows.specs.Looking.{Sees}
 use Rattle.store_rows.specs.Meaning.{
@@ -90,7 +92,7 @@ pub sees_with : {A B : Type 0} {P : Rows → A → Type 0} {Is : Content → B �
 sees_with result h ok err = record {
   read = λ clean. if_ok result (λ b is rows was c means. is rows (h.read clean rows was) c means) ok;
   same = λ clean. if_ok result (λ b is. h.same clean) ok;
-  refused = λ clean. if_err result (λ kind is rows was. is rows (h.read clean rows was)) err;
+  refused = λ clean. IfErr-weaker result _ _ (λ kind is rows was. is rows (h.read clean rows was)) err;
   crash = h.crash;
   clean = h.clean;
 }
@@ -101,7 +103,7 @@ pub sees_as : {A : Type 0} {P : Rows → A → Type 0} {Is : Content → A → T
 sees_as result f h = record {
   read = λ clean. if_ok result (λ a is rows was c means. f rows a (is rows was) c means) (h.read clean);
   same = h.same;
-  refused = λ clean. if_err result (λ kind is rows was. inl (is rows was)) (h.refused clean);
+  refused = λ clean. IfErr-weaker result _ _ (λ kind is rows was. inl (is rows was)) (h.refused clean);
   crash = h.crash;
   clean = h.clean;
 }
@@ -124,7 +126,7 @@ pub sees_from : {A B : Type 0} {P : Content → A → Type 0} {Is : Content → 
 sees_from result h ok err = record {
   read = λ clean. if_ok result (λ b is rows was c means. is c (h.read clean rows was c means)) ok;
   same = λ clean. if_ok result (λ b is. h.same clean) ok;
-  refused = λ clean. if_err result (λ kind is rows was. inl is) err;
+  refused = λ clean. IfErr-weaker result _ _ (λ kind is rows was. inl is) err;
   crash = h.crash;
   clean = h.clean;
 }
@@ -136,10 +138,6 @@ sees_not {Is = Is} {old = old} {new = new} result is h = subst (Sees Is old new)
     (record { read = λ clean. tt; same = λ clean. tt; refused = h.refused; crash = h.crash; clean = h.clean })
 
 -- ---- whether a number has a record
-or_false : (a : Bool) → (a || false) ≡ a
-or_false true = refl
-or_false false = refl
-
 pub any_kept : {X : Type 0} (p q : X → Bool) (xs : List X) → list_any (λ x. p x && q x) xs ≡ list_any q (filter p xs)
 any_kept p q [] = refl
 any_kept p q (x ∷ xs) =
@@ -161,7 +159,7 @@ none_closed n bs none = sym (any_kept (λ (b : BatchRow). b.no == n) (λ b. not 
 pub one_closed : (n : ℕ) (bs : List BatchRow) (b : BatchRow) → filter (λ (b : BatchRow). b.no == n) bs ≡ b ∷ []
     → not b.is_open ≡ is_closed n bs
 one_closed n bs b one = sym (any_kept (λ (b : BatchRow). b.no == n) (λ b. not b.is_open) bs
-    ∙ ap (list_any (λ (b : BatchRow). not b.is_open)) one ∙ or_false (not b.is_open))
+    ∙ ap (list_any (λ (b : BatchRow). not b.is_open)) one ∙ or-false (not b.is_open))
 
 recorded_by : (n : ℕ) (rows : Rows) → has_record n rows ≡ list_any (λ (r : ℕ × ℕ). is_closed r.1 rows.batches)
     (records_at n rows)
@@ -175,25 +173,13 @@ none_recorded n rows none = sym (recorded_by n rows ∙ ap (list_any (λ (r : �
 pub one_recorded : (n : ℕ) (rows : Rows) (r : ℕ × ℕ) → records_at n rows ≡ r ∷ []
     → is_closed r.1 rows.batches ≡ has_record n rows
 one_recorded n rows r one = sym (recorded_by n rows ∙ ap (list_any (λ (q : ℕ × ℕ). is_closed q.1 rows.batches)) one
-    ∙ or_false (is_closed r.1 rows.batches))
+    ∙ or-false (is_closed r.1 rows.batches))
 
 -- ---- the record of a number
-pub record_none : (n : ℕ) (rows : Rows) (c : Content) → Means rows c → false ≡ has_record n rows
-    → None ≡ get c.records n
-record_none n rows c means has = one_at (has_record n rows) (lines_of n rows) None (get c.records n) (sym has)
-    (means.records n)
-
 pub record_some : (n : ℕ) (rows : Rows) (c : Content) (r : Record) → Means rows c → true ≡ has_record n rows
     → lines_of n rows ≡ stored r → Some r ≡ get c.records n
 record_some n rows c r means has kept = one_at (has_record n rows) (lines_of n rows) (Some r) (get c.records n)
     (sym has, kept) (means.records n)
-
-pub record_bad : (n : ℕ) (rows : Rows) → true ≡ has_record n rows → NoRecord (lines_of n rows) → AreReadable rows → ⊥
-record_bad n rows has bad readable = go (get readable.0.records n) (λ r. readable.2.records n r) (readable.1.records n)
-  where
-    go : (found : Option Record) → ((r : Record) → found ≡ Some r → IsShallow r) → IsRecordAt rows n found → ⊥
-    go None shallow absent = let no : true ≡ false = has ∙ absent in absurd cc
-    go (Some r) shallow is = bad r (shallow r refl) is.1
 
 -- ---- what is kept under a token
 bytes_swap : (s t : List ℕ) → bytes_eq s t ≡ bytes_eq t s
@@ -229,14 +215,6 @@ kept_at token rows c kept means is =
     ap last_kept is ∙ ap (λ o. fold (λ _ (p : List ℕ × Receipt). Some p.1) o (receipts_at token rows))
     (sym (get-empty (slice_cmp nat_cmp) token)) ∙ sym (kept_from token rows.receipts empty)
     ∙ ap (λ m. get m token) (sym means.receipts)
-
--- the last row, taken off the end
-pub kept_last : (rows : List (List ℕ × Receipt)) (before : List (List ℕ × Receipt)) (found : Option (List ℕ × Receipt))
-    → rows ≡ before ++ option_to_list found → (found ≡ None → rows ≡ [])
-    → last_kept rows ≡ elim found [ Some p ↦ Some p.1 | None ↦ None ]
-kept_last rows before None is none = ap last_kept (none refl)
-kept_last rows before (Some p) is none = ap last_kept is ∙ fold-append (λ _ (q : List ℕ × Receipt). Some q.1)
-    None before (p ∷ [])
 
 -- ---- the slip of a number
 row_first : (n : ℕ) (ss : List SlipRow) (s : SlipRow) → filter (λ (s : SlipRow). s.no == n) ss ≡ s ∷ []

@@ -129,13 +129,6 @@ side_all b n (l ∷ ls) (r ∷ rows) e =
     and_from (is_of b n r.1) (list_all (λ (x : Row). is_of b n x.1) rows) (ap (is_of b n) same ∙ is_of_own b n l)
     (side_all b n ls rows others)
 
-piece_some : (ls : List SideLine) → IsPiece begins_side ls → [] ≡ ls → ⊥
-piece_some [] piece e = piece
-piece_some (l ∷ ls) piece e = cc
-
-pub no_line : NoSide []
-no_line s shallow e = piece_some (lines_of_side s) (side_piece s) e
-
 mixed_here : (r : Row) (rows : List Row) → list_all (λ (x : Row). is_of r.1.0 r.1.1.0 x.1) (r ∷ rows) ≡ false
     → NoSide (side_lines_in (r ∷ rows))
 mixed_here r rows h s shallow e =

@@ -78,13 +78,6 @@ pub if_ok : {A E : Type 0} {P Q : A → Type 0} (r : Result A E) → ((a : A) �
 if_ok (Ok a) f h = f a h
 if_ok (Err e) f h = h
 
-pub if_err : {A E : Type 0} {P Q : E → Type 0} (r : Result A E) → ((e : E) → P e → Q e) → IfErr r P → IfErr r Q
-if_err (Ok a) f h = h
-if_err (Err e) f h = f e h
-
-pub follows_none : (s : State) → Follows s s (λ rows. rows)
-follows_none s rows was = (was, refl)
-
 pub follows_then : (a b c : State) (f g : Rows → Rows) → Follows a b f → Follows b c g
     → Follows a c (λ rows. g (f rows))
 follows_then a b c f g p q rows was =

@@ -131,7 +131,8 @@ list_any-map : {X Y : Type 0} (p : Y → Bool) (f : X → Y) (xs : List X) → l
 list_any-map p f [] = refl
 list_any-map p f (x ∷ xs) = ap (λ b. p (f x) || b) (list_any-map p f xs)
 
-list_any_same : {X : Type 0} (p q : X → Bool) → ((x : X) → p x ≡ q x) → (xs : List X) → list_any p xs ≡ list_any q xs
+pub list_any_same : {X : Type 0} (p q : X → Bool) → ((x : X) → p x ≡ q x) → (xs : List X)
+    → list_any p xs ≡ list_any q xs
 list_any_same p q h [] = refl
 list_any_same p q h (x ∷ xs) = rw (h x, list_any_same p q h xs) refl
 

@@ -138,22 +138,13 @@ pub makes_meta : IsCreate no_schema create_meta (record meta { tree = 0 })
 unfolding understood everything
 makes_meta = record { command = refl; whole = refl; plain = (refl, refl); defined = meta_is; counts = refl }
 
-pub after_meta : created no_schema (record meta { tree = 0 }) ≡ schema_1
-after_meta = refl
-
 pub makes_batch : IsCreate schema_1 create_batch (record batches { tree = 0 })
 unfolding understood everything
 makes_batch = record { command = refl; whole = refl; plain = (refl, refl); defined = batch_is; counts = refl }
 
-pub after_batch : created schema_1 (record batches { tree = 0 }) ≡ schema_2
-after_batch = refl
-
 pub makes_record : IsCreate schema_2 create_record (record records { tree = 0 })
 unfolding understood everything
 makes_record = record { command = refl; whole = refl; plain = (refl, refl); defined = record_is; counts = refl }
-
-pub after_record : created schema_2 (record records { tree = 0 }) ≡ schema_3
-after_record = refl
 
 pub makes_line : IsCreate schema_3 create_line (record lines { tree = 0 })
 unfolding understood everything
@@ -166,22 +157,13 @@ pub makes_receipt : IsCreate schema_4 create_receipt (record receipts { tree = 0
 unfolding understood everything
 makes_receipt = record { command = refl; whole = refl; plain = (refl, refl); defined = receipt_is; counts = refl }
 
-pub after_receipt : created schema_4 (record receipts { tree = 0 }) ≡ schema_5
-after_receipt = refl
-
 pub makes_slip : IsCreate schema_5 create_slip (record slips { tree = 0 })
 unfolding understood everything
 makes_slip = record { command = refl; whole = refl; plain = (refl, refl); defined = slip_is; counts = refl }
 
-pub after_slip : created schema_5 (record slips { tree = 0 }) ≡ schema_6
-after_slip = refl
-
 pub makes_slip_line : IsCreate schema_6 create_slip_line (record slip_lines { tree = 0 })
 unfolding understood everything
 makes_slip_line = record { command = refl; whole = refl; plain = (refl, refl); defined = slip_line_is; counts = refl }
-
-pub after_slip_line : created schema_6 (record slip_lines { tree = 0 }) ≡ schema_7
-after_slip_line = refl
 
 pub makes_line_by_record : IsCreateIndex schema_7 create_line_by_record 3 lines (record line_by_record { tree = 0 })
 unfolding understood everything
@@ -193,9 +175,6 @@ makes_line_by_record = record {
   defined = line_by_record_is;
 }
 
-pub after_line_by_record : indexed schema_7 lines (record line_by_record { tree = 0 }) ≡ schema_8
-after_line_by_record = refl
-
 pub makes_line_by_target : IsCreateIndex schema_8 create_line_by_target 3 lines (record line_by_target { tree = 0 })
 unfolding understood everything
 makes_line_by_target = record {
@@ -205,9 +184,6 @@ makes_line_by_target = record {
   listed = refl;
   defined = line_by_target_is;
 }
-
-pub after_line_by_target : indexed schema_8 lines (record line_by_target { tree = 0 }) ≡ schema_9
-after_line_by_target = refl
 
 pub makes_receipt_by_token : IsCreateIndex schema_9 create_receipt_by_token 4 receipts
     (record receipt_by_token { tree = 0 })
@@ -220,9 +196,6 @@ makes_receipt_by_token = record {
   defined = receipt_by_token_is;
 }
 
-pub after_receipt_by_token : indexed schema_9 receipts (record receipt_by_token { tree = 0 }) ≡ schema_10
-after_receipt_by_token = refl
-
 pub makes_slip_line_by_slip : IsCreateIndex schema_10 create_slip_line_by_slip 6 slip_lines
     (record slip_line_by_slip { tree = 0 })
 unfolding understood everything
@@ -234,9 +207,6 @@ makes_slip_line_by_slip = record {
   defined = slip_line_by_slip_is;
 }
 
-pub after_slip_line_by_slip : indexed schema_10 slip_lines (record slip_line_by_slip { tree = 0 }) ≡ schema_11
-after_slip_line_by_slip = refl
-
 pub makes_line_by_text : IsCreateIndex schema_11 create_line_by_text 3 lines (record line_by_text { tree = 0 })
 unfolding understood everything
 makes_line_by_text = record {
@@ -246,6 +216,3 @@ makes_line_by_text = record {
   listed = refl;
   defined = line_by_text_is;
 }
-
-pub after_line_by_text : indexed schema_11 lines (record line_by_text { tree = 0 }) ≡ archive_schema
-after_line_by_text = refl

@@ -1,6 +1,6 @@
 pub mod Calls
 mod Changing
-mod Coded
+pub mod Coded
 mod Created
 mod Failing
 mod Finding

@@ -27,6 +27,7 @@ use Rattle.std.proofs.Common.{
 use Rattle.std.proofs.lemmas.Bool.{cases_Bool}
 use Rattle.std.specs.List.{AllByRecursion}
 use Rattle.std.specs.Prelude.{⊤}
+use Rattle.std.proofs.lemmas.Result.{IfErr-weaker}
 use Rattle.sqlite.specs.declared.error.Error.{Error}
 use Rattle.sqlite.specs.Effect.{Database}
 use Rattle.sqlite.specs.Listing.{understood}
@@ -56,7 +57,7 @@ use Rattle.store_tables.specs.Looking.{IsFailure, Looks}
 use Rattle.store_tables.specs.Prepared.{IsUnderstood, NamesMissing, IsRefusedTables, PreparesAll}
 use Rattle.store_tables.specs.Schema.{archive_schema}
 use Rattle.store_tables.specs.Telling.{tells_no_archive}
-use Rattle.store_tables.proofs.Calls.{if_err, on_ok}
+use Rattle.store_tables.proofs.Calls.{on_ok}
 use Rattle.store_tables.proofs.Failing.{by_store}
 use Rattle.store_tables.proofs.Queries.{still_settled, only_committed}
 
@@ -205,7 +206,7 @@ prepared_then queries more {old} {mid} {new} {result = result} p q = record {
   told = λ clean. on_ok result (λ all. all_both (IsUnderstood old.now.schema) queries more (p.told (still clean))
       (subst (λ s. AllByRecursion (IsUnderstood s) more)
       (schema_is old mid new (p.same (still clean)) p.survives.counts) all)) (q.told clean);
-  refused = λ clean. if_err result (λ kind why. refused_among old new more (queries ++ more)
+  refused = λ clean. IfErr-weaker result _ _ (λ kind why. refused_among old new more (queries ++ more)
       (has_behind queries more) kind
       (refused_before old mid new (p.same (still clean)) p.survives.counts more kind why)) (q.refused clean);
   survives = survives_both old mid new p.survives q.survives;
@@ -261,8 +262,8 @@ pub looks_prepared : {A : Type 0} (queries : List (List ℕ))
 looks_prepared queries plain old new result only p = record {
   read = λ clean. any_read result (λ a rows was. tt);
   same = λ clean. same_read result (λ same rows was. still_settled old new rows same was) (p.same clean);
-  refused = λ clean. if_err result (λ kind why rows was. refused_settled queries plain old new was.schema kind why)
-      (p.refused clean);
+  refused = λ clean. IfErr-weaker result _ _
+      (λ kind why rows was. refused_settled queries plain old new was.schema kind why) (p.refused clean);
   crash = λ clean rows was t leaves. elim (p.survives.crash clean t leaves) [
     | inl before ↦
         only_committed old rows t was (only was.is_open t before)

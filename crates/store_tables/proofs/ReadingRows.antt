@@ -31,6 +31,8 @@ use Rattle.std.specs.Str.{IsAscii, IsUtf8}
 use Rattle.std.proofs.lemmas.Bool.Decides.{nat_tests}
 use Rattle.std.proofs.lemmas.Str.{IsUtf8-from_ascii}
 use Rattle.std.proofs.lemmas.Str.Ascii.{IsAscii-nil, IsAscii-cons}
+use Rattle.std.proofs.lemmas.Bool.{and_parts}
+use Rattle.std.proofs.lemmas.Result.{IfErr-weaker}
 use Rattle.sqlite.specs.Order.{Row}
 use Rattle.sqlite.specs.State.{State, HasCleanDisk, Shown}
 use Rattle.record_text.specs.declared.refusal.RefusalKind.{RefusalKind}
@@ -49,16 +51,12 @@ use Rattle.store_tables.specs.Reading.{
   read_slip_line,
 }
 use Rattle.store_tables.specs.Rows.{Rows}
-use Rattle.store_tables.proofs.Calls.{if_ok, if_err}
+use Rattle.store_tables.proofs.Calls.{if_ok}
 
 -- ---- tags and tokens are UTF-8
-both : (a b : Bool) → (a && b) ≡ true → (a ≡ true) × (b ≡ true)
-both true b h = (refl, h)
-both false b h = absurd cc
-
 ascii_of : (p : ℕ → Bool) → ((b : ℕ) → p b ≡ true → b < 128) → (bs : List ℕ) → list_all p bs ≡ true → IsAscii bs
 ascii_of p low [] h = IsAscii-nil
-ascii_of p low (b ∷ bs) h = let parts = both (p b) (list_all p bs) h in
+ascii_of p low (b ∷ bs) h = let parts = and_parts (p b) (list_all p bs) h in
     IsAscii-cons b bs (low b parts.0) (ascii_of p low bs parts.1)
 
 low_word : (b : ℕ) → is_word b ≡ true → b < 128
@@ -126,7 +124,8 @@ module _ {X Y A : Type 0} (shown : X → Row) (read : X → Y) (IsTyped : X → 
   looks_all reads refuses same crash clean = record {
     read = reads_all reads;
     same = same;
-    refused = λ is_clean. if_err result (λ kind why rows settled. only_fails kind rows settled why) (refuses is_clean);
+    refused = λ is_clean. IfErr-weaker result _ _ (λ kind why rows settled. only_fails kind rows settled why)
+        (refuses is_clean);
     crash = crash;
     clean = clean;
   }
@@ -166,7 +165,8 @@ looks_then {result = result} h k = record {
   read = λ clean. if_ok result
       (λ b is rows was. (h.read (k.clean clean) rows was, is rows (h.same (k.clean clean) rows was))) (k.read clean);
   same = λ clean. if_ok result (λ b is rows was. is rows (h.same (k.clean clean) rows was)) (k.same clean);
-  refused = λ clean. if_err result (λ kind is rows was. is rows (h.same (k.clean clean) rows was)) (k.refused clean);
+  refused = λ clean. IfErr-weaker result _ _ (λ kind is rows was. is rows (h.same (k.clean clean) rows was))
+      (k.refused clean);
   crash = λ clean rows was. k.crash clean rows (h.same (k.clean clean) rows was);
   clean = λ clean. h.clean (k.clean clean);
 }
@@ -184,7 +184,7 @@ pub looks_with : {A B : Type 0} {P : Rows → A → Type 0} {Q : Rows → B → 
 looks_with result h ok err = record {
   read = λ clean. if_ok result (λ b is rows was. is rows (h.read clean rows was)) ok;
   same = λ clean. if_ok result (λ b is. h.same clean) ok;
-  refused = λ clean. if_err result (λ kind is rows was. is rows (h.read clean rows was)) err;
+  refused = λ clean. IfErr-weaker result _ _ (λ kind is rows was. is rows (h.read clean rows was)) err;
   crash = h.crash;
   clean = h.clean;
 }

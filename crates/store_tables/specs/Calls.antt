@@ -35,10 +35,6 @@ pub record Inside (s : State) (rows : Rows) : Type 0 where
 abbrev pub Follows : State → State → (Rows → Rows) → Type 0
 Follows old new f = (rows : Rows) → Inside old rows → Inside new (f rows) × (new.committed ≡ old.committed)
 
--- what a call commits, where it makes this of the rows
-abbrev pub MayBecome : State → (Rows → Rows) → Trees → Type 0
-MayBecome old f t = (rows : Rows) → Settled old rows → Good (f rows) t
-
 -- whatever a crash may leave is good, and holds these rows
 abbrev pub LeavesOnly : State → Rows → Type 0
 LeavesOnly s rows = (t : Trees) → s.may_leave t → Good rows t

@@ -27,6 +27,7 @@ use Rattle.std.proofs.Common.{ap, sym, ◌∙◌, ◌<◌, take, get_or, arith, 
 use Rattle.std.proofs.lemmas.List.{take_more}
 use Rattle.std.proofs.lemmas.List.Folds.{list_any-append}
 use Rattle.std.proofs.lemmas.Bool.Decides.{nat_tests}
+use Rattle.std.proofs.lemmas.Bool.{or_parts}
 use Rattle.stored_lines.specs.Tree.{Tree, Forest, node, none, more, forest_of, flat, flat_all, relabel, relabel_all}
 use Rattle.stored_lines.specs.Levels.{levels, forest_levels, IsLow}
 use Rattle.stored_lines.proofs.Relabel.{relabel_children}
@@ -110,10 +111,6 @@ module _ {A B : Type 0} (f : A → B) where
   levels-kept t a cs us n whole same few =
       omega (arith, ap levels whole, ap (λ vs. forest_levels (forest_of vs)) same, levels-map cs)
 
-neither : (a b : Bool) → (a || b) ≡ false → (a ≡ false) × (b ≡ false)
-neither true b h = absurd cc
-neither false b h = (refl, h)
-
 below_limit : (d n : ℕ) → nat_le n d ≡ false → d < n
 below_limit d n h = grind (arith, nat_tests)
 
@@ -139,7 +136,7 @@ module _ {A : Type 0} where
     shallower : (d n : ℕ) (t : Tree A) → list_any (λ l. nat_le n l.0) (flat d t) ≡ false → d + levels t ≤ n
     shallower d n (node a f) h =
         let parts : (nat_le n d ≡ false) × (list_any (λ (l : ℕ × A). nat_le n l.0) (flat_all (d + 1) f) ≡ false) =
-        neither (nat_le n d) (list_any (λ (l : ℕ × A). nat_le n l.0) (flat_all (d + 1) f)) h in
+        or_parts (nat_le n d) (list_any (λ (l : ℕ × A). nat_le n l.0) (flat_all (d + 1) f)) h in
         let less : d < n = below_limit d n parts.0 in
         omega (arith, shallower_all (d + 1) n f (omega arith) parts.1)
 
@@ -149,7 +146,7 @@ module _ {A : Type 0} where
     shallower_all d n (more t f) less h =
         let parts : (list_any (λ (l : ℕ × A). nat_le n l.0) (flat d t) ≡ false)
         × (list_any (λ (l : ℕ × A). nat_le n l.0) (flat_all d f) ≡ false) =
-        neither (list_any (λ (l : ℕ × A). nat_le n l.0) (flat d t))
+        or_parts (list_any (λ (l : ℕ × A). nat_le n l.0) (flat d t))
         (list_any (λ (l : ℕ × A). nat_le n l.0) (flat_all d f))
         (sym (list_any-append (λ (l : ℕ × A). nat_le n l.0) (flat d t) (flat_all d f)) ∙ h) in
         omega (arith, shallower d n t parts.0, shallower_all d n f less parts.1)

@@ -100,6 +100,3 @@ module _ {A : Type 0} (c : Coded A) where
 
   abbrev pub coded_tree : Coded (Tree A)
   coded_tree = record { code = code_tree c.code; inj = inj_tree }
-
-  abbrev pub coded_forest : Coded (Forest A)
-  coded_forest = record { code = code_forest c.code; inj = inj_forest }

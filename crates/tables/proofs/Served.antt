@@ -20,7 +20,7 @@ use Rattle.std.proofs.Common.{
   ap,
   subst,
 }
-use Rattle.std.proofs.lemmas.List.{flat_map_more}
+use Rattle.std.proofs.lemmas.List.{flat_map_more, append-nil}
 use Rattle.sqlite.specs.Held.{state}
 use Rattle.sqlite.specs.State.{HasCleanDisk}
 use Rattle.sqlite_trees.specs.declared.store.Store.{Ghosts}
@@ -65,15 +65,11 @@ pub answers_sure : (served : List Served) (s : Served) → is_in_doubt s ≡ fal
     ≡ answers served ++ answer_text s
 answers_sure served s sure = answers_more served s ∙ ap (λ (b : Bool). answers served ++ cond b [] (answer_text s)) sure
 
-nothing_more : (xs : List ℕ) → xs ++ [] ≡ xs
-nothing_more [] = refl
-nothing_more (x ∷ xs) = ap (λ (ys : List ℕ). x ∷ ys) (nothing_more xs)
-
 pub answers_doubted : (served : List Served) (s : Served) → is_in_doubt s ≡ true
     → answers (served ++ s ∷ []) ≡ answers served
 answers_doubted served s doubted =
     answers_more served s ∙ ap (λ (b : Bool). answers served ++ cond b [] (answer_text s)) doubted
-    ∙ nothing_more (answers served)
+    ∙ append-nil (answers served)
 
 module _ {S : Type 0} (g : Ghosts S) (old now next : Archive S g) (served : List Served) where
   pub kept_more : (s : Served) → Steps g s now next → is_in_doubt s ≡ false

@@ -79,7 +79,8 @@ OTHER_FIELDS = {
 
 
 def near(verb, *fields):
-    """The command with each of its fields otherwise, and an entry with a mention less and more, and in another order."""
+    """The command with each of its fields otherwise, and an entry with a mention less and more, and in another
+    order."""
     commands = [(verb, *fields[:at], value, *fields[at + 1 :]) for at, value in enumerate(OTHER_FIELDS[verb])]
     if verb == "entry":
         commands += [(verb, *fields[:-2]), (verb, *fields, "", ""), (verb, *fields[:7], *fields[9:], *fields[7:9])]

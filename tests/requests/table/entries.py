@@ -1,8 +1,8 @@
 """Register entries and their links: the order of the checks, keys, roles, mentions and reasons.
 
-`entry`: 58 for the texts, then 50 and 51 of the source, 50, 51 and 58 of the place, then 62 for a role, 60 for an entry that
-is there, and last 63. `link`: 58 for the reason, then 50 and 51 of the entry and of the person, then 61. `unlink`: 50 and 51
-of the entry, then 61.
+`entry`: 58 for the texts, then 50 and 51 of the source, 50, 51 and 58 of the place, then 62 for a role, 60 for an entry
+that is there, and last 63. `link`: 58 for the reason, then 50 and 51 of the entry and of the person, then 61. `unlink`:
+50 and 51 of the entry, then 61.
 """
 
 from __future__ import annotations
@@ -83,7 +83,9 @@ TEXTS = (
             for command in entries_with("\r", *wrong)
         ],
         [refuses(58, "x", *changed(wrong, 5, "\0")) for wrong in (entry(1), entry(6, place=9), WRONG_ROLE, DOUBLED)],
-        refused_each(58, *(("link", *given, text) for given in ((1, 1, 1), (10, 1, 3), (10, 3, 1)) for text in ("", "\r"))),
+        refused_each(
+            58, *(("link", *given, text) for given in ((1, 1, 1), (10, 1, 3), (10, 3, 1)) for text in ("", "\r"))
+        ),
         refused_each(58, entry(6, item=2, mentions=("child\r", "John")), entry(6, item=2, mentions=("child", "a\0b"))),
         next_set(LAST + 1),
         refused_each(58, *entries_with("\0", *entry(6, item=2)), changed(entry(6, item=2), 5, "a\rb")),
@@ -94,7 +96,11 @@ TEXTS = (
         "the longest texts of an entry and of a link",
         source(1, "s", "Ashby register"),
         makes(2, "p", "person", "", ""),
-        makes(3, "a", *entry(1, "BURIAL", "x" * LONGEST, 1, "y" * LONGEST, "", "z" * LONGEST, ("buried", "é" * (LONGEST // 2)))),
+        makes(
+            3,
+            "a",
+            *entry(1, "BURIAL", "x" * LONGEST, 1, "y" * LONGEST, "", "z" * LONGEST, ("buried", "é" * (LONGEST // 2))),
+        ),
         changes("l", "link", 3, 1, 2, "x" * LONGEST),
         refuses(60, "b", *entry(1, "BURIAL", "x" * LONGEST)),
         refuses(58, "c", *entry(1, "BURIAL", "x" * (LONGEST + 1))),
@@ -130,11 +136,15 @@ NUMBERS = (
     scenario(
         "the numbers of a link in the order of their fields, then the mention",
         REGISTER,
-        refused_each(50, ("link", 99, 9, 98, "x"), ("link", 99, 1, 3, "x"), ("link", LAST, 1, 1, "x"), ("link", 11, 1, 1, "x")),
+        refused_each(
+            50, ("link", 99, 9, 98, "x"), ("link", 99, 1, 3, "x"), ("link", LAST, 1, 1, "x"), ("link", 11, 1, 1, "x")
+        ),
         refused_each(51, *(("link", number, 9, 99, "x") for number in (*OTHERS, 6))),
         refused_each(51, *(("link", number, 1, 1, "x") for number in (*OTHERS, 6))),
         refused_each(50, ("link", 10, 1, 99, "x"), ("link", 10, 3, 99, "x"), ("link", 10, LAST, 99, "x")),
-        refused_each(51, *(("link", 10, mention, number, "x") for mention in (1, 3) for number in (*OTHERS[2:], 6, 10))),
+        refused_each(
+            51, *(("link", 10, mention, number, "x") for mention in (1, 3) for number in (*OTHERS[2:], 6, 10))
+        ),
         refused_each(61, *(("link", 10, mention, 1, "x") for mention in (3, 4, 10, 100, 101, LAST))),
         refused_each(50, ("unlink", 99, 9), ("unlink", LAST, 1), ("unlink", 11, 1)),
         refused_each(51, *(("unlink", number, mention) for number in (*OTHERS, 6) for mention in (1, 9))),
@@ -197,7 +207,9 @@ def mentions(count, role="buried"):
 
 
 MENTIONS = (
-    scenario("each role is of one kind of entry or several, or of none", source(1, "s", "Ashby register"), role_steps()),
+    scenario(
+        "each role is of one kind of entry or several, or of none", source(1, "s", "Ashby register"), role_steps()
+    ),
     scenario(
         "one role among others is not of the kind",
         source(1, "s", "Ashby register"),
@@ -237,7 +249,9 @@ MENTIONS = (
         "mentions of one role and of one name, and names that are empty",
         source(1, "s", "Ashby register"),
         makes(2, "a", *entry(1, mentions=("child", "Eva", "child", "Eva", "child", "", "godparent", "Eva"))),
-        shows_entry(2, "BAPTISM", ("f. 3", 1), 1, "", ("child", "Eva"), ("child", "Eva"), ("child", ""), ("godparent", "Eva")),
+        shows_entry(
+            2, "BAPTISM", ("f. 3", 1), 1, "", ("child", "Eva"), ("child", "Eva"), ("child", ""), ("godparent", "Eva")
+        ),
         makes(3, "b", *entry(1, item=2, mentions=("godparent", 'Ann, "the widow"\nof Tom'))),
         shows_entry(3, "BAPTISM", ("f. 3", 1), 2, "", ("godparent", 'Ann, "the widow"\nof Tom')),
     ),
@@ -284,7 +298,10 @@ LONG_PAGES = ("x" * 1_000, "x" * 999 + "y", "é" * 500, "x" * 1_001, "x" * 1_000
 def again(at, page):
     """The entry of a page is made again, at the next number."""
     number = 2 + 2 * len(LONG_PAGES) + at
-    return (makes(number, f"c{at}", *entry(1, page=page)), shows_entry(number, "BAPTISM", (page, 1), 1, "", ("child", "John")))
+    return (
+        makes(number, f"c{at}", *entry(1, page=page)),
+        shows_entry(number, "BAPTISM", (page, 1), 1, "", ("child", "John")),
+    )
 
 
 KEYS = (
@@ -297,7 +314,10 @@ KEYS = (
         makes(12, "a1", *entry(11)),
         makes(13, "a2", *entry(6, "MARRIAGE")),
         makes(14, "a3", *entry(6, "BURIAL")),
-        [makes(number, f"a{number}", *entry(6, item=item)) for number, item in ((15, 2), (16, 10), (17, 11), (18, 999_999))],
+        [
+            makes(number, f"a{number}", *entry(6, item=item))
+            for number, item in ((15, 2), (16, 10), (17, 11), (18, 999_999))
+        ],
         [makes(number, f"a{number}", *entry(6, page=page)) for number, page in enumerate(PAGES, 19)],
         refused_each(60, entry(11), entry(6, "MARRIAGE"), entry(6, "BURIAL")),
         refused_each(60, *(entry(6, item=item) for item in (1, 2, 10, 11, 999_999))),
@@ -318,7 +338,11 @@ KEYS = (
             for at, page in enumerate(LONG_PAGES)
         ],
         refused_each(60, *(entry(1, kind, page=page) for kind in ("BAPTISM", "BURIAL") for page in LONG_PAGES)),
-        [step for at, page in enumerate(LONG_PAGES) for step in (changes(f"d{at}", "remove", 2 + at), *again(at, page))],
+        [
+            step
+            for at, page in enumerate(LONG_PAGES)
+            for step in (changes(f"d{at}", "remove", 2 + at), *again(at, page))
+        ],
         next_is(2 + 3 * len(LONG_PAGES)),
     ),
     scenario(

@@ -1,7 +1,8 @@
-"""Rows of register entries and of their links, read as commands: their bytes with the digests, and rows that are refused.
+"""Rows of register entries and of their links, read as commands: their bytes with the digests, and rows that are
+refused.
 
-The order for a row is that of reading.py. An entry has six fields behind its source, and a role and a name for each of 1 to
-100 mentions; another count is told before any field is looked at.
+The order for a row is that of reading.py. An entry has six fields behind its source, and a role and a name for each of
+1 to 100 mentions; another count is told before any field is looked at.
 """
 
 from __future__ import annotations

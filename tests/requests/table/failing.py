@@ -1,8 +1,8 @@
 """Requests over a view of which a look fails.
 
-A request looks for its receipt, at what its numbers name, at the places above a place that has no name, for an entry of the
-same key, for what names the record to remove, and at the next number; it stops at the look that fails, or at the check that
-refuses it.
+A request looks for its receipt, at what its numbers name, at the places above a place that has no name, for an entry of
+the same key, for what names the record to remove, and at the next number; it stops at the look that fails, or at the
+check that refuses it.
 """
 
 from __future__ import annotations
@@ -71,9 +71,9 @@ def among(count: int) -> Scenario:
     )
 
 
-# A merge looks for its receipt, at both persons, for what names the one that is gone and at each of that, and at the next number; then
-# for what names it again, and at each number that it changes, at the one that stays with the other. An undoing looks for its receipt, for
-# its slip, at each number of it, and at the next number.
+# A merge looks for its receipt, at both persons, for what names the one that is gone and at each of that, and at the
+# next number; then for what names it again, and at each number that it changes, at the one that stays with the other.
+# An undoing looks for its receipt, for its slip, at each number of it, and at the next number.
 MERGES = scenario(
     "a merge and an undoing are refused as their look",
     [makes(number, f"p{number}", "person", name, "") for number, name in ((1, "a"), (2, "b"), (3, "c"))],

@@ -188,8 +188,8 @@ def shows_entry(
     *mentions: tuple[str | int, ...],
     when: tuple[str, int | str] | None = None,
 ) -> Step:
-    """The stored lines of a register entry: its page and source, its date and place, and the role, name, person and reason
-    of each mention."""
+    """The stored lines of a register entry: its page and source, its date and place, and the role, name, person and
+    reason of each mention."""
     # of a page of more than 1,000 bytes the key has the item alone
     key = f"{item} {page[0]}" if len(page[0].encode()) <= 1_000 else f"{item}"
     lines = [(0, "entry", kind, "-"), (1, "key", key, page[1]), (1, "page", page[0], "-"), (1, "item", item, "-")]

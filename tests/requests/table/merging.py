@@ -1,7 +1,7 @@
 """Persons merged, and merges undone.
 
-`merge`: 50 and 51 of the person that stays, then of the one that is gone, then 54, 55, and last 63. `undo`: 50 where no slip
-has the number, or 51 where a record has it, then 57, and last 56. A slip draws a number and is no record.
+`merge`: 50 and 51 of the person that stays, then of the one that is gone, then 54, 55, and last 63. `undo`: 50 where no
+slip has the number, or 51 where a record has it, then 57, and last 56. A slip draws a number and is no record.
 """
 
 from __future__ import annotations
@@ -42,7 +42,9 @@ def family(number, partners=(), children=()):
 
 def event(number, owner, tag, *participants):
     """The stored lines of an event without value, date and place; a participant is a role and a number."""
-    return shows(number, (0, "event", "-", owner), (1, tag, "", "-"), *((1, "participant", *one) for one in participants))
+    return shows(
+        number, (0, "event", "-", owner), (1, tag, "", "-"), *((1, "participant", *one) for one in participants)
+    )
 
 
 PERSONS = [makes(1, "p1", "person", "a", ""), makes(2, "p2", "person", "b", ""), makes(3, "p3", "person", "c", "")]
@@ -86,9 +88,22 @@ SLIPS = (
         "a slip is no record",
         PERSONS,
         makes(4, "m", "merge", 1, 2),
-        refused_each(50, ("remove", 4), ("name", 4, "x"), ("sex", 4, "M"), ("family", 4, ""), ("child", 4, 4), ("merge", 4, 1)),
-        refused_each(50, ("merge", 1, 4), ("event", 4, "BIRT", "", "", ""), ("citation", 4, 4, "", ""), ("link", 4, 1, 1, "x")),
-        refused_each(50, ("remove", 2), ("name", 2, "x"), ("merge", 1, 2), ("merge", 2, 1), ("undo", 2), ("undo", 5), ("undo", LAST)),
+        refused_each(
+            50, ("remove", 4), ("name", 4, "x"), ("sex", 4, "M"), ("family", 4, ""), ("child", 4, 4), ("merge", 4, 1)
+        ),
+        refused_each(
+            50, ("merge", 1, 4), ("event", 4, "BIRT", "", "", ""), ("citation", 4, 4, "", ""), ("link", 4, 1, 1, "x")
+        ),
+        refused_each(
+            50,
+            ("remove", 2),
+            ("name", 2, "x"),
+            ("merge", 1, 2),
+            ("merge", 2, 1),
+            ("undo", 2),
+            ("undo", 5),
+            ("undo", LAST),
+        ),
         refused_each(51, ("undo", 1), ("undo", 3)),
         next_is(5),
         makes(5, "n", "person", "d", ""),
@@ -101,7 +116,9 @@ SLIPS = (
     scenario(
         "what is looked at first in a merge and in its undoing",
         FAMILY,
-        refused_each(50, ("merge", 99, 99), ("merge", 99, 3), ("merge", 99, 1), ("merge", 1, 99), ("merge", LAST, LAST)),
+        refused_each(
+            50, ("merge", 99, 99), ("merge", 99, 3), ("merge", 99, 1), ("merge", 1, 99), ("merge", LAST, LAST)
+        ),
         refused_each(51, ("merge", 3, 99), ("merge", 4, 4), ("merge", 3, 1), ("merge", 1, 3), ("merge", 1, 4)),
         refused_each(54, ("merge", 1, 1), ("merge", 2, 2)),
         changes("c", "child", 3, 2),
@@ -202,10 +219,15 @@ def sexes():
 
 
 MERGED = (
-    scenario("the sex of the one that is gone fills an empty one, and else is carried, also where it is the same", sexes()),
+    scenario(
+        "the sex of the one that is gone fills an empty one, and else is carried, also where it is the same", sexes()
+    ),
     scenario(
         "sexes that are carried come one behind the other",
-        [makes(n, f"p{n}", "person", name, sex) for n, name, sex in ((1, "a", "M"), (2, "b", "F"), (3, "c", "U"), (4, "d", "M"))],
+        [
+            makes(n, f"p{n}", "person", name, sex)
+            for n, name, sex in ((1, "a", "M"), (2, "b", "F"), (3, "c", "U"), (4, "d", "M"))
+        ],
         makes(5, "m1", "merge", 3, 4),
         person(3, "c", "d", sex="U", carried=("M",)),
         makes(6, "m2", "merge", 1, 2),

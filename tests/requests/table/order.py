@@ -345,7 +345,9 @@ AT_PLACES = (
 )
 
 # Names of places that are not normal, or empty.
-NO_PLACES = ("", " ", ",", ",,", " Kent", "Kent ", "Ashby,Kent", "Ashby , Kent", "Ashby,  Kent", "Ashby, Kent ", ", Kent,")
+NO_PLACES = (
+    "", " ", ",", ",,", " Kent", "Kent ", "Ashby,Kent", "Ashby , Kent", "Ashby,  Kent", "Ashby, Kent ", ", Kent,"
+)
 
 
 def parts(count):

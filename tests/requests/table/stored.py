@@ -59,12 +59,14 @@ def lines(*values: str) -> str:
 
 
 def with_made(statements: str, request: tuple[str | int, ...], *told: str | int):
-    """What is told of a request after statements put what no request makes: of it, of it again, of the state and the society."""
+    """What is told of a request after statements put what no request makes: of it, of it again, of the state and the
+    society."""
     return row("! spoil", statements, "z1", *request).encode(), row("spoil", *told).encode()
 
 
-# What stands at number 6, where source 5 is the last record: an entry of source 5 that is linked to person 2 for no reason, the
-# same with a word that is no role, another record that points to itself, one that points to source 5, and slips.
+# What stands at number 6, where source 5 is the last record: an entry of source 5 that is linked to person 2 for no
+# reason, the same with a word that is no role, another record that points to itself, one that points to source 5, and
+# slips.
 ENTRY = "INSERT INTO record VALUES (6, 'entry', 0); UPDATE meta SET next = 7" + lines(
     "6, 0, 0, 'entry', 'BURIAL', NULL",
     "6, 1, 1, 'key', '1 f. 3', 5",
@@ -289,7 +291,8 @@ SCENARIOS = OTHERS + (
         SAME,
         next_is(8),
         ask(
-            "! run,r10|source|Ashby register||||,r11|entry|8|BURIAL|f. 3|1||||buried|Ann,r12|entry|8|BURIAL|f. 3|1||||buried|Eva,"
+            "! run,r10|source|Ashby register||||,r11|entry|8|BURIAL|f. 3|1||||buried|Ann,"
+            "r12|entry|8|BURIAL|f. 3|1||||buried|Eva,"
             "r13|link|9|1|2|same age,r14|remove|9,r12|entry|8|BURIAL|f. 3|1||||buried|Eva,r15|link|10|2|2|same age,"
             "r16|unlink|10|1,r17|unlink|9|1",
             "r10,ok,8,1",

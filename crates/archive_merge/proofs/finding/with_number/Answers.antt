@@ -20,9 +20,10 @@ use Rattle.std.proofs.Common.{
   subst,
   arith,
 }
+use Rattle.std.proofs.lemmas.List.{append-nil}
 use Rattle.archive_merge.specs.Merges as specs
 use Rattle.archive_merge.specs.Rest.{rest_of}
-use Rattle.archive_merge.proofs.Numbering.{more_in, more_less, more_same, more_above, joined, at_end, nothing_left}
+use Rattle.archive_merge.proofs.Numbering.{more_in, more_less, more_same, more_above, joined, at_end}
 use Rattle.archive_merge.proofs.finding.with_number.Goals as goal
 use Rattle.archive_merge.proofs.finding.with_number.Goals.{
   then-not-is_in+then-number-n+then-number-n-2+in_ok-push,
@@ -98,5 +99,5 @@ returns c =
       | else-not-is_in-2 w ↦
           let out : whole ≡ f ++ rest_of true n [] = subst (λ (b : Bool). whole ≡ f ++ rest_of b n [])
           w.if-not-is_in-2.false was in
-          ap (λ v. v.items) w.found-is ∙ sym (out ∙ nothing_left f)
+          ap (λ v. v.items) w.found-is ∙ sym (out ∙ append-nil f)
     ]

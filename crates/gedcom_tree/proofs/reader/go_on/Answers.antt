@@ -1,10 +1,11 @@
 use Rattle.std.proofs.Common.{ℕ, List, [], ◌∷◌, ◌++◌, ◌<◌, length, ap, ◌∙◌, subst}
+use Rattle.std.proofs.lemmas.Result.{IfErr-weaker}
 use Rattle.gedcom_rules.specs.Pieces.{pieces, from_start}
 use Rattle.gedcom_rules.specs.Faults.{max_line}
 use Rattle.gedcom_rules.specs.Views.{fault_view}
 use Rattle.gedcom_rules.proofs.Walks.{or_err}
 use Rattle.gedcom_tree.specs.Lines.{Leads, Refuses}
-use Rattle.gedcom_tree.proofs.Results.{on_ok, err_then}
+use Rattle.gedcom_tree.proofs.Results.{on_ok}
 use Rattle.gedcom_tree.proofs.Behind.{leads_on, refuses_first, refuses_last, refuses_long, blames_open}
 use Rattle.gedcom_tree.proofs.reader.go_on.Goals as goal
 
@@ -42,7 +43,7 @@ returns-in-Ok-add_all-clause-fault c =
     c.in-Ok-add_all.ensures.led in
     let left = ap (λ (t : List ℕ). t ++ c.in-Ok-add_all.behind.now) c.clear.ensures.items
     ∙ c.in-Ok-add_all.ensures.open_ in
-    err_then c.hold-in-Ok-add_all.result
+    IfErr-weaker c.hold-in-Ok-add_all.result _ _
     (λ f. or_err (λ h next. blames_open c.args.lines.now c.add_all.new.self (x ∷ ps) (pieces c.args.bytes.now).open_
     (fault_view f) next all (h.0, subst (λ (t : List ℕ). max_line < length t) left h.1)))
     c.hold-in-Ok-add_all.ensures.fault

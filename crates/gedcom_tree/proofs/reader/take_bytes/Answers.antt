@@ -1,11 +1,12 @@
 use Rattle.std.proofs.Common.{ℕ, List, ◌++◌, ◌<◌, length, sym, ◌∙◌, subst}
+use Rattle.std.proofs.lemmas.Result.{IfErr-weaker}
 use Rattle.gedcom_rules.specs.Pieces.{pieces, from_start}
 use Rattle.gedcom_rules.specs.Faults.{max_line}
 use Rattle.gedcom_rules.specs.Views.{fault_view}
 use Rattle.gedcom_rules.proofs.Walks.{or_err}
 use Rattle.gedcom_rules.proofs.Resumed.{piece-append, start_piece, piece_open, resumed_first}
 use Rattle.gedcom_tree.specs.Lines.{Leads}
-use Rattle.gedcom_tree.proofs.Results.{on_ok, ok_then, err_then}
+use Rattle.gedcom_tree.proofs.Results.{on_ok, ok_then}
 use Rattle.gedcom_tree.proofs.Behind.{leads_none, blames_open}
 use Rattle.gedcom_tree.proofs.reader.take_bytes.Goals as goal
 
@@ -38,7 +39,7 @@ returns-in-None-clause-fault c =
     (piece-append c.args.rest.now.items c.args.bytes.now c.requires.piece c.in-None.ensures.piece)) in
     let none = subst (Leads c.args.lines.now c.args.lines.now) (sym o.0)
     (leads_none c.args.lines.now c.requires.sound) in
-    err_then c.hold.result
+    IfErr-weaker c.hold.result _ _
     (λ f. or_err (λ h next. blames_open c.args.lines.now c.args.lines.now (pieces x).ended (pieces x).open_
     (fault_view f) next none (h.0, subst (λ (t : List ℕ). max_line < length t) (sym o.1) h.1))) c.hold.ensures.fault
 

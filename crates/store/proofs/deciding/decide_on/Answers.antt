@@ -1,7 +1,8 @@
 use Rattle.std.proofs.Common.{refl}
+use Rattle.std.proofs.lemmas.Result.{IfErr-weaker}
 use Rattle.sqlite.specs.Held.{state}
 use Rattle.store_tables.proofs.Queries.{only_committed}
-use Rattle.store.proofs.Viewed.{if_done, if_there, kept_of, none_is_bad, shown_of}
+use Rattle.store.proofs.Viewed.{if_done, kept_of, none_is_bad, shown_of}
 use Rattle.store.proofs.deciding.decide_on.Goals as goal
 
 pub returns-then-archive-clause-crash : goal.returns-then-archive-clause-crash
@@ -49,7 +50,7 @@ returns-clause-readable g c clean rows content was means shallow =
     let shown = shown_of old archive.is_lost kept was
     (λ t l. only_committed old rows t was (g.met.S.Store.settled archive.conn.store t was.is_open l)) in
     let still = ((c.decide-decided.ensures.decides clean).1 kept shown).0 in
-    if_there c.decide-decided.result (λ e counted. none_is_bad 0 c.decide-decided.new.view.failures e refl
+    IfErr-weaker c.decide-decided.result _ _ (λ e counted. none_is_bad 0 c.decide-decided.new.view.failures e refl
     (still.none c.if-archive.false) counted.0) c.decide-decided.ensures.counts.1
 
 pub returns-clause-same : goal.returns-clause-same

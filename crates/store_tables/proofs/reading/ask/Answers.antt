@@ -1,10 +1,11 @@
 use Rattle.std.proofs.Common.{inl, inr}
+use Rattle.std.proofs.lemmas.Result.{IfErr-weaker}
 use Rattle.sqlite.specs.Held.{state}
 use Rattle.sqlite.specs.Values.{bound}
 use Rattle.sqlite.proofs.Callers.{never_commits}
 use Rattle.store_tables.proofs.Queries.{unchanged_by, still_settled, plain_under, only_committed}
 use Rattle.store_tables.proofs.Failing.{fails_known}
-use Rattle.store_tables.proofs.Calls.{if_ok, if_err}
+use Rattle.store_tables.proofs.Calls.{if_ok}
 use Rattle.store_tables.proofs.reading.ask.Goals as goal
 
 pub returns-clause-same : goal.returns-clause-same
@@ -20,7 +21,8 @@ pub returns-clause-known : goal.returns-clause-known
 returns-clause-known g c clean =
     let old = state g.S.Store c.args.conn.now in
     let new = state g.S.Store c.query_all.new.self in
-    if_err c.query_all.result (λ e fails rows was. fails_known c.args.sql.now c.requires.plain old new was.schema
+    IfErr-weaker c.query_all.result _ _
+    (λ e fails rows was. fails_known c.args.sql.now c.requires.plain old new was.schema
     (bound c.args.params.now) e fails) (c.query_all.ensures.err clean)
 
 pub returns-clause-crash : goal.returns-clause-crash

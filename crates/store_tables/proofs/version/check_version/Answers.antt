@@ -1,5 +1,6 @@
 use Rattle.std.proofs.Common.{◌≡◌, inl, inr, List, [], ◌∷◌, Result, Ok, Err, IfOk, sym, subst, ◌∙◌}
 use Rattle.std.proofs.lemmas.Bool.{cases_Bool}
+use Rattle.std.proofs.lemmas.Result.{IfErr-weaker}
 use Rattle.sqlite.specs.State.{State, Shown}
 use Rattle.record_text.specs.declared.refusal.RefusalKind.{RefusalKind}
 use Rattle.record_text.specs.declared.refusal.RefusalKind.TheVariants.{OutOfMemory, NewerSchema, NotAnArchive}
@@ -8,7 +9,7 @@ use Rattle.sqlite.specs.Held.{state}
 use Rattle.sqlite.specs.Order.{Row}
 use Rattle.store_tables.specs.Looking.{Looks, meta_query, IsRefusedRows, IsRefusedStore}
 use Rattle.store_tables.specs.Shown.{shown_meta}
-use Rattle.store_tables.proofs.Calls.{if_err, on_ok}
+use Rattle.store_tables.proofs.Calls.{on_ok}
 use Rattle.store_tables.proofs.Queries.{reads_meta}
 use Rattle.store_tables.proofs.ReadingRows.{looks_with}
 use Rattle.store_tables.proofs.Texts.{select_meta_plain}
@@ -34,7 +35,7 @@ returns-in-Ok-clause-looks g c =
       clean = did.clean;
     } in
     looks_with c.version_of.result looked (any_ok c.version_of.result (λ _ _ _. tt))
-    (if_err c.version_of.result (λ kind is rows was. inl (is rows (c.deref.ensures.value ∙ was)))
+    (IfErr-weaker c.version_of.result _ _ (λ kind is rows was. inl (is rows (c.deref.ensures.value ∙ was)))
     c.version_of.ensures.known)
 
 pub returns-in-Ok-clause-version : goal.returns-in-Ok-clause-version
@@ -45,8 +46,7 @@ returns-in-Ok-clause-version g c clean =
 
 pub returns-in-Ok-clause-newer : goal.returns-in-Ok-clause-newer
 returns-in-Ok-clause-newer g c clean =
-    if_err c.version_of.result
-    (λ kind later is. let v = later is in
+    IfErr-weaker c.version_of.result _ _ (λ kind later is. let v = later is in
     (v.0, v.1, (c.in-Ok.rows.items, c.in-Ok.ensures.shown clean, (v.2.0, sym c.deref.ensures.value ∙ v.2.1))))
     c.version_of.ensures.newer
 
@@ -62,7 +62,8 @@ pub returns-in-Ok-clause-told : goal.returns-in-Ok-clause-told
 returns-in-Ok-clause-told g c clean =
     let old = state g.S.Store c.args.conn.now in
     let new = state g.S.Store c.ask.new.conn in
-    if_err c.version_of.result (λ kind why. refused_rows old new c.in-Ok.rows.items kind (c.in-Ok.ensures.shown clean)
+    IfErr-weaker c.version_of.result _ _ (λ kind why. refused_rows old new c.in-Ok.rows.items kind
+    (c.in-Ok.ensures.shown clean)
     (subst (λ rows. IsRefusedRows rows kind) c.deref.ensures.value why)) c.version_of.ensures.told
 
 pub returns-in-Err-clause-told : goal.returns-in-Err-clause-told

@@ -3,7 +3,7 @@ use Rattle.sqlite.specs.Held.{state}
 use Rattle.sqlite.specs.State.{HasCleanDisk}
 use Rattle.archive_state.specs.Content.{nothing}
 use Rattle.store_tables.specs.Calls.{SettledBlank}
-use Rattle.store_tables.proofs.Calls.{if_err}
+use Rattle.std.proofs.lemmas.Result.{IfErr-weaker}
 use Rattle.store.specs.Archives.{HasArchive, LeavesArchive}
 use Rattle.store.specs.Creating.{IsSociety, RefusesToMake}
 use Rattle.store.proofs.archive.Archive.create.Goals as goal
@@ -19,7 +19,7 @@ returns-in-Some-clause-created g c =
 pub returns-in-Some-clause-refused : goal.returns-in-Some-clause-refused
 returns-in-Some-clause-refused g c =
     let named = c.in-Some.ensures in
-    if_err c.create_named.result (λ e refused. inr (
+    IfErr-weaker c.create_named.result _ _ (λ e refused. inr (
       subst (λ (society : List ℕ). IsSociety society) named.0 named.1,
       subst (λ (society : List ℕ). RefusesToMake society (state g.S.Store c.args.conn) (state g.S.Store e.1) e.0)
           named.0 refused,
