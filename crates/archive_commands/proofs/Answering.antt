@@ -51,7 +51,8 @@ module _ {D : Type 0} {g : disk.Ghosts D} (image : Image) (old new : Archive (Fi
   all_answered (Err kind) input written told a b x y all = tt
 
   pub part_answered : {A W F : Type 0} (r : Result A RefusalKind) (input : Option (List ℕ))
-      (written : W → Option (List ℕ)) (told : F → Option (List ℕ)) (a b : W) (x y : F) (ReaderFailed WriterFailed : Type 0)
+      (written : W → Option (List ℕ)) (told : F → Option (List ℕ)) (a b : W) (x y : F)
+      (ReaderFailed WriterFailed : Type 0)
       → IfErr r (λ kind. EndedInTurn over_files written told kind input
       (record { archive = old; output = a; faults = x }) (record { archive = new; output = b; faults = y }))
       → (r ≡ Err ReadFailed → ReaderFailed) → (r ≡ Err WriteFailed → WriterFailed)

@@ -120,8 +120,8 @@ module _ {D : Type 0} {g : disk.Ghosts D} where
   IsWanting kind old new left = (kind ≡ OutOfMemory) × (left ≡ None) × Keeps old new
 
   -- 0 where all rows of the input were served on the archive that the file held, and answered, and of those that are
-  -- refused alone something is told. 1 where no archive was taken up, and nothing is written, or where there is a reason
-  -- why not all rows were served
+  -- refused alone something is told. 1 where no archive was taken up, and nothing is written, or where there is a
+  -- reason why not all rows were served
   pub record ApplyEnds (image : Image) (status : ℕ) (input old new quiet told : Option (List ℕ))
       (ReaderFailed WriterFailed : Type 0) (left : Option (Held (FileStore D g))) : Type 0 where
     pub bound : status ≤ 1

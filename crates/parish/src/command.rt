@@ -53,8 +53,9 @@ const WRITE_FAILED: TreeFault = TreeFault {
 /// archive's file where one was opened. Who calls closes it.
 ///
 /// Results go to `output`, a refusal goes to `faults` as one line, and so does what is wrong with a row of `apply` that
-/// is refused. Where `faults` fails too, the status tells alone. Where the words are refused nothing is read, and nothing written elsewhere.
-/// Words that are taken are never refused: what they name is done, with 0, or 1 and a reason.
+/// is refused. Where `faults` fails too, the status tells alone. Where the words are refused nothing is read, and
+/// nothing written elsewhere. Words that are taken are never refused: what they name is done, with 0, or 1 and a
+/// reason.
 pub fn command<S: Start, R: Read + Device, W: Write + Device, F: Write + Device>(
     rt: &HostRuntime,
     words: &[String],

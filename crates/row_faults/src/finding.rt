@@ -15,13 +15,26 @@ pub(crate) struct Place {
 #[derive(Clone, Copy, Debug, PartialEq, Eq)]
 pub(crate) enum Finding {
     /// No field alone is to blame.
-    Row { what: &'static str },
+    Row {
+        what: &'static str,
+    },
     /// This field is.
-    Field { at: Place, what: &'static str },
+    Field {
+        at: Place,
+        what: &'static str,
+    },
     /// One of these two is, and the row does not tell which (`or`), or both are together (`and`).
-    Fields { first: Place, word: &'static str, second: Place, what: &'static str },
+    Fields {
+        first: Place,
+        word: &'static str,
+        second: Place,
+        what: &'static str,
+    },
     /// The count of the fields behind the verb.
-    Count { verb: Verb, has: usize },
+    Count {
+        verb: Verb,
+        has: usize,
+    },
 }
 
 impl Finding {

@@ -2,8 +2,7 @@
 
 use crate::finding::Finding;
 use crate::forms::{
-    bad_number, bad_row, bad_text, bad_token, field, field_count, fields, not_of_kind,
-    unknown_verb,
+    bad_number, bad_row, bad_text, bad_token, field, field_count, fields, not_of_kind, unknown_verb,
 };
 use csv::ByteRecord;
 use record_text::RefusalKind;
@@ -29,7 +28,12 @@ fn of_request(kind: RefusalKind, row: &ByteRecord) -> Finding {
         RefusalKind::TokenReused => field(row, 0, "another request was done under it"),
         RefusalKind::StillNamed => field(row, 2, "another record names this one"),
         RefusalKind::SamePerson => fields(row, 2, 3, "both are one person"),
-        RefusalKind::MergeWithinFamily => fields(row, 2, 3, "both are in one family, and not both its children"),
+        RefusalKind::MergeWithinFamily => fields(
+            row,
+            2,
+            3,
+            "both are in one family, and not both its children",
+        ),
         RefusalKind::ChangedSince => field(
             row,
             2,

@@ -64,7 +64,7 @@ module _ {S W F : Type 0} (g : Ghosts S) (written : W → Option (List ℕ)) (to
   all_more n k [] s a m b e all one = (
     b,
     subst (λ (x : Moment g W F). Serves g written told n s x b) all
-    (subst (λ (x : ℕ). Serves g written told x s m b) (omega (arith, e)) one),
+        (subst (λ (x : ℕ). Serves g written told x s m b) (omega (arith, e)) one),
     refl,
   )
   all_more n k (x ∷ xs) s a m b e all one = (

@@ -117,17 +117,19 @@ EndedWith g kind known before after old new P = (part : Ended g kind known befor
 pub at_start : {S : Type 0} (g : Ghosts S) (known out : Option (List ℕ)) (archive : Archive S g)
     (P : List Served → Type 0) → PerformsAll g archive [] archive → P []
     → OnTheWayWith g known known st.StartRecord out out archive archive P
-at_start g known out archive P none p =
-    (record {
-      rows = [];
-      served = [];
-      took = took_none known;
-      each = tt;
-      certain = refl;
-      kept = λ was. was;
-      performed = none;
-      written = Appends-nil out;
-    }, p)
+at_start g known out archive P none p = (
+  record {
+    rows = [];
+    served = [];
+    took = took_none known;
+    each = tt;
+    certain = refl;
+    kept = λ was. was;
+    performed = none;
+    written = Appends-nil out;
+  },
+  p,
+)
 
 module _ {S : Type 0} (g : Ghosts S) (known left : Option (List ℕ)) (at : State) (before after : Option (List ℕ))
     (old now : Archive S g) (w : OnTheWay g known left at before after old now) where
@@ -136,30 +138,36 @@ module _ {S : Type 0} (g : Ghosts S) (known left : Option (List ℕ)) (at : Stat
       → Took known (w.rows ++ row ∷ []) to rest → IsServed row s → Steps g s now next → is_in_doubt s ≡ false
       → Appends after out (answer_text s) → (P : List Served → Type 0) → P (w.served ++ s ∷ [])
       → OnTheWayWith g known rest to before out old next P
-  one_more row next rest out s to took is steps sure wrote P p = (record {
-    rows = w.rows ++ row ∷ [];
-    served = w.served ++ s ∷ [];
-    took = took;
-    each = served_more w.rows w.served row s w.each is;
-    certain = certain_more w.served s w.certain sure;
-    kept = kept_more g old now next w.served s steps sure w.kept;
-    performed = performed_more g old now next w.served s w.certain w.kept w.performed steps;
-    written = subst (Appends before out) (sym (answers_sure w.served s sure))
-        (Appends-trans before after out _ _ w.written wrote);
-  }, p)
+  one_more row next rest out s to took is steps sure wrote P p = (
+    record {
+      rows = w.rows ++ row ∷ [];
+      served = w.served ++ s ∷ [];
+      took = took;
+      each = served_more w.rows w.served row s w.each is;
+      certain = certain_more w.served s w.certain sure;
+      kept = kept_more g old now next w.served s steps sure w.kept;
+      performed = performed_more g old now next w.served s w.certain w.kept w.performed steps;
+      written = subst (Appends before out) (sym (answers_sure w.served s sure))
+          (Appends-trans before after out _ _ w.written wrote);
+    },
+    p,
+  )
 
   pub all_applied : (P : List Served → Type 0) → P w.served → AreRows known w.rows
       → AppliedWith g known before after old now P
-  all_applied P p all = (record {
-    rows = w.rows;
-    served = w.served;
-    all = all;
-    each = w.each;
-    certain = w.certain;
-    kept = w.kept;
-    performed = w.performed;
-    written = w.written;
-  }, p)
+  all_applied P p all = (
+    record {
+      rows = w.rows;
+      served = w.served;
+      all = all;
+      each = w.each;
+      certain = w.certain;
+      kept = w.kept;
+      performed = w.performed;
+      written = w.written;
+    },
+    p,
+  )
 
   ends_unread : (kind : RefusalKind) → (kind ≡ OutOfMemory) ⊎ (kind ≡ ReadFailed) → Ends kind w.served before after
   ends_unread kind (inl e) = inr (w.certain, inr (inl e, all_written before after _ w.written))
@@ -173,15 +181,18 @@ module _ {S : Type 0} (g : Ghosts S) (known left : Option (List ℕ)) (at : Stat
   -- no row more was read
   pub ended_unread : (P : List Served → Type 0) → P w.served → (kind : RefusalKind)
       → (kind ≡ OutOfMemory) ⊎ (kind ≡ ReadFailed) → EndedWith g kind known before after old now P
-  ended_unread P p kind why = (record {
-    rows = w.rows;
-    served = w.served;
-    first = took_first known left w.rows at w.took;
-    each = w.each;
-    performed = w.performed;
-    lost = lost_unread kind why;
-    written = ends_unread kind why;
-  }, p)
+  ended_unread P p kind why = (
+    record {
+      rows = w.rows;
+      served = w.served;
+      first = took_first known left w.rows at w.took;
+      each = w.each;
+      performed = w.performed;
+      lost = lost_unread kind why;
+      written = ends_unread kind why;
+    },
+    p,
+  )
 
   -- nothing was done of the row that was read
   pub ended_same : (P : List Served → Type 0) → P w.served → (kind : RefusalKind) (next : Archive S g)
@@ -225,18 +236,22 @@ module _ {S : Type 0} (g : Ghosts S) (known left : Option (List ℕ)) (at : Stat
 
   -- a row more, which was not answered whole
   pub ended_row : (P : List Served → Type 0) (kind : RefusalKind) (row : Row) (next : Archive S g)
-      (rest out : Option (List ℕ)) (s : Served) (to : State) → P (w.served ++ s ∷ []) → Took known (w.rows ++ row ∷ []) to rest → IsServed row s → Steps g s now next
+      (rest out : Option (List ℕ)) (s : Served) (to : State) → P (w.served ++ s ∷ [])
+      → Took known (w.rows ++ row ∷ []) to rest → IsServed row s → Steps g s now next
       → MatchBool (is_in_doubt s) ((kind ≡ Storage) × (out ≡ after)) (WritesPart kind after out (answer_text s))
       → EndedWith g kind known before out old next P
-  ended_row P kind row next rest out s to p took is steps h = (record {
-    rows = w.rows ++ row ∷ [];
-    served = w.served ++ s ∷ [];
-    first = took_first known rest (w.rows ++ row ∷ []) to took;
-    each = served_more w.rows w.served row s w.each is;
-    performed = performed_more g old now next w.served s w.certain w.kept w.performed steps;
-    lost = lost_row kind next out s steps h;
-    written = ends_row kind s out h;
-  }, p)
+  ended_row P kind row next rest out s to p took is steps h = (
+    record {
+      rows = w.rows ++ row ∷ [];
+      served = w.served ++ s ∷ [];
+      first = took_first known rest (w.rows ++ row ∷ []) to took;
+      each = served_more w.rows w.served row s w.each is;
+      performed = performed_more g old now next w.served s w.certain w.kept w.performed steps;
+      lost = lost_row kind next out s steps h;
+      written = ends_row kind s out h;
+    },
+    p,
+  )
 
 -- ---- a reader that did not count its error
 blameless_ends : (served : List Served) (before after : Option (List ℕ)) (kind : RefusalKind) → kind ≡ ReadFailed
@@ -254,13 +269,15 @@ pub told_so : {S : Type 0} (g : Ghosts S) (kind told : RefusalKind) (known befor
 told_so g kind told known before after old new P (inl h) e =
     subst (λ (k : RefusalKind). EndedWith g k known before after old new P) (sym h.0) e
 told_so g kind told known before after old new P (inr h) e =
-    subst (λ (k : RefusalKind). EndedWith g k known before after old new P) (sym h.1)
-    (record {
-      rows = e.0.rows;
-      served = e.0.served;
-      first = e.0.first;
-      each = e.0.each;
-      performed = e.0.performed;
-      lost = λ was. e.0.lost was ∙ ap is_storage h.0;
-      written = blameless_ends e.0.served before after kind h.0 e.0.written;
-    }, e.1)
+    subst (λ (k : RefusalKind). EndedWith g k known before after old new P) (sym h.1) (
+      record {
+        rows = e.0.rows;
+        served = e.0.served;
+        first = e.0.first;
+        each = e.0.each;
+        performed = e.0.performed;
+        lost = λ was. e.0.lost was ∙ ap is_storage h.0;
+        written = blameless_ends e.0.served before after kind h.0 e.0.written;
+      },
+      e.1,
+    )

@@ -48,7 +48,8 @@ pub fn apply<S: Alter, R: Read + Device, W: Write + Device, F: Write + Device>(
     ensures applied { OnOk result (AppliedInTurn S.Store W.contents F.contents (row_bytes (R.remaining input.old))
         (record { archive = archive.old; output = output.old; faults = faults.old })
         (record { archive = archive.new; output = output.new; faults = faults.new })) }
-    ensures ended { IfErr result (λ kind. EndedInTurn S.Store W.contents F.contents kind (row_bytes (R.remaining input.old))
+    ensures ended { IfErr result (λ kind. EndedInTurn S.Store W.contents F.contents kind
+        (row_bytes (R.remaining input.old))
         (record { archive = archive.old; output = output.old; faults = faults.old })
         (record { archive = archive.new; output = output.new; faults = faults.new })) }
     ensures read_failed { result ≡ Err refusal.ReadFailed → Rose (R.failed input.old) (R.failed input.new) }
@@ -115,7 +116,8 @@ fn apply_rows<S: Alter, R: Read, W: Write + Device, F: Write + Device>(
     ensures applied { OnOk result (AppliedInTurn S.Store W.contents F.contents (source_of R.remaining rows.old)
         (record { archive = archive.old; output = output.old; faults = faults.old })
         (record { archive = archive.new; output = output.new; faults = faults.new })) }
-    ensures ended { IfErr result (λ kind. EndedInTurn S.Store W.contents F.contents kind (source_of R.remaining rows.old)
+    ensures ended { IfErr result (λ kind. EndedInTurn S.Store W.contents F.contents kind
+        (source_of R.remaining rows.old)
         (record { archive = archive.old; output = output.old; faults = faults.old })
         (record { archive = archive.new; output = output.new; faults = faults.new })) }
     ensures write_failed { result ≡ Err refusal.WriteFailed → Rose before (W.failed output.new) }

@@ -25,8 +25,8 @@ use std::alloc::Global;
 use std::io::{ErrorKind, Write};
 use store::Archive;
 
-/// Serves the row of this number: performs its request, writes its answer and flushes it, and tells on the faults why it
-/// is refused, where it is. `apply` calls it for one row after the other, so the answer of a row is with the writer
+/// Serves the row of this number: performs its request, writes its answer and flushes it, and tells on the faults why
+/// it is refused, where it is. `apply` calls it for one row after the other, so the answer of a row is with the writer
 /// before the next is decided. `before` is the writer's count of failures at the start of the call that asks.
 ///
 /// 80: the database failed, and nothing is written. 95: the writer failed. 1: no memory was found to read the row, or
@@ -161,7 +161,8 @@ fn has_failed(outcome: Result<Answer, Refusal>) -> bool
     }
 }
 
-/// Writes the answer to a row that is no request, and hands its refusal on. 1, with nothing written: no memory was found to read the row.
+/// Writes the answer to a row that is no request, and hands its refusal on. 1, with nothing written: no memory was
+/// found to read the row.
 fn answer_bad<W: Write + Device>(
     alloc: Global,
     bad: BadRequest,

@@ -13,7 +13,8 @@ returns-in-Ok-clause-stopped g c =
     let taken = c.in-Ok.ensures.opened in
     let ended = c.apply-outcome.ensures in
     part_answered _ c.in-Ok.archive _ c.into_connection.result taken.0 taken.1 c.into_connection.ensures
-    c.apply-outcome.result _ g.W.Write.contents g.F.Write.contents _ _ _ _ _ _ ended.ended ended.read_failed ended.write_failed
+    c.apply-outcome.result _ g.W.Write.contents g.F.Write.contents _ _ _ _ _ _ ended.ended ended.read_failed
+    ended.write_failed
 
 pub returns-in-Err-clause-stopped : goal.returns-in-Err-clause-stopped
 returns-in-Err-clause-stopped g c = inl (c.in-Err.ensures.refused, keeps _)

@@ -29,8 +29,8 @@ rows-init g c =
     let known = source_of g.R.Read.remaining c.args.rows.now in
     let out = g.W.Write.contents c.args.output.now in
     let turn = InTurn g.S.Store g.W.Write.contents g.F.Write.contents 0
-        (record { archive = archive; output = c.args.output.now; faults = c.args.faults.now })
-        (record { archive = archive; output = c.args.output.now; faults = c.args.faults.now }) in
+    (record { archive = archive; output = c.args.output.now; faults = c.args.faults.now })
+    (record { archive = archive; output = c.args.output.now; faults = c.args.faults.now }) in
     record {
       ready = q.ready;
       plain = q.plain;
@@ -52,8 +52,8 @@ returns-in-Err-serve_row-clause-ended g c =
     let way = v.way.0 in
     let t = took_more g.R.Read.remaining c.rows.rows c.read_byte_record.new.self f way.rows v.config _ r way.took in
     let P = λ (served : List Served). ServesUpTo g.S.Store g.W.Write.contents g.F.Write.contents served
-        (record { archive = c.args.archive.now; output = c.args.output.now; faults = c.args.faults.now })
-        c.serve_row.new.faults in
+    (record { archive = c.args.archive.now; output = c.args.output.now; faults = c.args.faults.now })
+    c.serve_row.new.faults in
     let u = c.in-Err-serve_row.ensures.untold in
     elim c.in-Err-serve_row.ensures.ended [
       | inl h ↦ ended_same g.S.Store _ _ _ _ _ _ _ way P (up_to g.S.Store _ _ _ _ _ _ _ v.way.1 u)

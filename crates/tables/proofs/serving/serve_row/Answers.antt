@@ -4,20 +4,26 @@ use Rattle.tables.proofs.serving.serve_row.Goals as goal
 
 pub returns-in-Ok-None-clause-served : goal.returns-in-Ok-None-clause-served
 returns-in-Ok-None-clause-served g c =
-    let h = c.in-Ok-None.ensures.served in
-    (h.0, h.1, record {
-      performed = h.2;
-      certain = h.3;
-      answered = h.4;
-      faulted = not_refused _ _ _ h.5;
-    })
+    let h = c.in-Ok-None.ensures.served in (
+      h.0,
+      h.1,
+      record {
+        performed = h.2;
+        certain = h.3;
+        answered = h.4;
+        faulted = not_refused _ _ _ h.5;
+      },
+    )
 
 pub returns-in-Ok-Some-clause-served : goal.returns-in-Ok-Some-clause-served
 returns-in-Ok-Some-clause-served g c =
-    let h = c.in-Ok-Some.ensures.served in
-    (h.0, h.1, record {
-      performed = h.2;
-      certain = h.3;
-      answered = h.4;
-      faulted = told_as _ _ _ _ _ h.5 c.tell_fault.ensures;
-    })
+    let h = c.in-Ok-Some.ensures.served in (
+      h.0,
+      h.1,
+      record {
+        performed = h.2;
+        certain = h.3;
+        answered = h.4;
+        faulted = told_as _ _ _ _ _ h.5 c.tell_fault.ensures;
+      },
+    )
