@@ -10,27 +10,19 @@ use Rattle.std.proofs.Common.{
   Option,
   None,
   Some,
-  Result,
-  Ok,
-  Err,
   refl,
-  sym,
   ap,
   subst,
   arith,
   length,
   length-append,
 }
-use Rattle.std.specs.Prelude.{OnErr, OnOk}
-use Rattle.std.specs.Io.KnownBytes.{Appends}
 use Rattle.std.proofs.KnownBytes.{Appends-nil}
 use Rattle.sqlite_trees.specs.declared.store.Store.{Ghosts}
-use Rattle.devices.specs.Devices.{AppendsBeginning}
 use Rattle.record_text.specs.declared.refusal.RefusalKind.{RefusalKind}
-use Rattle.row_faults.specs.Faults.{IsFault, fault_text}
+use Rattle.row_faults.specs.Faults.{fault_text}
 use Rattle.tables.specs.Answers.{Served}
 use Rattle.tables.specs.RowByRow.{AreTold, IsTold, Moment, Serves, ServesAll, ServesUpTo}
-use Rattle.tables.proofs.OnTheWay.{all_written}
 
 -- ---- what is told of a row
 -- nothing was told of a row that was not refused
@@ -44,13 +36,6 @@ told_as number kind o before after e told = subst (λ (x : Option RefusalKind). 
 -- no memory was found to form its line
 pub wants : (number : ℕ) (kind : RefusalKind) (told : Option (List ℕ)) → IsTold number (Some kind) told told
 wants number kind told = (fault_text number kind [], ([], refl), (0, omega arith, Appends-nil told))
-
--- its line was written, or a beginning of it
-pub wrote_line : {E : Type 0} (number : ℕ) (kind : RefusalKind) (line : List ℕ) (before after : Option (List ℕ))
-    (r : Result (Unit {0}) E) → IsFault number kind line → OnOk r (Appends before after line)
-    → OnErr r (AppendsBeginning before after line) → IsTold number (Some kind) before after
-wrote_line number kind line before after (Ok u) is whole part = (line, is, all_written before after line whole)
-wrote_line number kind line before after (Err e) is whole part = (line, is, part)
 
 -- ---- rows one after the other
 none_more : (served : List Served) → served ≡ served ++ []

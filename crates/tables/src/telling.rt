@@ -21,8 +21,9 @@ pub(crate) fn tell_fault<F: Write + Device>(
 )
     ensures { IsTold number (Some kind) (F.contents faults.old) (F.contents faults.new) }
 {
-    if let Ok(line) = fault_line(alloc, number, kind, row) {
-        let before = faults.failures();
-        let _ = write_bytes(faults, before, line.as_bytes());
-    }
+    let Ok(line) = fault_line(alloc, number, kind, row) else {
+        return;
+    };
+    let before = faults.failures();
+    let _ = write_bytes(faults, before, line.as_bytes());
 }
