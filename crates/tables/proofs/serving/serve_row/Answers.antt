@@ -1,4 +1,4 @@
-use Rattle.std.proofs.Common.{Err, sym}
+use Rattle.std.proofs.Common.{◌∙◌, sym}
 use Rattle.tables.proofs.InTurn.{not_refused, told_as}
 use Rattle.tables.proofs.serving.serve_row.Goals as goal
 
@@ -11,7 +11,7 @@ returns-in-Ok-None-clause-served g c =
         performed = h.2;
         certain = h.3;
         answered = h.4;
-        faulted = not_refused _ _ _ h.5;
+        faulted = not_refused _ _ _ (sym c.in-Ok-None.field-0-is ∙ h.5);
       },
     )
 
@@ -24,6 +24,6 @@ returns-in-Ok-Some-clause-served g c =
         performed = h.2;
         certain = h.3;
         answered = h.4;
-        faulted = told_as _ _ _ _ _ h.5 c.tell_fault.ensures;
+        faulted = told_as _ _ _ _ _ (sym c.in-Ok-Some.field-0-is ∙ h.5) c.tell_fault.ensures;
       },
     )
