@@ -53,10 +53,6 @@ unsplit (b ∷ bs) h =
     let n = or_parts (is_lf b) (list_any is_lf bs) h in
     rw (n.0, unsplit bs n.1) refl
 
-unfolding parts_by
-parts_short zero s h = refl
-parts_short (suc n) s h = rw h refl
-
 pub few_short : (t : List ℕ) → length t ≤ 100 → is_short t ≡ true
 few_short t h = sym (few_bytes t h) ∙ le-leb (length t) 100 h
 
