@@ -23,10 +23,10 @@ use Rattle.std.proofs.Common.{
 }
 use Rattle.std.specs.Prelude.{Option, Some, None, Result, Ok, Err, T, bytes_eq}
 use Rattle.std.specs.Cmp.{nat_cmp_is, ranked}
-use Rattle.std.specs.FinMap.{find, get, entries, entries_sorted, get-entries, is_sorted}
+use Rattle.std.specs.FinMap.{find, entries, entries_sorted, get-entries, is_sorted}
 use Rattle.std.specs.FinMap.Entries.{below_all}
 use Rattle.std.specs.List.{list_any}
-use Rattle.std.specs.Ordering.{nat_cmp, is_eq, is_lt}
+use Rattle.std.specs.Ordering.{nat_cmp, is_eq}
 use Rattle.std.specs.declared.cmp.Ordering.{Ordering}
 use Rattle.std.specs.declared.cmp.Ordering.TheVariants.{Less, Equal, Greater}
 use Rattle.std.proofs.lemmas.Bool.{and_parts}

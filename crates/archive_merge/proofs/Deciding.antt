@@ -42,7 +42,6 @@ use Rattle.archive_state.specs.Content.{Content, Records}
 use Rattle.archive_state.specs.Merging.{clashes, has_member, has_child}
 use Rattle.archive_state.specs.Referrers.{referrers, naming}
 use Rattle.archive_state.specs.declared.slip.Change.{Change}
-use Rattle.archive_view.specs.Looks.{OnView}
 use Rattle.archive_merge.specs.Comparing.{is_now, is_same_record}
 use Rattle.archive_merge.specs.Looks.{clashes_in, clashes_among, change_of, changes_of}
 use Rattle.archive_merge.specs.Merges.{is_clash, change_at, merge_changes, changed_numbers, is_changed}

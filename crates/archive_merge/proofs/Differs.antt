@@ -19,7 +19,6 @@ use Rattle.std.proofs.Common.{
   inr,
   subst,
   arith,
-  suc,
 }
 use Rattle.std.specs.Prelude.{Option, Some, None, is_none, map, option_map, not, length, ◌&&◌, ◌||◌, ◌==◌}
 use Rattle.std.specs.FinMap.{get}

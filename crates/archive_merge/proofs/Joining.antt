@@ -3,14 +3,11 @@ use Rattle.std.proofs.Common.{
   ◌≡◌,
   ◌⊎◌,
   ℕ,
-  suc,
   ◌<◌,
   ◌≤◌,
   List,
-  [],
   ◌∷◌,
   ◌++◌,
-  Bool,
   true,
   false,
   nat_lt,
@@ -23,7 +20,7 @@ use Rattle.std.proofs.Common.{
   subst,
   arith,
 }
-use Rattle.std.specs.Prelude.{Option, Some, None, option_map, IfSome, map, length, if◌then◌else◌}
+use Rattle.std.specs.Prelude.{Option, Some, None, option_map, IfSome, if◌then◌else◌}
 use Rattle.std.specs.FinMap.{get}
 use Rattle.std.specs.List.{flat_map, list_any}
 use Rattle.std.specs.Str.{bytes_eq}

@@ -3,9 +3,8 @@ use Rattle.std.proofs.Common.{◌≡◌, ℕ, Bool, true, false, refl, ap, ◌�
 use Rattle.std.specs.Prelude.{Some, not, Ok, Err}
 use Rattle.std.specs.FinMap.{get}
 use Rattle.record_text.specs.declared.refusal.RefusalKind.TheVariants.{AlreadyUndone, ChangedSince}
-use Rattle.archive_state.specs.Content.{Content, Records}
+use Rattle.archive_state.specs.Content.{Content}
 use Rattle.archive_state.specs.Slips.{Slip}
-use Rattle.archive_state.specs.declared.slip.Change.{Change}
 use Rattle.commands.specs.Rows.{and_then}
 use Rattle.archive_looks.specs.Checks.{need}
 use Rattle.archive_merge.specs.Comparing.{IsNow, is_now}

@@ -80,7 +80,6 @@ use Rattle.archive_merge.specs.Merges.{
   slip_of,
   with_merge,
 }
-use Rattle.archive_merge.proofs.Comparing.{IsNow}
 use Rattle.archive_merge.proofs.Lists.{each_to_map, each_to_flat, each_mapped}
 use Rattle.archive_state.proofs.Each.{each_more, each_both, each_zip}
 use Rattle.archive_merge.proofs.Merged.{at_gone, at_keep, at_other, which, alike_before}
@@ -100,8 +99,6 @@ use Rattle.archive_merge.proofs.Changing.{
   each_found,
 }
 use Rattle.archive_state.proofs.Keeping.{slip_later, keeps_sound, number_later}
-use Rattle.record_shapes.specs.Paths.{has_part}
-use Rattle.archive_state.specs.Paths.{HasPath}
 use Rattle.archive_state.specs.Slips.{Slip}
 use Rattle.archive_state.proofs.Keeping.{KeepsRules, keeps_sound, slip_later, if_there, person_alike, stayed_at}
 use Rattle.archive_merge.proofs.Joining.{merge_keeps, merge_path, was_entry}

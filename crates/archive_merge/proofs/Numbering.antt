@@ -23,7 +23,7 @@ use Rattle.std.proofs.Common.{
   drop-cons,
   arith,
 }
-use Rattle.std.specs.Prelude.{nat_lt, not, ◌==◌, if◌then◌else◌}
+use Rattle.std.specs.Prelude.{nat_lt, ◌==◌, if◌then◌else◌}
 use Rattle.std.proofs.lemmas.List.{drop_all}
 use Rattle.std.proofs.lemmas.Bool.Decides.{nat_tests}
 use Rattle.archive_merge.specs.Merges.{with_number}

@@ -6,8 +6,7 @@ use Rattle.std.specs.FinMap.{FinMap, find, is_sorted, entries, entries_sorted}
 use Rattle.std.specs.FinMap.Entries.{below_all}
 use Rattle.std.specs.Ordering.{nat_cmp, eq_by_cmp, is_lt}
 use Rattle.std.specs.Cmp.{ranked}
-use Rattle.std.specs.declared.cmp.Ordering.{Ordering}
-use Rattle.std.specs.declared.cmp.Ordering.TheVariants.{Less, Equal, Greater}
+use Rattle.std.specs.declared.cmp.Ordering.TheVariants.{Less}
 use Rattle.record_shapes.specs.Lists.{EachOf, Ascends}
 use Rattle.archive_state.proofs.Putting.{one_number}
 use Rattle.archive_state.proofs.Rising.{first_holds, rest_holds, less_is}

@@ -19,7 +19,7 @@ use Rattle.std.proofs.Common.{
   subst,
   arith,
 }
-use Rattle.std.specs.Prelude.{Option, Some, None, Ok, map, is_none, ◌++◌, ◌&&◌, ◌||◌, ◌==◌, if◌then◌else◌}
+use Rattle.std.specs.Prelude.{Some, None, Ok, map, is_none, ◌++◌, ◌&&◌, ◌||◌, ◌==◌, if◌then◌else◌}
 use Rattle.std.specs.List.{filter, flat_map, list_any}
 use Rattle.std.specs.FinMap.{get, insert, entries}
 use Rattle.std.proofs.lemmas.Bool.{or_parts, eqb-true}

@@ -10,7 +10,6 @@ use Rattle.std.proofs.Common.{
   List,
   [],
   ◌∷◌,
-  Bool,
   true,
   false,
   cond,

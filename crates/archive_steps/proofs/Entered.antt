@@ -39,21 +39,7 @@ use Rattle.record_fields.specs.declared.entry_words.Role.{Role}
 use Rattle.record_kinds.specs.Model as model
 use Rattle.record_kinds.specs.declared.record.Record.{Record}
 use Rattle.record_kinds.specs.declared.record.Record.TheVariants as kind
-use Rattle.record_links.specs.Links.{
-  Link,
-  Wanted,
-  a_place,
-  a_repo,
-  a_source,
-  a_person,
-  a_holder,
-  a_cited,
-  at_level_0,
-  is_wanted,
-  field_links,
-  links,
-  mention_links,
-}
+use Rattle.record_links.specs.Links.{Link, a_place, a_source, a_person, field_links, links, mention_links}
 use Rattle.record_shapes.specs.Lists.{EachOf}
 use Rattle.record_shapes.specs.Roles.{is_role_of}
 use Rattle.archive_state.specs.Changes.{Changes}

@@ -45,14 +45,9 @@ use Rattle.record_kinds.specs.declared.record.Record.{Record}
 use Rattle.record_kinds.specs.declared.record.Record.TheVariants as kind
 use Rattle.record_links.specs.Links.{
   Link,
-  Wanted,
   a_place,
-  a_repo,
-  a_source,
   a_person,
   a_holder,
-  a_cited,
-  at_level_0,
   links,
   is_wanted,
   name_links,

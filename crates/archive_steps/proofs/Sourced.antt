@@ -1,10 +1,9 @@
 -- Repositories, sources and citations that commands make are fit for a sound archive.
 use Rattle.std.proofs.Common.{◌≡◌, ℕ, List, [], ◌∷◌, ◌++◌, refl, subst}
-use Rattle.std.specs.Prelude.{Option, Some, None, Result, Ok, Err, not}
+use Rattle.std.specs.Prelude.{Option, Some, None, Ok, not}
 use Rattle.std.specs.FinMap.{get}
 use Rattle.std.specs.Str.{IsUtf8}
 use Rattle.record_text.specs.Text.{IsText}
-use Rattle.record_text.specs.declared.refusal.RefusalKind.{RefusalKind}
 use Rattle.record_text.specs.declared.refusal.RefusalKind.TheVariants.{BadText}
 use Rattle.record_fields.specs.declared.words.Quality.{Quality}
 use Rattle.record_kinds.specs.Model as model

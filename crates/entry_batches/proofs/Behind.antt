@@ -37,9 +37,8 @@ use Rattle.std.proofs.lemmas.Bool.{and_parts}
 use Rattle.record_text.specs.declared.refusal.RefusalKind.{RefusalKind}
 use Rattle.record_text.specs.declared.refusal.RefusalKind.TheVariants.{BadText, DuplicateEntry, NoSuch, WrongKind}
 use Rattle.record_fields.proofs.Items.{same_item}
-use Rattle.record_fields.proofs.Worded.{entry_kind_back}
 use Rattle.record_fields.specs.Bytes.{bytes_are, bytes_same}
-use Rattle.record_fields.specs.Words.{entry_kind_of, entry_kind_word}
+use Rattle.record_fields.specs.Words.{entry_kind_word}
 use Rattle.record_fields.specs.declared.entry_words.EntryKind.{EntryKind}
 use Rattle.record_fields.specs.declared.item.Item.{Item}
 use Rattle.record_kinds.specs.Model as model

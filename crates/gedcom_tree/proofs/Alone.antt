@@ -38,7 +38,7 @@ use Rattle.std.proofs.lemmas.Bool.Decides.{nat_tests}
 use Rattle.std.proofs.lemmas.List.{take-append-drop}
 use Rattle.std.proofs.lemmas.List.Sums.{AllPass-from_list_all}
 use Rattle.std.proofs.lemmas.Slice.Eq.{bytes_eq-Decides}
-use Rattle.gedcom_line.specs.Escape.{escaped, escaped_from}
+use Rattle.gedcom_line.specs.Escape.{escaped}
 use Rattle.gedcom_line.specs.Reading.{skip}
 use Rattle.gedcom_line.specs.Words.{is_space}
 use Rattle.gedcom_line.specs.Split.{char_count, IsShort, canonical, marked}
@@ -46,7 +46,7 @@ use Rattle.gedcom_line.specs.Value.{Meaning, Text, Pointer, meaning}
 use Rattle.gedcom_line.specs.declared.splitting.Mark.TheVariants.{Cont}
 use Rattle.gedcom_line.proofs.Steps.{eqb_no, all_front}
 use Rattle.gedcom_line.proofs.Again.{all-append}
-use Rattle.gedcom_line.proofs.Counts.{char_count-cons, char_count-le-length, escaped_step}
+use Rattle.gedcom_line.proofs.Counts.{char_count-le-length}
 use Rattle.gedcom_line.proofs.Cuts.{canonical_last, segment_short}
 use Rattle.gedcom_line.proofs.Doubled.{escaped_all, unescaped-escaped}
 use Rattle.gedcom_line.proofs.Pointers.{escaped_no_pointer, pointer_meant}

@@ -6,7 +6,6 @@ use Rattle.std.proofs.Common.{
   ◌-◌,
   ◌≤◌,
   eqb,
-  ltb,
   List,
   [],
   ◌++◌,
@@ -31,15 +30,14 @@ use Rattle.std.proofs.Common.{
 }
 use Rattle.std.specs.Option.{option_map}
 use Rattle.std.specs.Prelude.{slice_get}
-use Rattle.std.proofs.lemmas.Bool.{ltb-false, cases_Bool}
 use Rattle.std.proofs.lemmas.List.{take_all}
 use Rattle.gedcom_line.specs.Line.{IsPiece}
 use Rattle.gedcom_rules.specs.declared.fault.TreeFault.{TreeFault}
-use Rattle.gedcom_rules.specs.declared.fault.TreeKind.TheVariants.{OutOfMemory, TooLong}
+use Rattle.gedcom_rules.specs.declared.fault.TreeKind.TheVariants.{OutOfMemory}
 use Rattle.gedcom_rules.specs.Pieces.{pieces, file_pieces, skip_mark, from_start}
 use Rattle.gedcom_rules.specs.Rules.{Progress}
 use Rattle.gedcom_tree.specs.Forest.{Item}
-use Rattle.gedcom_rules.specs.Faults.{IsLineless, Fault, max_line, max_file, within, extra, FaultOf}
+use Rattle.gedcom_rules.specs.Faults.{IsLineless, Fault, max_file, within, extra, FaultOf}
 use Rattle.gedcom_tree.specs.Reading.{
   Trace,
   Nodes,
@@ -54,7 +52,7 @@ use Rattle.gedcom_tree.specs.Reading.{
   reader_of,
   finished,
 }
-use Rattle.gedcom_rules.specs.Judging.{run, open_fault, decided, fault_behind}
+use Rattle.gedcom_rules.specs.Judging.{run, open_fault, decided}
 use Rattle.gedcom_tree.specs.State.{Finishes}
 use Rattle.gedcom_rules.specs.Views.{progress, fault_view}
 use Rattle.gedcom_tree.specs.declared.ended.Lines.{Lines}

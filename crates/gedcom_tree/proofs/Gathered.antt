@@ -5,9 +5,7 @@ use Rattle.std.proofs.Common.{
   ◌+◌,
   ◌-◌,
   true,
-  false,
   cond,
-  eqb,
   List,
   [],
   ◌∷◌,
@@ -23,10 +21,7 @@ use Rattle.std.proofs.Common.{
   arith,
   append-nil,
 }
-use Rattle.std.proofs.lemmas.Slice.Eq.{bytes_eq-Decides}
-use Rattle.std.specs.Str.{bytes_eq}
-use Rattle.std.specs.Prelude.{codes}
-use Rattle.std.proofs.lemmas.Bool.{and_parts, cases_Bool}
+use Rattle.std.proofs.lemmas.Bool.{cases_Bool}
 use Rattle.gedcom_line.specs.Reading.{Parts, is_continuation}
 use Rattle.gedcom_line.specs.Line.{Line, IsBlank}
 use Rattle.gedcom_line.proofs.Whole.{line_reading, blank_reading}

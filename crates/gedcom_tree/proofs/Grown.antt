@@ -6,7 +6,6 @@ use Rattle.std.proofs.Common.{
   suc,
   ◌+◌,
   ◌<◌,
-  Bool,
   true,
   false,
   eqb,
@@ -29,7 +28,7 @@ use Rattle.std.proofs.Common.{
 }
 use Rattle.std.proofs.lemmas.List.{append-nil, map-append}
 use Rattle.std.specs.List.{list_all}
-use Rattle.std.proofs.lemmas.Bool.{lt-ltb, le-ltb, eq-eqb, and_parts}
+use Rattle.std.proofs.lemmas.Bool.{lt-ltb, le-ltb, eq-eqb}
 use Rattle.gedcom_tree.specs.Forest.{Item, longer, longer_node, extended}
 use Rattle.gedcom_tree.specs.Flat.{value_said, flat, flats, flat_step, all_at, said, flat_open, built}
 use Rattle.gedcom_tree.specs.declared.node.Node.{Node}

@@ -6,8 +6,6 @@ use Rattle.std.proofs.Common.{
   ◌+◌,
   ◌<◌,
   ◌≤◌,
-  Bool,
-  true,
   leb,
   List,
   [],
@@ -18,7 +16,6 @@ use Rattle.std.proofs.Common.{
   take,
   drop,
   length-append,
-  refl,
   sym,
   ap,
   ◌∙◌,
@@ -35,17 +32,15 @@ use Rattle.std.proofs.Common.{
 }
 use Rattle.std.specs.Prelude.{IfErr, OnErr}
 use Rattle.std.proofs.Math.ListN.{drop_of_length-le}
-use Rattle.std.specs.List.{flat_map, list_all}
+use Rattle.std.specs.List.{flat_map}
 use Rattle.std.proofs.lemmas.List.Concat.{flat_map-append}
-use Rattle.gedcom_tree.specs.Forest.{Item}
 use Rattle.gedcom_tree.specs.Flat.{flat, flats}
 use Rattle.gedcom_tree.specs.Text.{node_text, IsLow}
 use Rattle.gedcom_tree.specs.declared.node.Node.{Node}
 use Rattle.std.specs.Io.KnownBytes.{Appends}
-use Rattle.std.proofs.KnownBytes.{Appends-nil, Appends-trans}
+use Rattle.std.proofs.KnownBytes.{Appends-trans}
 use Rattle.std.proofs.Math.Seq.{take-append-add}
 use Rattle.std.proofs.lemmas.List.{take-append-le, take_all}
-use Rattle.std.proofs.lemmas.Bool.{and_parts}
 use Rattle.devices.specs.Devices.{AppendsBeginning}
 use Rattle.gedcom_tree.specs.Streams.{Handed}
 use Rattle.gedcom_line.proofs.Written.{all_parts}

@@ -7,15 +7,12 @@ use Rattle.std.proofs.Common.{
   ◌<◌,
   ◌≤◌,
   true,
-  false,
   List,
   [],
   ◌∷◌,
   ◌++◌,
   length,
   subst,
-  inl,
-  inr,
   arith,
   Option,
   Some,
@@ -26,9 +23,8 @@ use Rattle.std.specs.Char.{encode_utf8, len_utf8}
 use lib.Utf8.{scalar}
 use Rattle.std.specs.Str.{IsUtf8, encode_utf8_all, all_scalars}
 use Rattle.std.specs.Fmt.{decimal}
-use Rattle.std.proofs.lemmas.Bool.Decides.{nat_tests}
 use Rattle.std.proofs.lemmas.Str.{IsCharBoundary-start, IsUtf8-encode, length-encode, len_utf8_bounds}
-use Rattle.std.proofs.lemmas.Bool.{and_parts, cases_Bool}
+use Rattle.std.proofs.lemmas.Bool.{and_parts}
 use Rattle.gedcom_line.specs.Reading.{Parts}
 use Rattle.gedcom_line.specs.Spelling.{spelling, xref_text, raw_text, IsXref, IsLine}
 use Rattle.gedcom_line.specs.Split.{begins_char, char_count}

@@ -1,34 +1,11 @@
 -- A text that stands on one line as it is.
-use Rattle.std.proofs.Common.{
-  ◌≡◌,
-  ℕ,
-  zero,
-  suc,
-  ◌≤◌,
-  Bool,
-  true,
-  false,
-  eqb,
-  List,
-  [],
-  ◌∷◌,
-  length,
-  refl,
-  sym,
-  ap,
-  ◌∙◌,
-  append-nil,
-  Option,
-  arith,
-}
+use Rattle.std.proofs.Common.{◌≡◌, ℕ, ◌≤◌, Bool, true, false, eqb, List, [], ◌∷◌, length, refl, sym, ap, ◌∙◌, arith}
 use Rattle.std.specs.List.{list_any, slice_split}
 use Rattle.std.proofs.lemmas.Bool.{le-leb, or_parts}
 use Rattle.gedcom_line.specs.Escape.{escaped_from, escaped, unescaped}
-use Rattle.gedcom_line.specs.Split.{char_count, is_short, is_lf, parts_by, segment_parts, canonical}
-use Rattle.gedcom_line.specs.Value.{Text}
+use Rattle.gedcom_line.specs.Split.{char_count, is_short, is_lf, segment_parts, canonical}
 use Rattle.gedcom_line.specs.declared.splitting.Mark.TheVariants.{Cont}
 use Rattle.gedcom_line.proofs.Counts.{few_bytes, char_count-le-length}
-use Rattle.gedcom_tree.specs.Text.{line_text, node_text}
 use Rattle.gedcom_line.proofs.Cuts.{parts_short}
 
 -- without an @ a text is written as it is
@@ -52,10 +29,6 @@ unsplit [] h = refl
 unsplit (b ∷ bs) h =
     let n = or_parts (is_lf b) (list_any is_lf bs) h in
     rw (n.0, unsplit bs n.1) refl
-
-unfolding parts_by
-parts_short zero s h = refl
-parts_short (suc n) s h = rw h refl
 
 pub few_short : (t : List ℕ) → length t ≤ 100 → is_short t ≡ true
 few_short t h = sym (few_bytes t h) ∙ le-leb (length t) 100 h

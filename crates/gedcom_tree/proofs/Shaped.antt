@@ -26,7 +26,6 @@ use Rattle.std.specs.Str.{bytes_eq}
 use Rattle.std.proofs.lemmas.Bool.{eqb-true, le-leb, lt-ltb, not-false, and_parts, cases_Bool}
 use Rattle.std.proofs.lemmas.Slice.Eq.{bytes_eq-Decides}
 use Rattle.gedcom_line.specs.Reading.{Parts, is_continuation}
-use Rattle.gedcom_line.specs.Line.{IsContinuation}
 use Rattle.gedcom_line.specs.Spelling.{IsLine}
 use Rattle.gedcom_line.proofs.Steps.{eqb_no}
 use Rattle.gedcom_rules.specs.Rules.{Progress, is_head, is_trailer}

@@ -13,7 +13,6 @@ use Rattle.std.proofs.Common.{
   ◌++◌,
   length,
   length-append,
-  append-nil,
   take,
   refl,
   sym,
@@ -33,17 +32,17 @@ use Rattle.std.proofs.Common.{
 }
 use Rattle.std.specs.Prelude.{IfSome, IfOk, IfErr}
 use Rattle.std.specs.Io.KnownBytes.{Consumes}
-use Rattle.std.proofs.KnownBytes.{Consumes-nil, Consumes-trans}
+use Rattle.std.proofs.KnownBytes.{Consumes-trans}
 use Rattle.gedcom_rules.specs.Views.{fault_view, outcome}
 use Rattle.gedcom_rules.specs.declared.fault.TreeFault.{TreeFault}
 use Rattle.std.specs.List.{flat_map}
-use Rattle.gedcom_rules.specs.declared.fault.TreeKind.TheVariants.{OutOfMemory, ReadFailed}
+use Rattle.gedcom_rules.specs.declared.fault.TreeKind.TheVariants.{OutOfMemory}
 use Rattle.gedcom_tree.specs.Forest.{Item}
 use Rattle.gedcom_rules.specs.Faults.{max_file, Fault, IsLineless, Decides, FaultOf}
 use Rattle.gedcom_tree.specs.File.{ReadsFile}
 use Rattle.gedcom_tree.specs.Reading.{Reader}
 use Rattle.gedcom_tree.specs.State.{Holds, Takes, Finishes}
-use Rattle.gedcom_tree.specs.Streams.{NotRead, ReadAs, HasFed, Feeds}
+use Rattle.gedcom_tree.specs.Streams.{NotRead, ReadAs, Feeds}
 use Rattle.std.proofs.lemmas.Bool.{le-leb}
 use Rattle.gedcom_tree.specs.Text.{EachNode, IsForest, IsLow, text, node_text, line_text, trailer}
 use Rattle.gedcom_tree.proofs.Shaped.{reads_forest}

@@ -40,7 +40,6 @@ use Rattle.std.specs.List.{list_all, flat_map}
 use Rattle.std.specs.Str.{IsUtf8, IsCharBoundary, bytes_eq, encode_utf8_all, all_scalars}
 use Rattle.std.proofs.lemmas.Bool.{eqb-true, cases_eq, and_parts, cases_Bool}
 use Rattle.std.proofs.lemmas.Bool.Decides.{nat_tests}
-use Rattle.std.proofs.lemmas.List.{append-nil}
 use Rattle.std.proofs.Math.Seq.{get_or-append_seam, take-append_seam, drop-append_seam}
 use Rattle.std.proofs.lemmas.Str.{
   IsUtf8-append,
@@ -48,7 +47,6 @@ use Rattle.std.proofs.lemmas.Str.{
   IsUtf8-encode,
   IsUtf8-take,
   IsUtf8-drop,
-  inside_one,
   encode_ascii,
   IsCharBoundary-before_ascii,
   IsCharBoundary-after_ascii,

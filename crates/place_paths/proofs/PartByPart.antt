@@ -3,7 +3,6 @@ use Rattle.std.proofs.Common.{
   ◌≡◌,
   ◌≢◌,
   ℕ,
-  zero,
   suc,
   ◌+◌,
   ◌≤◌,
@@ -14,10 +13,8 @@ use Rattle.std.proofs.Common.{
   ◌++◌,
   length,
   map,
-  true,
   false,
   ◌==◌,
-  cond,
   refl,
   sym,
   ap,
@@ -36,7 +33,7 @@ use Rattle.record_shapes.specs.Paths.{joined, trimmed, parts, normal, IsNormal}
 use Rattle.record_shapes.specs.Fields.{path_below}
 use Rattle.place_paths.specs.Cuts.{Without}
 use Rattle.place_paths.proofs.Trimmed.{trimmed_cases}
-use Rattle.archive_state.proofs.PathTexts.{onto_both, parts_some, parts_both, spaced}
+use Rattle.archive_state.proofs.PathTexts.{parts_some, parts_both, spaced}
 
 pub same_no : IsTrue false → ⊥
 same_no t = cc

@@ -16,7 +16,6 @@ use Rattle.std.proofs.Common.{
   true,
   false,
   ◌==◌,
-  cond,
   refl,
   sym,
   ap,

@@ -9,7 +9,6 @@ use Rattle.std.proofs.Common.{
   ◌≤◌,
   ◌<◌,
   List,
-  [],
   ◌++◌,
   length,
   true,

@@ -29,7 +29,6 @@ use Rattle.std.proofs.Common.{
   ◌↔◌,
   Result,
   Ok,
-  get_or,
   bytes_eq,
 }
 use Rattle.std.specs.Prelude.{◌==◌, ◌&&◌, ◌||◌, nat_lt, codes, Option, Some, None, IsTrue}
@@ -38,8 +37,6 @@ use Rattle.std.specs.FinMap.{get}
 use Rattle.std.proofs.lemmas.Bool.Decides.{nat_tests}
 use Rattle.std.proofs.lemmas.List.{length-append}
 use Rattle.std.proofs.lemmas.List.Folds.{list_any-append}
-use Rattle.std.proofs.Math.Seq.{get_or-append_seam, take-append_seam}
-use Rattle.std.proofs.Common.{take}
 use Rattle.std.proofs.lemmas.Bool.{or_right, or_left, or_cases}
 use Rattle.std.proofs.lemmas.Result.{IfErr-weaker}
 use Rattle.sqlite.specs.State.{State}

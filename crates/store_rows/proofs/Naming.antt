@@ -23,10 +23,8 @@ use Rattle.std.specs.Prelude.{◌==◌, ◌&&◌, ◌||◌, Option, Some, None, 
 use Rattle.std.specs.List.{list_any}
 use Rattle.std.specs.FinMap.{get, entries, entries_sorted, get-entries, find, is_sorted}
 use Rattle.std.specs.FinMap.Entries.{below_all}
-use Rattle.std.specs.Ordering.{nat_cmp, is_eq, is_lt}
+use Rattle.std.specs.Ordering.{nat_cmp}
 use Rattle.std.specs.Cmp.{unsigned_tied}
-use Rattle.std.specs.declared.cmp.Ordering.{Ordering}
-use Rattle.std.specs.declared.cmp.Ordering.TheVariants.{Less, Equal, Greater}
 use Rattle.std.proofs.lemmas.Bool.Decides.{nat_tests}
 use Rattle.record_kinds.specs.declared.record.Record.{Record}
 use Rattle.record_links.specs.Links.{is_among, links}
@@ -39,7 +37,7 @@ use Rattle.store_tables.specs.Rows.{Rows, LineRow, lines_of}
 use Rattle.store_rows.specs.Meaning.{Means, IsRecordAt, has_record}
 use Rattle.store_rows.proofs.Own.{either_way}
 use Rattle.store_rows.proofs.Seen.{any_kept, any_map}
-use Rattle.archive_state.proofs.Rising.{first_holds, rest_holds, less_is, not_found}
+use Rattle.archive_state.proofs.Rising.{first_holds, rest_holds, not_found}
 use Rattle.store_tables.proofs.Coded.{list_any_same}
 
 -- whether a record that may be missing names a number

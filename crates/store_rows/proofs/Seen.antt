@@ -29,13 +29,12 @@ use Rattle.std.proofs.Common.{
   not,
   bytes_eq,
 }
-use Rattle.std.specs.Prelude.{◌==◌, ◌&&◌, ◌||◌, Option, Some, None, option_to_list}
+use Rattle.std.specs.Prelude.{◌==◌, ◌&&◌, ◌||◌, Option, Some, None}
 use Rattle.std.specs.List.{list_any, flat_map}
 use Rattle.std.specs.FinMap.{get, insert, empty, get-insert, get-empty}
 use Rattle.std.specs.Ordering.{nat_cmp}
 use Rattle.std.specs.Cmp.Lexicographic.{slice_cmp}
 use Rattle.std.proofs.lemmas.Cmp.{nat_list_cmp_total}
-use Rattle.std.proofs.lemmas.List.Sums.{fold-append}
 use Rattle.std.proofs.lemmas.Map.Text.{is_eq-slice_cmp}
 use Rattle.std.proofs.lemmas.Simd.{map-map}
 use Rattle.std.proofs.Math.Bool.{or-false}
@@ -46,7 +45,6 @@ use Rattle.record_text.specs.declared.refusal.RefusalKind.{RefusalKind}
 use Rattle.record_text.specs.declared.refusal.RefusalKind.TheVariants.{BadStored}
 use Rattle.record_kinds.specs.declared.record.Record.{Record}
 use Rattle.records.specs.Stored.{stored}
-use Rattle.records.specs.Shallow.{IsShallow}
 use Rattle.receipts.specs.declared.answer.Receipt.{Receipt}
 use Rattle.archive_state.specs.Content.{Content, Receipts}
 use Rattle.archive_state.specs.Slips.{Slip}
@@ -64,12 +62,11 @@ use Rattle.store_tables.specs.Rows.{
   slip_lines_of,
 }
 use Rattle.store_tables.proofs.Calls.{if_ok}
-use Rattle.store_rows.specs.Grouped.{NoRecord, last_kept}
+use Rattle.store_rows.specs.Grouped.{last_kept}
 use Rattle.store_rows.specs.Looking.{Sees}
 use Rattle.store_rows.specs.Meaning.{
   Means,
   AreReadable,
-  IsRecordAt,
   IsSlipAt,
   IsShallowSlip,
   is_closed,

@@ -62,15 +62,7 @@ use Rattle.store_rows.specs.Sides.{
   NoPairs,
 }
 use Rattle.store_rows.specs.declared.sides.Side.{Side}
-use Rattle.store_rows.proofs.SidesParted.{
-  IsPiece,
-  side_piece,
-  first_same,
-  after_same,
-  stored_back,
-  one_sides,
-  lines_of_sides,
-}
+use Rattle.store_rows.proofs.SidesParted.{side_piece, first_same, after_same, stored_back, one_sides, lines_of_sides}
 
 abbrev Row : Type 0
 Row = ℕ × SideLine

@@ -17,7 +17,6 @@ use Rattle.std.proofs.Common.{
   IsTrue,
   OnOk,
   IfOk,
-  IfErr,
   refl,
   ◌∙◌,
   arith,

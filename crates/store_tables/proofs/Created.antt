@@ -25,7 +25,6 @@ use Rattle.store_tables.specs.Schema.{
   schema_9,
   schema_10,
   schema_11,
-  archive_schema,
   no_schema,
   meta,
   batches,

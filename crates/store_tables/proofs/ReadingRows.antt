@@ -9,7 +9,6 @@ use Rattle.std.proofs.Common.{
   ◌&&◌,
   Bool,
   true,
-  false,
   List,
   [],
   ◌∷◌,

@@ -39,6 +39,10 @@ Follows old new f = (rows : Rows) → Inside old rows → Inside new (f rows) ×
 abbrev pub LeavesOnly : State → Rows → Type 0
 LeavesOnly s rows = (t : Trees) → s.may_leave t → Good rows t
 
+-- the connection shows what it showed, and has what was committed
+abbrev pub IsAsItWas : State → State → Type 0
+IsAsItWas old new = (new.now ≡ old.now) × (new.committed ≡ old.committed)
+
 -- ---- a new archive
 -- a store in which nothing was made
 pub record IsBlank (t : Trees) : Type 0 where

@@ -1,6 +1,4 @@
 use Rattle.std.proofs.Common.{◌≡◌, refl, rules}
-use Rattle.std.specs.Prelude.{IsTrue, Bool}
-use Rattle.record_shapes.specs.Paths.{trimmed}
 use Rattle.place_paths.proofs.PartByPart.{goes_on, spaces_at_ends, no_space_behind, last_part, same_no}
 use Rattle.place_paths.proofs.normal.is_normal.Goals as goal
 
