@@ -7,7 +7,8 @@ use Rattle.sqlite_trees.specs.declared.store.Store.{Ghosts}
 use Rattle.record_text.specs.declared.refusal.RefusalKind.{RefusalKind}
 use Rattle.record_text.specs.declared.refusal.RefusalKind.TheVariants.{NewerSchema, NotAnArchive, OutOfMemory, Storage}
 use Rattle.store_tables.specs.Looking.{IsRefusedStore, ShowsVersion}
-use Rattle.store_tables.specs.Prepared.{NamesMissing, all_queries}
+use Rattle.store_tables.specs.Prepared.{IsUnderstood, NamesMissing, all_queries}
+use Rattle.std.specs.List.{AllByRecursion}
 
 -- a table or a column that is read is missing
 abbrev pub LacksTable : State → Type 0
@@ -17,6 +18,11 @@ LacksTable s = (sql : List ℕ) × Has all_queries sql × NamesMissing s.now.sch
 abbrev pub IsNoArchive : {S : Type 0} → Ghosts S → State → Type 0
 IsNoArchive {S} g old = (read : Held S)
     × (IsRefusedStore old (state g read) NotAnArchive ⊎ (ShowsVersion 1 old (state g read) × LacksTable (state g read)))
+
+-- the store shows this version, and has every table and column that is read
+abbrev pub IsRecognised : {S : Type 0} → Ghosts S → State → Type 0
+IsRecognised {S} g old = (read : Held S) × ShowsVersion 1 old (state g read) × AllByRecursion
+    (IsUnderstood (state g read).now.schema) all_queries
 
 -- 82: the store is no archive. 83: it shows a later version. Memory may be refused, and the database may fail, of any
 -- store

@@ -5,6 +5,7 @@ ghost use Rattle.std.specs.Prelude.{
   ◌≢◌,
   ◌⊎◌,
   ⊤,
+  true,
   List,
   ℕ,
   [],
@@ -27,9 +28,9 @@ ghost use Rattle.sqlite.specs.Held.{state};
 ghost use Rattle.record_text.specs.declared.refusal.RefusalKind.TheVariants as refusal;
 ghost use Rattle.archive_core.specs.Steps.{refused_at};
 ghost use Rattle.archive_state.specs.Content.{nothing};
-ghost use Rattle.store_tables.specs.Calls.{SettledBlank, LeavesOnly};
+ghost use Rattle.store_tables.specs.Calls.{Settled, SettledBlank, LeavesOnly};
 ghost use Rattle.store_tables.specs.Schema.{no_schema};
-ghost use Rattle.store.specs.Adopting.{RefusesToAdopt};
+ghost use Rattle.store.specs.Adopting.{IsRecognised, RefusesToAdopt};
 ghost use Rattle.store.specs.Archives.{HasArchive, LeavesArchive};
 ghost use Rattle.store.specs.Calls.{Acknowledges, OnArchive, Performs, Reads};
 ghost use Rattle.store.specs.Creating.{IsSociety, RefusesToCreate, RefusesToMake};
@@ -92,6 +93,9 @@ impl<S: Alter> Archive<S> {
         ensures adopted { IfOk result (λ made. (made.is_lost ≡ false)
             × (HasCleanDisk (state S.Store made.conn) → Reads {A = Unit {0}} (λ _ _ _. ⊤) (state S.Store conn) (Ok tt)
             (state S.Store made.conn))) }
+        ensures recognised { IfOk result (λ made. HasCleanDisk (state S.Store made.conn)
+            → IsRecognised S.Store (state S.Store conn)) }
+        ensures quiet { IfOk result (λ made. made.failures ≡ 0) }
         ensures refused { IfErr result (λ e. HasCleanDisk (state S.Store e.1)
             → Reads {A = Unit {0}} (λ _ _ _. ⊤) (state S.Store conn) (Err e.0) (state S.Store e.1)) }
         ensures told { IfErr result (λ e. HasCleanDisk (state S.Store e.1) → RefusesToAdopt S.Store
@@ -124,7 +128,11 @@ impl<S: Alter> Archive<S> {
             get c.receipts «request».now.token ≢ None → LeavesOnly (state S.Store self.new.conn) rows) }
         ensures lost { self.old.is_lost ≡ false → self.new.is_lost ≡ has_failed result }
         ensures reopen { IsTrue self.old.is_lost → (result ≡ Err (refused_at None refusal.Reopen))
-            × (self.new.conn ≡ self.old.conn) × IsTrue self.new.is_lost }
+            × (self.new ≡ self.old) }
+        ensures refused { HasCleanDisk (state S.Store self.new.conn) → self.old.is_lost ≡ false
+            → IfErr result (λ e. is_storage e.kind ≡ false
+            → OnArchive (state S.Store self.old.conn) (λ society c rows. Settled (state S.Store self.new.conn) rows)) }
+        ensures placed { IfErr result (λ e. is_storage e.kind ≡ true → e.at ≡ None) }
     {
         if self.is_lost {
             return Err(RefusalKind::Reopen.into());
@@ -146,6 +154,7 @@ impl<S: Alter> Archive<S> {
             × (HasCleanDisk (state S.Store self.new.conn) → self.old.is_lost ≡ false
             → Performs (state S.Store self.old.conn) (zip requests.now outcomes.items) (state S.Store self.new.conn))) }
         ensures lost { IfOk result (λ outcomes. AreLost self.old.is_lost outcomes.items self.new.is_lost) }
+        ensures reopen { IsTrue self.old.is_lost → self.new ≡ self.old }
         ensures refused { IfErr result (λ e. (e ≡ refused_at None refusal.OutOfMemory) × (self.new ≡ self.old)) }
     {
         let mut outcomes = Vec::with_capacity(alloc, requests.len())?;

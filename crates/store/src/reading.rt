@@ -1,12 +1,12 @@
 //! What an archive holds, read of its tables.
 
-ghost use Rattle.std.specs.Prelude.{◌≡◌, ⊤, false, IfErr};
+ghost use Rattle.std.specs.Prelude.{◌≡◌, ⊤, false, IfErr, OnOk};
 ghost use Rattle.sqlite.specs.State.{HasCleanDisk, Survives};
 ghost use Rattle.sqlite.specs.Held.{state};
 ghost use Rattle.store_tables.specs.Calls.{LeavesOnly, Settled};
 ghost use Rattle.store_tables.specs.Looking.{Looks};
 ghost use Rattle.store_tables.specs.Rows.{Rows};
-ghost use Rattle.store.specs.Adopting.{RefusesToAdopt};
+ghost use Rattle.store.specs.Adopting.{IsRecognised, RefusesToAdopt};
 ghost use Rattle.store.specs.Calls.{Reads};
 ghost use Rattle.store.specs.Histories.{is_storage};
 
@@ -59,6 +59,8 @@ pub(crate) fn recognise<S: Alter>(conn: &mut Connection<S>) -> Result<(), Refusa
         (state S.Store conn.new) }
     ensures told { HasCleanDisk (state S.Store conn.new)
         → IfErr result (RefusesToAdopt S.Store (state S.Store conn.old)) }
+    ensures recognised { HasCleanDisk (state S.Store conn.new)
+        → OnOk result (IsRecognised S.Store (state S.Store conn.old)) }
     ensures ended { conn.new.in_transaction ≡ false }
 {
     match look_at_tables(conn) {
@@ -73,6 +75,8 @@ fn look_at_tables<S: Alter>(conn: &mut Connection<S>) -> Result<(), RefusalKind>
     ensures looks { Looks (λ _ _. ⊤) (state S.Store conn.old) (state S.Store conn.new) result }
     ensures told { HasCleanDisk (state S.Store conn.new)
         → IfErr result (RefusesToAdopt S.Store (state S.Store conn.old)) }
+    ensures recognised { HasCleanDisk (state S.Store conn.new)
+        → OnOk result (IsRecognised S.Store (state S.Store conn.old)) }
     ensures ended { conn.new.in_transaction ≡ false }
 {
     match check_version(conn) {

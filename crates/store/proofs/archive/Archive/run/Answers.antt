@@ -46,6 +46,7 @@ requests-init g c =
           (performs_none start (λ rows was t l. only_committed start rows t was
           (g.met.S.Store.settled conn.store t was.is_open l)) clean)),
       subst (λ os. AreLost c.args.self.now.is_lost os c.args.self.now.is_lost) (sym none) refl,
+      λ lost. refl,
     )
 
 pub requests-preserved : goal.requests-preserved
@@ -65,7 +66,7 @@ requests-preserved g c =
     let room : length c.args.requests.now ≤ vec_capacity c.push.new.self = search rules in
     let here : drop (length os) rs ≡ r ∷ drop (i + 1) rs = ap (λ n. drop n rs) inv.0
     ∙ item_left rs i r r c.requests-test.true c.request-item.is in
-    let stays : now.is_lost ≡ true → next.conn ≡ now.conn = λ lost. (did.reopen lost).1 in (
+    let stays : now.is_lost ≡ true → next.conn ≡ now.conn = λ lost. ap (λ a. a.conn) (did.reopen lost).1 in (
       ap length items ∙ length_push os o ∙ ap (λ n. n + 1) inv.0,
       len,
       room,
@@ -79,5 +80,6 @@ requests-preserved g c =
           (inv.3 (clean_before g.S.Store now.conn next.conn now.is_lost r o goes stays clean) sure) goes stays),
       subst (λ xs. AreLost start.is_lost xs next.is_lost) (sym items)
           (lost_then start.is_lost now.is_lost next.is_lost os o inv.4 (λ lost. let again = did.reopen lost in
-          (again.0, again.2)) (λ kept. did.lost kept)),
+          (again.0, ap (λ a. a.is_lost) again.1 ∙ lost)) (λ kept. did.lost kept)),
+      λ lost. let was = inv.5 lost in (did.reopen (ap (λ a. a.is_lost) was ∙ lost)).1 ∙ was,
     )
