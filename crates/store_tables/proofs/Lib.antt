@@ -1,3 +1,4 @@
+pub mod Asking
 pub mod Calls
 mod Changing
 mod Coded
@@ -7,7 +8,7 @@ mod Finding
 mod KeyedQueries
 mod KeyedTexts
 pub mod Loops
-mod Preparing
+pub mod Preparing
 pub mod Queries
 pub mod ReadingRows
 pub mod Reopening

@@ -68,11 +68,12 @@ outlined (Err e) s h = absurd h
 true_false : {A : Type 0} (e : Error) → tells_no_archive e ≡ true → tells_no_archive e ≡ false → A
 true_false e tells none = absurd (let clash = sym tells ∙ none in cc)
 
--- an error that tells of a missing table or column comes of the text
+-- an error that tells of a missing table or column comes of the text, and nothing is changed
 names_missing : (old new : State) (sql : List ℕ) (e : Error) → IsNotRun old new sql [] e → tells_no_archive e ≡ true
-    → NamesMissing old.now.schema sql
+    → IsUnchanged old new × NamesMissing old.now.schema sql
 unfolding IsNotRun
-names_missing old new sql e (inl (inl why, same)) tells = (why.0, why.1, sym (ap tells_no_archive why.2) ∙ tells)
+names_missing old new sql e (inl (inl why, same)) tells =
+    (same, (why.0, why.1, sym (ap tells_no_archive why.2) ∙ tells))
 names_missing old new sql e (inl (inr (c, is, inl why), same)) tells = true_false e tells (ap tells_no_archive why.1)
 names_missing old new sql e (inl (inr (c, is, inr (inl why)), same)) tells = true_false e tells
     (ap tells_no_archive why.1)
@@ -102,7 +103,8 @@ not_prepared sql old new e result kind is fails missing other survives = subst (
       told = λ clean. tt;
       refused = λ clean. elim (cases_Bool (tells_no_archive e)) [
         | inl tells ↦ subst (IsRefusedTables (sql ∷ []) old new) (sym (missing tells))
-            (sql, inl refl, names_missing old new sql e (fails clean) tells)
+            (let missing_in = names_missing old new sql e (fails clean) tells in
+            (missing_in.0, (sql, inl refl, missing_in.1)))
         | inr tells ↦ subst (IsRefusedTables (sql ∷ []) old new) (sym (other tells))
             (sql, inl refl, (e, fails clean, tells))
       ];
@@ -150,7 +152,10 @@ module _ (old mid new : State) (same : IsUnchanged old mid) (counts : old.faults
   refused_before : (queries : List (List ℕ)) (kind : RefusalKind) → IsRefusedTables queries mid new kind
       → IsRefusedTables queries old new kind
   refused_before queries Storage why = (why.0, why.1, (why.2.0, not_run_before why.0 [] why.2.0 why.2.1, why.2.2))
-  refused_before queries NotAnArchive why = (why.0, why.1, subst (λ s. NamesMissing s why.0) schema_is why.2)
+  refused_before queries NotAnArchive why = (
+    unchanged_then old mid new same why.0,
+    (why.1.0, why.1.1, subst (λ s. NamesMissing s why.1.0) schema_is why.1.2),
+  )
   refused_before queries _ why = absurd why
 
 -- ---- one query after the other
@@ -171,10 +176,10 @@ all_both P (x ∷ xs) ys p q = (p.0, all_both P xs ys p.1 q)
 refused_among : (old new : State) (queries more : List (List ℕ)) → ((sql : List ℕ) → Has queries sql → Has more sql)
     → (kind : RefusalKind) → IsRefusedTables queries old new kind → IsRefusedTables more old new kind
 refused_among old new queries more within Storage why = (why.0, within why.0 why.1, why.2)
-refused_among old new queries more within NotAnArchive why = (why.0, within why.0 why.1, why.2)
+refused_among old new queries more within NotAnArchive why = (why.0, (why.1.0, within why.1.0 why.1.1, why.1.2))
 refused_among old new queries more within _ why = absurd why
 
-survives_both : (old mid new : State) → Survives old mid (λ _. ⊥) → Survives mid new (λ _. ⊥)
+pub survives_both : (old mid new : State) → Survives old mid (λ _. ⊥) → Survives mid new (λ _. ⊥)
     → Survives old new (λ _. ⊥)
 survives_both old mid new p q = record {
   clean = omega (arith, p.clean, q.clean);
@@ -235,7 +240,8 @@ refused_settled : (queries : List (List ℕ)) → AllByRecursion (λ sql. IsPlai
     → IsFailure kind
 refused_settled queries plain old new has Storage why = inr refl
 refused_settled queries plain old new has NotAnArchive why =
-    absurd (not_missing why.0 (all_has queries plain why.0 why.1) (subst (λ s. NamesMissing s why.0) has why.2))
+    absurd (not_missing why.1.0 (all_has queries plain why.1.0 why.1.1)
+    (subst (λ s. NamesMissing s why.1.0) has why.1.2))
   where
     all_has : (xs : List (List ℕ)) → AllByRecursion (λ sql. IsPlain (understood archive_schema sql)) xs → (x : List ℕ)
         → Has xs x → IsPlain (understood archive_schema x)

@@ -43,6 +43,10 @@ MayBecome old f t = (rows : Rows) → Settled old rows → Good (f rows) t
 abbrev pub LeavesOnly : State → Rows → Type 0
 LeavesOnly s rows = (t : Trees) → s.may_leave t → Good rows t
 
+-- the connection shows what it showed, and has what was committed
+abbrev pub IsAsItWas : State → State → Type 0
+IsAsItWas old new = (new.now ≡ old.now) × (new.committed ≡ old.committed)
+
 -- ---- a new archive
 -- a store in which nothing was made
 pub record IsBlank (t : Trees) : Type 0 where

@@ -42,7 +42,8 @@ FailsOtherwise old new sql = (e : Error) × IsNotRun old new sql [] e × (tells_
 -- why the tables of a store are refused
 abbrev pub IsRefusedTables : List (List ℕ) → State → State → RefusalKind → Type 0
 IsRefusedTables queries old new Storage = (sql : List ℕ) × Has queries sql × FailsOtherwise old new sql
-IsRefusedTables queries old new NotAnArchive = (sql : List ℕ) × Has queries sql × NamesMissing old.now.schema sql
+IsRefusedTables queries old new NotAnArchive = IsUnchanged old new
+    × ((sql : List ℕ) × Has queries sql × NamesMissing old.now.schema sql)
 IsRefusedTables queries old new _ = ⊥
 
 -- each query is understood, or the tables are refused; nothing is changed

@@ -3,7 +3,7 @@
 ghost use Rattle.std.specs.Prelude.{◌≡◌, ◌↔◌, false, IsTrue};
 ghost use Rattle.sqlite.specs.Held.{state};
 ghost use Rattle.sqlite.specs.State.{HasCleanDisk, IsLive, IsRolledBack, IsUnchanged, Survives};
-ghost use Rattle.store_tables.specs.Calls.{LeavesOnly, Settled};
+ghost use Rattle.store_tables.specs.Calls.{IsAsItWas, LeavesOnly, Settled};
 ghost use Rattle.store_tables.specs.Rows.{Rows};
 ghost use Rattle.store_tables.specs.Schema.{no_schema};
 
@@ -22,6 +22,8 @@ pub fn still_answers<S: Alter>(conn: &mut Connection<S>) -> bool
     requires autocommit { conn.old.in_transaction ≡ false }
     ensures settled { HasCleanDisk (state S.Store conn.new) → IsTrue result → (rows : Rows)
         → LeavesOnly (state S.Store conn.old) rows → Settled (state S.Store conn.new) rows }
+    ensures kept { HasCleanDisk (state S.Store conn.new) → IsTrue result → IsTrue (state S.Store conn.old).is_open
+        → IsAsItWas (state S.Store conn.old) (state S.Store conn.new) }
     ensures survives { Survives (state S.Store conn.old) (state S.Store conn.new) (λ _. ⊥) }
     ensures ended { conn.new.in_transaction ≡ false }
 {
@@ -34,9 +36,13 @@ fn take_back<S: Alter>(conn: &mut Connection<S>)
     requires autocommit { conn.old.in_transaction ≡ false }
     ensures undone { HasCleanDisk (state S.Store conn.new) → IsRolledBack (state S.Store conn.old)
         (state S.Store conn.new) }
+    ensures committed { IsTrue (state S.Store conn.old).is_open
+        → (state S.Store conn.old).now ≡ (state S.Store conn.old).committed }
     ensures survives { Survives (state S.Store conn.old) (state S.Store conn.new) (λ _. ⊥) }
     ensures ended { conn.new.in_transaction ≡ false }
 {
+    // For what it ensures: with no transaction the connection shows what was committed.
+    conn.is_autocommit();
     conn.transaction().rollback();
 }
 

@@ -2,7 +2,7 @@
 
 ghost use Rattle.std.specs.Prelude.{◌≡◌, ◌≢◌, [], ◌∷◌, ⊤, true, false, IfErr, OnOk};
 ghost use Rattle.sqlite.specs.Held.{state};
-ghost use Rattle.sqlite.specs.State.{HasCleanDisk};
+ghost use Rattle.sqlite.specs.State.{HasCleanDisk, Survives};
 ghost use Rattle.record_text.specs.declared.refusal.RefusalKind.TheVariants as refusal;
 ghost use Rattle.store_tables.specs.Looking.{Looks, HasVersion, ShowsVersion, IsLater, IsRefusedRows, IsRefusedStore};
 ghost use Rattle.store_tables.specs.Prepared.{PreparesAll, all_queries, history_queries, record_queries};
@@ -34,6 +34,7 @@ pub fn check_version<S: Alter>(conn: &mut Connection<S>) -> Result<(), RefusalKi
         → IsLater (λ v. ShowsVersion v (state S.Store conn.old) (state S.Store conn.new))) }
     ensures told { HasCleanDisk (state S.Store conn.new)
         → IfErr result (IsRefusedStore (state S.Store conn.old) (state S.Store conn.new)) }
+    ensures survives { Survives (state S.Store conn.old) (state S.Store conn.new) (λ _. ⊥) }
     ensures ended { conn.new.in_transaction ≡ false }
 {
     match ask(conn, SELECT_META, &[]) {

@@ -46,3 +46,15 @@ returns-clause-settled g c clean is rows only =
     settled_again old mid new rows (back.undone still) same open_again.live
     (left_before old mid _ back.survives still (left_before mid new _ open_again.survives clean here))
     open_again.ended only
+
+pub returns-clause-kept : goal.returns-clause-kept
+returns-clause-kept g c clean is was_open =
+    let mid = state g.S.Store c.take_back.new.conn in
+    let back = c.take_back.ensures in
+    let open_again = c.is_open.ensures in
+    let still : HasCleanDisk mid = omega (arith, open_again.survives.clean, clean) in
+    let same = open_again.same clean is in
+    let undone = (back.undone still).undone same.0.was_open in (
+      same.0.now_is ∙ undone.0 ∙ sym (back.committed was_open),
+      same.0.committed_is ∙ undone.1,
+    )

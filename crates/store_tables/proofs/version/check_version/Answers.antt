@@ -8,6 +8,7 @@ use Rattle.sqlite.specs.Held.{state}
 use Rattle.sqlite.specs.Order.{Row}
 use Rattle.store_tables.specs.Looking.{Looks, meta_query, IsRefusedRows, IsRefusedStore}
 use Rattle.store_tables.specs.Shown.{shown_meta}
+use Rattle.store_tables.proofs.Asking.{meta_survives}
 use Rattle.store_tables.proofs.Calls.{if_err, on_ok}
 use Rattle.store_tables.proofs.Queries.{reads_meta}
 use Rattle.store_tables.proofs.ReadingRows.{looks_with}
@@ -75,3 +76,11 @@ returns-in-Err-clause-told g c clean =
           (inl (c.in-Err.error, fails, lacks))
       | inr has ↦ subst (IsRefusedStore old new) (sym (c.refusal_of.ensures.known has)) (c.in-Err.error, fails, has)
     ]
+
+pub returns-in-Ok-clause-survives : goal.returns-in-Ok-clause-survives
+returns-in-Ok-clause-survives g c =
+    meta_survives (state g.S.Store c.args.conn.now) (state g.S.Store c.ask.new.conn) c.ask.ensures.survives
+
+pub returns-in-Err-clause-survives : goal.returns-in-Err-clause-survives
+returns-in-Err-clause-survives g c =
+    meta_survives (state g.S.Store c.args.conn.now) (state g.S.Store c.ask.new.conn) c.ask.ensures.survives
