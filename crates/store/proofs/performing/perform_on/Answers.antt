@@ -55,3 +55,6 @@ returns-in-Err-clause-repeated g c clean society content rows was keeps kept t l
     (arith, after.survives.clean, clean) in
     c.in-Err.ensures.repeated before society content rows was keeps kept t
     (elim (after.survives.crash clean t l) [ inl was ↦ was | inr none ↦ absurd none ])
+
+pub returns-in-Err-clause-placed : goal.returns-in-Err-clause-placed
+returns-in-Err-clause-placed g c = c.refusal_after.ensures.placed c.in-Err.ensures.placed

@@ -27,6 +27,7 @@ use Rattle.store_tables.proofs.Loops.{item_left}
 use Rattle.store_tables.proofs.Queries.{only_committed}
 use Rattle.store.specs.Calls.{Performs}
 use Rattle.store.specs.Histories.{AreLost}
+use Rattle.store.proofs.Called.{run_call}
 use Rattle.store.proofs.Running.{clean_before, lost_then, one_more, performs_none, zip_none}
 use Rattle.store.proofs.archive.Archive.run.Goals as goal
 
@@ -83,3 +84,10 @@ requests-preserved g c =
           (again.0, ap (λ a. a.is_lost) again.1 ∙ lost)) (λ kept. did.lost kept)),
       λ lost. let was = inv.5 lost in (did.reopen (ap (λ a. a.is_lost) was ∙ lost)).1 ∙ was,
     )
+
+pub returns-clause-called : goal.returns-clause-called
+returns-clause-called g c =
+    let inv = c.requests.invariant in
+    run_call g.S.Store c.args.self.now.conn c.requests.self.conn c.args.self.now.is_lost c.requests.self.is_lost
+    c.args.requests.now c.requests.outcomes.items inv.4
+    (λ lost. (ap (λ a. a.conn) (inv.5 lost), ap (λ a. a.is_lost) (inv.5 lost) ∙ lost)) inv.3
