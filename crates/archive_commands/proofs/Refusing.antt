@@ -36,8 +36,8 @@ unmade {D} {g} image society kind opened left is (inr (named, inl made)) back ho
     let same = back (ap is_storage made.0) in
     let held : HasCleanDisk (file_state opened) → WhereHeld image (λ it c. HasArchive it c (file_state opened)) =
     λ clean it c t holds was.
-        let o = found clean in
-        opened_over (file_state opened) t it c o.0.0 o.0.1 (o.1.holds t holds) was in
+    let o = found clean in
+    opened_over (file_state opened) t it c o.0.0 o.0.1 (o.1.holds t holds) was in
     (is, inl (made.0, subst (λ (x : Held (FileStore D g)). WasThere image (file_state x)) (sym same) (made.1, held)))
 unmade image society kind opened left is (inr (named, inr failed)) back honest found = (
   is,

@@ -34,8 +34,8 @@ abbrev pub IsLeft : Image → RefusalKind → State → Type 0
 IsLeft image kind s = HasCleanDisk s
     → WhereHeld image (λ society c. IsFailure kind × LeavesArchive s society (λ found. found ≡ c))
 
--- what the file with its log held is all that a crash leaves; and a store that is refused for what it is, with 82 or 83,
--- shows that and has it committed, as it did before
+-- what the file with its log held is all that a crash leaves; and a store that is refused for what it is, with 82 or
+-- 83, shows that and has it committed, as it did before
 abbrev pub IsAsHeld : Image → RefusalKind → State → Type 0
 IsAsHeld image kind s = HasCleanDisk s → (t : Trees) → HoldsDatabase image t
     → ((left : Trees) → s.may_leave left → left ≡ t)

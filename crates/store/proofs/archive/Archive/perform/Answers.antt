@@ -8,5 +8,5 @@ returns-then-self-clause-called g c = lost_call g.S.Store _ _ _ _ _ c.if-self.tr
 pub returns-clause-called : goal.returns-clause-called
 returns-clause-called g c =
     performed_call g.S.Store c.args.self.now.conn c.perform_on-outcome.new.archive.conn c.args.self.now.is_lost
-    c.has_failed.result c.args.request.now c.perform_on-outcome.result c.if-self.false c.has_failed.ensures
+    c.has_failed-self.result c.args.request.now c.perform_on-outcome.result c.if-self.false c.has_failed-self.ensures
     c.perform_on-outcome.ensures.performs

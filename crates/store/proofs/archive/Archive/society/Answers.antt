@@ -8,6 +8,6 @@ returns-then-self-clause-called g c = lost_call g.S.Store _ _ _ _ _ c.if-self.tr
 
 pub returns-clause-called : goal.returns-clause-called
 returns-clause-called g c =
-    read_call g.S.Store c.args.self.now.conn c.society_on-read.new.conn c.args.self.now.is_lost c.has_broken.result
-    (has_broken c.society_on-read.result) c.if-self.false c.has_broken.ensures
+    read_call g.S.Store c.args.self.now.conn c.society_on-read.new.conn c.args.self.now.is_lost c.has_broken-self.result
+    (has_broken c.society_on-read.result) c.if-self.false c.has_broken-self.ensures
     (λ clean. (c.society_on-read.ensures.reads clean).stays)
