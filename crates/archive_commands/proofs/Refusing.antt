@@ -1,6 +1,7 @@
 -- Why no archive was made, from what `store` says of it.
 use Rattle.std.proofs.Common.{◌≡◌, ◌⊎◌, false, ℕ, List, ap, inl, inr, subst, sym}
-use Rattle.sqlite.specs.Files.{file_state}
+use Rattle.sqlite.specs.Files.{IsOpened, file_state}
+use Rattle.sqlite.specs.Start.{FindsIn}
 use Rattle.sqlite.specs.Held.{Held}
 use Rattle.sqlite.specs.State.{HasCleanDisk}
 use Rattle.sqlite_disk.specs.declared.Disk as disk
@@ -11,8 +12,10 @@ use Rattle.record_text.specs.declared.refusal.RefusalKind.TheVariants.{BadText, 
 use Rattle.store.specs.Archives.{HasArchive}
 use Rattle.store.specs.Creating.{IsSociety, RefusesToCreate}
 use Rattle.store.specs.Histories.{is_storage}
+use Rattle.store.proofs.Opened.{opened_over}
 use Rattle.archive_commands.specs.Made.{IsUnmade, IsUnmadeIn, WasThere}
 use Rattle.archive_commands.specs.Opening.{WhereHeld}
+use Rattle.archive_commands.proofs.Opened.{opened_blank, was_blank}
 
 -- what a society's name is refused with, before a file is opened
 pub unnamed : (society : List ℕ) (kind : RefusalKind) → (kind ≡ OutOfMemory) ⊎ ((kind ≡ BadText) × ¬ IsSociety society)
@@ -25,10 +28,26 @@ unnamed society kind (inr bad) = inl bad
 pub unmade : {D : Type 0} {g : disk.Ghosts D} (image : Image) (society : List ℕ) (kind : RefusalKind)
     (opened left : Held (FileStore D g)) → IsSociety society
     → RefusesToCreate society (file_state opened) (file_state left) kind → (is_storage kind ≡ false → left ≡ opened)
-    → (HasCleanDisk (file_state opened) → WhereHeld image (λ held c. HasArchive held c (file_state opened)))
+    → (HasCleanDisk (file_state left) → HasCleanDisk (file_state opened))
+    → (HasCleanDisk (file_state opened) → IsOpened opened × FindsIn image (file_state opened))
     → IsUnmadeIn image society kind (file_state left)
-unmade image society kind opened left is (inl bad) back held = absurd (bad.1 is)
-unmade {D} {g} image society kind opened left is (inr (named, inl made)) back held =
+unmade image society kind opened left is (inl bad) back honest found = absurd (bad.1 is)
+unmade {D} {g} image society kind opened left is (inr (named, inl made)) back honest found =
     let same = back (ap is_storage made.0) in
+    let held : HasCleanDisk (file_state opened) → WhereHeld image (λ it c. HasArchive it c (file_state opened)) =
+    λ clean it c t holds was.
+    let o = found clean in
+    opened_over (file_state opened) t it c o.0.0 o.0.1 (o.1.holds t holds) was in
     (is, inl (made.0, subst (λ (x : Held (FileStore D g)). WasThere image (file_state x)) (sym same) (made.1, held)))
-unmade image society kind opened left is (inr (named, inr failed)) back held = (is, inr failed.0)
+unmade image society kind opened left is (inr (named, inr failed)) back honest found = (
+  is,
+  inr (
+    failed.0,
+    (λ clean t holds.
+        let o = found (honest clean) in
+        was_blank (file_state opened) t o.0.0 o.0.1 failed.1 (o.1.holds t holds)),
+    (λ clean t l.
+        let o = found (honest clean) in
+        failed.2 clean (opened_blank (file_state opened) o.0.0 o.0.1 failed.1) t l),
+  ),
+)

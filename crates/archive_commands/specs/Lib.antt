@@ -1,4 +1,5 @@
 pub mod Applying
+pub mod Closing
 pub mod Entering
 pub mod Made
 pub mod Opening

@@ -1,5 +1,5 @@
 -- An archive taken up in a file, by what the file and its log held as they were opened. Rules of our own.
-use Rattle.std.specs.Prelude.{◌≡◌, ◌⊎◌, ℕ, false, List, Option, None, Some}
+use Rattle.std.specs.Prelude.{◌≡◌, ◌⊎◌, ℕ, true, false, List, Option, None, Some}
 use Rattle.sqlite.specs.Files.{HoldsDatabase, file_state}
 use Rattle.sqlite.specs.Held.{Held}
 use Rattle.sqlite.specs.State.{State, HasCleanDisk}
@@ -11,6 +11,7 @@ use Rattle.archive_state.specs.Content.{Content}
 use Rattle.record_text.specs.declared.refusal.RefusalKind.{RefusalKind}
 use Rattle.record_text.specs.declared.refusal.RefusalKind.TheVariants.{NotAnArchive, Storage}
 use Rattle.store_tables.specs.Looking.{IsFailure}
+use Rattle.store.specs.Adopting.{is_foreign}
 use Rattle.store.specs.Archives.{HasArchive, IsArchive, LeavesArchive}
 
 -- of each archive that the file with its log held, by its society and what it holds
@@ -33,8 +34,16 @@ abbrev pub IsLeft : Image → RefusalKind → State → Type 0
 IsLeft image kind s = HasCleanDisk s
     → WhereHeld image (λ society c. IsFailure kind × LeavesArchive s society (λ found. found ≡ c))
 
+-- what the file with its log held is all that a crash leaves; and a store that is refused for what it is, with 82 or
+-- 83, shows that and has it committed, as it did before
+abbrev pub IsAsHeld : Image → RefusalKind → State → Type 0
+IsAsHeld image kind s = HasCleanDisk s → (t : Trees) → HoldsDatabase image t
+    → ((left : Trees) → s.may_leave left → left ≡ t)
+    × (is_foreign kind ≡ true → (s.now.trees ≡ t) × (s.committed.trees ≡ t))
+
 module _ {D : Type 0} {g : disk.Ghosts D} where
   -- no archive was taken up, with the connection where a file was opened
   abbrev pub Unopened : Image → RefusalKind → Option (Held (FileStore D g)) → Type 0
   Unopened image kind None = IsUnopened kind
   Unopened image kind (Some conn) = (conn.in_transaction ≡ false) × IsLeft image kind (file_state conn)
+      × IsAsHeld image kind (file_state conn)

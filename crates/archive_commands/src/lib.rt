@@ -13,4 +13,4 @@ mod running;
 
 pub use entering::entries;
 pub use opening::OpenFile;
-pub use running::{apply, close, init};
+pub use running::{ClosedFile, apply, close, init};

@@ -71,7 +71,7 @@ pub(crate) fn create<S: Start>(
     start: S,
     society: &str,
 ) -> Result<Archive<FileStore<FileFrom<S>>>, (RefusalKind, Option<OpenFile<S>>)>
-    ensures created { IfOk result (λ made. IsMadeFor society.now (file_state made.conn)) }
+    ensures created { IfOk result (λ made. IsMadeFor (image_at S.Start) society.now (file_state made.conn)) }
     ensures refused { IfErr result (λ e. Unmade (image_at S.Start) society.now e.0 e.1) }
 {
     match society_given(rt.alloc(), society) {
@@ -87,7 +87,8 @@ fn create_named<S: Start>(
     society: String,
 ) -> Result<Archive<FileStore<FileFrom<S>>>, (RefusalKind, Option<OpenFile<S>>)>
     requires named { IsSociety (string_bytes society) }
-    ensures created { IfOk result (λ made. IsMadeFor (string_bytes society) (file_state made.conn)) }
+    ensures created { IfOk result (λ made. IsMadeFor (image_at S.Start) (string_bytes society)
+        (file_state made.conn)) }
     ensures refused { IfErr result (λ e. Unmade (image_at S.Start) (string_bytes society) e.0 e.1) }
 {
     match Connection::open_from(rt, file, false, start) {

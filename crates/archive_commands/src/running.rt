@@ -1,18 +1,22 @@
 //! The commands on an archive in a file.
 
-ghost use Rattle.std.specs.Prelude.{IfErr, OnOk};
+ghost use Rattle.std.specs.Prelude.{◌≡◌, IfErr, IsSomeAnd, MatchOption, None, OnOk};
 ghost use Rattle.sqlite_wal.specs.Files.{image_at};
 ghost use Rattle.devices.specs.Devices.{Rose};
 ghost use Rattle.batch_reading.specs.Input.{row_bytes};
 ghost use Rattle.archive_commands.specs.Applying.{Answered, Unanswered};
+ghost use Rattle.archive_commands.specs.Closing.{IsClosedOver};
 ghost use Rattle.archive_commands.specs.Made.{IsMadeIn, Unmade};
 
 use crate::opening::{OpenFile, create, open};
 use devices::Device;
 use record_text::RefusalKind;
-use sqlite::Start;
+use sqlite::{FileFrom, FileStore, Files, Start};
 use std::io::{Read, Write};
 use std::rt::HostRuntime;
+
+/// The file and the log beside it after a close; or, where the log could not be copied, the store over them.
+pub type ClosedFile<S> = Result<Files<FileFrom<S>>, FileStore<FileFrom<S>>>;
 
 /// `init`: a new archive of a society in a file, with the connection over the file where one was opened.
 ///
@@ -24,7 +28,7 @@ pub fn init<S: Start>(
     society: &str,
     start: S,
 ) -> (Result<(), RefusalKind>, Option<OpenFile<S>>)
-    ensures made { OnOk result.0 (IsMadeIn society.now result.1) }
+    ensures made { OnOk result.0 (IsMadeIn (image_at S.Start) society.now result.1) }
     ensures refused { IfErr result.0 (λ kind. Unmade (image_at S.Start) society.now kind result.1) }
 {
     match create(rt, file, start, society) {
@@ -61,10 +65,14 @@ pub fn apply<S: Start, R: Read + Device, W: Write + Device, F: Write + Device>(
     }
 }
 
-/// Closes the connection over a file where one was opened, which copies the log into the file. Where that fails nothing
-/// is lost: the log has what was committed.
-pub fn close<S: Start>(left: Option<OpenFile<S>>) {
-    if let Some(conn) = left {
-        let _ = conn.close();
+/// Closes the connection over a file where one was opened, which copies the log into the file, and hands back what is
+/// left: the two files, or the store over them where that failed. Nothing is lost then: the log has what was committed.
+pub fn close<S: Start>(left: Option<OpenFile<S>>) -> Option<ClosedFile<S>>
+    ensures closed { MatchOption left (result ≡ None) (λ conn. IsSomeAnd result (IsClosedOver conn)) }
+{
+    let conn = left?;
+    match conn.close_files() {
+        Ok(files) => Some(Ok(files)),
+        Err((_, store)) => Some(Err(store)),
     }
 }

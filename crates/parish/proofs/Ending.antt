@@ -55,7 +55,7 @@ module _ {D : Type 0} {g : disk.Ghosts D} (image : Image) where
 
   init_by : {A : Type 0} (r : Result A RefusalKind) (society : List ℕ) (status : ℕ)
       (left : Option (Held (FileStore D g))) → status ≡ (if is_ok r then 0 else 1)
-      → OnOk r (IsMadeIn society left) → IfErr r (λ kind. Unmade image society kind left)
+      → OnOk r (IsMadeIn image society left) → IfErr r (λ kind. Unmade image society kind left)
       → InitEnds image society status left
   init_by (Ok a) society status left e made unmade = record {
     bound = omega (arith, e);
@@ -87,7 +87,7 @@ module _ {D : Type 0} {g : disk.Ghosts D} (image : Image) where
   -- the same of the society that the words name, and of the connection as it is handed on
   pub init_ends : {A : Type 0} (r : Result A RefusalKind) (given named : List ℕ) (status : ℕ)
       (left back : Option (Held (FileStore D g))) → given ≡ named → back ≡ left
-      → status ≡ (if is_ok r then 0 else 1) → OnOk r (IsMadeIn given left)
+      → status ≡ (if is_ok r then 0 else 1) → OnOk r (IsMadeIn image given left)
       → IfErr r (λ kind. Unmade image given kind left) → InitEnds image named status back
   init_ends r given named status left back is same e made unmade =
       subst (λ (x : Option (Held (FileStore D g))). InitEnds image named status x) (sym same)

@@ -111,7 +111,7 @@ module _ {D : Type 0} {g : disk.Ghosts D} where
   pub record InitEnds (image : Image) (society : List ℕ) (status : ℕ)
       (left : Option (Held (FileStore D g))) : Type 0 where
     pub bound : status ≤ 1
-    pub done : status ≡ 0 → IsMadeIn society left
+    pub done : status ≡ 0 → IsMadeIn image society left
     pub refused : status ≡ 1 → (kind : RefusalKind) × Unmade image society kind left
 
   -- ---- apply

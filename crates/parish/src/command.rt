@@ -81,7 +81,9 @@ pub fn command<S: Start, R: Read + Device, W: Write + Device, F: Write + Device>
         → EntersBatch R.Read R.Device W.Write W.Device (image_at S.Start) (token_in (map string_bytes words.now))
         (source_in (map string_bytes words.now))
         result.0 input.old input.new output.old output.new result.1 }
-    ensures others { ¬ (IsTaken (map string_bytes words.now)) → input.new ≡ input.old }
+    ensures others { ¬ (IsTaken (map string_bytes words.now)) → (input.new ≡ input.old) × (result.1 ≡ None) }
+    ensures norm_alone { AreOf (map string_bytes words.now) (codes "norm") → result.1 ≡ None }
+    ensures check_alone { AreOf (map string_bytes words.now) (codes "check") → result.1 ≡ None }
 {
     match read_words(rt.alloc(), words) {
         Ok(asked) => work(rt, asked, start, input, output, faults),
@@ -116,7 +118,9 @@ fn work<S: Start, R: Read + Device, W: Write + Device, F: Write + Device>(
         → EntersBatch R.Read R.Device W.Write W.Device (image_at S.Start) (word_in found (codes "token"))
         (number_of (word_in found (codes "source")))
         result.0 input.old input.new output.old output.new result.1 }
-    ensures text { name_of asked.entry ≡ None → input.new ≡ input.old }
+    ensures text { name_of asked.entry ≡ None → (input.new ≡ input.old) × (result.1 ≡ None) }
+    ensures norm_alone { name_of asked.entry ≡ Some (codes "norm") → result.1 ≡ None }
+    ensures check_alone { name_of asked.entry ≡ Some (codes "check") → result.1 ≡ None }
 {
     match asked {
         Asked::Norm => (norm(rt.alloc(), input, output, faults), None),

@@ -4,11 +4,14 @@
 //! whatever the file of an archive holds.
 #![tactic(auto)]
 
+ghost use Rattle.std.specs.Prelude.{◌≡◌, IsSomeAnd, MatchOption, None};
+ghost use Rattle.archive_commands.specs.Closing.{IsClosedOver};
+
 mod batches;
 mod command;
 mod telling;
 
-use archive_commands::{OpenFile, close};
+use archive_commands::{ClosedFile, OpenFile, close};
 use gedcom_tree::Counted;
 use sqlite::{Start, Unknown};
 use std::process::ExitCode;
@@ -24,11 +27,13 @@ fn words_of(rt: &(impl Env + AllocGlobal)) -> io::Result<Vec<String>> {
     Ok(words)
 }
 
-/// The status of what was done, after the file that was opened for it is closed.
-fn closed<S: Start>(done: (u8, Option<OpenFile<S>>)) -> u8 {
+/// The status of what was done, after the file that was opened for it is closed, and what is left of that.
+fn closed<S: Start>(done: (u8, Option<OpenFile<S>>)) -> (u8, Option<ClosedFile<S>>)
+    ensures status { result.0 ≡ done.0 }
+    ensures closed { MatchOption done.1 (result.1 ≡ None) (λ conn. IsSomeAnd result.1 (IsClosedOver conn)) }
+{
     let (status, left) = done;
-    close(left);
-    status
+    (status, close(left))
 }
 
 fn main(rt: HostRuntime) -> ExitCode {
@@ -36,14 +41,17 @@ fn main(rt: HostRuntime) -> ExitCode {
     let mut output = Counted::new(rt.stdout());
     let mut faults = Counted::new(rt.stderr());
     let status = match words_of(&rt) {
-        Ok(words) => closed(command::command(
-            &rt,
-            &words,
-            Unknown,
-            &mut input,
-            &mut output,
-            &mut faults,
-        )),
+        Ok(words) => {
+            let (status, _left) = closed(command::command(
+                &rt,
+                &words,
+                Unknown,
+                &mut input,
+                &mut output,
+                &mut faults,
+            ));
+            status
+        }
         Err(error) => command::refuse_command_line(&error, &mut faults),
     };
     ExitCode::from(status)

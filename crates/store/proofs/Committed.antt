@@ -124,7 +124,7 @@ module _ (society : List ℕ) (c : Content) (rows : Rows) (r : Request) (changes
   ]
 
 -- ---- a request by itself
-unless_failed : (b : Bool) (r : Request) → b ≡ false → cond b (Some r) None ≡ None
+pub unless_failed : (b : Bool) (r : Request) → b ≡ false → cond b (Some r) None ≡ None
 unless_failed b r e = ap (λ x. cond x (Some r) None) e
 
 failed_is_doubted : (b : Bool) (r : Request) → cond b (Some r) None ≡ None → b ≡ false
@@ -195,6 +195,9 @@ ok_performs old new r a ack leaves clean = record {
   done = λ none society c has.
       let did = ack society c has.0 has.1 has.2 in
       (did.0, (did.0, did.2, refl), (did.1, did.3, did.4));
+  rows = λ none society c rows was keeps.
+      let did = ack society c rows was keeps in
+      (did.0, did.1, (did.0, did.1, did.2, did.5, (refl, refl)), did.3, did.4);
   crash = λ society c has t l.
       let did = ack society c has.0 has.1 has.2 in
       (did.0, (did.0, did.2, refl), (did.1, leaves did.1 did.3 t l, did.4));
@@ -223,6 +226,9 @@ module _ (old new : State) (r : Request) (e : Refusal)
     done = λ none society c has.
         let did = refused (not_failed r (Err e) none) society c has.0 has.1 has.2 in
         (c, (c, did.0, refl), (has.0, did.1, has.2));
+    rows = λ none society c rows was keeps.
+        let did = refused (not_failed r (Err e) none) society c rows was keeps in
+        (c, rows, (c, rows, did.0, (λ m same. (refl, refl)), (refl, refl)), did.1, keeps);
     crash = left_by (is_storage e.kind) refl;
     clean = clean;
   }

@@ -23,16 +23,14 @@ use Rattle.std.proofs.Common.{
   subst,
 }
 use Rattle.sqlite.specs.State.{State}
-use Rattle.sqlite.specs.Tree.{Trees}
-use Rattle.sqlite_trees.specs.declared.store.Store.{Ghosts}
 use Rattle.archive_state.specs.Content.{Content}
 use Rattle.archive_core.specs.Machine.{Done, Runs}
 use Rattle.archive_core.specs.declared.request.Request.{Request}
 use Rattle.archive_core.proofs.Serving.{joined}
-use Rattle.store.specs.Archives.{IsArchive}
-use Rattle.store.specs.Calls.{Performs}
+use Rattle.store_tables.specs.Rows.{Rows}
+use Rattle.store.specs.Calls.{Performs, RunsOn}
 use Rattle.store.specs.Histories.{Allows, MayBeFound, answered, has_failed, in_doubt}
-use Rattle.store.specs.Lives.{CountInAll, Counts, Life, Session}
+use Rattle.store.specs.Lives.{Counts}
 
 -- ---- calls after calls of which none is in doubt
 some_is_not : (r : Request) → ◌≡◌ {A = Option Request} (Some r) None → ⊥
@@ -66,6 +64,13 @@ found_after c between found xs ys none first h =
     (subst (λ dones. Allows c dones (in_doubt ys) found) (sym (answered_after xs ys none))
     (allowed_after c between found xs (answered ys) (in_doubt ys) first h))
 
+runs_joined : (xs ys : List Done) (c between after : Content) (rows mid now : Rows) → RunsOn c rows xs between mid
+    → RunsOn between mid ys after now → RunsOn c rows (xs ++ ys) after now
+runs_joined [] ys c between after rows mid now h k =
+    subst (λ d. RunsOn d rows ys after now) h.0 (subst (λ r. RunsOn between r ys after now) h.1 k)
+runs_joined (x ∷ xs) ys c between after rows mid now h k =
+    (h.0, h.1, h.2, h.3, runs_joined xs ys h.0 between after h.1 mid now h.4 k)
+
 pub performs_then : (a b d : State) (xs ys : List Done) → Performs a xs b → in_doubt xs ≡ None → Performs b ys d
     → Performs a (xs ++ ys) d
 performs_then a b d xs ys first none next = record {
@@ -73,6 +78,10 @@ performs_then a b d xs ys first none next = record {
       let one = first.done none society c has in
       let two = next.done (sym (doubt_after xs ys none) ∙ all) society one.0 one.2 in
       (two.0, joined xs ys c one.0 two.0 one.1 two.1, two.2);
+  rows = λ all society c rows was keeps.
+      let one = first.rows none society c rows was keeps in
+      let two = next.rows (sym (doubt_after xs ys none) ∙ all) society one.0 one.1 one.3 one.4 in
+      (two.0, two.1, runs_joined xs ys c one.0 two.0 rows one.1 two.1 one.2 two.2, two.3, two.4);
   crash = λ society c has t leaves.
       let one = first.done none society c has in
       let left = next.crash society one.0 one.2 t leaves in
@@ -106,6 +115,7 @@ pub performs_still : (a b : State) (xs ys : List Done) (s : Request) → Perform
     → Performs a (xs ++ ys) b
 performs_still a b xs ys s first doubted = record {
   done = λ none. absurd (some_is_not s (sym doubted ∙ sym (doubt_stays xs ys s doubted) ∙ none));
+  rows = λ none. absurd (some_is_not s (sym doubted ∙ sym (doubt_stays xs ys s doubted) ∙ none));
   crash = λ society c has t leaves.
       let left = first.crash society c has t leaves in (
         left.0,
@@ -117,7 +127,7 @@ performs_still a b xs ys s first doubted = record {
 }
 
 -- ---- what counts
-counted : (calls : List Done) (c found : Content) (o : Option Request) → in_doubt calls ≡ o
+pub counted : (calls : List Done) (c found : Content) (o : Option Request) → in_doubt calls ≡ o
     → Allows c (answered calls) o found
     → (dones : List Done) × Counts calls dones × Runs c dones found
 counted calls c found None e runs = (answered calls, inl refl, runs)
@@ -129,26 +139,3 @@ counted calls c found (Some r) e h = elim h.2 [
     joined (answered calls) ((r, Ok did.0) ∷ []) c h.0 found h.1 (found, did.1, refl),
   )
 ]
-
-of_session : {S : Type 0} (g : Ghosts S) (before after : Trees) (calls : List Done) (society : List ℕ) (c : Content)
-    → Session g before calls after → IsArchive society c before
-    → (found : Content) × (dones : List Done) × IsArchive society found after × Counts calls dones × Runs c dones found
-of_session g before after calls society c s is =
-    let left = s.3.crash society c (s.2 society c is) after s.4 in
-    let all = counted calls c left.0 (in_doubt calls) refl left.1 in
-    (left.0, all.0, left.2, all.1, all.2)
-
-pub of_life : {S : Type 0} (g : Ghosts S) (more : List (List Done)) (before after : Trees) (calls : List Done)
-    (society : List ℕ) (c : Content) → Life g before calls more after → IsArchive society c before
-    → (found : Content) × (dones : List Done) × IsArchive society found after × CountInAll calls more dones
-    × Runs c dones found
-of_life g [] before after calls society c life is = of_session g before after calls society c life is
-of_life g (next ∷ more) before after calls society c life is =
-    let one = of_session g before life.0 calls society c life.1 is in
-    let rest = of_life g more life.0 after next society one.0 life.2 one.2 in (
-      rest.0,
-      one.1 ++ rest.1,
-      rest.2,
-      (one.1, rest.1, one.3, rest.3, refl),
-      joined one.1 rest.1 c one.0 rest.0 one.4 rest.4,
-    )

@@ -1,7 +1,10 @@
+mod Called
 mod Committed
 pub mod Histories
 mod Looked
+pub mod Opened
 mod Recognised
 mod Running
+mod Sessions
 mod Unchanged
 mod Viewed

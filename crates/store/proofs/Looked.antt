@@ -27,9 +27,7 @@ pub ok_reads : {A : Type 0} (Is : List ℕ → Content → A → Type 0) (old ne
 ok_reads Is old new a is same leaves clean = record {
   read = λ society c has. is has.0 society c has.1 has.2;
   refused = tt;
-  same = λ sure society c has. (has.0, same has.0 has.1, has.2);
-  crash = λ society c has t l. (c, refl, (has.0, leaves has.0 has.1 t l, has.2));
-  clean = clean;
+  stays = record { same = λ sure. same; crash = leaves; clean = clean };
 }
 
 fails_as : (b : Bool) (kind result : RefusalKind) → is_storage result ≡ b → (b ≡ false → result ≡ kind) → IsFailure kind
@@ -47,9 +45,11 @@ pub err_reads : {A : Type 0} (Is : List ℕ → Content → A → Type 0) (old m
 err_reads Is old mid new kind result failure leaves clean settled same left = record {
   read = tt;
   refused = λ society c has. fails_as (is_storage result) kind result refl same (failure society c has);
-  same = λ sure society c has. (has.0, settled sure has.0 (leaves has.0 has.1), has.2);
-  crash = λ society c has t l. (c, refl, (has.0, leaves has.0 has.1 t (left t l), has.2));
-  clean = clean;
+  stays = record {
+    same = λ sure rows was. settled sure rows (leaves rows was);
+    crash = λ rows was t l. leaves rows was t (left t l);
+    clean = clean;
+  };
 }
 
 -- ---- a new archive

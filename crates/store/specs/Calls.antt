@@ -1,5 +1,5 @@
 -- What the calls of an archive do. All is said of good tables; of others nothing is promised but the refusals.
-use Rattle.std.specs.Prelude.{ℕ, ◌≡◌, ◌==◌, ◌⊎◌, false, List, filter, None, Result, Ok, IfOk, IfErr}
+use Rattle.std.specs.Prelude.{ℕ, Bool, ◌≡◌, ◌==◌, ◌⊎◌, false, List, [], ◌∷◌, filter, None, Result, Ok, IfOk, IfErr}
 use Rattle.std.specs.FinMap.{get}
 use Rattle.sqlite.specs.State.{State, HasCleanDisk}
 use Rattle.sqlite.specs.Tree.{Trees}
@@ -12,32 +12,11 @@ use Rattle.archive_state.specs.Applied.{applied}
 use Rattle.archive_state.specs.Changes.{Changes}
 use Rattle.store_rows.specs.Meaning.{AllShallow}
 use Rattle.store_rows.specs.Writing.{with_changes}
-use Rattle.store_tables.specs.Calls.{Good, Settled}
+use Rattle.store_tables.specs.Calls.{Good, LeavesOnly, Settled}
 use Rattle.store_tables.specs.Looking.{IsFailure}
 use Rattle.store_tables.specs.Rows.{Rows, LineRow, RecordRow}
 use Rattle.store.specs.Archives.{HasArchive, IsArchive, Keeps, LeavesArchive}
 use Rattle.store.specs.Histories.{Accepts, MayBeFound, has_broken, in_doubt}
-
--- requests with their outcomes. Where the database did not fail, they are a run of the machine, and the archive holds
--- what it leaves; in any case a stop leaves what their history allows
-pub record Performs (old : State) (calls : List Done) (new : State) : Type 0 where
-  pub done : in_doubt calls ≡ None → (society : List ℕ) (c : Content) → HasArchive society c old
-      → (after : Content) × Runs c calls after × HasArchive society after new
-  pub crash : (society : List ℕ) (c : Content) → HasArchive society c old → LeavesArchive new society
-      (MayBeFound c calls)
-  pub clean : HasCleanDisk old
-
--- a call that reads: it answers this of what the archive holds, which stays, also after a stop; it is refused only for
--- want of memory, or because the database failed
-pub record Reads {A : Type 0} (Is : List ℕ → Content → A → Type 0) (old : State) (result : Result A RefusalKind)
-    (new : State) : Type 0 where
-  pub read : IfOk result (λ (a : A). (society : List ℕ) (c : Content) → HasArchive society c old → Is society c a)
-  pub refused : IfErr result (λ kind. (society : List ℕ) (c : Content) → HasArchive society c old → IsFailure kind)
-  pub same : has_broken result ≡ false → (society : List ℕ) (c : Content) → HasArchive society c old
-      → HasArchive society c new
-  pub crash : (society : List ℕ) (c : Content) → HasArchive society c old → LeavesArchive new society
-      (λ found. found ≡ c)
-  pub clean : HasCleanDisk old
 
 -- the rows of each number at which the same is before and after: its row in `record` and its lines, with their keys
 abbrev pub KeepsRows : Content → Content → Rows → Rows → Type 0
@@ -49,6 +28,42 @@ KeepsRows c after rows now = (m : ℕ) → get c.records m ≡ get after.records
 abbrev pub OnArchive : State → (List ℕ → Content → Rows → Type 0) → Type 0
 OnArchive s P = (society : List ℕ) (c : Content) (rows : Rows) → Settled s rows → Keeps society c rows
     → P society c rows
+
+-- a run of the machine on rows: each request leaves the rows of what it does not change
+abbrev pub RunsOn : Content → Rows → List Done → Content → Rows → Type 0
+RunsOn c rows [] after now = (after ≡ c) × (now ≡ rows)
+RunsOn c rows (call ∷ more) after now = (between : Content) × (mid : Rows) × Does c call.0 call.1 between
+    × KeepsRows c between rows mid × RunsOn between mid more after now
+
+-- the rows of the archive after such a run
+abbrev pub RunTo : List ℕ → Content → Rows → List Done → State → Type 0
+RunTo society c rows calls new = (after : Content) × (now : Rows) × RunsOn c rows calls after now × Settled new now
+    × Keeps society after now
+
+-- requests with their outcomes. Where the database did not fail, they are a run of the machine, and the archive holds
+-- what it leaves, on its rows too; in any case a stop leaves what their history allows
+pub record Performs (old : State) (calls : List Done) (new : State) : Type 0 where
+  pub done : in_doubt calls ≡ None → (society : List ℕ) (c : Content) → HasArchive society c old
+      → (after : Content) × Runs c calls after × HasArchive society after new
+  pub rows : in_doubt calls ≡ None → OnArchive old (λ society c rows. RunTo society c rows calls new)
+  pub crash : (society : List ℕ) (c : Content) → HasArchive society c old → LeavesArchive new society
+      (MayBeFound c calls)
+  pub clean : HasCleanDisk old
+
+-- a call that writes nothing: unless the database failed, settled tables stay settled, with the rows that they have; a
+-- crash leaves these rows in any case
+pub record Stays (old : State) (failed : Bool) (new : State) : Type 0 where
+  pub same : failed ≡ false → (rows : Rows) → Settled old rows → Settled new rows
+  pub crash : (rows : Rows) → Settled old rows → LeavesOnly new rows
+  pub clean : HasCleanDisk old
+
+-- a call that reads: it answers this of what the archive holds, which stays, also after a stop; it is refused only for
+-- want of memory, or because the database failed
+pub record Reads {A : Type 0} (Is : List ℕ → Content → A → Type 0) (old : State) (result : Result A RefusalKind)
+    (new : State) : Type 0 where
+  pub read : IfOk result (λ (a : A). (society : List ℕ) (c : Content) → HasArchive society c old → Is society c a)
+  pub refused : IfErr result (λ kind. (society : List ℕ) (c : Content) → HasArchive society c old → IsFailure kind)
+  pub stays : Stays old (has_broken result) new
 
 -- an acknowledged request is done, and leaves the rows of what it does not change
 abbrev pub AcknowledgedBy : List ℕ → Content → Rows → Request → Answer → State → Type 0

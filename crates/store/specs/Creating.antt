@@ -22,7 +22,8 @@ LeavesBlankOrNew society old new = HasCleanDisk new → SettledBlank old → (t 
 -- 82: something was made in the store before; 80: the database failed
 abbrev pub RefusesToMake : List ℕ → State → State → RefusalKind → Type 0
 RefusesToMake society old new kind =
-    ((kind ≡ NotAnArchive) × (old.now.schema ≢ no_schema)) ⊎ ((kind ≡ Storage) × LeavesBlankOrNew society old new)
+    ((kind ≡ NotAnArchive) × (old.now.schema ≢ no_schema))
+    ⊎ ((kind ≡ Storage) × (old.now.schema ≡ no_schema) × LeavesBlankOrNew society old new)
 
 -- 58: the society has no name; else as above
 abbrev pub RefusesToCreate : List ℕ → State → State → RefusalKind → Type 0

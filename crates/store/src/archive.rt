@@ -5,6 +5,7 @@ ghost use Rattle.std.specs.Prelude.{
   ◌≢◌,
   ◌⊎◌,
   ⊤,
+  true,
   List,
   ℕ,
   [],
@@ -16,6 +17,7 @@ ghost use Rattle.std.specs.Prelude.{
   Err,
   IfOk,
   IfErr,
+  OnOk,
   IsTrue,
   MatchOption,
 };
@@ -24,16 +26,19 @@ ghost use Rattle.std.specs.String.{string_bytes};
 ghost use Rattle.std.specs.FinMap.{get};
 ghost use Rattle.sqlite.specs.State.{HasCleanDisk};
 ghost use Rattle.sqlite.specs.Held.{state};
+ghost use Rattle.sqlite.specs.Tree.{Trees};
+ghost use Rattle.archive_view.specs.Looks.{is_stop};
 ghost use Rattle.record_text.specs.declared.refusal.RefusalKind.TheVariants as refusal;
 ghost use Rattle.archive_core.specs.Steps.{refused_at};
 ghost use Rattle.archive_state.specs.Content.{nothing};
-ghost use Rattle.store_tables.specs.Calls.{SettledBlank, LeavesOnly};
+ghost use Rattle.store_tables.specs.Calls.{IsAsItWas, Settled, SettledBlank, LeavesOnly};
 ghost use Rattle.store_tables.specs.Schema.{no_schema};
-ghost use Rattle.store.specs.Adopting.{RefusesToAdopt};
+ghost use Rattle.store.specs.Adopting.{IsRecognised, LeavesStore, RefusesToAdopt, is_foreign};
 ghost use Rattle.store.specs.Archives.{HasArchive, LeavesArchive};
 ghost use Rattle.store.specs.Calls.{Acknowledges, OnArchive, Performs, Reads};
 ghost use Rattle.store.specs.Creating.{IsSociety, RefusesToCreate, RefusesToMake};
 ghost use Rattle.store.specs.Histories.{AreLost, has_broken, has_failed, is_storage};
+ghost use Rattle.store.specs.Lives.{IsCall, IsOpenedOver};
 
 use crate::failing::{has_broken, has_failed};
 use crate::performing::perform_on;
@@ -71,11 +76,13 @@ impl<S: Alter> Archive<S> {
             (state S.Store made.conn) (string_bytes society) (λ found. found ≡ nothing)) }
         ensures named { IfOk result (λ made. (made.is_lost ≡ false) × IsSociety (string_bytes society)
             × ((state S.Store conn).now.schema ≡ no_schema)) }
+        ensures quiet { IfOk result (λ made. made.failures ≡ 0) }
         ensures refused { IfErr result (λ e. RefusesToCreate (string_bytes society) (state S.Store conn)
             (state S.Store e.1) e.0) }
         ensures back { IfErr result (λ e. is_storage e.0 ≡ false → e.1 ≡ conn) }
         ensures clean { IfOk result (λ made. HasCleanDisk (state S.Store made.conn)
             → HasCleanDisk (state S.Store conn)) }
+        ensures honest { IfErr result (λ e. HasCleanDisk (state S.Store e.1) → HasCleanDisk (state S.Store conn)) }
         ensures ended { IfErr result (λ e. e.1.in_transaction ≡ false) }
     {
         match society_named(society) {
@@ -92,6 +99,15 @@ impl<S: Alter> Archive<S> {
         ensures adopted { IfOk result (λ made. (made.is_lost ≡ false)
             × (HasCleanDisk (state S.Store made.conn) → Reads {A = Unit {0}} (λ _ _ _. ⊤) (state S.Store conn) (Ok tt)
             (state S.Store made.conn))) }
+        ensures recognised { IfOk result (λ made. HasCleanDisk (state S.Store made.conn)
+            → IsRecognised S.Store (state S.Store conn)) }
+        ensures quiet { IfOk result (λ made. made.failures ≡ 0) }
+        ensures begins { IfOk result (λ made. HasCleanDisk (state S.Store made.conn) → (t : Trees)
+            → IsOpenedOver t (state S.Store conn) → IsOpenedOver t (state S.Store made.conn)) }
+        ensures taken { IfOk result (λ made. LeavesStore (state S.Store conn) (state S.Store made.conn)) }
+        ensures left { IfErr result (λ e. LeavesStore (state S.Store conn) (state S.Store e.1)) }
+        ensures unchanged { IfErr result (λ e. HasCleanDisk (state S.Store e.1) → is_foreign e.0 ≡ true
+            → IsAsItWas (state S.Store conn) (state S.Store e.1)) }
         ensures refused { IfErr result (λ e. HasCleanDisk (state S.Store e.1)
             → Reads {A = Unit {0}} (λ _ _ _. ⊤) (state S.Store conn) (Err e.0) (state S.Store e.1)) }
         ensures told { IfErr result (λ e. HasCleanDisk (state S.Store e.1) → RefusesToAdopt S.Store
@@ -124,7 +140,15 @@ impl<S: Alter> Archive<S> {
             get c.receipts «request».now.token ≢ None → LeavesOnly (state S.Store self.new.conn) rows) }
         ensures lost { self.old.is_lost ≡ false → self.new.is_lost ≡ has_failed result }
         ensures reopen { IsTrue self.old.is_lost → (result ≡ Err (refused_at None refusal.Reopen))
-            × (self.new.conn ≡ self.old.conn) × IsTrue self.new.is_lost }
+            × (self.new ≡ self.old) }
+        ensures refused { HasCleanDisk (state S.Store self.new.conn) → self.old.is_lost ≡ false
+            → IfErr result (λ e. is_storage e.kind ≡ false
+            → OnArchive (state S.Store self.old.conn) (λ society c rows. Settled (state S.Store self.new.conn) rows)) }
+        ensures placed { IfErr result (λ e. is_stop e.kind ≡ true → e.at ≡ None) }
+        ensures quiet { HasCleanDisk (state S.Store self.new.conn) → self.old.is_lost ≡ false
+            → OnArchive (state S.Store self.old.conn) (λ society c rows. OnOk result (self.new.failures ≡ 0)) }
+        ensures called { IsCall S.Store self.old.conn self.old.is_lost ((«request».now, result) ∷ []) self.new.conn
+            self.new.is_lost }
     {
         if self.is_lost {
             return Err(RefusalKind::Reopen.into());
@@ -146,6 +170,9 @@ impl<S: Alter> Archive<S> {
             × (HasCleanDisk (state S.Store self.new.conn) → self.old.is_lost ≡ false
             → Performs (state S.Store self.old.conn) (zip requests.now outcomes.items) (state S.Store self.new.conn))) }
         ensures lost { IfOk result (λ outcomes. AreLost self.old.is_lost outcomes.items self.new.is_lost) }
+        ensures reopen { IsTrue self.old.is_lost → self.new ≡ self.old }
+        ensures called { IfOk result (λ outcomes. IsCall S.Store self.old.conn self.old.is_lost
+            (zip requests.now outcomes.items) self.new.conn self.new.is_lost) }
         ensures refused { IfErr result (λ e. (e ≡ refused_at None refusal.OutOfMemory) × (self.new ≡ self.old)) }
     {
         let mut outcomes = Vec::with_capacity(alloc, requests.len())?;
@@ -164,8 +191,8 @@ impl<S: Alter> Archive<S> {
         ensures reads { HasCleanDisk (state S.Store self.new.conn) → self.old.is_lost ≡ false
             → Reads (λ _ c held. held ≡ c) (state S.Store self.old.conn) result (state S.Store self.new.conn) }
         ensures lost { self.old.is_lost ≡ false → self.new.is_lost ≡ has_broken result }
-        ensures reopen { IsTrue self.old.is_lost → (result ≡ Err refusal.Reopen) × (self.new.conn ≡ self.old.conn)
-            × IsTrue self.new.is_lost }
+        ensures reopen { IsTrue self.old.is_lost → (result ≡ Err refusal.Reopen) × (self.new ≡ self.old) }
+        ensures called { IsCall S.Store self.old.conn self.old.is_lost [] self.new.conn self.new.is_lost }
     {
         if self.is_lost {
             return Err(RefusalKind::Reopen);
@@ -181,8 +208,8 @@ impl<S: Alter> Archive<S> {
             → Reads (λ society _ text. text ≡ society) (state S.Store self.old.conn) result
             (state S.Store self.new.conn) }
         ensures lost { self.old.is_lost ≡ false → self.new.is_lost ≡ has_broken result }
-        ensures reopen { IsTrue self.old.is_lost → (result ≡ Err refusal.Reopen) × (self.new.conn ≡ self.old.conn)
-            × IsTrue self.new.is_lost }
+        ensures reopen { IsTrue self.old.is_lost → (result ≡ Err refusal.Reopen) × (self.new ≡ self.old) }
+        ensures called { IsCall S.Store self.old.conn self.old.is_lost [] self.new.conn self.new.is_lost }
     {
         if self.is_lost {
             return Err(RefusalKind::Reopen);
@@ -229,7 +256,9 @@ fn create_named<S: Alter>(
     ensures blank { IfOk result (λ made. (made.is_lost ≡ false) × ((state S.Store conn).now.schema ≡ no_schema)) }
     ensures refused { IfErr result (λ e. RefusesToMake society.now (state S.Store conn) (state S.Store e.1) e.0) }
     ensures back { IfErr result (λ e. is_storage e.0 ≡ false → e.1 ≡ conn) }
+    ensures quiet { IfOk result (λ made. made.failures ≡ 0) }
     ensures clean { IfOk result (λ made. HasCleanDisk (state S.Store made.conn) → HasCleanDisk (state S.Store conn)) }
+    ensures honest { IfErr result (λ e. HasCleanDisk (state S.Store e.1) → HasCleanDisk (state S.Store conn)) }
     ensures ended { IfErr result (λ e. e.1.in_transaction ≡ false) }
 {
     if !is_blank(&conn) {

@@ -1,6 +1,6 @@
 //! What a request changes, decided over what the archive shows.
 
-ghost use Rattle.std.specs.Prelude.{◌≡◌, ◌≢◌, false, IfOk, IfErr, OnOk};
+ghost use Rattle.std.specs.Prelude.{◌≡◌, ◌≢◌, true, false, None, IfOk, IfErr, OnOk};
 ghost use Rattle.sqlite.specs.State.{HasCleanDisk};
 ghost use Rattle.sqlite.specs.Held.{state};
 ghost use Rattle.record_text.specs.declared.refusal.RefusalKind.TheVariants.{BadStored};
@@ -8,6 +8,7 @@ ghost use Rattle.archive_core.specs.Applied.{Decides};
 ghost use Rattle.archive_core.specs.Exact.{IsExactFor};
 ghost use Rattle.archive_core.specs.Machine.{outcome};
 ghost use Rattle.archive_core.specs.Words.{HasUtf8Words};
+ghost use Rattle.archive_view.specs.Looks.{is_stop};
 ghost use Rattle.store_tables.specs.Calls.{Settled, LeavesOnly};
 ghost use Rattle.store.specs.Viewing.{OnReadable};
 
@@ -34,7 +35,8 @@ pub(crate) fn decide_on<S: Alter>(
         → OnReadable (state S.Store archive.old.conn) (λ _ _. IfErr result (λ e. e.kind ≢ BadStored)) }
     ensures same { HasCleanDisk (state S.Store archive.new.conn)
         → OnReadable (state S.Store archive.old.conn)
-        (λ rows _. OnOk result (Settled (state S.Store archive.new.conn) rows)) }
+        (λ rows _. OnOk result (Settled (state S.Store archive.new.conn) rows × (archive.new.failures ≡ 0))) }
+    ensures placed { IfErr result (λ e. is_stop e.kind ≡ true → e.at ≡ None) }
     ensures crash { HasCleanDisk (state S.Store archive.new.conn)
         → OnReadable (state S.Store archive.old.conn) (λ rows _. LeavesOnly (state S.Store archive.new.conn) rows) }
     ensures clean { HasCleanDisk (state S.Store archive.new.conn) → HasCleanDisk (state S.Store archive.old.conn) }

@@ -3,15 +3,16 @@
 ghost use Rattle.std.specs.Prelude.{◌≡◌, ◌⊎◌, ℕ, List, ◌++◌, None, Some, Ok};
 ghost use Rattle.std.specs.List.{Any};
 ghost use Rattle.sqlite.specs.Held.{Held, state};
+ghost use Rattle.sqlite.specs.State.{IsLive, Opens};
 ghost use Rattle.sqlite.specs.Tree.{Trees};
 ghost use Rattle.archive_state.specs.Content.{Content};
 ghost use Rattle.archive_core.specs.Machine.{Does, Done, Runs};
 ghost use Rattle.archive_core.specs.declared.request.Request.{Request};
 ghost use Rattle.receipts.specs.declared.answer.Answer.{Answer};
-ghost use Rattle.store.specs.Archives.{IsArchive};
+ghost use Rattle.store.specs.Archives.{HasArchive, IsArchive};
 ghost use Rattle.store.specs.Calls.{Performs};
 ghost use Rattle.store.specs.Histories.{in_doubt};
-ghost use Rattle.store.specs.Lives.{CountInAll, Life};
+ghost use Rattle.store.specs.Lives.{CountInAll, IsOpenedOver, Life, LifeOn};
 
 use sqlite::Alter;
 
@@ -24,6 +25,20 @@ pub fn a_stop_loses_nothing<S: Alter>()
         → Life S.Store before calls more after → IsArchive society c before
         → (found : Content) × (dones : List Done) × IsArchive society found after × CountInAll calls more dones
         × Runs c dones found }
+{}
+
+/// The same of an archive that was just made, or taken up: its first session goes on with it.
+pub fn a_stop_of_an_archive_loses_nothing<S: Alter>()
+    ensures { (first : Held S) (after : Trees) (calls : List Done) (more : List (List Done)) (society : List ℕ)
+        (c : Content) → LifeOn S.Store first calls more after → HasArchive society c (state S.Store first)
+        → (found : Content) × (dones : List Done) × IsArchive society found after × CountInAll calls more dones
+        × Runs c dones found }
+{}
+
+/// A connection that was opened over tables, and shows them, has the archive that they are.
+pub fn opened_over<S: Alter>()
+    ensures { (opened : Held S) (t : Trees) → Opens (state S.Store opened) → IsLive (state S.Store opened)
+        → (state S.Store opened).committed.trees ≡ t → IsOpenedOver t (state S.Store opened) }
 {}
 
 /// Calls that follow each other do what one call of all their requests does.

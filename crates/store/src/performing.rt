@@ -1,6 +1,6 @@
 //! One request, done in one commit before it is answered.
 
-ghost use Rattle.std.specs.Prelude.{◌≡◌, ◌≢◌, ◌⊎◌, [], ◌∷◌, false, None, Err, IfOk, IfErr, OnOk};
+ghost use Rattle.std.specs.Prelude.{◌≡◌, ◌≢◌, ◌⊎◌, [], ◌∷◌, false, true, None, Err, IfOk, IfErr, OnOk};
 ghost use Rattle.std.specs.FinMap.{get};
 ghost use Rattle.sqlite.specs.State.{HasCleanDisk, Survives};
 ghost use Rattle.sqlite.specs.Held.{state};
@@ -8,6 +8,7 @@ ghost use Rattle.record_text.specs.declared.refusal.RefusalKind.TheVariants.{Out
 ghost use Rattle.archive_state.specs.Applied.{applied};
 ghost use Rattle.archive_state.specs.Content.{Content};
 ghost use Rattle.archive_core.specs.Machine.{Does};
+ghost use Rattle.archive_view.specs.Looks.{is_stop};
 ghost use Rattle.store_tables.specs.Calls.{LeavesOnly, Settled};
 ghost use Rattle.store_tables.specs.Rows.{Rows};
 ghost use Rattle.store_rows.specs.Meaning.{AllShallow};
@@ -41,6 +42,12 @@ pub(crate) fn perform_on<S: Alter>(
     ensures repeated { HasCleanDisk (state S.Store archive.new.conn) → OnArchive (state S.Store archive.old.conn)
         (λ society c rows.
         get c.receipts «request».now.token ≢ None → LeavesOnly (state S.Store archive.new.conn) rows) }
+    ensures refused { HasCleanDisk (state S.Store archive.new.conn) → IfErr result (λ e. is_storage e.kind ≡ false
+        → OnArchive (state S.Store archive.old.conn)
+        (λ society c rows. Settled (state S.Store archive.new.conn) rows)) }
+    ensures placed { IfErr result (λ e. is_stop e.kind ≡ true → e.at ≡ None) }
+    ensures quiet { HasCleanDisk (state S.Store archive.new.conn) → OnArchive (state S.Store archive.old.conn)
+        (λ society c rows. OnOk result (archive.new.failures ≡ 0)) }
 {
     match try_request(alloc, archive, request) {
         Ok(answer) => Ok(answer),
@@ -54,6 +61,8 @@ fn refusal_after<S: Alter>(conn: &mut Connection<S>, refusal: Refusal) -> Refusa
     ensures settled { HasCleanDisk (state S.Store conn.new) → is_storage result.kind ≡ false → (rows : Rows)
         → LeavesOnly (state S.Store conn.old) rows → Settled (state S.Store conn.new) rows }
     ensures same { is_storage result.kind ≡ false → result ≡ refusal }
+    ensures placed { (is_stop refusal.kind ≡ true → refusal.at ≡ None) → is_stop result.kind ≡ true
+        → result.at ≡ None }
     ensures survives { Survives (state S.Store conn.old) (state S.Store conn.new) (λ _. ⊥) }
     ensures ended { conn.new.in_transaction ≡ false }
 {
@@ -84,6 +93,9 @@ fn try_request<S: Alter>(
         (λ society c rows.
         get c.receipts «request».now.token ≢ None → LeavesOnly (state S.Store archive.new.conn) rows) }
     ensures clean { HasCleanDisk (state S.Store archive.new.conn) → HasCleanDisk (state S.Store archive.old.conn) }
+    ensures placed { IfErr result (λ e. is_stop e.kind ≡ true → e.at ≡ None) }
+    ensures quiet { HasCleanDisk (state S.Store archive.new.conn) → OnArchive (state S.Store archive.old.conn)
+        (λ society c rows. OnOk result (archive.new.failures ≡ 0)) }
 {
     match decide_on(alloc, archive, request) {
         Ok(changes) => {

@@ -1,12 +1,12 @@
 //! What an archive holds, read of its tables.
 
-ghost use Rattle.std.specs.Prelude.{◌≡◌, ⊤, false, IfErr};
-ghost use Rattle.sqlite.specs.State.{HasCleanDisk, Survives};
+ghost use Rattle.std.specs.Prelude.{◌≡◌, ⊤, true, false, IfErr, IsTrue, OnOk};
+ghost use Rattle.sqlite.specs.State.{HasCleanDisk, IsUnchanged, Survives};
 ghost use Rattle.sqlite.specs.Held.{state};
-ghost use Rattle.store_tables.specs.Calls.{LeavesOnly, Settled};
+ghost use Rattle.store_tables.specs.Calls.{IsAsItWas, LeavesOnly, Settled};
 ghost use Rattle.store_tables.specs.Looking.{Looks};
 ghost use Rattle.store_tables.specs.Rows.{Rows};
-ghost use Rattle.store.specs.Adopting.{RefusesToAdopt};
+ghost use Rattle.store.specs.Adopting.{IsRecognised, LeavesStore, RefusesToAdopt, is_foreign};
 ghost use Rattle.store.specs.Calls.{Reads};
 ghost use Rattle.store.specs.Histories.{is_storage};
 
@@ -59,6 +59,11 @@ pub(crate) fn recognise<S: Alter>(conn: &mut Connection<S>) -> Result<(), Refusa
         (state S.Store conn.new) }
     ensures told { HasCleanDisk (state S.Store conn.new)
         → IfErr result (RefusesToAdopt S.Store (state S.Store conn.old)) }
+    ensures recognised { HasCleanDisk (state S.Store conn.new)
+        → OnOk result (IsRecognised S.Store (state S.Store conn.old)) }
+    ensures left { LeavesStore (state S.Store conn.old) (state S.Store conn.new) }
+    ensures unchanged { HasCleanDisk (state S.Store conn.new) → IfErr result (λ kind. is_foreign kind ≡ true
+        → IsAsItWas (state S.Store conn.old) (state S.Store conn.new)) }
     ensures ended { conn.new.in_transaction ≡ false }
 {
     match look_at_tables(conn) {
@@ -73,6 +78,11 @@ fn look_at_tables<S: Alter>(conn: &mut Connection<S>) -> Result<(), RefusalKind>
     ensures looks { Looks (λ _ _. ⊤) (state S.Store conn.old) (state S.Store conn.new) result }
     ensures told { HasCleanDisk (state S.Store conn.new)
         → IfErr result (RefusesToAdopt S.Store (state S.Store conn.old)) }
+    ensures recognised { HasCleanDisk (state S.Store conn.new)
+        → OnOk result (IsRecognised S.Store (state S.Store conn.old)) }
+    ensures survives { Survives (state S.Store conn.old) (state S.Store conn.new) (λ _. ⊥) }
+    ensures unchanged { HasCleanDisk (state S.Store conn.new) → IfErr result (λ kind. is_foreign kind ≡ true
+        → IsUnchanged (state S.Store conn.old) (state S.Store conn.new)) }
     ensures ended { conn.new.in_transaction ≡ false }
 {
     match check_version(conn) {
@@ -87,6 +97,8 @@ pub(crate) fn refusal_after<S: Alter>(conn: &mut Connection<S>, kind: RefusalKin
     ensures settled { HasCleanDisk (state S.Store conn.new) → is_storage result ≡ false → (rows : Rows)
         → LeavesOnly (state S.Store conn.old) rows → Settled (state S.Store conn.new) rows }
     ensures same { is_storage result ≡ false → result ≡ kind }
+    ensures kept { HasCleanDisk (state S.Store conn.new) → is_storage result ≡ false
+        → IsTrue (state S.Store conn.old).is_open → IsAsItWas (state S.Store conn.old) (state S.Store conn.new) }
     ensures survives { Survives (state S.Store conn.old) (state S.Store conn.new) (λ _. ⊥) }
     ensures ended { conn.new.in_transaction ≡ false }
 {

@@ -7,7 +7,7 @@ use Rattle.archive_commands.proofs.opening.create.Goals as goal
 
 pub returns-in-Ok-clause-created : goal.returns-in-Ok-clause-created
 returns-in-Ok-clause-created g c =
-    subst (λ (society : List ℕ). IfOk c.create_named.result (λ made. IsMadeFor society (file_state made.conn)))
+    subst (λ (society : List ℕ). IfOk c.create_named.result (λ made. IsMadeFor _ society (file_state made.conn)))
     c.in-Ok.ensures.given.0 c.create_named.ensures.created
 
 pub returns-in-Ok-clause-refused : goal.returns-in-Ok-clause-refused

@@ -1,24 +1,25 @@
 use Rattle.sqlite.specs.Files.{file_state}
 use Rattle.sqlite_wal.specs.Files.{image_at}
-use Rattle.archive_commands.proofs.Opened.{opened_blank, opened_over}
+use Rattle.archive_commands.proofs.Opened.{opened_blank, was_blank}
 use Rattle.archive_commands.proofs.Refusing.{unmade}
 use Rattle.archive_commands.proofs.opening.create_named.Goals as goal
 
 pub returns-in-Ok-create-clause-created : goal.returns-in-Ok-create-clause-created
 returns-in-Ok-create-clause-created g c =
-    let made = c.in-Ok-create.ensures in (
+    let made = c.in-Ok-create.ensures in
+    let opened = file_state c.in-Ok.conn in (
       c.requires.named,
-      λ clean.
-          let opened = c.in-Ok.ensures.opened (made.clean clean) in
-          made.created clean (opened_blank (file_state c.in-Ok.conn) opened.0 opened.1 made.named.2),
+      (λ clean t holds.
+          let o = c.in-Ok.ensures.opened (made.clean clean) in
+          was_blank opened t o.0 o.1 made.named.2 ((c.in-Ok.ensures.found (made.clean clean)).holds t holds)),
+      (λ clean.
+          let o = c.in-Ok.ensures.opened (made.clean clean) in
+          made.created clean (opened_blank opened o.0 o.1 made.named.2)),
     )
 
 pub returns-in-Err-create-clause-refused : goal.returns-in-Err-create-clause-refused
 returns-in-Err-create-clause-refused g c =
     let refused = c.in-Err-create.ensures in
     unmade (image_at g.S.Start) _ c.in-Err-create.kind c.in-Ok.conn c.in-Err-create.conn c.requires.named
-    refused.refused refused.back
-    (λ clean society content t holds is.
-    let opened = c.in-Ok.ensures.opened clean in
-    opened_over (file_state c.in-Ok.conn) t society content opened.0 opened.1
-    ((c.in-Ok.ensures.found clean).holds t holds) is)
+    refused.refused refused.back refused.honest
+    (λ clean. (c.in-Ok.ensures.opened clean, c.in-Ok.ensures.found clean))

@@ -68,6 +68,18 @@ returns-in-Ok-clause-others g c = λ none.
     c.work.ensures.text (asked_for_nothing (name_of c.in-Ok.asked) (map string_bytes c.args.words.now)
     c.in-Ok.ensures.asked.0 none)
 
+pub returns-in-Ok-clause-norm_alone : goal.returns-in-Ok-clause-norm_alone
+returns-in-Ok-clause-norm_alone g c = λ are.
+    let asked = c.in-Ok.ensures in
+    c.work.ensures.norm_alone (asked_as (name_of c.in-Ok.asked) (map string_bytes c.args.words.now) (codes "norm")
+    (asked.taken are.0) asked.asked.0 are.1)
+
+pub returns-in-Ok-clause-check_alone : goal.returns-in-Ok-clause-check_alone
+returns-in-Ok-clause-check_alone g c = λ are.
+    let asked = c.in-Ok.ensures in
+    c.work.ensures.check_alone (asked_as (name_of c.in-Ok.asked) (map string_bytes c.args.words.now) (codes "check")
+    (asked.taken are.0) asked.asked.0 are.1)
+
 pub returns-clause-norm : goal.returns-clause-norm
 returns-clause-norm g c = λ words. norm_wanting c.refuse.result _ _ _ _ c.refuse.ensures
 

@@ -61,4 +61,7 @@ returns-clause-same g c clean rows content was means shallow =
     let shown = shown_of old archive.is_lost kept was
     (λ t l. only_committed old rows t was (g.met.S.Store.settled archive.conn.store t was.is_open l)) in
     let still = ((c.decide-decided.ensures.decides clean).1 kept shown).0 in
-    if_done c.decide-decided.result (still.settled c.if-archive.false)
+    if_done c.decide-decided.result (still.settled c.if-archive.false, still.none c.if-archive.false)
+
+pub returns-clause-placed : goal.returns-clause-placed
+returns-clause-placed g c = if_there c.decide-decided.result (λ e counted. counted.1) c.decide-decided.ensures.counts.1

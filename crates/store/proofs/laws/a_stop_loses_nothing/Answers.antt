@@ -1,5 +1,9 @@
-use Rattle.store.proofs.Histories.{of_life}
+use Rattle.sqlite.specs.Held.{state}
+use Rattle.store_tables.proofs.Queries.{only_committed}
+use Rattle.store.proofs.Sessions.{of_life}
 use Rattle.store.proofs.laws.a_stop_loses_nothing.Goals as goal
 
 pub returns : goal.returns
-returns g _ before after calls more society c life is = of_life g.S.Store more before after calls society c life is
+returns g _ before after calls more society c life is = of_life g.S.Store
+    (λ h rows was t l. only_committed (state g.S.Store h) rows t was (g.met.S.Store.settled h.store t was.is_open l))
+    more before after calls society c life is

@@ -39,6 +39,15 @@ returns-in-Err-clause-performs g c clean =
     (λ society content rows was keeps t l. c.in-Err.ensures.crash before society content rows was keeps t (left t l))
     (c.in-Err.ensures.clean before)
 
+pub returns-in-Err-clause-refused : goal.returns-in-Err-clause-refused
+returns-in-Err-clause-refused g c clean sure society content rows was keeps =
+    let after = c.refusal_after.ensures in
+    let before : HasCleanDisk (state g.S.Store c.try_request.new.archive.conn) = omega
+    (arith, after.survives.clean, clean) in
+    after.settled clean sure rows
+    (c.in-Err.ensures.refused before (subst (λ x. is_storage x.kind ≡ false) (after.same sure) sure) society content
+    rows was keeps).1
+
 pub returns-in-Err-clause-repeated : goal.returns-in-Err-clause-repeated
 returns-in-Err-clause-repeated g c clean society content rows was keeps kept t l =
     let after = c.refusal_after.ensures in
@@ -46,3 +55,6 @@ returns-in-Err-clause-repeated g c clean society content rows was keeps kept t l
     (arith, after.survives.clean, clean) in
     c.in-Err.ensures.repeated before society content rows was keeps kept t
     (elim (after.survives.crash clean t l) [ inl was ↦ was | inr none ↦ absurd none ])
+
+pub returns-in-Err-clause-placed : goal.returns-in-Err-clause-placed
+returns-in-Err-clause-placed g c = c.refusal_after.ensures.placed c.in-Err.ensures.placed

@@ -26,7 +26,7 @@ returns-in-Ok-make_changes-clause-acknowledged g c clean society content rows wa
     let decided = c.in-Ok.ensures.decides before rows content was keeps.means keeps.shallow in
     let words = c.in-Ok.ensures.words in
     let exact = c.in-Ok.ensures.exact before rows content was keeps.means keeps.shallow in
-    let settled = c.in-Ok.ensures.same before rows content was keeps.means keeps.shallow in
+    let settled = (c.in-Ok.ensures.same before rows content was keeps.means keeps.shallow).0 in
     subst (λ a. AcknowledgedBy society content rows r a new) (sym (ap (λ (x : Changes). x.answer) c.changes.view_is))
     (by_kept changes.kept
     (λ none. acknowledged_again society content rows r changes keeps decided words new exact none
@@ -48,7 +48,7 @@ returns-in-Err-make_changes-clause-refused g c clean sure society content rows w
     let made = c.in-Err-make_changes.ensures in (
       want_refused content c.args.request.now c.in-Err-make_changes.kind made.refused sure,
       made.undone clean sure rows
-          (c.in-Ok.ensures.same (made.clean clean) rows content was keeps.means keeps.shallow),
+          (c.in-Ok.ensures.same (made.clean clean) rows content was keeps.means keeps.shallow).0,
     )
 
 pub returns-in-Err-make_changes-clause-crash : goal.returns-in-Err-make_changes-clause-crash
@@ -58,7 +58,7 @@ returns-in-Err-make_changes-clause-crash g c clean society content rows was keep
     done_or_not society content rows c.args.request.now c.in-Ok.changes keeps
     (c.in-Ok.ensures.decides before rows content was keeps.means keeps.shallow) c.in-Ok.ensures.words
     (state g.S.Store c.make_changes.new.conn)
-    (made.crash made.kept clean rows (c.in-Ok.ensures.same before rows content was keeps.means keeps.shallow))
+    (made.crash made.kept clean rows (c.in-Ok.ensures.same before rows content was keeps.means keeps.shallow).0)
 
 pub returns-in-Err-make_changes-clause-repeated : goal.returns-in-Err-make_changes-clause-repeated
 returns-in-Err-make_changes-clause-repeated g c clean society content rows was keeps kept =
@@ -88,3 +88,7 @@ returns-in-Err-clause-crash g c clean society content rows was keeps =
 pub returns-in-Err-clause-repeated : goal.returns-in-Err-clause-repeated
 returns-in-Err-clause-repeated g c clean society content rows was keeps kept =
     c.in-Err.ensures.crash clean rows content was keeps.means keeps.shallow
+
+pub returns-in-Ok-make_changes-clause-quiet : goal.returns-in-Ok-make_changes-clause-quiet
+returns-in-Ok-make_changes-clause-quiet g c clean society content rows was keeps =
+    (c.in-Ok.ensures.same (c.in-Ok-make_changes.ensures.clean clean) rows content was keeps.means keeps.shallow).1

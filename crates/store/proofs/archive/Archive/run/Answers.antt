@@ -27,6 +27,7 @@ use Rattle.store_tables.proofs.Loops.{item_left}
 use Rattle.store_tables.proofs.Queries.{only_committed}
 use Rattle.store.specs.Calls.{Performs}
 use Rattle.store.specs.Histories.{AreLost}
+use Rattle.store.proofs.Called.{run_call}
 use Rattle.store.proofs.Running.{clean_before, lost_then, one_more, performs_none, zip_none}
 use Rattle.store.proofs.archive.Archive.run.Goals as goal
 
@@ -46,6 +47,7 @@ requests-init g c =
           (performs_none start (λ rows was t l. only_committed start rows t was
           (g.met.S.Store.settled conn.store t was.is_open l)) clean)),
       subst (λ os. AreLost c.args.self.now.is_lost os c.args.self.now.is_lost) (sym none) refl,
+      λ lost. refl,
     )
 
 pub requests-preserved : goal.requests-preserved
@@ -65,7 +67,7 @@ requests-preserved g c =
     let room : length c.args.requests.now ≤ vec_capacity c.push.new.self = search rules in
     let here : drop (length os) rs ≡ r ∷ drop (i + 1) rs = ap (λ n. drop n rs) inv.0
     ∙ item_left rs i r r c.requests-test.true c.request-item.is in
-    let stays : now.is_lost ≡ true → next.conn ≡ now.conn = λ lost. (did.reopen lost).1 in (
+    let stays : now.is_lost ≡ true → next.conn ≡ now.conn = λ lost. ap (λ a. a.conn) (did.reopen lost).1 in (
       ap length items ∙ length_push os o ∙ ap (λ n. n + 1) inv.0,
       len,
       room,
@@ -79,5 +81,13 @@ requests-preserved g c =
           (inv.3 (clean_before g.S.Store now.conn next.conn now.is_lost r o goes stays clean) sure) goes stays),
       subst (λ xs. AreLost start.is_lost xs next.is_lost) (sym items)
           (lost_then start.is_lost now.is_lost next.is_lost os o inv.4 (λ lost. let again = did.reopen lost in
-          (again.0, again.2)) (λ kept. did.lost kept)),
+          (again.0, ap (λ a. a.is_lost) again.1 ∙ lost)) (λ kept. did.lost kept)),
+      λ lost. let was = inv.5 lost in (did.reopen (ap (λ a. a.is_lost) was ∙ lost)).1 ∙ was,
     )
+
+pub returns-clause-called : goal.returns-clause-called
+returns-clause-called g c =
+    let inv = c.requests.invariant in
+    run_call g.S.Store c.args.self.now.conn c.requests.self.conn c.args.self.now.is_lost c.requests.self.is_lost
+    c.args.requests.now c.requests.outcomes.items inv.4
+    (λ lost. (ap (λ a. a.conn) (inv.5 lost), ap (λ a. a.is_lost) (inv.5 lost) ∙ lost)) inv.3

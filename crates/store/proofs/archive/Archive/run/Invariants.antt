@@ -1,4 +1,4 @@
-use Rattle.std.proofs.Common.{◌≡◌, ◌≤◌, false, length, vec_len, vec_capacity}
+use Rattle.std.proofs.Common.{◌≡◌, ◌≤◌, false, true, length, vec_len, vec_capacity}
 use Rattle.std.specs.List.{zip}
 use Rattle.sqlite.specs.Held.{state}
 use Rattle.sqlite.specs.State.{HasCleanDisk}
@@ -14,3 +14,4 @@ invariant-requests g l =
     × (length l.requests ≤ vec_capacity l.outcomes)
     × (HasCleanDisk now → l.fn.self.is_lost ≡ false → Performs start (zip l.requests l.outcomes.items) now)
     × AreLost l.fn.self.is_lost l.outcomes.items l.self.is_lost
+    × (l.fn.self.is_lost ≡ true → l.self ≡ l.fn.self)

@@ -1,0 +1,13 @@
+use Rattle.std.proofs.Common.{refl}
+use Rattle.store.specs.Histories.{has_broken}
+use Rattle.store.proofs.Called.{lost_call, read_call}
+use Rattle.store.proofs.archive.Archive.state.Goals as goal
+
+pub returns-then-self-clause-called : goal.returns-then-self-clause-called
+returns-then-self-clause-called g c = lost_call g.S.Store _ _ _ _ _ c.if-self.true refl c.if-self.true
+
+pub returns-clause-called : goal.returns-clause-called
+returns-clause-called g c =
+    read_call g.S.Store c.args.self.now.conn c.state_on-read.new.conn c.args.self.now.is_lost c.has_broken-self.result
+    (has_broken c.state_on-read.result) c.if-self.false c.has_broken-self.ensures
+    (λ clean. (c.state_on-read.ensures.reads clean).stays)
