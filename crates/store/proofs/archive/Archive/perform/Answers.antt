@@ -10,3 +10,6 @@ returns-clause-called g c =
     performed_call g.S.Store c.args.self.now.conn c.perform_on-outcome.new.archive.conn c.args.self.now.is_lost
     c.has_failed-self.result c.args.request.now c.perform_on-outcome.result c.if-self.false c.has_failed-self.ensures
     c.perform_on-outcome.ensures.performs
+
+pub returns-clause-quiet : goal.returns-clause-quiet
+returns-clause-quiet g c clean kept = c.perform_on-outcome.ensures.quiet clean
