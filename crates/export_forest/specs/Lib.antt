@@ -1,0 +1,4 @@
+pub mod Around
+pub mod Forest
+pub mod Names
+pub mod Order

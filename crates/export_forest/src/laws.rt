@@ -1,0 +1,1 @@
+//! What holds of the forest of an archive.
