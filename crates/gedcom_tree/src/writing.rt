@@ -113,8 +113,9 @@ fn push_more(
     Ok(())
 }
 
-/// Appends a line with a text, and its continuations.
-fn push_text(
+/// Appends a line with a text, and its continuations, one level deeper. The text is escaped here, and cut where a line
+/// would be too long.
+pub fn push_text(
     alloc: Global,
     out: &mut String,
     level: u8,
