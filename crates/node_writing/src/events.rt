@@ -100,6 +100,21 @@ pub(crate) fn push_place_line<N: Named>(
     push_pointer(alloc, out, index, level + 1, "_LOC", place)
 }
 
+/// Appends the place of an event.
+fn push_event_place_line<N: Named>(
+    alloc: Global,
+    out: &mut String,
+    index: &N,
+    place: &EventPlace,
+) -> Result<(), AllocError>
+    requires { AreWithin 96 place.now.carried }
+    ensures { OnOk result (string_bytes out.new ≡ string_bytes out.old
+        ++ page (N.names index.now) 2 (event_place_line (N.around index.now) place.now ∷ [])) }
+{
+    push_place_line(alloc, out, index, 2, place.place)?;
+    push_carried(alloc, out, index, 3, &place.carried)
+}
+
 /// Appends the place of an event, where there is one.
 fn push_event_place<N: Named>(
     alloc: Global,
@@ -111,11 +126,10 @@ fn push_event_place<N: Named>(
     ensures { OnOk result (string_bytes out.new ≡ string_bytes out.old
         ++ page (N.names index.now) 2 (event_place_lines (N.around index.now) place.now)) }
 {
-    let Some(place) = place else {
-        return Ok(());
-    };
-    push_place_line(alloc, out, index, 2, place.place)?;
-    push_carried(alloc, out, index, 3, &place.carried)
+    match place {
+        Some(place) => push_event_place_line(alloc, out, index, place),
+        None => Ok(()),
+    }
 }
 
 /// Appends the line of a role; an empty one has none.

@@ -1,6 +1,6 @@
 //! Register entries.
 
-ghost use Rattle.std.specs.Prelude.{◌≡◌, ◌++◌, ◌∷◌, [], map, codes, decimal, OnOk, string_bytes};
+ghost use Rattle.std.specs.Prelude.{◌≡◌, ◌++◌, ◌∷◌, [], map, codes, decimal, OnOk, Some, string_bytes};
 ghost use Rattle.record_shapes.specs.Shapes.{
   entry_lines,
   entry_place_lines,
@@ -47,6 +47,20 @@ fn push_entry_place<N: Named>(
     }
 }
 
+/// Appends which person a mention is of, and why.
+fn push_link_line<N: Named>(
+    alloc: Global,
+    out: &mut String,
+    index: &N,
+    link: &Link,
+) -> Result<(), AllocError>
+    ensures { OnOk result (string_bytes out.new ≡ string_bytes out.old
+        ++ page (N.names index.now) 2 (link_lines (Some link.now))) }
+{
+    push_pointer(alloc, out, index, 2, "_LINK", link.person)?;
+    push_words(alloc, out, index, 3, "_WHY", link.reason.as_str())
+}
+
 /// Appends which person a mention is of, where it is linked.
 fn push_link<N: Named>(
     alloc: Global,
@@ -57,11 +71,10 @@ fn push_link<N: Named>(
     ensures { OnOk result (string_bytes out.new ≡ string_bytes out.old
         ++ page (N.names index.now) 2 (link_lines link.now)) }
 {
-    let Some(link) = link else {
-        return Ok(());
-    };
-    push_pointer(alloc, out, index, 2, "_LINK", link.person)?;
-    push_words(alloc, out, index, 3, "_WHY", link.reason.as_str())
+    match link {
+        Some(link) => push_link_line(alloc, out, index, link),
+        None => Ok(()),
+    }
 }
 
 /// Appends a mention, linked or not.

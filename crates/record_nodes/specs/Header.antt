@@ -17,10 +17,14 @@ form_lines =
     (leaf (codes "VERS") (Text (codes "5.5.1")) ∷ leaf (codes "FORM") (Text (codes "LINEAGE-LINKED")) ∷ [])
     ∷ leaf (codes "CHAR") (Text (codes "UTF-8")) ∷ []
 
--- the header, and the society as the one that submits the file
-abbrev pub header : List ℕ → List (Tree Mark)
-header society =
-    branch None (codes "HEAD") (Text [])
+abbrev pub file_head : Tree Mark
+file_head = branch None (codes "HEAD") (Text [])
     (leaf (codes "SOUR") (Text (codes "PARISH")) ∷ leaf (codes "SUBM") (Pointer (codes "@SOCIETY@")) ∷ form_lines)
-    ∷ branch (Some (codes "@SOCIETY@")) (codes "SUBM") (Text []) (leaf (codes "NAME") (Text society) ∷ [])
-    ∷ []
+
+-- the society, as the one that submits the file
+abbrev pub submitter : List ℕ → Tree Mark
+submitter society =
+    branch (Some (codes "@SOCIETY@")) (codes "SUBM") (Text []) (leaf (codes "NAME") (Text society) ∷ [])
+
+abbrev pub header : List ℕ → List (Tree Mark)
+header society = file_head ∷ submitter society ∷ []
