@@ -12,7 +12,8 @@ use Rattle.export_forest.specs.Forest.{exported, node_of}
 use Rattle.export_forest.specs.Order.{Numbered, households}
 use Rattle.export_forest.specs.Pages.{household_page}
 
-each_page : (m : Records) (ts : List (Tree Numbered)) → nodes_text 0 (map (node_of m) ts) ≡ flat_map (household_page m) ts
+each_page : (m : Records) (ts : List (Tree Numbered)) → nodes_text 0 (map (node_of m) ts) ≡ flat_map
+    (household_page m) ts
 unfolding record_page
 each_page m [] = nodes-none 0
 each_page m (t ∷ ts) = nodes-append 0 (node_of m t ∷ []) (map (node_of m) ts)

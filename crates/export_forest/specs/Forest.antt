@@ -1,5 +1,5 @@
--- The forest of an archive (The GEDCOM Standard Release 5.5.1, chapter 2, LINEAGE_LINKED_GEDCOM): the header, the society,
--- and the nodes of the records in their order. Its text is that of any forest.
+-- The forest of an archive (The GEDCOM Standard Release 5.5.1, chapter 2, LINEAGE_LINKED_GEDCOM): the header, the
+-- society, and the nodes of the records in their order. Its text is that of any forest.
 use Rattle.std.specs.Prelude.{ℕ, List, ◌++◌, map}
 use Rattle.stored_lines.specs.Tree.{Tree, label, relabel}
 use Rattle.record_kinds.specs.declared.record.Record.{Record}

@@ -1,5 +1,5 @@
--- The records of an export in their order, each with what it owns: a rule of our own. The standard lets the records of a
--- file stand in any order (The GEDCOM Standard Release 5.5.1, chapter 2, LINEAGE_LINKED_GEDCOM).
+-- The records of an export in their order, each with what it owns: a rule of our own. The standard lets the records of
+-- a file stand in any order (The GEDCOM Standard Release 5.5.1, chapter 2, LINEAGE_LINKED_GEDCOM).
 use Rattle.std.specs.Prelude.{ℕ, ◌==◌, Bool, false, List, [], ◌∷◌, ◌++◌, map}
 use Rattle.std.specs.List.{filter, flat_map}
 use Rattle.std.specs.FinMap.{entries}

@@ -1,30 +1,5 @@
 -- Text that is appended in steps: what is written so far, with the text of what is left, is all that is to be written.
-use Rattle.std.specs.Prelude.{
-  ℕ,
-  ◌≡◌,
-  ◌+◌,
-  ◌-◌,
-  ◌<◌,
-  ◌≤◌,
-  List,
-  [],
-  ◌∷◌,
-  ◌++◌,
-  map,
-  length,
-  get_or,
-  drop,
-  refl,
-  suc,
-  zero,
-  Option,
-  Some,
-  None,
-  Result,
-  Ok,
-  Err,
-  OnOk,
-}
+use Rattle.std.specs.Prelude.{ℕ, ◌≡◌, ◌+◌, ◌-◌, ◌<◌, ◌≤◌, List, [], ◌∷◌, ◌++◌, map, length, get_or, drop, suc, zero, Some, None, Result, Ok, Err, OnOk}
 use Rattle.std.proofs.Common.{ap, sym, ◌∙◌, append_assoc, append-nil, drop-cons, add-one, arith}
 use Rattle.std.proofs.Math.ListN.{drop_of_length-le}
 use Rattle.stored_lines.specs.Tree.{Tree, node, none, forest_of, forest_size, tree_size}
@@ -84,7 +59,8 @@ module _ (level : ℕ) where
 pub at_index : {A : Type 0} (xs : List A) (i : ℕ) (x : A) → i < length xs → x ≡ get_or xs i x
     → drop i xs ≡ x ∷ drop (i + 1) xs
 at_index {A} xs i x less at =
-    drop-cons xs i x less ∙ ap (λ (y : A). y ∷ drop (suc i) xs) (sym at) ∙ ap (λ (k : ℕ). x ∷ drop k xs) (sym (add-one i))
+    drop-cons xs i x less ∙ ap (λ (y : A). y ∷ drop (suc i) xs) (sym at) ∙ ap (λ (k : ℕ). x ∷ drop k xs)
+    (sym (add-one i))
 
 pub each_at : {A : Type 0} (P : A → Type 0) (xs : List A) (i : ℕ) (x : A) → EachOf P xs → i < length xs
     → x ≡ get_or xs i x → P x
@@ -162,7 +138,8 @@ module _ (names : ℕ → List ℕ) (level : ℕ) where
       ∙ (λ k. old ++ page names level (line (named k) v (same k) ∷ []))
       ∙ ap (λ (u : Tree Line). old ++ page names level (u ∷ [])) whole
 
-  pub pointer_page : (tag : List ℕ) (n : ℕ) (raw : List ℕ) → raw ≡ names n → page names level (pointer_line tag n [] ∷ [])
+  pub pointer_page : (tag : List ℕ) (n : ℕ) (raw : List ℕ) → raw ≡ names n
+      → page names level (pointer_line tag n [] ∷ [])
       ≡ spelling (record { level = level; xref = None; tag = tag; raw = raw }) ++ 10 ∷ []
   pointer_page tag n raw e =
       page-bare names level tag (value.Ref n)

@@ -2,7 +2,7 @@
 use Rattle.std.specs.Prelude.{ℕ, ◌≡◌, List, [], ◌∷◌, ◌++◌, map, codes, option_map}
 use Rattle.std.proofs.Common.{ap, sym, ◌∙◌, append_assoc}
 use Rattle.stored_lines.specs.Tree.{Forest, Tree, list_of, node}
-use Rattle.stored_lines.specs.Line.{Line, Lines}
+use Rattle.stored_lines.specs.Line.{Lines}
 use Rattle.stored_lines.specs.declared.carried.Value.TheVariants as value
 use Rattle.record_kinds.specs.Model as model
 use Rattle.record_kinds.specs.declared.record.Record.{Record}
@@ -39,7 +39,8 @@ module _ (names : ℕ → List ℕ) where
   -- two parts that are written together
   parted_two : (level : ℕ) (ts us vs : Lines) (rest : List ℕ) → page names level vs ≡ rest
       → page names level (ts ++ (us ++ vs)) ≡ page names level (ts ++ us) ++ rest
-  parted_two level ts us vs rest e = ap (page names level) (sym (append_assoc ts us vs)) ∙ parted level (ts ++ us) vs rest e
+  parted_two level ts us vs rest e = ap (page names level) (sym (append_assoc ts us vs))
+      ∙ parted level (ts ++ us) vs rest e
 
   pub person_parts : (a : Around) (n : ℕ) (p : model.Person) (under : List (Tree Record))
       → record_page names n (shape_of a n (kind.Person p) under)

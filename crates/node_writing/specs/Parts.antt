@@ -1,5 +1,5 @@
 -- Parts of a record's lines: what stands before the lines of those records that it owns.
-use Rattle.std.specs.Prelude.{ℕ, List, [], ◌++◌, map, codes, option_map}
+use Rattle.std.specs.Prelude.{◌++◌, map, codes, option_map}
 use Rattle.stored_lines.specs.Tree.{Tree}
 use Rattle.stored_lines.specs.Line.{Line, Lines}
 use Rattle.stored_lines.specs.declared.carried.Value.TheVariants as value

@@ -1,6 +1,20 @@
 //! Citations and events.
 
-ghost use Rattle.std.specs.Prelude.{◌≡◌, ◌++◌, ◌-◌, ◌≤◌, ◌∷◌, [], map, option_map, codes, None, IfSome, OnOk, string_bytes};
+ghost use Rattle.std.specs.Prelude.{
+  ◌≡◌,
+  ◌++◌,
+  ◌-◌,
+  ◌≤◌,
+  ◌∷◌,
+  [],
+  map,
+  option_map,
+  codes,
+  None,
+  IfSome,
+  OnOk,
+  string_bytes,
+};
 ghost use Rattle.stored_lines.specs.declared.carried.Value.TheVariants as value;
 ghost use Rattle.record_kinds.specs.Model as model;
 ghost use Rattle.record_kinds.specs.declared.record.Record.TheVariants as kind;
@@ -181,8 +195,8 @@ fn push_participants<N: Named>(
     Ok(())
 }
 
-/// Appends an event at level 1 up to its citations (GEDCOM 5.5.1, chapter 2, EVENT_DETAIL). What is carried by the event
-/// stands behind these, at level 2.
+/// Appends an event at level 1 up to its citations (GEDCOM 5.5.1, chapter 2, EVENT_DETAIL). What is carried by the
+/// event stands behind these, at level 2.
 pub fn push_event<N: Named>(
     alloc: Global,
     out: &mut String,
@@ -193,7 +207,14 @@ pub fn push_event<N: Named>(
     ensures { OnOk result (string_bytes out.new ≡ string_bytes out.old
         ++ page (N.names index.now) 1 (event_head (N.around index.now) event.now ∷ [])) }
 {
-    push_words(alloc, out, index, 1, event.tag.as_str(), event.value.as_str())?;
+    push_words(
+        alloc,
+        out,
+        index,
+        1,
+        event.tag.as_str(),
+        event.value.as_str(),
+    )?;
     push_date(alloc, out, index, 2, &event.date)?;
     push_event_place(alloc, out, index, &event.place)?;
     push_participants(alloc, out, index, &event.participants)

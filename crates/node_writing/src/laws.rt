@@ -6,7 +6,15 @@ ghost use Rattle.stored_lines.specs.declared.carried.Value.TheVariants as value;
 ghost use Rattle.record_kinds.specs.Model as model;
 ghost use Rattle.record_kinds.specs.declared.record.Record.{Record};
 ghost use Rattle.record_kinds.specs.declared.record.Record.TheVariants as kind;
-ghost use Rattle.record_shapes.specs.Shapes.{Around, citation_lines, event_part, events_below, line, shape_of, side_line};
+ghost use Rattle.record_shapes.specs.Shapes.{
+  Around,
+  citation_lines,
+  event_part,
+  events_below,
+  line,
+  shape_of,
+  side_line,
+};
 ghost use Rattle.record_nodes.specs.Pages.{page, record_page};
 ghost use Rattle.node_writing.specs.Parts.{event_head, family_head, person_head};
 

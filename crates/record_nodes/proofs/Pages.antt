@@ -4,13 +4,13 @@ use Rattle.std.specs.List.{flat_map}
 use Rattle.std.proofs.Common.{ap, sym, ◌∙◌, append_assoc, append-nil}
 use Rattle.std.proofs.lemmas.List.{map-append}
 use Rattle.std.proofs.lemmas.List.Concat.{flat_map-append}
-use Rattle.stored_lines.specs.Tree.{Tree, Forest, node, none, more, forest_of, flat, flat_all, relabel, relabel_all}
-use Rattle.stored_lines.specs.Line.{Line, Lines}
+use Rattle.stored_lines.specs.Tree.{Tree, Forest, node, none, forest_of, flat, flat_all, relabel}
+use Rattle.stored_lines.specs.Line.{Lines}
 use Rattle.stored_lines.specs.declared.carried.Value.{Value}
 use Rattle.stored_lines.proofs.Relabel.{relabel_children}
 use Rattle.gedcom_tree.specs.Text.{node_text}
 use Rattle.record_shapes.specs.Shapes.{line}
-use Rattle.record_nodes.specs.Nodes.{Mark, item_at, mark_of, named, nodes_of}
+use Rattle.record_nodes.specs.Nodes.{Mark, item_at, mark_of, nodes_of}
 use Rattle.record_nodes.specs.Pages.{nodes_text, page, record_page}
 
 -- the text of nodes in the order of their lines, each with its level

@@ -1,5 +1,5 @@
--- The nodes of a file that the lines of records are (The GEDCOM Standard Release 5.5.1, chapter 1): the numbers in their
--- pointers are names.
+-- The nodes of a file that the lines of records are (The GEDCOM Standard Release 5.5.1, chapter 1): the numbers in
+-- their pointers are names.
 use Rattle.std.specs.Prelude.{ℕ, List, map, Option, Some, None}
 use Rattle.stored_lines.specs.Tree.{Tree, node, forest_of, flat_all, relabel, relabel_all}
 use Rattle.stored_lines.specs.Line.{Line, Lines}

@@ -5,4 +5,5 @@ use Rattle.node_writing.proofs.Appending.{nothing}
 use Rattle.node_writing.proofs.events.push_date.Goals as goal
 
 pub returns-in-None : goal.returns-in-None
-returns-in-None g c = nothing (g.N.Named.names c.args.index.now) c.args.level _ _ (ap (λ d. text_lines (codes "DATE") (option_map date_text d)) c.in-None.is)
+returns-in-None g c = nothing (g.N.Named.names c.args.index.now) c.args.level _ _
+    (ap (λ d. text_lines (codes "DATE") (option_map date_text d)) c.in-None.is)

@@ -1,4 +1,4 @@
-use Rattle.std.proofs.Common.{ap, sym}
+use Rattle.std.proofs.Common.{ap}
 use Rattle.record_shapes.specs.Shapes.{text_lines}
 use Rattle.node_writing.proofs.Appending.{nothing}
 use Rattle.node_writing.proofs.lines.push_maybe.Goals as goal

@@ -5,4 +5,5 @@ use Rattle.node_writing.proofs.Appending.{nothing}
 use Rattle.node_writing.proofs.persons.push_sex.Goals as goal
 
 pub returns-in-None : goal.returns-in-None
-returns-in-None g c = nothing (g.N.Named.names c.args.index.now) 1 _ _ (ap (λ s. text_lines (codes "SEX") (option_map sex_word s)) c.in-None.is)
+returns-in-None g c = nothing (g.N.Named.names c.args.index.now) 1 _ _
+    (ap (λ s. text_lines (codes "SEX") (option_map sex_word s)) c.in-None.is)

@@ -1,4 +1,4 @@
-use Rattle.std.proofs.Common.{ap, codes, option_map}
+use Rattle.std.proofs.Common.{ap}
 use Rattle.record_shapes.specs.Shapes.{loc_lines}
 use Rattle.node_writing.proofs.Appending.{nothing}
 use Rattle.node_writing.proofs.sources.push_parent.Goals as goal
