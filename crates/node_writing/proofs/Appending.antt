@@ -1,5 +1,28 @@
 -- Text that is appended in steps: what is written so far, with the text of what is left, is all that is to be written.
-use Rattle.std.specs.Prelude.{ℕ, ◌≡◌, ◌+◌, ◌-◌, ◌<◌, ◌≤◌, List, [], ◌∷◌, ◌++◌, map, length, get_or, drop, suc, zero, Some, None, Result, Ok, Err, OnOk}
+use Rattle.std.specs.Prelude.{
+  ℕ,
+  ◌≡◌,
+  ◌+◌,
+  ◌-◌,
+  ◌<◌,
+  ◌≤◌,
+  List,
+  [],
+  ◌∷◌,
+  ◌++◌,
+  map,
+  length,
+  get_or,
+  drop,
+  suc,
+  zero,
+  Some,
+  None,
+  Result,
+  Ok,
+  Err,
+  OnOk,
+}
 use Rattle.std.proofs.Common.{ap, sym, ◌∙◌, append_assoc, append-nil, drop-cons, add-one, arith}
 use Rattle.std.proofs.Math.ListN.{drop_of_length-le}
 use Rattle.stored_lines.specs.Tree.{Tree, node, none, forest_of, forest_size, tree_size}
