@@ -1,0 +1,9 @@
+use Rattle.std.proofs.Common.{ap, codes, option_map}
+use Rattle.record_fields.specs.Dated.{date_text}
+use Rattle.record_shapes.specs.Shapes.{text_lines}
+use Rattle.node_writing.proofs.Appending.{nothing}
+use Rattle.node_writing.proofs.events.push_date.Goals as goal
+
+pub returns-in-None : goal.returns-in-None
+returns-in-None g c = nothing (g.N.Named.names c.args.index.now) c.args.level _ _
+    (ap (λ d. text_lines (codes "DATE") (option_map date_text d)) c.in-None.is)

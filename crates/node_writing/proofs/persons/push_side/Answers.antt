@@ -1,0 +1,8 @@
+use Rattle.std.proofs.Common.{◌∙◌, sym}
+use Rattle.node_writing.proofs.Appending.{on_ok, then_below}
+use Rattle.node_writing.proofs.persons.push_side.Goals as goal
+
+pub returns : goal.returns
+returns g c = rw (sym c.side.view_is, sym c.deref.ensures.value) (on_ok c.push_carried.result (λ e. e
+    ∙ then_below (g.N.Named.names c.args.index.now) 1 _ _ _ _ _ c.in_ok-push_pointer.ensures)
+    c.push_carried.ensures)

@@ -1,0 +1,31 @@
+//! The lines of records as text: each function appends the text of some lines to what is written already, and builds no
+//! node.
+//!
+//! It uses `record_nodes`, whose pages are that text, `record_kinds` and `record_shapes` for records and their lines,
+//! and `gedcom_tree` and `gedcom_line` for the text of one line. Which names numbers have, and which paths places, it
+//! is told by a `Named`; which records are written, and in which order, is for the crate above.
+//!
+//! Callers may rely on: an `Ok` has appended the text of the lines that the contract names, and nothing else; an
+//! `AllocError` comes only where memory was refused.
+#![tactic(auto)]
+
+mod events;
+mod families;
+mod heads;
+pub mod laws;
+mod lines;
+mod named;
+mod persons;
+mod registers;
+mod side;
+mod sources;
+
+pub use events::{push_citation, push_event};
+pub use families::push_family;
+pub use heads::{push_head, push_header, push_other_head};
+pub use lines::push_carried;
+pub use named::Named;
+pub use persons::{push_person, push_sides};
+pub use registers::push_entry;
+pub use side::Side;
+pub use sources::{push_place, push_repo, push_source};
