@@ -1,0 +1,4 @@
+pub mod Bare
+pub mod Parted
+pub mod Spaces
+pub mod Written

@@ -1,0 +1,68 @@
+//! What a line is by itself.
+
+ghost use Rattle.std.specs.Prelude.{◌≡◌};
+ghost use Rattle.record_shapes.specs.Forms as forms;
+
+use record_text::Text;
+use std::alloc::Global;
+use stored_lines::{Carried, Value};
+
+/// A text, with lines below it or none.
+pub fn is_text(line: &Carried) -> bool
+    ensures { result ≡ forms.is_text line.now }
+{
+    match &line.value {
+        Value::Text(_) => true,
+        Value::Ref(_) => false,
+    }
+}
+
+/// No line is below it.
+#[tactic(auto, using(crate::proofs::Bare::childless_is))]
+pub fn is_childless(line: &Carried) -> bool
+    ensures { result ≡ forms.is_childless line.now }
+{
+    line.children.is_empty()
+}
+
+/// A text, and no line below it.
+pub fn is_bare(line: &Carried) -> bool
+    ensures { result ≡ forms.is_bare line.now }
+{
+    is_text(line) && is_childless(line)
+}
+
+/// The text of a line; of a pointer none.
+pub fn text_of(line: &Carried) -> &str
+    ensures { result.now ≡ forms.text_of line.now }
+{
+    match &line.value {
+        Value::Text(text) => text.as_str(),
+        Value::Ref(_) => "",
+    }
+}
+
+/// The number that a pointer names; of a text 0.
+pub fn number_of(line: &Carried) -> u32
+    ensures { result ≡ forms.number_of line.now }
+{
+    match &line.value {
+        Value::Text(_) => 0,
+        Value::Ref(number) => *number,
+    }
+}
+
+/// The text of a line, which is taken apart; of a pointer none.
+pub fn into_text(alloc: Global, line: Carried) -> Text
+    ensures { result ≡ forms.text_of line }
+{
+    let Carried {
+        tag: _,
+        value,
+        children: _,
+    } = line;
+    match value {
+        Value::Text(text) => text,
+        Value::Ref(_) => Text::empty(alloc),
+    }
+}
