@@ -66,3 +66,16 @@ pub fn into_text(alloc: Global, line: Carried) -> Text
         Value::Ref(_) => Text::empty(alloc),
     }
 }
+
+/// The lines below a line, which is taken apart.
+#[tactic(auto, using(crate::proofs::Bare::below_is))]
+pub fn into_below(line: Carried) -> Vec<Carried>
+    ensures { result.items ≡ forms.below line }
+{
+    let Carried {
+        tag: _,
+        value: _,
+        children,
+    } = line;
+    children
+}

@@ -1,0 +1,11 @@
+//! Records read from their lines, which are taken apart: no text is copied.
+//!
+//! It uses `field_rows`, which tells what a line is, and the definitions of `record_shapes`.
+//!
+//! Callers may rely on: each reader answers exactly the record of its definition, and is refused only where memory was.
+#![tactic(auto)]
+
+mod fields;
+mod sources;
+
+pub use sources::{citation_of, repo_of, source_of};
