@@ -1,6 +1,7 @@
 //! What a line is by itself.
 
 ghost use Rattle.std.specs.Prelude.{◌≡◌};
+ghost use Rattle.record_text.specs.Text.{IsPlain};
 ghost use Rattle.record_shapes.specs.Forms as forms;
 
 use record_text::Text;
@@ -34,7 +35,8 @@ pub fn is_bare(line: &Carried) -> bool
 
 /// The text of a line; of a pointer none.
 pub fn text_of(line: &Carried) -> &str
-    ensures { result.now ≡ forms.text_of line.now }
+    ensures same { result.now ≡ forms.text_of line.now }
+    ensures plain { IsPlain result.now }
 {
     match &line.value {
         Value::Text(text) => text.as_str(),

@@ -12,6 +12,7 @@ use crate::known::{Known, Named, names_a};
 use crate::normal::{has_part, is_below_within_limits, is_within_limits, made_normal};
 use crate::rows::{is_citation, is_tagged};
 use record_shapes::Field;
+use record_text::Text;
 use std::alloc::{AllocError, Global};
 use stored_lines::Carried;
 
@@ -41,16 +42,16 @@ fn is_above<K: Known>(known: &K, name: &str, number: u32) -> bool
 }
 
 /// Below a place, the name of a line that tells it, made normal. `None`: it tells none.
-pub fn place_name(alloc: Global, line: &Carried) -> Result<Option<String>, AllocError>
+pub fn place_name(alloc: Global, line: &Carried) -> Result<Option<Text>, AllocError>
     ensures { IfOk result (λ found. MatchOption found (fields.place_field line.now ≡ fields.carried)
-        (λ s. (fields.place_field line.now ≡ fields.a_name) × (string_bytes s ≡ paths.normal (forms.text_of line.now)))) }
+        (λ name. (fields.place_field line.now ≡ fields.a_name) × (name ≡ paths.normal (forms.text_of line.now)))) }
 {
     if !is_tagged(line, "NAME") || !is_bare(line) {
         return Ok(None);
     }
     let name = made_normal(alloc, text_of(line))?;
     if is_within_limits(name.as_str()) {
-        Ok(Some(name))
+        Ok(Some(Text::of_words(alloc, name.as_str())?))
     } else {
         Ok(None)
     }

@@ -1,18 +1,21 @@
 -- A part of a record that is read from some of its lines, and what it is with the lines that are left.
-use Rattle.std.specs.Prelude.{ℕ, List, [], ◌∷◌, ◌++◌, map, Option, Some, None}
+use Rattle.std.specs.Prelude.{ℕ, List, [], ◌∷◌, ◌++◌, map, Option, Some, None, option_map}
 use Rattle.std.specs.List.{filter}
+use Rattle.std.specs.Option.{unwrap_or}
 use Rattle.stored_lines.specs.Tree.{Tree}
 use Rattle.stored_lines.specs.Line.{Line, Lines}
 use Rattle.record_kinds.specs.Model as model
 use Rattle.record_fields.specs.Words.{quality_of}
 use Rattle.record_fields.specs.declared.words.Quality.{Quality}
 use Rattle.record_shapes.specs.declared.field.Field.{Field}
-use Rattle.record_shapes.specs.Forms.{Known}
+use Rattle.record_shapes.specs.Paths.{normal}
+use Rattle.record_shapes.specs.Forms.{Known, number_of}
 use Rattle.record_shapes.specs.Fields.{
   a_call_number,
   a_holding,
   a_name,
   a_page,
+  a_parent,
   a_publisher,
   a_quality,
   a_role,
@@ -20,11 +23,14 @@ use Rattle.record_shapes.specs.Fields.{
   an_author,
   citation_field,
   holding_field,
+  parent_field,
   participant_field,
+  path_below,
+  place_field,
   repo_field,
   source_field,
 }
-use Rattle.record_shapes.specs.Picking.{all_of, is_left, text_at, without_firsts}
+use Rattle.record_shapes.specs.Picking.{all_of, first, is_left, text_at, without_firsts}
 use Rattle.record_shapes.specs.Reading.{holding_from, read_by}
 
 -- the field that is still to be found
@@ -89,3 +95,27 @@ source_with known s ts = record {
   carried = s.carried ++ left_with (source_field known) (a_title ∷ an_author ∷ a_publisher ∷ [])
       (unless s.title a_title ++ (unless s.author an_author ++ unless s.publisher a_publisher)) ts;
 }
+
+-- ---- places
+-- the name that was found, or else that of the first line that tells one, made normal
+abbrev pub name_or : Option (List ℕ) → Lines → Option (List ℕ)
+name_or o ts = or_told o (option_map normal (text_at place_field a_name ts))
+
+-- the lines beside that of the name
+abbrev pub unnamed : Option (List ℕ) → Lines → Lines
+unnamed o ts = without_firsts place_field (unless o a_name) ts
+
+abbrev pub place_called : List ℕ → model.Place
+place_called name = record { name = name; parent = None; carried = [] }
+
+abbrev pub place_with : Known → model.Place → Lines → model.Place
+place_with known p ts = record {
+  name = p.name;
+  parent = or_told p.parent (option_map number_of (first (all_of (parent_field known p.name) a_parent ts)));
+  carried = p.carried ++ left_with (parent_field known p.name) (a_parent ∷ []) (unless p.parent a_parent) ts;
+}
+
+-- the path of a place of that name below the place of a number
+abbrev pub path_at : Known → List ℕ → Option ℕ → List ℕ
+path_at known name None = name
+path_at known name (Some n) = path_below name (unwrap_or (known.path n) [])

@@ -6,6 +6,8 @@
 #![tactic(auto)]
 
 mod fields;
+mod places;
 mod sources;
 
+pub use places::place_of;
 pub use sources::{citation_of, repo_of, source_of};
