@@ -4,7 +4,7 @@ ghost use Rattle.std.specs.Prelude.{◌≡◌};
 ghost use Rattle.record_text.specs.Text.{IsPlain};
 ghost use Rattle.record_shapes.specs.Forms as forms;
 
-use record_text::Text;
+use record_text::{Tag, Text};
 use std::alloc::Global;
 use stored_lines::{Carried, Value};
 
@@ -80,4 +80,41 @@ pub fn into_below(line: Carried) -> Vec<Carried>
         children,
     } = line;
     children
+}
+
+/// A line taken apart: its tag, its text, which of a pointer is empty, and the lines below it.
+#[derive(Drop)]
+pub struct LineParts {
+    pub tag: Tag,
+    pub text: Text,
+    pub below: Vec<Carried>,
+}
+
+/// The parts of a line.
+#[tactic(auto, using(crate::proofs::Bare::below_is))]
+pub fn take_apart(alloc: Global, line: Carried) -> LineParts
+    ensures tag { result.tag ≡ forms.tag_of line }
+    ensures text { result.text ≡ forms.text_of line }
+    ensures below { result.below.items ≡ forms.below line }
+{
+    let Carried {
+        tag,
+        value,
+        children,
+    } = line;
+    LineParts {
+        tag,
+        text: text_in(alloc, value),
+        below: children,
+    }
+}
+
+/// The text that a value is; of a pointer none.
+fn text_in(alloc: Global, value: Value) -> Text
+    ensures { result ≡ forms.text_in value }
+{
+    match value {
+        Value::Text(text) => text,
+        Value::Ref(_) => Text::empty(alloc),
+    }
 }

@@ -5,6 +5,7 @@ ghost use Rattle.record_shapes.specs.Paths as paths;
 ghost use Rattle.record_shapes.specs.Fields as fields;
 ghost use Rattle.record_shapes.specs.Forms as forms;
 ghost use Rattle.record_shapes.specs.Forms.{tagged};
+ghost use Rattle.record_shapes.specs.Reading as reading;
 ghost use Rattle.field_rows.specs.Rows.{IsRow, beside, is_place};
 
 use crate::forms::{is_bare, is_childless, is_text, number_of, text_of};
@@ -117,5 +118,25 @@ fn other_field<K: Known>(known: &K, line: &Carried) -> Field
         Field::Citation
     } else {
         Field::Carried
+    }
+}
+
+/// Below the line of a place of that path, a line that names a place which has it.
+pub fn is_loc<K: Known>(known: &K, path: &str, line: &Carried) -> bool
+    ensures { result ≡ reading.is_loc (K.known known.now) path.now line.now }
+{
+    is_tagged(line, "_LOC")
+        && is_childless(line)
+        && !is_text(line)
+        && has_path(known, path, number_of(line))
+}
+
+/// Whether the place of a number has that path.
+fn has_path<K: Known>(known: &K, path: &str, number: u32) -> bool
+    ensures { result ≡ reading.has_path path.now ((K.known known.now).path number) }
+{
+    match known.path(number) {
+        Some(found) => found == path,
+        None => false,
     }
 }

@@ -1,3 +1,6 @@
+pub mod EventLines
+pub mod Families
+pub mod Persons
 pub mod Picked
 pub mod Placed
 pub mod Steps

@@ -1,5 +1,5 @@
 -- A part of a record that is read from some of its lines, and what it is with the lines that are left.
-use Rattle.std.specs.Prelude.{ℕ, List, [], ◌∷◌, ◌++◌, map, Option, Some, None, option_map}
+use Rattle.std.specs.Prelude.{ℕ, Bool, List, [], ◌∷◌, ◌++◌, map, Option, Some, None, option_map}
 use Rattle.std.specs.List.{filter}
 use Rattle.std.specs.Option.{unwrap_or}
 use Rattle.stored_lines.specs.Tree.{Tree}
@@ -31,7 +31,7 @@ use Rattle.record_shapes.specs.Fields.{
   source_field,
 }
 use Rattle.record_shapes.specs.Picking.{all_of, first, is_left, text_at, without_firsts}
-use Rattle.record_shapes.specs.Reading.{holding_from, read_by}
+use Rattle.record_shapes.specs.Reading.{holding_from, read_by, without}
 
 -- the field that is still to be found
 abbrev pub unless : {A : Type 0} → Option A → Field → List Field
@@ -65,16 +65,9 @@ holding_with h ts = record {
   carried = h.carried ++ left_with holding_field (a_call_number ∷ []) (unless h.call_number a_call_number) ts;
 }
 
-abbrev pub participant_with : model.Participant → Option (List ℕ) → Lines → model.Participant
-participant_with p role ts = record {
-  person = p.person;
-  role = role_or (text_or participant_field a_role role ts);
-  carried = p.carried ++ left_with participant_field (a_role ∷ []) (unless role a_role) ts;
-}
-  where
-    role_or : Option (List ℕ) → List ℕ
-    role_or None = []
-    role_or (Some t) = t
+-- the carried lines of who took part
+abbrev pub roles_left : Option (List ℕ) → Lines → Lines
+roles_left role ts = left_with participant_field (a_role ∷ []) (unless role a_role) ts
 
 abbrev pub citation_with : model.Citation → Lines → model.Citation
 citation_with c ts = record {
@@ -119,3 +112,11 @@ place_with known p ts = record {
 abbrev pub path_at : Known → List ℕ → Option ℕ → List ℕ
 path_at known name None = name
 path_at known name (Some n) = path_below name (unwrap_or (known.path n) [])
+
+-- ---- the line below that of a place that names it
+abbrev pub number_or : (Tree Line → Bool) → Option ℕ → Lines → Option ℕ
+number_or P o ts = or_told o (option_map number_of (first (filter P ts)))
+
+abbrev pub unlocated : (Tree Line → Bool) → Option ℕ → Lines → Lines
+unlocated P None ts = without P ts
+unlocated P (Some n) ts = ts

@@ -5,9 +5,13 @@
 //! Callers may rely on: each reader answers exactly the record of its definition, and is refused only where memory was.
 #![tactic(auto)]
 
+mod events;
 mod fields;
+mod owners;
 mod places;
 mod sources;
 
+pub use events::{EventDraft, EventPart};
+pub use owners::{FamilyDraft, Owned, PersonDraft, family_of, person_of};
 pub use places::place_of;
 pub use sources::{citation_of, repo_of, source_of};

@@ -1,4 +1,5 @@
-use Rattle.std.proofs.Common.{rules, ◌≡◌, []}
+use Rattle.std.proofs.Common.{◌≡◌, [], arith}
+use Rattle.std.proofs.lemmas.Grind.{common_steps}
 use Rattle.std.specs.Prelude.{option_map}
 use Rattle.record_shapes.specs.Paths.{normal}
 use Rattle.record_shapes.specs.Fields.{a_name, place_field}
@@ -10,6 +11,6 @@ use Rattle.record_reading.proofs.places.named_lines.Goals as goal
 pub returns-clause-name : goal.returns-clause-name
 returns-clause-name c =
     let over : name_or c.lines.name [] ≡ option_map normal (text_at place_field a_name c.args.lines.items) =
-    search rules in
+    grind (arith, common_steps) in
     name_read c.lines.name (text_at place_field a_name c.args.lines.items) c.text_or_none.result
     c.text_or_none.ensures over
