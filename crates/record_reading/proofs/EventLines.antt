@@ -394,48 +394,49 @@ module _ (P : Tree Line → Bool) where
         | false ↦ λ h. ap (λ us. t ∷ us) (without_none ts h)
       ] e
 
+abbrev pub placed_at : ℕ → Lines → model.EventPlace
+placed_at n rest = record { place = n; carried = rest }
+
 -- the place of the event, by what is below its line
 pub place_told : (known : Known) (t : Tree Line) (path : List ℕ) (o : Option ℕ) (rest : Lines) → path ≡ normal (text_of t)
     → o ≡ option_map number_of (first (filter (is_loc known path) (below t)))
     → rest ≡ without (is_loc known path) (below t)
-    → record { place = unwrap_or o 0; carried = rest } ≡ event_place_from known t
+    → placed_at (unwrap_or o 0) rest ≡ event_place_from known t
 place_told known t path o rest e h k =
-    (λ i. record { place = unwrap_or (h i) 0; carried = k i })
-    ∙ ap (λ p. record {
-      place = unwrap_or (option_map number_of (first (filter (is_loc known p) (below t)))) 0;
-      carried = without (is_loc known p) (below t);
-    }) e
-    ∙ by (first (filter (is_loc known (normal (text_of t))) (below t))) refl
+    (λ i. placed_at (unwrap_or (h i) 0) (k i))
+    ∙ ap (λ p. placed_at (unwrap_or (option_map number_of (first (filter (is_loc known p) (below t)))) 0)
+    (without (is_loc known p) (below t))) e
+    ∙ cases_of (first (filter (is_loc known (normal (text_of t))) (below t))) refl
   where
-    by : (f : Option (Tree Line)) → first (filter (is_loc known (normal (text_of t))) (below t)) ≡ f
-        → record { place = unwrap_or (option_map number_of f) 0; carried = without (is_loc known (normal (text_of t))) (below t) }
+    cases_of : (f : Option (Tree Line)) → first (filter (is_loc known (normal (text_of t))) (below t)) ≡ f
+        → placed_at (unwrap_or (option_map number_of f) 0) (without (is_loc known (normal (text_of t))) (below t))
         ≡ event_place_with known t f
-    by None f = λ i. record { place = 0; carried = without_none (is_loc known (normal (text_of t))) (below t) f i }
-    by (Some loc) f = refl
+    cases_of None f = λ i. placed_at 0 (without_none (is_loc known (normal (text_of t))) (below t) f i)
+    cases_of (Some loc) f = refl
 
 -- whether a line names the place
 pub sought_none : (known : Known) (t : Tree Line) (path : List ℕ) (o : Option ℕ) → path ≡ normal (text_of t)
     → o ≡ option_map number_of (first (filter (is_loc known path) (below t))) → o ≡ None
     → sought_on known (Some t) ≡ Some path
 sought_none known t path o e h n =
-    by (place_named known t) (sym (ap (λ p. option_map number_of (first (filter (is_loc known p) (below t)))) e)
+    cases_of (place_named known t) (sym (ap (λ p. option_map number_of (first (filter (is_loc known p) (below t)))) e)
     ∙ sym h ∙ n) ∙ ap Some (sym e)
   where
-    by : (f : Option (Tree Line)) → option_map number_of f ≡ None → unless_named (normal (text_of t)) f
+    cases_of : (f : Option (Tree Line)) → option_map number_of f ≡ None → unless_named (normal (text_of t)) f
         ≡ Some (normal (text_of t))
-    by None g = refl
-    by (Some loc) g = absurd cc
+    cases_of None g = refl
+    cases_of (Some loc) g = absurd cc
 
 pub sought_named : (known : Known) (t : Tree Line) (path : List ℕ) (o : Option ℕ) (n : ℕ) → path ≡ normal (text_of t)
     → o ≡ option_map number_of (first (filter (is_loc known path) (below t))) → o ≡ Some n
     → sought_on known (Some t) ≡ None
 sought_named known t path o n e h is =
-    by (place_named known t) (sym (ap (λ p. option_map number_of (first (filter (is_loc known p) (below t)))) e)
+    cases_of (place_named known t) (sym (ap (λ p. option_map number_of (first (filter (is_loc known p) (below t)))) e)
     ∙ sym h ∙ is)
   where
-    by : (f : Option (Tree Line)) → option_map number_of f ≡ Some n → unless_named (normal (text_of t)) f ≡ None
-    by None g = absurd cc
-    by (Some loc) g = refl
+    cases_of : (f : Option (Tree Line)) → option_map number_of f ≡ Some n → unless_named (normal (text_of t)) f ≡ None
+    cases_of None g = absurd cc
+    cases_of (Some loc) g = refl
 
 -- ---- the date
 pub date_found : (text : List ℕ) (d : Date) → d.text ≡ spelt text → Some d ≡ date_of (spelt text)

@@ -114,13 +114,13 @@ module _ (known : Known) (P : ℕ → Bool) (f : model.Family) (t : Tree Line) w
 
   pub family_owner : (is_same (family_field known t) an_event || is_same (family_field known t) a_citation) ≡ true
       → (ts : Lines) → family_with known P f ts ≡ family_with known P f (t ∷ ts)
-  family_owner e ts = by (is_same (family_field known t) an_event) (is_same (family_field known t) a_citation) refl refl e
+  family_owner e ts = cases_of (is_same (family_field known t) an_event) (is_same (family_field known t) a_citation) refl refl e
     where
-      by : (a b : Bool) → is_same (family_field known t) an_event ≡ a → is_same (family_field known t) a_citation ≡ b
+      cases_of : (a b : Bool) → is_same (family_field known t) an_event ≡ a → is_same (family_field known t) a_citation ≡ b
           → (a || b) ≡ true → family_with known P f ts ≡ family_with known P f (t ∷ ts)
-      by true b h k e = family_other an_event h refl refl ts
-      by false true h k e = family_other a_citation k refl refl ts
-      by false false h k e = absurd (let wrong : true ≡ false = sym e in cc)
+      cases_of true b h k e = family_other an_event h refl refl ts
+      cases_of false true h k e = family_other a_citation k refl refl ts
+      cases_of false false h k e = absurd (let wrong : true ≡ false = sym e in cc)
 
   pub family_carried : (is_same (family_field known t) an_event || is_same (family_field known t) a_citation) ≡ false
       → is_same (family_field known t) a_member ≡ false → (ts : Lines)
@@ -160,65 +160,44 @@ module _ (known : Known) (P : ℕ → Bool) (f : model.Family) (t : Tree Line) w
       ∙ ap (λ (b : Bool). if b then once_of P all else t ∷ once_of (λ n. number_of t == n || P n) all) (sym seen)
       ∙ ap (once_of P) (all_here (family_field known) a_member t ts here)
 
+  -- the family with those of further lines
+  abbrev rest_of : model.Family → Lines → Lines → model.Family
+  rest_of g os left = record {
+    partners = g.partners ++ map partner_from (filter (λ u. not (is_child_line u)) os);
+    children = g.children ++ map child_from (filter is_child_line os);
+    carried = g.carried ++ left;
+  }
+
+  abbrev with_child : model.Family
+  with_child = record { partners = f.partners; children = f.children ++ child_from t ∷ []; carried = f.carried }
+
+  abbrev with_partner : model.Family
+  with_partner = record { partners = f.partners ++ partner_from t ∷ []; children = f.children; carried = f.carried }
+
   -- the person of a line joins those of the lines behind it
-  joins : (b : Bool) → is_child_line t ≡ b → (os : Lines) (left : Lines)
-      → record {
-        partners = (if b then f else record { partners = f.partners ++ partner_from t ∷ []; children = f.children; carried = f.carried }).partners
-            ++ map partner_from (filter (λ u. not (is_child_line u)) os);
-        children = (if b then record { partners = f.partners; children = f.children ++ child_from t ∷ []; carried = f.carried } else f).children
-            ++ map child_from (filter is_child_line os);
-        carried = left;
-      } ≡ record {
-        partners = f.partners ++ map partner_from (filter (λ u. not (is_child_line u)) (t ∷ os));
-        children = f.children ++ map child_from (filter is_child_line (t ∷ os));
-        carried = left;
-      }
+  joins : (b : Bool) → is_child_line t ≡ b → (os left : Lines)
+      → rest_of (if b then with_child else with_partner) os left ≡ rest_of f (t ∷ os) left
   joins true e os left = λ i. record {
     partners = f.partners ++ map partner_from (cond (not (sym e i)) (t ∷ filter (λ u. not (is_child_line u)) os)
         (filter (λ u. not (is_child_line u)) os));
     children = (append_assoc f.children (child_from t ∷ []) (map child_from (filter is_child_line os))
         ∙ ap (λ (b : Bool). f.children ++ map child_from (cond b (t ∷ filter is_child_line os) (filter is_child_line os)))
         (sym e)) i;
-    carried = left;
+    carried = f.carried ++ left;
   }
   joins false e os left = λ i. record {
     partners = (append_assoc f.partners (partner_from t ∷ []) (map partner_from (filter (λ u. not (is_child_line u)) os))
         ∙ ap (λ (b : Bool). f.partners ++ map partner_from (cond (not b) (t ∷ filter (λ u. not (is_child_line u)) os)
         (filter (λ u. not (is_child_line u)) os))) (sym e)) i;
     children = f.children ++ map child_from (cond (sym e i) (t ∷ filter is_child_line os) (filter is_child_line os));
-    carried = left;
+    carried = f.carried ++ left;
   }
-
-  by_joined : (b : Bool) → is_child_line t ≡ b → (os : Lines) (left : Lines)
-      → record {
-        partners = (joined_by f t).partners ++ map partner_from (filter (λ u. not (is_child_line u)) os);
-        children = (joined_by f t).children ++ map child_from (filter is_child_line os);
-        carried = (joined_by f t).carried ++ left;
-      } ≡ record {
-        partners = f.partners ++ map partner_from (filter (λ u. not (is_child_line u)) (t ∷ os));
-        children = f.children ++ map child_from (filter is_child_line (t ∷ os));
-        carried = f.carried ++ left;
-      }
-  by_joined true e os left =
-      ap (λ (b : Bool). let g : model.Family = if b then record { partners = f.partners; children = f.children ++ child_from t ∷ []; carried = f.carried }
-      else record { partners = f.partners ++ partner_from t ∷ []; children = f.children; carried = f.carried } in record {
-        partners = g.partners ++ map partner_from (filter (λ u. not (is_child_line u)) os);
-        children = g.children ++ map child_from (filter is_child_line os);
-        carried = g.carried ++ left;
-      }) e ∙ joins true e os (f.carried ++ left)
-  by_joined false e os left =
-      ap (λ (b : Bool). let g : model.Family = if b then record { partners = f.partners; children = f.children ++ child_from t ∷ []; carried = f.carried }
-      else record { partners = f.partners ++ partner_from t ∷ []; children = f.children; carried = f.carried } in record {
-        partners = g.partners ++ map partner_from (filter (λ u. not (is_child_line u)) os);
-        children = g.children ++ map child_from (filter is_child_line os);
-        carried = g.carried ++ left;
-      }) e ∙ joins false e os (f.carried ++ left)
 
   pub family_joined : (Q : ℕ → Bool) → ((n : ℕ) → Q n ≡ (number_of t == n || P n))
       → is_same (family_field known t) a_member ≡ true → P (number_of t) ≡ false → (ts : Lines)
       → family_with known Q (joined_by f t) ts ≡ family_with known P f (t ∷ ts)
   family_joined Q same here seen ts =
-      by_joined (is_child_line t) refl (once_of Q (all_of (family_field known) a_member ts))
+      joins (is_child_line t) refl (once_of Q (all_of (family_field known) a_member ts))
       (left_with (family_field known) [] [] ts)
       ∙ (λ i. record {
         partners = f.partners ++ map partner_from (filter (λ u. not (is_child_line u)) (anew Q same here seen ts i));

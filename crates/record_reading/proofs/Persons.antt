@@ -49,17 +49,14 @@ use Rattle.record_shapes.specs.Fields.{
 use Rattle.record_shapes.specs.Picking.{all_of, first, is_left, text_at}
 use Rattle.record_shapes.specs.Reading.{
   Draft,
-  child_from,
+  citation_draft,
   draft_if,
-  is_child_line,
+  event_draft,
   name_from,
-  once,
-  once_behind,
-  partner_from,
   read_by,
 }
 use Rattle.record_reading.specs.Partly.{left_with, or_told, unless}
-use Rattle.record_reading.specs.Owners.{drafts_if, family_with, joined_by, once_of, owned_on, person_with}
+use Rattle.record_reading.specs.Owners.{drafts_if, owned_on, person_with}
 use Rattle.record_reading.proofs.Picked.{
   all_here,
   all_past,
@@ -120,8 +117,9 @@ pub owned_past : (known : Known) (field : Tree Line → Field) (before : List (T
     → before ++ owned_on known field ts ≡ before ++ owned_on known field (t ∷ ts)
 owned_past known field before t e ts =
     let none : drafts_if known (field t) t ≡ [] =
-    λ i. if or_one (is_same (field t) an_event) (is_same (field t) a_citation) e i then _ else
-    (if or_two (is_same (field t) an_event) (is_same (field t) a_citation) e i then _ else []) in
+    λ i. if or_one (is_same (field t) an_event) (is_same (field t) a_citation) e i then event_draft known t ∷ []
+    else (if or_two (is_same (field t) an_event) (is_same (field t) a_citation) e i then citation_draft t ∷ []
+    else []) in
     ap (λ us. before ++ (us ++ owned_on known field ts)) (sym none ∙ draft_is known (field t) t)
 
 -- ---- persons
@@ -179,6 +177,17 @@ sex_told known t e =
 or_some : {A : Type 0} (o told : Option A) → is_some o ≡ true → or_told o told ≡ o
 or_some None told e = absurd (let wrong : true ≡ false = sym e in cc)
 or_some (Some a) told e = refl
+
+left_one : (known : Known) (t : Tree Line)
+    → (is_same (person_field known t) an_event || is_same (person_field known t) a_citation) ≡ false
+    → is_same (person_field known t) a_name ≡ false → is_same (person_field known t) a_side ≡ false
+    → is_left (a_sex ∷ []) (person_field known t) ≡ true
+unfolding is_of_person
+left_one known t owned name side =
+    let y : Field = person_field known t in
+    or_left (is_left (a_sex ∷ []) y) (is_same y a_name) (is_same y an_event) (is_same y a_side) (is_same y a_citation)
+    (person_fields known t) name (or_one (is_same y an_event) (is_same y a_citation) owned) side
+    (or_two (is_same y an_event) (is_same y a_citation) owned)
 
 module _ (known : Known) (p : model.Person) (t : Tree Line) where
   -- a line of a field that a person may have often, or that is not kept, is no other
@@ -245,13 +254,13 @@ module _ (known : Known) (p : model.Person) (t : Tree Line) where
 
   pub person_owner : (is_same (person_field known t) an_event || is_same (person_field known t) a_citation) ≡ true
       → (ts : Lines) → person_with known p ts ≡ person_with known p (t ∷ ts)
-  person_owner e ts = by (is_same (person_field known t) an_event) (is_same (person_field known t) a_citation) refl refl e
+  person_owner e ts = cases_of (is_same (person_field known t) an_event) (is_same (person_field known t) a_citation) refl refl e
     where
-      by : (a b : Bool) → is_same (person_field known t) an_event ≡ a → is_same (person_field known t) a_citation ≡ b
+      cases_of : (a b : Bool) → is_same (person_field known t) an_event ≡ a → is_same (person_field known t) a_citation ≡ b
           → (a || b) ≡ true → person_with known p ts ≡ person_with known p (t ∷ ts)
-      by true b h k e = person_other an_event h refl refl refl refl ts
-      by false true h k e = person_other a_citation k refl refl refl refl ts
-      by false false h k e = absurd (let wrong : true ≡ false = sym e in cc)
+      cases_of true b h k e = person_other an_event h refl refl refl refl ts
+      cases_of false true h k e = person_other a_citation k refl refl refl refl ts
+      cases_of false false h k e = absurd (let wrong : true ≡ false = sym e in cc)
 
   pub person_carried : (is_same (person_field known t) an_event || is_same (person_field known t) a_citation) ≡ false
       → is_same (person_field known t) a_name ≡ false → is_first (person_field known t) a_sex p.sex ≡ false
@@ -265,14 +274,3 @@ module _ (known : Known) (p : model.Person) (t : Tree Line) where
         carried = left_kept (person_field known) p.carried (a_sex ∷ []) (unless p.sex a_sex) t ts
             (left_one known t owned name side) (missing_one y a_sex p.sex sex) i;
       }
-    where
-      left_one : (known : Known) (t : Tree Line)
-          → (is_same (person_field known t) an_event || is_same (person_field known t) a_citation) ≡ false
-          → is_same (person_field known t) a_name ≡ false → is_same (person_field known t) a_side ≡ false
-          → is_left (a_sex ∷ []) (person_field known t) ≡ true
-      unfolding is_of_person
-      left_one known t owned name side =
-          let y : Field = person_field known t in
-          or_left (is_left (a_sex ∷ []) y) (is_same y a_name) (is_same y an_event) (is_same y a_side) (is_same y a_citation)
-          (person_fields known t) name (or_one (is_same y an_event) (is_same y a_citation) owned) side
-          (or_two (is_same y an_event) (is_same y a_citation) owned)
