@@ -1,6 +1,3 @@
-pub mod EventLines
-pub mod Families
-pub mod Persons
 pub mod Picked
 pub mod Placed
 pub mod Steps

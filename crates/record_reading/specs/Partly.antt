@@ -1,5 +1,5 @@
 -- A part of a record that is read from some of its lines, and what it is with the lines that are left.
-use Rattle.std.specs.Prelude.{ℕ, Bool, List, [], ◌∷◌, ◌++◌, map, Option, Some, None, option_map}
+use Rattle.std.specs.Prelude.{ℕ, List, [], ◌∷◌, ◌++◌, map, Option, Some, None, option_map}
 use Rattle.std.specs.List.{filter}
 use Rattle.std.specs.Option.{unwrap_or}
 use Rattle.stored_lines.specs.Tree.{Tree}
@@ -18,20 +18,18 @@ use Rattle.record_shapes.specs.Fields.{
   a_parent,
   a_publisher,
   a_quality,
-  a_role,
   a_title,
   an_author,
   citation_field,
   holding_field,
   parent_field,
-  participant_field,
   path_below,
   place_field,
   repo_field,
   source_field,
 }
 use Rattle.record_shapes.specs.Picking.{all_of, first, is_left, text_at, without_firsts}
-use Rattle.record_shapes.specs.Reading.{holding_from, read_by, without}
+use Rattle.record_shapes.specs.Reading.{holding_from, read_by}
 
 -- the field that is still to be found
 abbrev pub unless : {A : Type 0} → Option A → Field → List Field
@@ -64,10 +62,6 @@ holding_with h ts = record {
   call_number = text_or holding_field a_call_number h.call_number ts;
   carried = h.carried ++ left_with holding_field (a_call_number ∷ []) (unless h.call_number a_call_number) ts;
 }
-
--- the carried lines of who took part
-abbrev pub roles_left : Option (List ℕ) → Lines → Lines
-roles_left role ts = left_with participant_field (a_role ∷ []) (unless role a_role) ts
 
 abbrev pub citation_with : model.Citation → Lines → model.Citation
 citation_with c ts = record {
@@ -112,11 +106,3 @@ place_with known p ts = record {
 abbrev pub path_at : Known → List ℕ → Option ℕ → List ℕ
 path_at known name None = name
 path_at known name (Some n) = path_below name (unwrap_or (known.path n) [])
-
--- ---- the line below that of a place that names it
-abbrev pub number_or : (Tree Line → Bool) → Option ℕ → Lines → Option ℕ
-number_or P o ts = or_told o (option_map number_of (first (filter P ts)))
-
-abbrev pub unlocated : (Tree Line → Bool) → Option ℕ → Lines → Lines
-unlocated P None ts = without P ts
-unlocated P (Some n) ts = ts

@@ -56,7 +56,7 @@ fn named_lines(alloc: Global, lines: Vec<Carried>) -> Result<NamedLines, AllocEr
 }
 
 /// The text; none where there is none.
-pub(crate) fn text_or_none(alloc: Global, text: Option<Text>) -> Text
+fn text_or_none(alloc: Global, text: Option<Text>) -> Text
     ensures { result ≡ unwrap_or text [] }
 {
     match text {
