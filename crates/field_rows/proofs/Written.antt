@@ -40,10 +40,11 @@ stays [] y e = ap-less (if y == 32 then [] else y ∷ []) (ap (λ b. if b then [
   where
     ap-less : (l : List ℕ) → l ≡ y ∷ [] → 0 < length l
     ap-less l is = let long : length l ≡ 1 = ap length is in omega arith
-stays (z ∷ zs) y e = elim (z == 32) as (λ b. 0 < length (if b then from_word (zs ++ (y ∷ [])) else z ∷ (zs ++ (y ∷ [])))) [
-  | true ↦ stays zs y e
-  | false ↦ omega arith
-]
+stays (z ∷ zs) y e = elim
+    (z == 32) as (λ b. 0 < length (if b then from_word (zs ++ (y ∷ [])) else z ∷ (zs ++ (y ∷ [])))) [
+      | true ↦ stays zs y e
+      | false ↦ omega arith
+    ]
 
 length_push : (xs : List ℕ) (y : ℕ) → length (xs ++ (y ∷ [])) ≡ length xs + 1
 length_push [] y = refl

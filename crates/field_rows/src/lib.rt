@@ -14,7 +14,10 @@ mod rows;
 mod tags;
 mod words;
 
-pub use forms::{LineParts, into_below, into_text, is_bare, is_childless, is_text, number_of, take_apart, text_of};
+pub use forms::{
+    LineParts, into_below, into_text, is_bare, is_childless, is_text, number_of, take_apart,
+    text_of,
+};
 pub use known::{Known, Named, names_a};
 pub use normal::{has_part, is_below_within_limits, is_within_limits, made_normal, path_below};
 pub use places::{EventRow, event_row, is_loc, parent_field, place_name};

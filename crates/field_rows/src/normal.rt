@@ -1,6 +1,21 @@
 //! Texts of places: made normal, measured and tested.
 
-ghost use Rattle.std.specs.Prelude.{◌==◌, ◌≡◌, ◌≢◌, ◌∷◌, [], ◌++◌, ◌&&◌, nat_le, ℕ, List, IfOk, MatchOption, length, string_bytes};
+ghost use Rattle.std.specs.Prelude.{
+  ◌==◌,
+  ◌≡◌,
+  ◌≢◌,
+  ◌∷◌,
+  [],
+  ◌++◌,
+  ◌&&◌,
+  nat_le,
+  ℕ,
+  List,
+  IfOk,
+  MatchOption,
+  length,
+  string_bytes,
+};
 ghost use Rattle.std.specs.List.{count_by, list_any};
 ghost use Rattle.record_shapes.specs.Paths as paths;
 ghost use Rattle.record_shapes.specs.Fields.{path_below as below_another};
@@ -103,11 +118,7 @@ pub fn is_below_within_limits(name: &str, above: &str) -> bool
     if name.len() > MOST_BYTES - BETWEEN {
         return false;
     }
-    is_within(
-        above,
-        MOST_PARTS - own,
-        MOST_BYTES - BETWEEN - name.len(),
-    )
+    is_within(above, MOST_PARTS - own, MOST_BYTES - BETWEEN - name.len())
 }
 
 /// Whether a text has at most so many parts and bytes.

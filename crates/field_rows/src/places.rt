@@ -84,11 +84,7 @@ pub enum EventRow {
 }
 
 /// Below an event.
-pub fn event_row<K: Known>(
-    alloc: Global,
-    known: &K,
-    line: &Carried,
-) -> Result<EventRow, AllocError>
+pub fn event_row<K: Known>(alloc: Global, known: &K, line: &Carried) -> Result<EventRow, AllocError>
     ensures { IfOk result
         (λ r. IsRow (fields.event_field (K.known known.now) line.now) (forms.text_of line.now) r) }
 {

@@ -122,7 +122,8 @@ pub fn family_field<K: Known>(known: &K, line: &Carried) -> Field
 
 /// A pointer of a family to a person.
 fn is_member<K: Known>(known: &K, line: &Carried) -> bool
-    ensures { result ≡ ((tagged (codes "HUSB") line.now || (tagged (codes "WIFE") line.now || tagged (codes "CHIL") line.now))
+    ensures { result ≡ ((tagged (codes "HUSB") line.now ||
+        (tagged (codes "WIFE") line.now || tagged (codes "CHIL") line.now))
         && forms.names_a (codes "INDI") (K.known known.now) (forms.value_of line.now)) }
 {
     (is_tagged(line, "HUSB") || is_tagged(line, "WIFE") || is_tagged(line, "CHIL"))

@@ -116,6 +116,7 @@ module _ (field : Tree Line → Field) where
       front : (a b : Bool) → (a || b) ≡ false → a ≡ false
       front true b e = e
       front false b e = refl
+
       back : (a b : Bool) → (a || b) ≡ false → b ≡ false
       back true b e = absurd cc
       back false b e = e
@@ -134,6 +135,7 @@ module _ (field : Tree Line → Field) where
       front : (a b : Bool) → (a || b) ≡ false → a ≡ false
       front true b e = e
       front false b e = refl
+
       back : (a b : Bool) → (a || b) ≡ false → b ≡ false
       back true b e = absurd cc
       back false b e = e

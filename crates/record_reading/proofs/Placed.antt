@@ -28,7 +28,17 @@ use Rattle.record_fields.specs.Bytes.{bytes_are}
 use Rattle.record_kinds.specs.Model as model
 use Rattle.record_shapes.specs.Paths.{is_within_limits, normal}
 use Rattle.record_shapes.specs.declared.field.Field.{Field}
-use Rattle.record_shapes.specs.Forms.{Known, is_bare, is_childless, is_some, is_text, number_of, tag_of, tagged, text_of}
+use Rattle.record_shapes.specs.Forms.{
+  Known,
+  is_bare,
+  is_childless,
+  is_some,
+  is_text,
+  number_of,
+  tag_of,
+  tagged,
+  text_of,
+}
 use Rattle.record_shapes.specs.Fields.{
   a_name,
   a_parent,
@@ -70,7 +80,8 @@ pub rest_taken : (rest : Lines) (o : Option (List ℕ)) (t : Tree Line) (n : Lis
     → is_first (place_field t) a_name o ≡ true → (ts : Lines)
     → rest ++ unnamed (Some n) ts ≡ rest ++ unnamed o (t ∷ ts)
 rest_taken rest o t n h ts = ap (λ us. rest ++ us)
-    (ap (λ (b : Bool). cond b ts (t ∷ without_first place_field a_name ts)) (sym (first_same (place_field t) a_name o h))
+    (ap (λ (b : Bool). cond b ts (t ∷ without_first place_field a_name ts))
+    (sym (first_same (place_field t) a_name o h))
     ∙ ap (λ (x : Option (List ℕ)). unnamed x (t ∷ ts)) (sym (first_none (place_field t) a_name o h)))
 
 pub rest_passed : (rest : Lines) (o : Option (List ℕ)) (t : Tree Line) → is_first (place_field t) a_name o ≡ false

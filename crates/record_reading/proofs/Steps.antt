@@ -1,5 +1,24 @@
 -- A part of a record that is read with one line more.
-use Rattle.std.specs.Prelude.{ℕ, ◌≡◌, ◌&&◌, ◌||◌, not, Bool, true, false, List, [], ◌∷◌, ◌++◌, Option, Some, None, codes, map, refl}
+use Rattle.std.specs.Prelude.{
+  ℕ,
+  ◌≡◌,
+  ◌&&◌,
+  ◌||◌,
+  not,
+  Bool,
+  true,
+  false,
+  List,
+  [],
+  ◌∷◌,
+  ◌++◌,
+  Option,
+  Some,
+  None,
+  codes,
+  map,
+  refl,
+}
 use Rattle.std.specs.List.{list_any}
 use Rattle.std.proofs.Common.{ap, sym, ◌∙◌}
 use Rattle.stored_lines.specs.Tree.{Tree}
@@ -30,7 +49,8 @@ citation_fields : (t : Tree Line) → is_left (a_page ∷ a_quality ∷ []) (cit
 citation_fields t =
     row_is (is_left (a_page ∷ a_quality ∷ [])) (tagged (codes "PAGE") t && is_bare t) a_page
     (row (tagged (codes "QUAY") t && (is_bare t && is_some (quality_of (text_of t)))) a_quality carried) refl
-    (row_is (is_left (a_page ∷ a_quality ∷ [])) (tagged (codes "QUAY") t && (is_bare t && is_some (quality_of (text_of t))))
+    (row_is (is_left (a_page ∷ a_quality ∷ []))
+    (tagged (codes "QUAY") t && (is_bare t && is_some (quality_of (text_of t))))
     a_quality carried refl refl)
 
 pub citation_carried : (c : model.Citation) (t : Tree Line) → is_first (citation_field t) a_page c.page ≡ false
@@ -47,7 +67,8 @@ citation_carried c t h k ts = λ i. record {
   source = c.source;
   page = told_same citation_field (λ o. o) a_page c.page t ts h i;
   quality = told_same citation_field (read_by quality_of) a_quality c.quality t ts k i;
-  carried = left_kept citation_field c.carried (a_page ∷ a_quality ∷ []) (unless c.page a_page ++ unless c.quality a_quality)
+  carried = left_kept citation_field c.carried (a_page ∷ a_quality ∷ [])
+      (unless c.page a_page ++ unless c.quality a_quality)
       t ts (citation_fields t)
       (missing_more (citation_field t) a_page c.page (unless c.quality a_quality) h
       (missing_one (citation_field t) a_quality c.quality k)) i;

@@ -100,11 +100,7 @@ fn first_name(
 }
 
 /// The place of that name with these lines beside.
-fn placed<K: Known>(
-    alloc: Global,
-    earlier: &K,
-    named: NamedLines,
-) -> Result<Place, AllocError>
+fn placed<K: Known>(alloc: Global, earlier: &K, named: NamedLines) -> Result<Place, AllocError>
     ensures { IfOk result
         (λ p. p ≡ partly.place_with (K.known earlier.now) (partly.place_called named.name) named.lines.items) }
 {

@@ -9,7 +9,8 @@ ghost use Rattle.record_reading.specs.Partly as partly;
 
 use crate::fields::{is_first, is_same};
 use field_rows::{
-    Known, citation_field, holding_field, into_below, into_text, number_of, quality_of, repo_field, source_field,
+    Known, citation_field, holding_field, into_below, into_text, number_of, quality_of, repo_field,
+    source_field,
 };
 use record_kinds::{Citation, Holding, Repo, Source};
 use record_shapes::Field;
@@ -56,11 +57,7 @@ fn holding_of(alloc: Global, line: Carried) -> Result<Holding, AllocError>
     Ok(holding)
 }
 
-fn take_holding_line(
-    alloc: Global,
-    holding: &mut Holding,
-    line: Carried,
-) -> Result<(), AllocError>
+fn take_holding_line(alloc: Global, holding: &mut Holding, line: Carried) -> Result<(), AllocError>
     ensures { IfOk result
         (λ _. (ts : Lines) → partly.holding_with holding.new ts ≡ partly.holding_with holding.old (line ∷ ts)) }
 {

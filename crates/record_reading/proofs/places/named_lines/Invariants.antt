@@ -9,7 +9,8 @@ use Rattle.record_reading.proofs.places.named_lines.Given as goal
 
 abbrev pub invariant-lines : goal.invariant-lines
 invariant-lines l = record {
-  name : name_or l.name (into_iter_items l.line-iterator) ≡ option_map normal (text_at place_field a_name l.fn.lines.items);
+  name : name_or l.name (into_iter_items l.line-iterator) ≡ option_map normal
+      (text_at place_field a_name l.fn.lines.items);
   rest : l.rest.items ++ unnamed l.name (into_iter_items l.line-iterator)
       ≡ without_first place_field a_name l.fn.lines.items;
 }
