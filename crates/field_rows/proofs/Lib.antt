@@ -1,0 +1,5 @@
+pub mod Bare
+pub mod Parted
+pub mod Plain
+pub mod Spaces
+pub mod Written
