@@ -1,1 +1,3 @@
+pub mod Doubled
 pub mod Greatest
+pub mod Places

@@ -7,7 +7,7 @@ use Rattle.std.specs.List.{AllByRecursion}
 use Rattle.stored_lines.specs.Tree.{label}
 use Rattle.file_roots.specs.Kinds.{kind_named}
 use Rattle.file_roots.specs.Nodes.{FileNode, IsInFile}
-use Rattle.file_roots.specs.Roots.{is_kept}
+use Rattle.file_roots.specs.Roots.{is_called, is_kept}
 use Rattle.file_roots.specs.Lines.{place_in}
 use Rattle.file_roots.specs.Steps.{breaks}
 use Rattle.file_roots.specs.declared.kinds.RootKind.{RootKind}
@@ -26,7 +26,11 @@ first_of (Some a) b = Some a
 
 -- the position of a name, kept where none was before
 abbrev pub with_first : (List ℕ → Option ℕ) → List ℕ → ℕ → List ℕ → Option ℕ
-with_first places name k q = first_of (places q) (if bytes_eq name q then Some k else None)
+with_first places name k q = first_of (places q) (if bytes_eq q name then Some k else None)
+
+-- the position of a node, kept under its name
+abbrev pub with_node : (List ℕ → Option ℕ) → FileNode → ℕ → List ℕ → Option ℕ
+with_node places t k q = first_of (places q) (if is_called q t then Some k else None)
 
 abbrev pub AreInFile : List FileNode → Type 0
 AreInFile ts = AllByRecursion IsInFile ts

@@ -5,9 +5,11 @@ ghost use Rattle.std.specs.Prelude.{
   ◌<◌,
   ◌^◌,
   ◌++◌,
+  ◌∷◌,
   ℕ,
   List,
-  true,
+  [],
+  if◌then◌else◌,
   not,
   IfOk,
   OnOk,
@@ -22,8 +24,8 @@ ghost use Rattle.file_roots.specs.Nodes.{tree_of, trees_of, trees_at, line_said,
 ghost use Rattle.file_roots.specs.Roots.{behind_first, candidates, is_kept, is_society as society_test, kept, name_in};
 ghost use Rattle.file_roots.specs.Lines.{place_in};
 ghost use Rattle.file_roots.specs.Steps.{breaks, step_of as step_told};
-ghost use Rattle.file_roots.specs.Reports.{dropped, is_empty as empty_test, said_of_root, said_of_roots};
-ghost use Rattle.file_roots.specs.Views.{kept_at, with_first, AreEnds, AreInFile};
+ghost use Rattle.file_roots.specs.Reports.{dangles, dropped, is_empty as empty_test, said_of_root, said_of_roots};
+ghost use Rattle.file_roots.specs.Views.{kept_at, with_first, with_node, AreEnds, AreInFile};
 
 use crate::kinds::{RootKind, kind_of};
 use crate::steps::{Step, ends_of, step_at};
@@ -119,9 +121,7 @@ fn places_of(alloc: Global, nodes: &[&Node]) -> Result<BTreeMap<String, u32>, Al
     let mut places: BTreeMap<String, u32> = BTreeMap::new(alloc);
     let mut at: u32 = 0;
     for node in nodes {
-        if let Some(name) = &node.xref {
-            add_place(alloc, &mut places, name, at)?;
-        }
+        add_node(alloc, &mut places, node, at)?;
         at += 1;
     }
     Ok(places)
@@ -140,6 +140,21 @@ fn add_place(
         places.insert(String::from_str(alloc, name)?, at)?;
     }
     Ok(())
+}
+
+/// Keeps the position of a node under its cross reference, where it has one that none before it has.
+fn add_node(
+    alloc: Global,
+    places: &mut BTreeMap<String, u32>,
+    node: &Node,
+    at: u32,
+) -> Result<(), AllocError>
+    ensures { OnOk result ((q : List ℕ) → kept_at places.new q ≡ with_node (kept_at places.old) (tree_of node.now) at q) }
+{
+    match &node.xref {
+        Some(name) => add_place(alloc, places, name, at),
+        None => Ok(()),
+    }
 }
 
 /// The step from a node to the one that its value names.
@@ -197,6 +212,31 @@ fn report_value(node: &Node, report: &mut Vec<ReportLine>) -> Result<(), AllocEr
     Ok(())
 }
 
+/// Takes a node whose chain does not break off, and reports a value that it drops; any other is reported.
+fn sift_node<'a>(
+    node: &'a Node,
+    end: Step,
+    found: &mut Vec<&'a Node>,
+    report: &mut Vec<ReportLine>,
+) -> Result<(), AllocError>
+    ensures found { OnOk result (trees_at found.new.items
+        ≡ trees_at found.old.items ++ (if breaks end then [] else tree_of node.now ∷ [])) }
+    ensures report { OnOk result (report.new.items
+        ≡ report.old.items ++ (if breaks end then dangles (label (tree_of node.now)) ∷ []
+        else dropped (label (tree_of node.now)))) }
+{
+    if end == Step::Breaks {
+        report.push(ReportLine {
+            line: node.line,
+            word: ReportWord::Dangling,
+        })?;
+        return Ok(());
+    }
+    report_value(node, report)?;
+    found.push(node)?;
+    Ok(())
+}
+
 /// The nodes whose chains do not break off. The others are reported, and so are values that are dropped.
 fn sift<'a>(
     alloc: Global,
@@ -211,15 +251,7 @@ fn sift<'a>(
     let mut found = Vec::new(alloc);
     let mut at: usize = 0;
     for node in nodes {
-        if ends[at] == Step::Breaks {
-            report.push(ReportLine {
-                line: node.line,
-                word: ReportWord::Dangling,
-            })?;
-        } else {
-            report_value(node, report)?;
-            found.push(*node)?;
-        }
+        sift_node(node, ends[at], &mut found, report)?;
         at += 1;
     }
     Ok(found)
@@ -240,7 +272,7 @@ fn kinds_of(alloc: Global, nodes: &[&Node]) -> Result<Vec<RootKind>, AllocError>
 fn with_places<'a>(alloc: Global, nodes: Vec<&'a Node>) -> Result<Roots<'a>, AllocError>
     requires few { length nodes.items < 2 ^ 32 }
     requires in_file { AreInFile (trees_at nodes.items) }
-    ensures { IfOk result (λ r. r ≡ trees_at nodes.items) }
+    ensures { IfOk result (λ r. r ≡ trees_at nodes.entry.items) }
 {
     let kinds = kinds_of(alloc, nodes.as_slice())?;
     let places = places_of(alloc, nodes.as_slice())?;
