@@ -25,7 +25,6 @@ use Rattle.std.proofs.Common.{
   ◌∙◌,
   arith,
   subst,
-  absurd,
   Option,
   Some,
   None,
