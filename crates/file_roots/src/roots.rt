@@ -298,5 +298,6 @@ pub fn roots_of<'a>(
     let steps = steps_of(alloc, &places, &all)?;
     let ends = ends_of(alloc, steps)?;
     let found = sift(alloc, &all, &ends, report)?;
-    with_places(alloc, found)
+    let roots = with_places(alloc, found)?;
+    Ok(roots)
 }
