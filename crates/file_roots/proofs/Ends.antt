@@ -142,7 +142,8 @@ same_lists f g d (x ∷ xs) (y ∷ ys) e h =
     λ i. first i ∷ rest i
 
 pub ends_are : (ts : List FileNode) (place : List ℕ → Option ℕ) (ss ends : List Step) → AreApart ts
-    → ((name : List ℕ) → place name ≡ place_in ts name) → ss ≡ map (step_of place) ts → length ends ≡ length ss → (n : ℕ)
+    → ((name : List ℕ) → place name ≡ place_in ts name) → ss ≡ map (step_of place) ts
+    → length ends ≡ length ss → (n : ℕ)
     → length ss ≤ n → ((k : ℕ) → at ends k ≡ after ss n k) → AreEnds ts ends
 ends_are ts place ss ends a names e long n far is =
     let same : place ≡ place_in ts = λ i q. names q i in

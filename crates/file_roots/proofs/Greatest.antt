@@ -69,7 +69,8 @@ implies true b h = h refl
 implies false b h = refl
 
 -- ---- sets
-within_head : (P Q : FileNode → Bool) (t : FileNode) (ts : List FileNode) → IsWithin (t ∷ ts) P Q → P t ≡ true → Q t ≡ true
+within_head : (P Q : FileNode → Bool) (t : FileNode) (ts : List FileNode) → IsWithin (t ∷ ts) P Q
+    → P t ≡ true → Q t ≡ true
 within_head P Q t ts h = implied (P t) (Q t) (and_both (not (P t) || Q t) (list_all (λ u. not (P u) || Q u) ts) h).0
 
 within_tail : (P Q : FileNode → Bool) (t : FileNode) (ts : List FileNode) → IsWithin (t ∷ ts) P Q → IsWithin ts P Q
@@ -83,7 +84,8 @@ within_all : (P Q : FileNode → Bool) (ts : List FileNode) → ((t : FileNode) 
 within_all P Q [] h = refl
 within_all P Q (t ∷ ts) h = within_cons P Q t ts (h t) (within_all P Q ts h)
 
-within_then : (P Q R : FileNode → Bool) (ts : List FileNode) → IsWithin ts P Q → ((t : FileNode) → Q t ≡ true → R t ≡ true)
+within_then : (P Q R : FileNode → Bool) (ts : List FileNode) → IsWithin ts P Q
+    → ((t : FileNode) → Q t ≡ true → R t ≡ true)
     → IsWithin ts P R
 within_then P Q R [] h k = refl
 within_then P Q R (t ∷ ts) h k = within_cons P R t ts (λ e. k t (within_head P Q t ts h e))
@@ -183,9 +185,9 @@ settled ts (suc n) = settled_step (settled ts n)
     settled_step (inl w) = inl (next w)
     settled_step (inr few) = elim (less_or_same (leads ts n) (leads ts (suc n)) ts
         (within_all (leads ts (suc n)) (leads ts n) ts (leads_less ts n))) [
-      | inl w ↦ inl (next w)
-      | inr less ↦ inr (omega arith)
-    ]
+          | inl w ↦ inl (next w)
+          | inr less ↦ inr (omega arith)
+        ]
 
 -- the next step can be taken from each that is kept
 kept_steps : (ts : List FileNode) → IsWithin ts (leads ts (length ts)) (leads ts (suc (length ts)))
@@ -212,7 +214,8 @@ kept_most ts Q h = closed_leads ts Q h (length ts)
 pub kept_greatest : (ts : List FileNode) → IsGreatest ts (is_kept ts)
 kept_greatest ts = record { closed = kept_closed ts; greatest = kept_most ts }
 
-filter_same : (P Q : FileNode → Bool) (ts : List FileNode) → IsWithin ts P Q → IsWithin ts Q P → filter P ts ≡ filter Q ts
+filter_same : (P Q : FileNode → Bool) (ts : List FileNode) → IsWithin ts P Q → IsWithin ts Q P
+    → filter P ts ≡ filter Q ts
 filter_same P Q [] h k = refl
 filter_same P Q (t ∷ ts) h k =
     same_step (P t) (Q t) refl refl (filter_same P Q ts (within_tail P Q t ts h) (within_tail Q P t ts k))

@@ -129,17 +129,19 @@ node_fit : (n : Node) → Fit n
 node_fit = ind-Node Fit (λ x y is d h.
     let n : Node = roll-Node x in
     let o : out-Node n ≡ x = out-roll-Node x in
-    let own : IsNodeOf (said d n) × EachNode (flats (d + 1) (out-Node n).children.items) = subst EachNode (flat_out n d) h in
+    let own : IsNodeOf (said d n) × EachNode (flats (d + 1) (out-Node n).children.items) = subst EachNode
+    (flat_out n d) h in
     let low : d ≤ 98 = own.0.low in
     let below : EachNode (flats (d + 1) (out-Node n).children.items)
-        → HaveLines (forest_of (trees_of (out-Node n).children.items))
-        × (forest_levels (forest_of (trees_of (out-Node n).children.items)) + (d + 1) ≤ 99) =
+    → HaveLines (forest_of (trees_of (out-Node n).children.items))
+    × (forest_levels (forest_of (trees_of (out-Node n).children.items)) + (d + 1) ≤ 99) =
     subst (λ (z : Node-F Node). EachNode (flats (d + 1) z.children.items)
     → HaveLines (forest_of (trees_of z.children.items))
     × (forest_levels (forest_of (trees_of z.children.items)) + (d + 1) ≤ 99)) (is ∙ sym o)
     (children_fit y.children.items (d + 1) (omega arith)) in
     let r = below own.1 in
-    let deep : levels (node (line_said (out-Node n)) (forest_of (trees_of (out-Node n).children.items))) + d ≤ 99 = omega
+    let deep : levels (node (line_said (out-Node n)) (forest_of (trees_of (out-Node n).children.items)))
+    + d ≤ 99 = omega
     (arith, r.1) in
     subst (λ (t : FileNode). HasLines t × (levels t + d ≤ 99)) (sym (tree_out n)) ((line_is d n own.0, r.0), deep))
 
@@ -171,7 +173,8 @@ none_called : (name : List ℕ) (ns : List Node) → list_any (is_item_called na
     → list_any (is_called name) (trees_of ns) ≡ false
 none_called name [] h = refl
 none_called name (n ∷ ns) h =
-    let first : list_any (is_item_called name) ((said 0 n ∷ flats 1 (out-Node n).children.items) ++ flats 0 ns) ≡ false =
+    let first : list_any (is_item_called name) ((said 0 n ∷ flats 1 (out-Node n).children.items) ++ flats 0 ns)
+    ≡ false =
     ap (λ (x : List Item). list_any (is_item_called name) (x ++ flats 0 ns)) (sym (flat_out n 0)) ∙ h in
     let a = or_false (is_item_called name (said 0 n))
     (list_any (is_item_called name) (flats 1 (out-Node n).children.items ++ flats 0 ns)) first in
@@ -185,7 +188,8 @@ not_false true h = absurd cc
 not_false false h = refl
 
 first_apart : (o : Option (List ℕ)) (is : List Item) (name : List ℕ)
-    → not (option_map_or (λ x. list_any (is_item_called x) is) o false) ≡ true → option_map_or (bytes_eq name) o false ≡ true
+    → not (option_map_or (λ x. list_any (is_item_called x) is) o false) ≡ true
+    → option_map_or (bytes_eq name) o false ≡ true
     → list_any (is_item_called name) is ≡ false
 first_apart None is name h e = absurd cc
 first_apart (Some x) is name h e =
@@ -198,8 +202,7 @@ trees_apart (n ∷ ns) h =
     let first : are_distinct ((said 0 n ∷ below) ++ flats 0 ns) ≡ true =
     ap (λ (x : List Item). are_distinct (x ++ flats 0 ns)) (sym (flat_out n 0)) ∙ h in
     let a = both (not (option_map_or (λ x. list_any (is_item_called x) (below ++ flats 0 ns)) (said 0 n).xref false))
-    (are_distinct (below ++ flats 0 ns)) first in
-    (
+    (are_distinct (below ++ flats 0 ns)) first in (
       λ name e. none_called name ns
           (or_false (list_any (is_item_called name) below) (list_any (is_item_called name) (flats 0 ns))
           (sym (list_any-append (is_item_called name) below (flats 0 ns))

@@ -123,7 +123,8 @@ report_put place ns i n v old new whole h e r is was =
     let rest : List ReportLine = dangling place (from ns (i + 1)) in
     ap (λ (xs : List ReportLine). xs ++ rest) is
     ∙ append_assoc old (dangling place (below n)) rest
-    ∙ ap (λ o. old ++ ((if is_some o then dangling place (below n) else dangles (line_said (out-Node n)) ∷ []) ++ rest)) r
+    ∙ ap (λ o. old ++ ((if is_some o then dangling place (below n) else dangles (line_said (out-Node n)) ∷ []) ++ rest))
+    r
     ∙ ap (λ (f : Forest FileLine). old ++ dangling place f) (sym (front ns i n h e))
     ∙ was
 
@@ -135,7 +136,8 @@ report_left place ns i n old new whole h e r is was =
     let rest : List ReportLine = dangling place (from ns (i + 1)) in
     ap (λ (xs : List ReportLine). xs ++ rest) is
     ∙ append_assoc old (dangles (line_said (out-Node n)) ∷ []) rest
-    ∙ ap (λ (o : Option Value). old ++ ((if is_some o then dangling place (below n) else dangles (line_said (out-Node n)) ∷ []) ++ rest)) r
+    ∙ ap (λ (o : Option Value). old
+    ++ ((if is_some o then dangling place (below n) else dangles (line_said (out-Node n)) ∷ []) ++ rest)) r
     ∙ ap (λ (f : Forest FileLine). old ++ dangling place f) (sym (front ns i n h e))
     ∙ was
 

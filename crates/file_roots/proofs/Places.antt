@@ -120,8 +120,8 @@ place_step ns i at n old new h e same was is q =
     is q
     ∙ ap (λ o. first_of o (cond (is_called q (tree_of n.now)) (Some at) None)) (was q)
     ∙ (let long : at ≡ 0 + length (trees_at (take i ns)) =
-        omega (arith, length-map (take i ns) (λ (m : Bor Node). tree_of m.now), length-take-le i ns (omega arith)) in
-      ap (λ k. first_of (place_in (trees_at (take i ns)) q) (cond (is_called q (tree_of n.now)) (Some k) None)) long)
+    omega (arith, length-map (take i ns) (λ (m : Bor Node). tree_of m.now), length-take-le i ns (omega arith)) in
+    ap (λ k. first_of (place_in (trees_at (take i ns)) q) (cond (is_called q (tree_of n.now)) (Some k) None)) long)
     ∙ sym (position_push (is_called q) 0 (trees_at (take i ns)) (tree_of n.now))
     ∙ ap (λ ts. place_in ts q) (sym (trees_more ns i n h e))
 

@@ -66,7 +66,8 @@ node_at (m ∷ ns) zero n l e = ap (λ (k : Bor Node). tree_of k.now) e
 node_at (m ∷ ns) (suc i) n l e = node_at ns i n (omega arith) e
 
 pub end_kept : (ns : List (Bor Node)) (ends : List Step) (k i : ℕ) (d : Step) (n : Bor Node) → k ≡ i → i < length ns
-    → n ≡ get_or ns i n → AreEnds (trees_at ns) ends → breaks (get_or ends k d) ≡ not (is_kept (trees_at ns) (tree_of n.now))
+    → n ≡ get_or ns i n → AreEnds (trees_at ns) ends → breaks (get_or ends k d) ≡ not
+    (is_kept (trees_at ns) (tree_of n.now))
 end_kept ns ends k i d n same l e h =
     ap (λ j. breaks (get_or ends j d)) same
     ∙ not_twice (breaks (get_or ends i d)) (is_kept (trees_at ns) (tree_of n.now))
@@ -99,7 +100,8 @@ pub said_step : (all : List FileNode) (ns : List (Bor Node)) (i : ℕ) (n : Bor 
 said_step all ns i n broken old new whole l e b is was =
     let t = tree_of n.now in
     let rest : List ReportLine = flat_map (said_of_root all) (trees_at (drop (i + 1) ns)) in
-    ap (λ (xs : List ReportLine). xs ++ rest) (is ∙ ap (λ c. old ++ cond c (dangles (label t) ∷ []) (dropped (label t))) b)
+    ap (λ (xs : List ReportLine). xs ++ rest)
+    (is ∙ ap (λ c. old ++ cond c (dangles (label t) ∷ []) (dropped (label t))) b)
     ∙ append_assoc old (cond (not (is_kept all t)) (dangles (label t) ∷ []) (dropped (label t))) rest
     ∙ ap (λ (xs : List ReportLine). old ++ (xs ++ rest)) (said (is_kept all t))
     ∙ ap (λ (ts : List FileNode). old ++ flat_map (said_of_root all) ts) (sym (trees_less ns i n l e))

@@ -134,9 +134,10 @@ tree_match = ind-Node Matches (λ x y is d.
     let n : Node = roll-Node x in
     let o : out-Node n ≡ x = out-roll-Node x in
     let below : map leveled (flats (d + 1) (out-Node n).children.items)
-        ≡ flat_all (d + 1) (forest_of (trees_of (out-Node n).children.items)) =
+    ≡ flat_all (d + 1) (forest_of (trees_of (out-Node n).children.items)) =
     subst (λ (z : Node-F Node). map leveled (flats (d + 1) z.children.items)
-    ≡ flat_all (d + 1) (forest_of (trees_of z.children.items))) (is ∙ sym o) (children_match y.children.items (d + 1)) in
+    ≡ flat_all (d + 1) (forest_of (trees_of z.children.items))) (is ∙ sym o)
+    (children_match y.children.items (d + 1)) in
     ap (map leveled) (flat_out n d) ∙ ap (λ (ls : List (ℕ × FileLine)). (d, line_said (out-Node n)) ∷ ls) below
     ∙ ap (flat d) (sym (tree_out n)))
 

@@ -42,7 +42,8 @@ meaning_code = code_by (List ℕ ⊎ List ℕ) (coded⊎ (coded_list coded_ℕ) 
 abbrev pub file_line_code : Coded FileLine
 file_line_code = code_by (ℕ × (Option (List ℕ) × (List ℕ × Meaning)))
     (coded× coded_ℕ (coded× (coded_option (coded_list coded_ℕ)) (coded× (coded_list coded_ℕ) meaning_code)))
-    (λ l. (l.line, (l.xref, (l.tag, l.value)))) (λ t. record { line = t.0; xref = t.1.0; tag = t.1.1.0; value = t.1.1.1 })
+    (λ l. (l.line, (l.xref, (l.tag, l.value))))
+    (λ t. record { line = t.0; xref = t.1.0; tag = t.1.1.0; value = t.1.1.1 })
     (λ _. refl)
 
 -- a node with those below it

@@ -1,6 +1,6 @@
 -- The nodes of level 0 of a file that become records (The GEDCOM Standard Release 5.5.1, chapter 2,
--- LINEAGE_LINKED_GEDCOM). Those of an own kind do, whatever their value. A node of another tag keeps its value, and does
--- where this is a text or names one that becomes a record: they are the greatest set of which that can be said.
+-- LINEAGE_LINKED_GEDCOM). Those of an own kind do, whatever their value. A node of another tag keeps its value, and
+-- does where this is a text or names one that becomes a record: they are the greatest set of which that can be said.
 use Rattle.std.specs.Prelude.{
   ◌≡◌,
   ℕ,

@@ -149,7 +149,8 @@ fn add_node(
     node: &Node,
     at: u32,
 ) -> Result<(), AllocError>
-    ensures { OnOk result ((q : List ℕ) → kept_at places.new q ≡ with_node (kept_at places.old) (tree_of node.now) at q) }
+    ensures { OnOk result ((q : List ℕ) → kept_at places.new q ≡ with_node (kept_at places.old)
+        (tree_of node.now) at q) }
 {
     match &node.xref {
         Some(name) => add_place(alloc, places, name, at),
@@ -259,7 +260,8 @@ fn sift<'a>(
 
 /// The kind of each node.
 fn kinds_of(alloc: Global, nodes: &[&Node]) -> Result<Vec<RootKind>, AllocError>
-    ensures { IfOk result (λ kinds. kinds.items ≡ map (λ (t : FileNode). kind_named (label t).tag) (trees_at nodes.now)) }
+    ensures { IfOk result (λ kinds. kinds.items ≡ map (λ (t : FileNode). kind_named (label t).tag)
+        (trees_at nodes.now)) }
 {
     let mut kinds = Vec::new(alloc);
     for node in nodes {

@@ -34,6 +34,10 @@ loop-node-preserved t c =
     let low = low_front c.args.nodes.now c.loop-node.node-index c.node-item.result c.loop-node-test.true c.node-item.is
     c.loop-node.invariant.low in
     elim c.match-branch-2.branch [
-      | in-Some+in_ok-children-in-Some+in_ok-tag-in-Some+in_ok-push-in-Some w ↦ let p = w.in_ok-push-in-Some.ensures.items in let li = w.lines-is in let ri = w.report-is in let r = w.in-Some.is in let vo = c.in_ok-value.ensures in let cv = w.in_ok-children-in-Some.ensures in let dv = w.deref.ensures.value in let tg = w.in_ok-tag-in-Some.ensures in let at = w.as_str.ensures in ?
-      | in-None+in_ok-push-in-None w ↦ let p = w.in_ok-push-in-None.ensures.items in let li = w.lines-is in let ri = w.report-is in let r = w.in-None.is in ?
+      | in-Some+in_ok-children-in-Some+in_ok-tag-in-Some+in_ok-push-in-Some w ↦
+          let p = w.in_ok-push-in-Some.ensures.items in let li = w.lines-is in let ri = w.report-is in
+          let r = w.in-Some.is in let vo = c.in_ok-value.ensures in let cv = w.in_ok-children-in-Some.ensures in
+          let dv = w.deref.ensures.value in let tg = w.in_ok-tag-in-Some.ensures in let at = w.as_str.ensures in ?
+      | in-None+in_ok-push-in-None w ↦ let p = w.in_ok-push-in-None.ensures.items in let li = w.lines-is in
+          let ri = w.report-is in let r = w.in-None.is in ?
     ]

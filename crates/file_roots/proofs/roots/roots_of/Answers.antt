@@ -40,7 +40,8 @@ pub returns : goal.returns
 returns c =
     let k = candidates_are c.nodes.result.now c.args.forest.now c.in_ok-all.all.items c.nodes.ensures.nodes
     c.nodes.ensures.forest c.nodes.ensures.few c.in_ok-all.ensures in
-    let same : trees_at c.deref-3.result.now ≡ candidates c.args.forest.now = ap trees_at c.deref-3.ensures.value ∙ k.are in
+    let same : trees_at c.deref-3.result.now ≡ candidates c.args.forest.now = ap trees_at
+    c.deref-3.ensures.value ∙ k.are in
     record {
       kept = c.in_ok-roots.ensures ∙ c.in_ok-found.ensures.kept ∙ ap kept same;
       report = c.in_ok-found.ensures.report ∙ ap (λ ts. c.args.report.now.items ++ said_of_roots ts) same;

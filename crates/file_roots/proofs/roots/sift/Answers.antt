@@ -20,7 +20,8 @@ loop-node-preserved c =
     c.node-item.is c.requires in
     record {
       count = omega (arith, c.loop-node.invariant.count);
-      kept = kept_step (trees_at ns) ns i n _ (trees_at c.loop-node.found.items) (trees_at c.sift_node.new.found.items) _
+      kept = kept_step (trees_at ns) ns i n _ (trees_at c.loop-node.found.items)
+          (trees_at c.sift_node.new.found.items) _
           c.loop-node-test.true c.node-item.is broken c.in_ok-sift_node.ensures.found c.loop-node.invariant.kept;
       report = said_step (trees_at ns) ns i n _ c.loop-node.report.items c.sift_node.new.report.items _
           c.loop-node-test.true c.node-item.is broken c.in_ok-sift_node.ensures.report c.loop-node.invariant.report;
