@@ -28,7 +28,7 @@ ghost use Rattle.file_roots.specs.Reports.{dangles, dropped, is_empty as empty_t
 ghost use Rattle.file_roots.specs.Views.{kept_at, with_first, with_node, AreEnds, AreInFile};
 
 use crate::kinds::{RootKind, kind_of};
-use crate::steps::{Step, ends_of, step_at};
+use crate::steps::{Step, ends_of};
 use gedcom_tree::{Forest, Node, NodeValue};
 use receipts::{ReportLine, ReportWord};
 use std::alloc::{AllocError, Global};

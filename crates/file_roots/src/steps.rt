@@ -19,7 +19,7 @@ pub(crate) enum Step {
 }
 
 /// The step at a position; behind the last there is none.
-pub(crate) fn step_at(steps: &[Step], position: u32) -> Step
+fn step_at(steps: &[Step], position: u32) -> Step
     ensures { result ≡ step_in steps.now position }
 {
     match steps.get(position as usize) {
