@@ -25,7 +25,9 @@ use Rattle.std.proofs.Common.{
   Option,
   Some,
   None,
+  Vec,
 }
+use Rattle.std.specs.Global.{Global}
 use Rattle.std.specs.Prelude.{is_some, if◌then◌else◌}
 use Rattle.std.proofs.Math.Seq.{drop-cons}
 use Rattle.receipts.specs.declared.report.ReportLine.{ReportLine}
@@ -161,3 +163,12 @@ below_low place n cs c h =
     let same : forest_levels (forest_of cs) ≡ forest_levels (relabel_all bare (resolved place (below n))) =
     ap forest_levels (ap forest_of c ∙ forest_list (relabel_all bare (resolved place (below n)))) in
     omega (arith, same, resolved_low place (below n))
+
+pub items_same : {A : Type 0} (a b : Vec A Global) → a ≡ b → a.items ≡ b.items
+items_same a b e = ap (λ v. v.items) e
+
+pub less_front : (ns : List Node) (i : ℕ) (n : Node) (m : ℕ) → i < length ns → n ≡ get_or ns i n
+    → forest_levels (from ns i) ≤ m → (forest_levels (below n) < m) × (forest_levels (from ns (i + 1)) ≤ m)
+less_front ns i n m h e k =
+    let same = ap forest_levels (front ns i n h e) in
+    (omega (arith, same), omega (arith, same))

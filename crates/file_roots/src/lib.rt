@@ -9,8 +9,10 @@
 
 mod kinds;
 pub mod laws;
+mod lines;
 mod roots;
 mod steps;
 
 pub use kinds::{RootKind, kind_of};
+pub use lines::lines_of;
 pub use roots::{Roots, roots_of};
