@@ -4,7 +4,9 @@ use Rattle.std.proofs.Common.{
   ℕ,
   ◌+◌,
   ◌-◌,
+  ◌<◌,
   ◌≤◌,
+  ◌^◌,
   eqb,
   List,
   [],
@@ -67,6 +69,7 @@ use Rattle.gedcom_tree.specs.Text.{IsForest}
 use Rattle.gedcom_tree.proofs.Shaped.{reads_forest}
 use Rattle.gedcom_rules.proofs.Decided.{decided_small}
 use Rattle.gedcom_tree.proofs.Ends.{finishes}
+use Rattle.gedcom_tree.proofs.Few.{file_few}
 
 -- what more bytes make of what bytes left
 abbrev pub further : Reader → List ℕ → Reader
@@ -268,6 +271,11 @@ read_fault s rest b total f m h (inr k) = read_or s rest b total f m h k
 pub read_forest : (s : Lines) (rest : List ℕ) (total : ℕ) (f : List Item) → IsReading s rest total
     → finished (reader_view s rest total None) ≡ Ok f → IsForest f
 read_forest s rest total f r e = reads_forest r.bytes f
+    (read_finishes s rest r.bytes total (Ok f) (reading_small s rest total r) r.holds e)
+
+pub read_few : (s : Lines) (rest : List ℕ) (total : ℕ) (f : List Item) → IsReading s rest total
+    → finished (reader_view s rest total None) ≡ Ok f → length f < 2 ^ 32
+read_few s rest total f r e = file_few r.bytes f
     (read_finishes s rest r.bytes total (Ok f) (reading_small s rest total r) r.holds e)
 
 pub plain_view : (s : Lines) (rest : List ℕ) (total : ℕ) (o : Option TreeFault) → o ≡ None

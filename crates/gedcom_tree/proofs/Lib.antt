@@ -38,3 +38,4 @@ pub mod Streamed
 pub mod Plain
 pub mod Matched
 pub mod Alike
+pub mod Few

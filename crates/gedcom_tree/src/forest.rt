@@ -1,6 +1,6 @@
 //! Whole forests.
 
-ghost use Rattle.std.specs.Prelude.{◌≡◌};
+ghost use Rattle.std.specs.Prelude.{◌≡◌, ◌<◌, ◌^◌, length};
 ghost use Rattle.gedcom_tree.specs.Flat.{flats};
 
 use crate::node::Node;
@@ -15,7 +15,7 @@ pub struct Forest {
 }
 
 impl Model for Forest {
-    ghost use Rattle.std.specs.Prelude.{List};
+    ghost use Rattle.std.specs.Prelude.{List, ◌<◌, ◌^◌, length};
     ghost use Rattle.gedcom_tree.specs.Forest.{Item};
     ghost use Rattle.gedcom_tree.specs.Flat.{flats};
     ghost use Rattle.gedcom_tree.specs.Text.{IsForest};
@@ -24,7 +24,7 @@ impl Model for Forest {
 
     ghost view = { λ f. flats 0 f.nodes.items };
 
-    ghost invariant = { λ f. IsForest (flats 0 f.nodes.items) };
+    ghost invariant = { λ f. IsForest (flats 0 f.nodes.items) × (length (flats 0 f.nodes.items) < 2 ^ 32) };
 }
 
 impl Forest {
@@ -32,7 +32,8 @@ impl Forest {
 
     /// The forest of nodes of level 0 that are one.
     pub(crate) fn of_nodes(nodes: Vec<Node>) -> Self
-        requires { IsForest (flats 0 nodes.items) }
+        requires forest { IsForest (flats 0 nodes.items) }
+        requires few { length (flats 0 nodes.items) < 2 ^ 32 }
         ensures { result ≡ flats 0 nodes.items }
     {
         Forest { nodes }
@@ -42,6 +43,7 @@ impl Forest {
     pub fn nodes(&self) -> &[Node]
         ensures nodes { flats 0 result.now ≡ self.now }
         ensures forest { IsForest self.now }
+        ensures few { length self.now < 2 ^ 32 }
     {
         self.nodes.as_slice()
     }

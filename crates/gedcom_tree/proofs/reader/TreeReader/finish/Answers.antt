@@ -9,6 +9,7 @@ use Rattle.gedcom_tree.proofs.Fed.{
   reading_piece,
   reading_small,
   read_forest,
+  read_few,
   read_finishes,
   read_fault,
   same_rest,
@@ -30,10 +31,17 @@ finish-requires-clause-count c =
     let r = c.self.invariant.1 c.in_default.is in
     omega (arith, reading_small c.self.inside.lines c.self.inside.rest.items c.self.inside.total r, r.count)
 
-pub of_nodes-requires : goal.of_nodes-requires
-of_nodes-requires c =
+pub of_nodes-requires-clause-forest : goal.of_nodes-requires-clause-forest
+of_nodes-requires-clause-forest c =
     let s = c.self.inside in
     read_forest s.lines s.rest.items s.total (flats 0 c.in-Ok.nodes.items) (c.self.invariant.1 c.in_default.is)
+    (same_rest s.lines s.rest.items c.deref.result.now s.total (Ok (flats 0 c.in-Ok.nodes.items))
+    c.deref.ensures.value (c.in-Ok.ensures s.total))
+
+pub of_nodes-requires-clause-few : goal.of_nodes-requires-clause-few
+of_nodes-requires-clause-few c =
+    let s = c.self.inside in
+    read_few s.lines s.rest.items s.total (flats 0 c.in-Ok.nodes.items) (c.self.invariant.1 c.in_default.is)
     (same_rest s.lines s.rest.items c.deref.result.now s.total (Ok (flats 0 c.in-Ok.nodes.items))
     c.deref.ensures.value (c.in-Ok.ensures s.total))
 
