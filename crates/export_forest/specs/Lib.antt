@@ -2,3 +2,4 @@ pub mod Around
 pub mod Forest
 pub mod Names
 pub mod Order
+pub mod Pages

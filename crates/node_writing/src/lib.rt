@@ -12,6 +12,7 @@
 mod events;
 mod families;
 mod heads;
+pub mod laws;
 mod lines;
 mod named;
 mod persons;
