@@ -29,6 +29,7 @@ LONGER = {
     "crates/archive_core/src/applying.rt": LEMMAS,
     "crates/archive_looks/src/names.rt": LEMMAS,
     "crates/archive_looks/src/places.rt": LEMMAS,
+    "crates/export_index/src/names.rt": LEMMAS,
     "crates/gedcom_date/src/texts.rt": FACT,
     "crates/place_paths/src/normal.rt": LEMMAS,
     "crates/place_paths/src/paths.rt": LEMMAS,

@@ -14,7 +14,6 @@ use Rattle.std.proofs.Common.{
   ◌++◌,
   length,
   map,
-  Bool,
   true,
   false,
   ◌==◌,

@@ -22,7 +22,7 @@ use Rattle.std.proofs.Common.{
   arith,
 }
 use Rattle.std.specs.Prelude.{if◌then◌else◌, ◌||◌, ◌&&◌, codes, nat_le}
-use Rattle.std.specs.List.{list_any, list_all, onto_first}
+use Rattle.std.specs.List.{list_any, onto_first}
 use Rattle.std.proofs.lemmas.Bool.Decides.{nat_tests}
 use Rattle.record_text.specs.Text.{IsPlain}
 use Rattle.record_shapes.specs.Paths.{from_word, backwards, trimmed, parts, joined, normal, is_within_limits}

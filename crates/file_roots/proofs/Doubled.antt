@@ -1,5 +1,5 @@
 -- So many steps taken twice are twice as many.
-use Rattle.std.proofs.Common.{◌≡◌, ℕ, zero, suc, ◌+◌, List, [], ◌∷◌, map, length, refl, sym, ap, ◌∙◌, arith, subst}
+use Rattle.std.proofs.Common.{◌≡◌, ℕ, zero, suc, ◌+◌, List, [], ◌∷◌, map, refl, sym, ap, ◌∙◌, arith}
 use Rattle.file_roots.specs.Steps.{at, after, then_by}
 use Rattle.file_roots.specs.declared.steps.Step.{Step}
 use Rattle.file_roots.specs.declared.steps.Step.TheVariants as step

@@ -2,8 +2,6 @@
 use Rattle.std.proofs.Common.{
   ◌≡◌,
   ℕ,
-  suc,
-  zero,
   ◌+◌,
   ◌<◌,
   ◌≤◌,
@@ -34,18 +32,16 @@ use Rattle.std.proofs.Common.{
   bytes_eq,
   ltb,
   leb,
-  inl,
 }
 use Rattle.std.specs.Prelude.{◌==◌}
 use Rattle.std.specs.Option.{option_map_or}
 use Rattle.std.specs.Borrow.{Bor}
-use Rattle.std.specs.List.{filter, list_any, list_all, AllByRecursion}
+use Rattle.std.specs.List.{filter, list_any, list_all}
 use Rattle.std.proofs.lemmas.List.{length-map}
 use Rattle.std.proofs.lemmas.List.Folds.{list_any-append}
 use Rattle.std.proofs.lemmas.Bool.{ltb-true, leb-true}
-use Rattle.std.proofs.lemmas.Bool.Decides.{nat_tests}
-use Rattle.record_text.specs.Text.{IsTag, IsPlain}
-use Rattle.stored_lines.specs.Tree.{Tree, Forest, node, none, more, forest_of, label}
+use Rattle.record_text.specs.Text.{IsTag}
+use Rattle.stored_lines.specs.Tree.{node, forest_of}
 use Rattle.stored_lines.specs.Levels.{levels, forest_levels}
 use Rattle.gedcom_line.specs.Value.{Meaning, Text, Pointer}
 use Rattle.gedcom_line.specs.Spelling.{is_textual}
@@ -62,7 +58,6 @@ use Rattle.gedcom_tree.specs.declared.node.Node.TheOpen.{Node-F}
 use Rattle.gedcom_tree.specs.declared.node.Node.TheViews.{out-Node, roll-Node, out-roll-Node}
 use Rattle.gedcom_tree.specs.declared.node.Node.TheFolds.{ind-Node}
 use Rattle.file_roots.specs.Nodes.{
-  FileLine,
   FileNode,
   line_said,
   tree_of,
@@ -73,7 +68,6 @@ use Rattle.file_roots.specs.Nodes.{
   IsLine,
   HasLines,
   HaveLines,
-  IsInFile,
 }
 use Rattle.file_roots.specs.Roots.{behind_first, candidates, is_called, is_society, is_kept, kept}
 use Rattle.file_roots.specs.Views.{AreInFile}

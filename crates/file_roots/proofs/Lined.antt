@@ -6,13 +6,11 @@ use Rattle.std.proofs.Common.{
   ◌+◌,
   ◌<◌,
   ◌≤◌,
-  max,
   List,
   [],
   ◌∷◌,
   ◌++◌,
   length,
-  map,
   drop,
   get_or,
   refl,
@@ -31,15 +29,14 @@ use Rattle.std.specs.Global.{Global}
 use Rattle.std.specs.Prelude.{is_some, if◌then◌else◌}
 use Rattle.std.proofs.Math.Seq.{drop-cons}
 use Rattle.receipts.specs.declared.report.ReportLine.{ReportLine}
-use Rattle.stored_lines.specs.Tree.{Tree, Forest, node, none, more, forest_of, list_of, relabel_all}
+use Rattle.stored_lines.specs.Tree.{Forest, node, none, more, forest_of, list_of, relabel_all}
 use Rattle.stored_lines.specs.Levels.{levels, forest_levels}
 use Rattle.stored_lines.specs.Line.{Line, Lines}
 use Rattle.stored_lines.specs.declared.carried.Value.{Value}
-use Rattle.gedcom_line.specs.Value.{Meaning}
 use Rattle.gedcom_tree.specs.Flat.{value_said}
 use Rattle.gedcom_tree.specs.declared.node.Node.{Node}
 use Rattle.gedcom_tree.specs.declared.node.Node.TheViews.{out-Node}
-use Rattle.file_roots.specs.Nodes.{FileLine, FileNode, line_said, tree_of, trees_of, IsLine, HaveLines}
+use Rattle.file_roots.specs.Nodes.{FileLine, line_said, tree_of, trees_of, IsLine, HaveLines}
 use Rattle.file_roots.specs.Lines.{Lined, resolve, put, resolved, lines_below}
 use Rattle.file_roots.specs.Reports.{dangles, dangling}
 use Rattle.file_roots.proofs.Trees.{tree_out}

@@ -8,14 +8,12 @@ use Rattle.std.proofs.Common.{
   Bool,
   true,
   false,
-  not,
   cond,
   List,
   [],
   ◌∷◌,
   ◌++◌,
   length,
-  map,
   take,
   drop,
   get_or,
@@ -24,22 +22,19 @@ use Rattle.std.proofs.Common.{
   ap,
   ◌∙◌,
   arith,
-  subst,
   Option,
   Some,
   None,
-  append_assoc,
   bytes_eq,
 }
 use Rattle.std.specs.Prelude.{is_some}
 use Rattle.std.specs.Borrow.{Bor}
 use Rattle.std.specs.Map.{update}
-use Rattle.std.specs.List.{filter, flat_map}
 use Rattle.std.proofs.lemmas.List.{take_more, map-append, length-map, length-take-le}
 use Rattle.std.proofs.Math.Seq.{drop-cons}
 use Rattle.std.proofs.lemmas.Slice.Eq.{bytes_eq-Decides}
 use Rattle.gedcom_tree.specs.declared.node.Node.{Node}
-use Rattle.file_roots.specs.Nodes.{FileNode, tree_of, trees_at}
+use Rattle.file_roots.specs.Nodes.{tree_of, trees_at}
 use Rattle.file_roots.specs.Roots.{is_called}
 use Rattle.file_roots.specs.Lines.{position_from, place_in}
 use Rattle.file_roots.specs.Views.{first_of, with_first, with_node}

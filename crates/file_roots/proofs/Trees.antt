@@ -2,23 +2,14 @@
 use Rattle.std.proofs.Common.{
   ◌≡◌,
   ℕ,
-  suc,
-  zero,
   ◌+◌,
   ◌<◌,
   ◌≤◌,
-  max,
-  Bool,
-  true,
-  false,
-  not,
   cond,
-  eqb,
   List,
   [],
   ◌∷◌,
   ◌++◌,
-  length,
   map,
   refl,
   sym,
@@ -28,17 +19,13 @@ use Rattle.std.proofs.Common.{
   arith,
   append_assoc,
   append-nil,
-  length-append,
 }
 use Rattle.std.specs.Prelude.{◌==◌}
-use Rattle.std.proofs.lemmas.List.{map-append, length-map}
+use Rattle.std.proofs.lemmas.List.{map-append}
 use Rattle.std.proofs.lemmas.Bool.Decides.{nat_tests}
-use Rattle.record_text.specs.Text.{IsTag, IsPlain}
-use Rattle.stored_lines.specs.Tree.{Tree, Forest, node, none, more, forest_of, list_of, flat, flat_all}
-use Rattle.stored_lines.specs.Levels.{levels, forest_levels}
+use Rattle.stored_lines.specs.Tree.{Tree, Forest, node, none, more, forest_of, flat, flat_all}
 use Rattle.stored_lines.specs.Growing.{fronts, backs, graft, grown}
-use Rattle.gedcom_tree.specs.Forest.{Item}
-use Rattle.gedcom_tree.specs.Flat.{flats, said, all_at}
+use Rattle.gedcom_tree.specs.Flat.{flats}
 use Rattle.gedcom_tree.specs.Flat.{flat as items_of}
 use Rattle.gedcom_tree.proofs.Grown.{flat_out}
 use Rattle.gedcom_tree.specs.declared.node.Node.{Node}

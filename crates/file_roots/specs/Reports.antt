@@ -1,20 +1,5 @@
 -- What is reported of lines that are left out, and of values that are dropped, in the order of lines.
-use Rattle.std.specs.Prelude.{
-  Bool,
-  true,
-  false,
-  not,
-  List,
-  [],
-  ◌∷◌,
-  ◌++◌,
-  Option,
-  Some,
-  None,
-  is_some,
-  if◌then◌else◌,
-  ℕ,
-}
+use Rattle.std.specs.Prelude.{Bool, true, false, List, [], ◌∷◌, ◌++◌, Option, is_some, if◌then◌else◌, ℕ}
 use Rattle.std.specs.List.{flat_map}
 use Rattle.stored_lines.specs.Tree.{Forest, node, none, more, label}
 use Rattle.gedcom_line.specs.Value.{Meaning, Text, Pointer}

@@ -6,9 +6,6 @@ use Rattle.std.proofs.Common.{
   ◌<◌,
   ◌≤◌,
   ◌^◌,
-  true,
-  false,
-  not,
   List,
   [],
   ◌∷◌,
@@ -23,8 +20,7 @@ use Rattle.std.proofs.Common.{
 use Rattle.std.proofs.lemmas.List.{length-take}
 use Rattle.gedcom_line.specs.Words.{is_end}
 use Rattle.gedcom_line.specs.Reading.{Parts}
-use Rattle.gedcom_rules.specs.Rules.{is_trailer}
-use Rattle.gedcom_rules.specs.Faults.{Clean, max_file}
+use Rattle.gedcom_rules.specs.Faults.{Clean}
 use Rattle.gedcom_rules.specs.Pieces.{pieces, onto_first, skip_mark, file_pieces, all_pieces}
 use Rattle.gedcom_rules.proofs.Cuts.{cases_bool}
 use Rattle.gedcom_tree.specs.Forest.{Item, Reads}

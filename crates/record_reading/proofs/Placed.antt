@@ -28,29 +28,9 @@ use Rattle.record_fields.specs.Bytes.{bytes_are}
 use Rattle.record_kinds.specs.Model as model
 use Rattle.record_shapes.specs.Paths.{is_within_limits, normal}
 use Rattle.record_shapes.specs.declared.field.Field.{Field}
-use Rattle.record_shapes.specs.Forms.{
-  Known,
-  is_bare,
-  is_childless,
-  is_some,
-  is_text,
-  number_of,
-  tag_of,
-  tagged,
-  text_of,
-}
-use Rattle.record_shapes.specs.Fields.{
-  a_name,
-  a_parent,
-  carried,
-  is_above,
-  is_same,
-  parent_field,
-  path_below,
-  place_field,
-  row,
-}
-use Rattle.record_shapes.specs.Picking.{all_of, first, is_left, text_at, without_first}
+use Rattle.record_shapes.specs.Forms.{Known, is_bare, is_childless, is_text, number_of, tag_of, tagged, text_of}
+use Rattle.record_shapes.specs.Fields.{a_name, a_parent, carried, is_above, is_same, parent_field, place_field, row}
+use Rattle.record_shapes.specs.Picking.{all_of, first, is_left, without_first}
 use Rattle.record_shapes.specs.Reading.{parent_line, path_from, path_on, place_from, place_name}
 use Rattle.record_reading.specs.Partly.{left_with, name_or, or_told, path_at, place_called, place_with, unless, unnamed}
 use Rattle.record_reading.proofs.Picked.{

@@ -6,7 +6,6 @@ use Rattle.stored_lines.specs.Tree.{Tree}
 use Rattle.stored_lines.specs.Line.{Line, Lines}
 use Rattle.record_kinds.specs.Model as model
 use Rattle.record_fields.specs.Words.{quality_of}
-use Rattle.record_fields.specs.declared.words.Quality.{Quality}
 use Rattle.record_shapes.specs.declared.field.Field.{Field}
 use Rattle.record_shapes.specs.Paths.{normal}
 use Rattle.record_shapes.specs.Forms.{Known, number_of}

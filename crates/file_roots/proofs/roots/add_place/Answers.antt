@@ -1,8 +1,8 @@
-use Rattle.std.proofs.Common.{sym, ◌∙◌}
+use Rattle.std.proofs.Common.{◌∙◌}
 use Rattle.std.proofs.lemmas.Map.Text.{btree_map_updates_text}
 use Rattle.std.specs.Prelude.{string_bytes, Some}
 use Rattle.file_roots.specs.Views.{kept_at}
-use Rattle.file_roots.proofs.Places.{first_put, first_kept}
+use Rattle.file_roots.proofs.Places.{first_put}
 use Rattle.file_roots.proofs.roots.add_place.Goals as goal
 
 pub returns-in_ok-insert : goal.returns-in_ok-insert

@@ -1,4 +1,4 @@
-use Rattle.std.proofs.Common.{◌≡◌, ◌∙◌, ap, sym, arith, ◌++◌, length}
+use Rattle.std.proofs.Common.{◌≡◌, ◌∙◌, ap, arith, ◌++◌, length}
 use Rattle.file_roots.specs.Nodes.{trees_at}
 use Rattle.file_roots.specs.Views.{kept_at}
 use Rattle.file_roots.specs.Roots.{kept, candidates}

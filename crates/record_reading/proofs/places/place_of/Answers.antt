@@ -1,7 +1,5 @@
-use Rattle.std.proofs.Common.{◌≡◌, ap, ◌∙◌}
+use Rattle.std.proofs.Common.{◌≡◌, ◌∙◌}
 use Rattle.record_kinds.specs.Model as model
-use Rattle.record_shapes.specs.Reading.{place_from}
-use Rattle.record_reading.specs.Partly.{place_called, place_with}
 use Rattle.record_reading.proofs.Placed.{path_read, place_read}
 use Rattle.record_reading.proofs.places.place_of.Goals as goal
 
