@@ -64,4 +64,5 @@ returns-clause-same g c clean rows content was means shallow =
     if_done c.decide-decided.result (still.settled c.if-archive.false, still.none c.if-archive.false)
 
 pub returns-clause-placed : goal.returns-clause-placed
-returns-clause-placed g c = if_there c.decide-decided.result (λ e counted. counted.1) c.decide-decided.ensures.counts.1
+returns-clause-placed g c =
+    IfErr-weaker c.decide-decided.result _ _ (λ e counted. counted.1) c.decide-decided.ensures.counts.1
