@@ -46,7 +46,7 @@ use Rattle.stored_lines.specs.Levels.{levels, forest_levels}
 use Rattle.gedcom_line.specs.Value.{Meaning, Text, Pointer}
 use Rattle.gedcom_line.specs.Spelling.{is_textual}
 use Rattle.gedcom_line.specs.Words.{is_word}
-use Rattle.gedcom_line.proofs.Steps.{both}
+use Rattle.std.proofs.lemmas.Bool.{and_parts}
 use Rattle.gedcom_tree.specs.Forest.{Item}
 use Rattle.gedcom_tree.specs.Flat.{flats, said, value_said}
 use Rattle.gedcom_tree.specs.Flat.{flat as items_of}
@@ -77,15 +77,15 @@ use Rattle.file_roots.proofs.Trees.{tree_out, nodes_same}
 -- ---- a tag is a tag, and a text a text
 tag_is : (tag : List ℕ) → is_tag tag ≡ true → IsTag tag
 tag_is tag h =
-    let a = both (list_all is_word tag && ltb 0 (length tag)) (leb (length tag) 31) h in
-    let b = both (list_all is_word tag) (ltb 0 (length tag)) a.0 in
+    let a = and_parts (list_all is_word tag && ltb 0 (length tag)) (leb (length tag) 31) h in
+    let b = and_parts (list_all is_word tag) (ltb 0 (length tag)) a.0 in
     record { some = ltb-true 0 (length tag) b.1; short = leb-true (length tag) 31 a.1; words = b.0 }
 
 text_free : (t : List ℕ) → list_all is_textual t ≡ true → (list_any (λ b. b == 0) t ≡ false)
     × (list_any (λ b. b == 13) t ≡ false)
 text_free [] h = (refl, refl)
 text_free (b ∷ bs) h =
-    let a = both (is_textual b) (list_all is_textual bs) h in
+    let a = and_parts (is_textual b) (list_all is_textual bs) h in
     let r = text_free bs a.1 in
     free_step (b == 0) (b == 13) (list_any (λ c. c == 0) bs) (list_any (λ c. c == 13) bs) a.0 r.0 r.1
   where
@@ -154,7 +154,8 @@ AreApart (t ∷ ts) = ((name : List ℕ) → is_called name t ≡ true → list_
 distinct_behind : (a b : List Item) → are_distinct (a ++ b) ≡ true → are_distinct b ≡ true
 distinct_behind [] b h = h
 distinct_behind (i ∷ is) b h = distinct_behind is b
-    (both (not (option_map_or (λ x. list_any (is_item_called x) (is ++ b)) i.xref false)) (are_distinct (is ++ b)) h).1
+    (and_parts (not (option_map_or (λ x. list_any (is_item_called x) (is ++ b)) i.xref false))
+    (are_distinct (is ++ b)) h).1
 
 called_said : (name : List ℕ) (n : Node) → is_called name (tree_of n) ≡ is_item_called name (said 0 n)
 called_said name n = ap (is_called name) (tree_out n)
@@ -195,7 +196,8 @@ trees_apart (n ∷ ns) h =
     let below : List Item = flats 1 (out-Node n).children.items in
     let first : are_distinct ((said 0 n ∷ below) ++ flats 0 ns) ≡ true =
     ap (λ (x : List Item). are_distinct (x ++ flats 0 ns)) (sym (flat_out n 0)) ∙ h in
-    let a = both (not (option_map_or (λ x. list_any (is_item_called x) (below ++ flats 0 ns)) (said 0 n).xref false))
+    let a = and_parts (not (option_map_or (λ x. list_any (is_item_called x) (below ++ flats 0 ns))
+    (said 0 n).xref false))
     (are_distinct (below ++ flats 0 ns)) first in (
       λ name e. none_called name ns
           (or_false (list_any (is_item_called name) below) (list_any (is_item_called name) (flats 0 ns))

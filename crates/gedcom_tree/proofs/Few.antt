@@ -22,7 +22,7 @@ use Rattle.gedcom_line.specs.Words.{is_end}
 use Rattle.gedcom_line.specs.Reading.{Parts}
 use Rattle.gedcom_rules.specs.Faults.{Clean}
 use Rattle.gedcom_rules.specs.Pieces.{pieces, onto_first, skip_mark, file_pieces, all_pieces}
-use Rattle.gedcom_rules.proofs.Cuts.{cases_bool}
+use Rattle.std.proofs.lemmas.Bool.{cases_Bool}
 use Rattle.gedcom_tree.specs.Forest.{Item, Reads}
 use Rattle.gedcom_tree.specs.File.{ReadsFile, untrailed}
 
@@ -33,7 +33,7 @@ onto_few b (p ∷ ps) rest = omega arith
 pieces_few : (b : List ℕ) → length (pieces b).ended ≤ length b
 unfolding pieces
 pieces_few [] = omega arith
-pieces_few (b ∷ bs) = elim (cases_bool (is_end b)) [
+pieces_few (b ∷ bs) = elim (cases_Bool (is_end b)) [
   | inl e ↦ rw e (omega (arith, pieces_few bs))
   | inr e ↦ rw e (omega (arith, pieces_few bs, onto_few b (pieces bs).ended (pieces bs).open_))
 ]
