@@ -86,6 +86,7 @@ pub performs_none : (s : DiskState) → ((rows : Rows) → Settled s rows → Le
     → Performs s [] s
 performs_none s leaves clean = record {
   done = λ none society c has. (c, refl, has);
+  rows = λ none society c rows was keeps. (c, rows, (refl, refl), was, keeps);
   crash = λ society c has t l. (c, refl, (has.0, leaves has.0 has.1 t l, has.2));
   clean = clean;
 }
