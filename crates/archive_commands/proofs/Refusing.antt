@@ -43,11 +43,13 @@ unmade image society kind opened left is (inr (named, inr failed)) back honest f
   is,
   inr (
     failed.0,
-    (λ clean t holds.
-        let o = found (honest clean) in
-        was_blank (file_state opened) t o.0.0 o.0.1 failed.1 (o.1.holds t holds)),
-    (λ clean t l.
-        let o = found (honest clean) in
-        failed.2 clean (opened_blank (file_state opened) o.0.0 o.0.1 failed.1) t l),
+    (
+      (λ clean t holds.
+          let o = found (honest clean) in
+          was_blank (file_state opened) t o.0.0 o.0.1 failed.1 (o.1.holds t holds)),
+      (λ clean t l.
+          let o = found (honest clean) in
+          failed.2 clean (opened_blank (file_state opened) o.0.0 o.0.1 failed.1) t l),
+    ),
   ),
 )

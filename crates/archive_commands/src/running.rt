@@ -70,9 +70,18 @@ pub fn apply<S: Start, R: Read + Device, W: Write + Device, F: Write + Device>(
 pub fn close<S: Start>(left: Option<OpenFile<S>>) -> Option<ClosedFile<S>>
     ensures closed { MatchOption left (result ≡ None) (λ conn. IsSomeAnd result (IsClosedOver conn)) }
 {
-    let conn = left?;
+    match left {
+        Some(conn) => Some(close_file(conn)),
+        None => None,
+    }
+}
+
+/// The same of a connection.
+fn close_file<S: Start>(conn: OpenFile<S>) -> ClosedFile<S>
+    ensures { IsClosedOver conn result }
+{
     match conn.close_files() {
-        Ok(files) => Some(Ok(files)),
-        Err((_, store)) => Some(Err(store)),
+        Ok(files) => Ok(files),
+        Err((_, store)) => Err(store),
     }
 }

@@ -1,5 +1,5 @@
 mod Entered
-mod InTurn
+pub mod InTurn
 mod OnTheWay
 mod One
 mod Outcomes
