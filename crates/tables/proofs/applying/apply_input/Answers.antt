@@ -9,7 +9,11 @@ returns-clause-applied g c =
     subst (λ (known : Option (List ℕ)). OnOk c.apply_rows.result
     (AppliedInTurn g.S.Store g.W.Write.contents g.F.Write.contents known
     (record { archive = c.args.archive.now; output = c.args.output.now; faults = c.args.faults.now })
-    (record { archive = c.apply_rows.new.archive; output = c.apply_rows.new.output; faults = c.apply_rows.new.faults })))
+    (record {
+      archive = c.apply_rows.new.archive;
+      output = c.apply_rows.new.output;
+      faults = c.apply_rows.new.faults;
+    })))
     c.from_reader-rows.ensures.source c.apply_rows.ensures.applied
 
 pub returns-clause-ended : goal.returns-clause-ended
@@ -17,5 +21,9 @@ returns-clause-ended g c =
     subst (λ (known : Option (List ℕ)). IfErr c.apply_rows.result
     (λ kind. EndedInTurn g.S.Store g.W.Write.contents g.F.Write.contents kind known
     (record { archive = c.args.archive.now; output = c.args.output.now; faults = c.args.faults.now })
-    (record { archive = c.apply_rows.new.archive; output = c.apply_rows.new.output; faults = c.apply_rows.new.faults })))
+    (record {
+      archive = c.apply_rows.new.archive;
+      output = c.apply_rows.new.output;
+      faults = c.apply_rows.new.faults;
+    })))
     c.from_reader-rows.ensures.source c.apply_rows.ensures.ended
