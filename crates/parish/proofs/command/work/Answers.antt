@@ -20,7 +20,8 @@ pub returns-in-Apply-clause-apply : goal.returns-in-Apply-clause-apply
 returns-in-Apply-clause-apply g c = λ _.
     let did = c.apply-done.ensures in
     let ended = c.finished-in-Apply.ensures in
-    apply_ends (image_at g.S.Start) c.apply-done.result.0 c.finished-in-Apply.result.0 _ _ _ g.F.Write.contents _ _ _ _ _
+    apply_ends (image_at g.S.Start) c.apply-done.result.0 c.finished-in-Apply.result.0 _ _ _
+    g.F.Write.contents _ _ _ _ _
     c.apply-done.result.1 c.finished-in-Apply.result.1 ended.left ended.done ended.status did.answered did.stopped
 
 pub returns-in-Apply-clause-done : goal.returns-in-Apply-clause-done
