@@ -123,7 +123,7 @@ pub fn push_text(
     tag: &str,
     value: &str,
 ) -> Result<(), AllocError>
-    requires { level ≤ 98 }
+    requires { level ≤ 254 }
     ensures { OnOk result (string_bytes out.new ≡ string_bytes out.old ++ node_text (record {
       line = 0;
       level = level;

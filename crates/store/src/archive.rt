@@ -219,6 +219,13 @@ impl<S: Alter> Archive<S> {
         read
     }
 
+    /// Whether a call or a look answered 80, so that the archive has to be opened again.
+    pub fn is_lost(&self) -> bool
+        ensures { result ≡ self.is_lost }
+    {
+        self.is_lost
+    }
+
     /// Gives the connection back, also after an 80.
     pub fn into_connection(self) -> Connection<S>
         ensures { result ≡ self.conn }
