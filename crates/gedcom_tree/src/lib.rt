@@ -27,4 +27,4 @@ pub use node::{Node, NodeValue};
 pub use normal::{normalise, read_forest};
 pub use reader::TreeReader;
 pub use tag::Tag;
-pub use writing::{push_text, write_forest};
+pub use writing::{push_node, push_text, write_forest};

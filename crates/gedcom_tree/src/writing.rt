@@ -167,8 +167,8 @@ fn push_own(alloc: Global, out: &mut String, level: u8, node: &Node) -> Result<(
     }
 }
 
-/// Appends the node and all below it.
-fn push_node(alloc: Global, out: &mut String, level: u8, node: &Node) -> Result<(), AllocError>
+/// Appends a node of level 0 to 98 and all below it, as they stand in the one text of a forest.
+pub fn push_node(alloc: Global, out: &mut String, level: u8, node: &Node) -> Result<(), AllocError>
     requires { IsLow (flat node.now level) }
     ensures { OnOk result (string_bytes out.new
         ≡ string_bytes out.old ++ flat_map node_text (flat node.now level)) }
