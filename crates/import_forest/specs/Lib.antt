@@ -1,0 +1,5 @@
+pub mod Made
+pub mod Numbers
+pub mod Positions
+pub mod Report
+pub mod Sides
