@@ -7,4 +7,4 @@ mod Recognised
 mod Running
 mod Sessions
 mod Unchanged
-mod Viewed
+pub mod Viewed

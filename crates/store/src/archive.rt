@@ -210,6 +210,7 @@ impl<S: Alter> Archive<S> {
         ensures lost { self.old.is_lost ≡ false → self.new.is_lost ≡ has_broken result }
         ensures reopen { IsTrue self.old.is_lost → (result ≡ Err refusal.Reopen) × (self.new ≡ self.old) }
         ensures called { IsCall S.Store self.old.conn self.old.is_lost [] self.new.conn self.new.is_lost }
+        ensures uncounted { self.new.failures ≡ self.old.failures }
     {
         if self.is_lost {
             return Err(RefusalKind::Reopen);
@@ -221,7 +222,7 @@ impl<S: Alter> Archive<S> {
 
     /// Whether a call or a look answered 80, so that the archive has to be opened again.
     pub fn is_lost(&self) -> bool
-        ensures { result ≡ self.is_lost }
+        ensures { result ≡ self.now.is_lost }
     {
         self.is_lost
     }
