@@ -5,3 +5,8 @@ pub mod Ordered
 pub mod Households
 pub mod OrdersKept
 pub mod Renamed
+pub mod Regrown
+pub mod Linked
+pub mod Nodes
+pub mod Owning
+pub mod Found

@@ -6,7 +6,7 @@ use Rattle.std.proofs.lemmas.Bool.{eqb-true}
 use Rattle.std.proofs.lemmas.Bool.Decides.{nat_tests}
 use Rattle.std.proofs.lemmas.List.Folds.{list_any-append}
 use Rattle.record_shapes.specs.Lists.{EachOf, IsOnce, Ascends}
-use Rattle.archive_state.proofs.Each.{each_both}
+use Rattle.archive_state.proofs.Each.{each_back, each_both, each_front}
 
 -- ---- tests
 pub same_self : (n : ℕ) → (n == n) ≡ true
@@ -54,6 +54,29 @@ pub each_flat : {A B : Type 0} (P : B → Type 0) (g : A → List B) (xs : List 
     → EachOf P (flat_map g xs)
 each_flat P g [] h = tt
 each_flat P g (x ∷ xs) h = each_both P (g x) (flat_map g xs) h.0 (each_flat P g xs h.1)
+
+pub each_parts : {A : Type 0} (P : A → Type 0) (xs ys : List A) → EachOf P (xs ++ ys) → EachOf P xs × EachOf P ys
+each_parts P xs ys h = (each_front P xs ys h, each_back P xs ys h)
+
+-- ---- lists filtered
+pub filter_under : {A B : Type 0} (g : A → B) (p : B → Bool) (q : A → Bool) (xs : List A) → ((x : A) → p (g x) ≡ q x)
+    → filter p (map g xs) ≡ map g (filter q xs)
+filter_under g p q [] h = refl
+filter_under g p q (x ∷ xs) h =
+    ap (λ b. cond b (g x ∷ filter p (map g xs)) (filter p (map g xs))) (h x)
+    ∙ elim (q x) as (λ b. cond b (g x ∷ filter p (map g xs)) (filter p (map g xs))
+    ≡ map g (cond b (x ∷ filter q xs) (filter q xs))) [
+      | true ↦ ap (λ ys. g x ∷ ys) (filter_under g p q xs h)
+      | false ↦ filter_under g p q xs h
+    ]
+
+pub filter_all : {A : Type 0} (p : A → Bool) (xs : List A) → EachOf (λ x. p x ≡ true) xs → filter p xs ≡ xs
+filter_all p [] h = refl
+filter_all p (x ∷ xs) h = ap (λ b. cond b (x ∷ filter p xs) (filter p xs)) h.0 ∙ ap (λ us. x ∷ us) (filter_all p xs h.1)
+
+pub map_each : {A B : Type 0} (f g : A → B) (xs : List A) → EachOf (λ x. f x ≡ g x) xs → map f xs ≡ map g xs
+map_each f g [] h = refl
+map_each f g (x ∷ xs) h = λ i. h.0 i ∷ map_each f g xs h.1 i
 
 -- ---- a number stands on a list
 abbrev pub has : ℕ → List ℕ → Bool
