@@ -37,10 +37,6 @@ pub record Places : Type 0 where
   pub archive : List ℕ → Option ℕ
   pub file : List (Option (List ℕ))
 
-pub record Made : Type 0 where
-  pub path : List ℕ
-  pub number : ℕ
-
 abbrev pub or_else : {A : Type 0} → Option A → Option A → Option A
 or_else None b = b
 or_else (Some a) b = Some a
@@ -50,10 +46,6 @@ abbrev pub file_place : List ℕ → ℕ → List (Option (List ℕ)) → Option
 file_place path k [] = None
 file_place path k (p ∷ ps) = if has_path path p then Some k else file_place path (k + 1) ps
 
-abbrev pub made_place : List ℕ → List Made → Option ℕ
-made_place path [] = None
-made_place path (m ∷ ms) = if bytes_eq m.path path then Some m.number else made_place path ms
-
 -- a position counts where it stands before another, or where all count
 abbrev pub where_before : Option ℕ → Option ℕ → Option ℕ
 where_before None found = found
@@ -62,10 +54,10 @@ where_before (Some k) (Some n) = if nat_lt n k then Some n else None
 
 -- the place of the archive with the path; else the first of the file with it, of those before a position or of all;
 -- else the one that was made
-abbrev pub find : Places → Option ℕ → List Made → List ℕ → Option Found
+abbrev pub find : Places → Option ℕ → (List ℕ → Option ℕ) → List ℕ → Option Found
 find w before made path = or_else (option_map at_number (w.archive path))
     (or_else (option_map at_position (where_before before (file_place path 0 w.file)))
-    (option_map at_number (made_place path made)))
+    (option_map at_number (made path)))
 
 -- ---- what numbers are drawn for
 pub data Drawn : Type 0 where
@@ -74,15 +66,15 @@ pub data Drawn : Type 0 where
   -- a place that is made, with its name and the place above it
   of_path : (number : ℕ) → List ℕ → Option Found → Drawn
 
--- the next number; the number of each position so far; what was drawn; the places made
+-- the next number; the number of each position so far; what was drawn; the number of the place made of each path
 pub record Drawing : Type 0 where
   pub next : ℕ
   pub roots : List ℕ
   pub drawn : List Drawn
-  pub made : List Made
+  pub made : List ℕ → Option ℕ
 
 abbrev pub begun : ℕ → Drawing
-begun next = record { next = next; roots = []; drawn = []; made = [] }
+begun next = record { next = next; roots = []; drawn = []; made = λ path. None }
 
 -- ---- places made
 abbrev pub with_made : List ℕ → List ℕ → Option Found → Drawing → Drawing
@@ -90,7 +82,7 @@ with_made path name parent d = record {
   next = d.next + 1;
   roots = d.roots;
   drawn = d.drawn ++ of_path d.next name parent ∷ [];
-  made = d.made ++ (record { path = path; number = d.next }) ∷ [];
+  made = λ p. if bytes_eq path p then Some d.next else d.made p;
 }
 
 -- a place of that path and name, made within the one above it

@@ -1,0 +1,2 @@
+pub mod KindTags
+pub mod Tags
