@@ -9,5 +9,6 @@ mod fields;
 mod places;
 mod sources;
 
-pub use places::place_of;
+pub use fields::{is_first, is_same};
+pub use places::{place_of, text_or_none};
 pub use sources::{citation_of, repo_of, source_of};

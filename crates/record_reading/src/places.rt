@@ -56,7 +56,7 @@ fn named_lines(alloc: Global, lines: Vec<Carried>) -> Result<NamedLines, AllocEr
 }
 
 /// The text; none where there is none.
-fn text_or_none(alloc: Global, text: Option<Text>) -> Text
+pub fn text_or_none(alloc: Global, text: Option<Text>) -> Text
     ensures { result ≡ unwrap_or text [] }
 {
     match text {

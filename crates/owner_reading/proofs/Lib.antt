@@ -1,0 +1,4 @@
+pub mod EventLines
+pub mod Families
+pub mod Persons
+pub mod Spelt
