@@ -36,10 +36,13 @@ use Rattle.record_kinds.specs.declared.record.Record.TheVariants as kind
 use Rattle.archive_state.specs.Content.{Records}
 
 -- ---- dates
--- the last day that the date may mean is at most that day; a date without a last day has not ended
+-- the last day that the date may mean; None: it has none, as AFT and what is no date
+abbrev pub IsLastDay : Date → Option ℤ → Type 0
+IsLastDay date last = (form : Form) × Says date.text form × IsGreatest (IsDayOf form) last
+
+-- the date has a last day, which is at most that day
 abbrev pub HasEnded : Date → ℤ → Type 0
-HasEnded date day = (form : Form) × (last : ℤ) × Says date.text form × IsGreatest (IsDayOf form) (Some last)
-    × (last ≤ℤ day)
+HasEnded date day = (last : ℤ) × IsLastDay date (Some last) × (last ≤ℤ day)
 
 -- there is a date, and it has ended
 abbrev pub HasEndedIfThere : Option Date → ℤ → Type 0

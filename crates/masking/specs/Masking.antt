@@ -1,5 +1,23 @@
 -- The masked state: what is shown of an archive. Rules of our own.
-use Rattle.std.specs.Prelude.{ℕ, ◌≡◌, ◌↔◌, [], ◌∷◌, map, Bool, true, false, not, IsTrue, Option, Some, None, option_map, codes, ℤ}
+use Rattle.std.specs.Prelude.{
+  ℕ,
+  ◌≡◌,
+  ◌↔◌,
+  [],
+  ◌∷◌,
+  map,
+  Bool,
+  true,
+  false,
+  not,
+  IsTrue,
+  Option,
+  Some,
+  None,
+  option_map,
+  codes,
+  ℤ,
+}
 use Rattle.std.specs.List.{list_any, filter}
 use Rattle.std.specs.FinMap.{get, empty}
 use Rattle.record_kinds.specs.Model as model

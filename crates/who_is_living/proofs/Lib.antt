@@ -1,0 +1,5 @@
+pub mod Adding
+pub mod Told
+pub mod Ended
+pub mod Life
+pub mod Judging

@@ -1,0 +1,4 @@
+pub mod Sets
+pub mod Telling
+pub mod Evidence
+pub mod Judged
