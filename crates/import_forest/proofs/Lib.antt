@@ -1,1 +1,1 @@
-mod Lowest
+pub mod Lowest

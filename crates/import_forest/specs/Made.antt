@@ -40,7 +40,7 @@ use Rattle.gedcom_tree.specs.Forest.{Item}
 use Rattle.file_roots.specs.Nodes.{FileNode}
 use Rattle.file_roots.specs.Roots.{candidates, kept}
 use Rattle.file_roots.specs.Lines.{roots}
-use Rattle.import_forest.specs.Positions.{paths}
+use Rattle.import_forest.specs.Positions.{paths, position_of}
 use Rattle.import_forest.specs.Sides.{draft_at}
 use Rattle.import_forest.specs.Numbers.{Drawing, Places, begun, draw_roots, results}
 
@@ -67,7 +67,7 @@ second rs k before (r ∷ behind) =
 
 -- ---- the batch
 abbrev pub places : (List ℕ → Option ℕ) → Lines → Places
-places archive rs = record { archive = archive; file = paths rs }
+places archive rs = record { archive = archive; file = λ path. position_of path 0 (paths rs) }
 
 abbrev pub drawing : ℕ → Places → Lines → Drawing
 drawing next w rs = draw_roots rs w 0 (begun next) rs

@@ -22,7 +22,7 @@ use Rattle.record_kinds.specs.Model as model
 use Rattle.record_kinds.specs.declared.record.Record.{Record}
 use Rattle.record_kinds.specs.declared.record.Record.TheVariants as kind
 use Rattle.record_shapes.specs.Paths.{joined, trimmed, parts}
-use Rattle.record_shapes.specs.Reading.{Draft, has_path, read, sought}
+use Rattle.record_shapes.specs.Reading.{Draft, read, sought}
 use Rattle.archive_state.specs.Merging.{record_with}
 use Rattle.archive_state.specs.declared.changes.Numbered.{Numbered}
 use Rattle.import_forest.specs.Sides.{draft_at}
@@ -32,19 +32,14 @@ use Rattle.import_forest.specs.Sides.{draft_at}
 pub data Found : Type 0 where
   at_number at_position : ℕ → Found
 
--- the place of each path in the archive, and the path at each position of the file
+-- of each path, the number of the place in the archive, and the position of the first one in the file
 pub record Places : Type 0 where
   pub archive : List ℕ → Option ℕ
-  pub file : List (Option (List ℕ))
+  pub file : List ℕ → Option ℕ
 
 abbrev pub or_else : {A : Type 0} → Option A → Option A → Option A
 or_else None b = b
 or_else (Some a) b = Some a
-
--- the first position of a path, where the first of all has position k
-abbrev pub file_place : List ℕ → ℕ → List (Option (List ℕ)) → Option ℕ
-file_place path k [] = None
-file_place path k (p ∷ ps) = if has_path path p then Some k else file_place path (k + 1) ps
 
 -- a position counts where it stands before another, or where all count
 abbrev pub where_before : Option ℕ → Option ℕ → Option ℕ
@@ -56,7 +51,7 @@ where_before (Some k) (Some n) = if nat_lt n k then Some n else None
 -- else the one that was made
 abbrev pub find : Places → Option ℕ → (List ℕ → Option ℕ) → List ℕ → Option Found
 find w before made path = or_else (option_map at_number (w.archive path))
-    (or_else (option_map at_position (where_before before (file_place path 0 w.file)))
+    (or_else (option_map at_position (where_before before (w.file path)))
     (option_map at_number (made path)))
 
 -- ---- what numbers are drawn for

@@ -6,7 +6,7 @@ use Rattle.std.specs.Option.{unwrap_or}
 use Rattle.stored_lines.specs.Tree.{Tree}
 use Rattle.stored_lines.specs.Line.{Line, Lines}
 use Rattle.record_shapes.specs.Forms.{Known, below, tag_of, tagged}
-use Rattle.record_shapes.specs.Reading.{path_from}
+use Rattle.record_shapes.specs.Reading.{has_path, path_from}
 
 -- the positions below a number, in their order
 abbrev pub positions : ℕ → List ℕ
@@ -36,6 +36,11 @@ paths_behind rs ps (r ∷ behind) = paths_behind rs (ps ++ path_behind rs ps r �
 -- the paths of all nodes, one behind the other
 unfoldable pub paths : Lines → List (Option (List ℕ))
 paths rs = paths_behind rs [] rs
+
+-- the first position of a path, where the first of all has position k
+abbrev pub position_of : List ℕ → ℕ → List (Option (List ℕ)) → Option ℕ
+position_of path k [] = None
+position_of path k (p ∷ ps) = if has_path path p then Some k else position_of path (k + 1) ps
 
 -- what is known of all records; with the paths of the places before a position alone
 abbrev pub known : Lines → Known

@@ -62,9 +62,9 @@ abbrev pub is_partner : Lines → ℕ → ℕ → Bool
 is_partner rs person family =
     list_any (λ (p : model.Partner). p.person == person) (family_from (known rs) (lines_at rs family)).partners
 
--- FAMS is for those who are partners in the family, and FAMC for those who are not
+-- a line that names a family is FAMS exactly for those who are partners in it; for all others it is FAMC
 abbrev pub is_sided : Bool → Tree Line → Bool
-is_sided partner t = if partner then tagged (codes "FAMS") t else tagged (codes "FAMC") t
+is_sided partner t = if partner then tagged (codes "FAMS") t else not (tagged (codes "FAMS") t)
 
 -- a line of a person that names a family: it is for such persons, and none before it of its tag names that family
 abbrev pub judge_side : Lines → ℕ → Lines → Tree Line → Option ReportWord

@@ -1,0 +1,9 @@
+mod AllSaid
+mod Below
+mod FieldRows
+mod Fronts
+mod Naming
+mod Partners
+mod SaidMembers
+mod SaidSides
+mod Taking

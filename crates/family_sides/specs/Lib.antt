@@ -1,0 +1,4 @@
+pub mod Members
+pub mod Taken
+pub mod Told
+pub mod Views

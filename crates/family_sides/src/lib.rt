@@ -1,0 +1,17 @@
+//! Both sides of the memberships of a file, read from its nodes alone.
+//!
+//! It uses `known_roots` and `file_roots` for the nodes of a file, `receipts` for what is reported, and the words of
+//! `import_forest`.
+//!
+//! Callers may rely on: each line of a family or a person that names a membership counts or is reported.
+#![tactic(auto)]
+
+pub mod laws;
+mod members;
+mod nodes;
+mod sides;
+mod told;
+mod whole;
+
+pub use sides::Side;
+pub use whole::sides_of;
