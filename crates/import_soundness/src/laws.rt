@@ -1,0 +1,15 @@
+//! What holds of an import, over the definition of what a forest makes of an archive.
+
+ghost use Rattle.import_soundness.specs.Imported.{NumbersAreNew, RecordsStand};
+
+/// The numbers that an import draws count up from the next number of the archive to that of the batch, which is at most
+/// 4,294,967,296.
+pub fn an_import_draws_new_numbers()
+    ensures { NumbersAreNew }
+{}
+
+/// After an import into a sound archive each record of before stands where it stood, each record of the batch stands at
+/// its number, and nothing else was put there.
+pub fn an_import_changes_no_record()
+    ensures { RecordsStand }
+{}
