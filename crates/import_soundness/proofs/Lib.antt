@@ -1,2 +1,7 @@
 mod Drawn
 mod Standing
+mod Lists
+mod Fine
+mod Left
+mod ReadSources
+mod Spelt
