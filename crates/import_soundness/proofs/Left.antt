@@ -77,3 +77,8 @@ some_text (Some t) e = refl
 pub some_mapped : {A B : Type 0} (f : A → B) (o : Option A) → is_some o ≡ true → is_some (option_map f o) ≡ true
 some_mapped f None e = absurd cc
 some_mapped f (Some a) e = refl
+
+-- a row of another field
+pub row_not : (fits : Bool) (x y z : Field) → is_same x z ≡ false → is_same y z ≡ false → is_same (row fits x y) z ≡ false
+row_not true x y z e f = e
+row_not false x y z e f = f

@@ -5,3 +5,7 @@ mod Fine
 mod Left
 mod ReadSources
 mod Spelt
+mod ReadEvents
+mod ReadPersons
+mod Once
+mod ReadFamilies
