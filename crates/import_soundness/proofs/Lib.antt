@@ -4,8 +4,13 @@ mod Lists
 mod Fine
 mod Left
 mod ReadSources
+mod Clean
 mod Spelt
 mod ReadEvents
 mod ReadPersons
 mod Once
 mod ReadFamilies
+mod Normal
+mod ReadPlaces
+mod ReadEntries
+mod ReadNodes

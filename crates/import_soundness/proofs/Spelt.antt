@@ -94,6 +94,19 @@ use Rattle.gedcom_date.specs.Spelling.{
 }
 use Rattle.gedcom_date.proofs.Again.{IsRead, form_back}
 use Rattle.gedcom_date.proofs.Deciding.{some_value}
+use Rattle.import_soundness.proofs.Clean.{
+  IsClean,
+  IsShortText,
+  clean_both,
+  clean_front,
+  clean_short,
+  clean_text,
+  is_plain,
+  short_both,
+  short_is_text,
+  short_space,
+  text_clean,
+}
 use Rattle.record_fields.specs.Dated.{date_of, date_text, one_said, spelt}
 
 -- ---- it is spelt as it is
@@ -129,64 +142,6 @@ spelt_twice text =
     (says_again text said.0 said.1))
 
 -- ---- it is a text
--- ASCII without U+0000 and CR
-abbrev is_plain : ℕ → Bool
-is_plain b = nat_lt b 128 && (not (b == 0) && not (b == 13))
-
--- such bytes, of at most that many
-record IsShortText (n : ℕ) (t : List ℕ) : Type 0 where
-  bytes : list_all is_plain t ≡ true
-  short : length t ≤ n
-
-short_both : (n m k : ℕ) → n + m ≤ k → (a b : List ℕ) → IsShortText n a → IsShortText m b → IsShortText k (a ++ b)
-short_both n m k fits a b h g =
-    let one : length a ≤ n = h.short in
-    let two : length b ≤ m = g.short in
-    let size : length (a ++ b) ≡ length a + length b = length-append a b in
-    record { bytes = list_all-append is_plain a b ∙ (λ i. h.bytes i && g.bytes i); short = omega arith }
-
--- behind a space
-short_space : (n k : ℕ) → n + 1 ≤ k → (b : List ℕ) → IsShortText n b → IsShortText k (32 ∷ b)
-short_space n k fits b h = let two : length b ≤ n = h.short in record { bytes = h.bytes; short = omega arith }
-
-record ArePlain (t : List ℕ) : Type 0 where
-  ascii : IsAscii t
-  no_nul : list_any (λ b. b == 0) t ≡ false
-  no_cr : list_any (λ b. b == 13) t ≡ false
-
-plain_byte : (b : ℕ) → is_plain b ≡ true → (b < 128) × (((b == 0) ≡ false) × ((b == 13) ≡ false))
-plain_byte b h =
-    let x = and_parts (nat_lt b 128) (not (b == 0) && not (b == 13)) h in
-    let y = and_parts (not (b == 0)) (not (b == 13)) x.1 in
-    (grind (arith, nat_tests), (not_true (b == 0) y.0, not_true (b == 13) y.1))
-  where
-    not_true : (x : Bool) → not x ≡ true → x ≡ false
-    not_true true e = absurd cc
-    not_true false e = refl
-
-plain_are : (t : List ℕ) → list_all is_plain t ≡ true → ArePlain t
-plain_are [] h = record { ascii = IsAscii-nil; no_nul = refl; no_cr = refl }
-plain_are (b ∷ bs) h =
-    let x = and_parts (is_plain b) (list_all is_plain bs) h in
-    let one = plain_byte b x.0 in
-    let rest = plain_are bs x.1 in
-    record {
-      ascii = IsAscii-cons b bs one.0 rest.ascii;
-      no_nul = λ i. one.1.0 i || rest.no_nul i;
-      no_cr = λ i. one.1.1 i || rest.no_cr i;
-    }
-
-short_is_text : (n : ℕ) → n ≤ 1048576 → (t : List ℕ) → IsShortText n t → IsText t
-short_is_text n less t h =
-    let plain = plain_are t h.bytes in
-    let short : length t ≤ n = h.short in
-    record {
-      utf8 = IsUtf8-from_ascii t plain.ascii;
-      no_nul = plain.no_nul;
-      no_cr = plain.no_cr;
-      short = omega arith;
-    }
-
 -- ---- numbers, years, months
 byte_plain : (b : ℕ) → 48 ≤ b → b ≤ 57 → is_plain b ≡ true
 byte_plain b low high = grind (arith, nat_tests)
@@ -288,47 +243,6 @@ near_short Calculated = word_short (codes "CAL") refl (omega arith)
 near_short Estimated = word_short (codes "EST") refl (omega arith)
 
 -- ---- phrases
--- UTF-8 without U+0000 and CR
-record IsClean (t : List ℕ) : Type 0 where
-  utf8 : IsUtf8 t
-  no_nul : list_any (λ b. b == 0) t ≡ false
-  no_cr : list_any (λ b. b == 13) t ≡ false
-
-clean_both : (a b : List ℕ) → IsClean a → IsClean b → IsClean (a ++ b)
-clean_both a b h g = record {
-  utf8 = IsUtf8-append a b h.utf8 g.utf8;
-  no_nul = list_any-append (λ x. x == 0) a b ∙ (λ i. h.no_nul i || g.no_nul i);
-  no_cr = list_any-append (λ x. x == 13) a b ∙ (λ i. h.no_cr i || g.no_cr i);
-}
-
-clean_short : (n : ℕ) (t : List ℕ) → IsShortText n t → IsClean t
-clean_short n t h = let plain = plain_are t h.bytes in
-    record { utf8 = IsUtf8-from_ascii t plain.ascii; no_nul = plain.no_nul; no_cr = plain.no_cr }
-
--- in front of an ASCII character, and from it on
-clean_front : (a b : List ℕ) (c : ℕ) → c < 128 → IsClean (a ++ c ∷ b) → IsClean a × IsClean (c ∷ b)
-clean_front a b c low h =
-    let whole : List ℕ = a ++ c ∷ b in
-    let at : get_or whole (length a) 0 ≡ c = get_or-append_seam a c b 0 in
-    let size : length whole ≡ length a + length (c ∷ b) = length-append a (c ∷ b) in
-    let cut : IsCharBoundary whole (length a) = IsCharBoundary-before_ascii whole (length a)
-    (omega (arith, size)) (omega (arith, at)) in
-    let nul = or_parts (list_any (λ x. x == 0) a) (list_any (λ x. x == 0) (c ∷ b))
-    (sym (list_any-append (λ x. x == 0) a (c ∷ b)) ∙ h.no_nul) in
-    let cr = or_parts (list_any (λ x. x == 13) a) (list_any (λ x. x == 13) (c ∷ b))
-    (sym (list_any-append (λ x. x == 13) a (c ∷ b)) ∙ h.no_cr) in (
-      record {
-        utf8 = subst IsUtf8 (take-append_seam a (c ∷ b)) (IsUtf8-take whole (length a) h.utf8 cut);
-        no_nul = nul.0;
-        no_cr = cr.0;
-      },
-      record {
-        utf8 = subst IsUtf8 (drop-append_seam a (c ∷ b)) (IsUtf8-drop whole (length a) h.utf8 cut);
-        no_nul = nul.1;
-        no_cr = cr.1;
-      },
-    )
-
 phrase_clean : (text front phrase : List ℕ) → IsPhrased text front phrase → IsClean text → IsClean (phrase_text phrase)
 phrase_clean text front phrase is h =
     let all : IsClean ((front ++ 40 ∷ phrase) ++ 41 ∷ is.after) = subst IsClean is.parts h in
@@ -337,17 +251,8 @@ phrase_clean text front phrase is h =
     clean_both (40 ∷ phrase) (41 ∷ []) opened (clean_short 1 (41 ∷ []) (record { bytes = refl; short = omega arith }))
 
 -- ---- all forms
-text_clean : (t : List ℕ) → IsText t → IsClean t
-text_clean t h = record { utf8 = h.utf8; no_nul = h.no_nul; no_cr = h.no_cr }
-
-clean_text : (t : List ℕ) → IsClean t → length t ≤ 1048576 → IsText t
-clean_text t h short = record { utf8 = h.utf8; no_nul = h.no_nul; no_cr = h.no_cr; short = short }
-
 short_text : (t : List ℕ) → IsShortText 100 t → IsText t
 short_text t h = short_is_text 100 (omega arith) t h
-
-longer : (n m : ℕ) → n ≤ m → (t : List ℕ) → IsShortText n t → IsShortText m t
-longer n m less t h = let short : length t ≤ n = h.short in record { bytes = h.bytes; short = omega arith }
 
 form_text : (text : List ℕ) (f : Form) → IsText text → IsOfForm text f → IsGood f → IsText (spelling f)
 unfolding spelling IsOfForm IsShort

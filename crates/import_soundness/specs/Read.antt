@@ -23,6 +23,8 @@ use Rattle.archive_state.specs.Sound.{
   own_tags,
 }
 use Rattle.archive_state.specs.Texts.{carried_texts, line_texts, own_texts}
+use Rattle.import_forest.specs.Positions.{known, known_before}
+use Rattle.import_forest.specs.Sides.{draft_at}
 
 -- a line with those below it: tags that may be in a record, texts, and at most so many levels
 pub record IsLine (n : ℕ) (t : Tree Line) : Type 0 where
@@ -68,3 +70,8 @@ abbrev mutual
   pub AllRead : (Option Record → Record → Type 0) → Option Record → Forest Draft → Type 0
   AllRead P owner none = Unit {0}
   AllRead P owner (more t f) = EachRead P owner t × AllRead P owner f
+
+-- of nodes of a file, each record that is read at one or below it keeps these rules
+abbrev pub NodesAreRead : Type 0
+NodesAreRead = (rs : Lines) → EachOf IsNode rs → (k : ℕ) (r : Tree Line) → IsNode r
+    → EachRead (IsRead (known_before rs k) (known rs)) None (draft_at rs k r)
