@@ -41,6 +41,7 @@ use Rattle.import_forest.specs.Numbers.{
   with_made,
 }
 use Rattle.import_forest.specs.Made.{batch, drawing, lowest_place, made, places, second, unless_full, unless_second}
+use Rattle.import_soundness.specs.Read.{rows}
 use Rattle.import_soundness.specs.Imported.{CountUp, NumbersAreNew, numbers}
 
 -- ---- each step keeps what holds
@@ -132,10 +133,6 @@ not_full w d x e =
           let same : batch w d ≡ x = cc in
           record { whole = sym same; bounded = grind (arith, nat_tests) }
     ] refl e
-
--- the nodes of a file that become records, as lines
-abbrev pub rows : List Item → Lines
-rows f = roots (kept (candidates f))
 
 abbrev pub places_by : Content → List Item → Places
 places_by c f = places (lowest_place c.records) (rows f)

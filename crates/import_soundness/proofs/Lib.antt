@@ -14,3 +14,5 @@ mod Normal
 mod ReadPlaces
 mod ReadEntries
 mod ReadNodes
+mod Grown
+mod Filed

@@ -1,11 +1,12 @@
 -- What is so of the nodes of a file, and of the records that they are read as.
-use Rattle.std.specs.Prelude.{ℕ, ◌≡◌, ◌≢◌, ◌≤◌, true, List, ◌++◌, codes, Option, Some, None, IfSome}
+use Rattle.std.specs.Prelude.{ℕ, ◌≡◌, ◌≢◌, ◌<◌, ◌≤◌, true, List, length, ◌++◌, codes, Option, Some, None, IfSome}
 use Rattle.stored_lines.specs.Tree.{Tree, Forest, node, none, more}
 use Rattle.stored_lines.specs.Line.{Line, Lines}
 use Rattle.stored_lines.specs.Levels.{levels}
 use Rattle.record_kinds.specs.declared.record.Record.{Record}
 use Rattle.record_kinds.specs.declared.record.Record.TheVariants as kind
 use Rattle.record_links.specs.Carried.{carried_tags, tags}
+use Rattle.record_links.specs.Links.{Link, line_links}
 use Rattle.record_text.specs.Text.{IsText}
 use Rattle.record_shapes.specs.Forms.{Known, tag_of}
 use Rattle.record_shapes.specs.Levels.{HasRoom}
@@ -23,6 +24,10 @@ use Rattle.archive_state.specs.Sound.{
   own_tags,
 }
 use Rattle.archive_state.specs.Texts.{carried_texts, line_texts, own_texts}
+use Rattle.gedcom_tree.specs.Forest.{Item}
+use Rattle.gedcom_tree.specs.Text.{IsForest}
+use Rattle.file_roots.specs.Lines.{roots}
+use Rattle.file_roots.specs.Roots.{candidates, kept}
 use Rattle.import_forest.specs.Positions.{known, known_before}
 use Rattle.import_forest.specs.Sides.{draft_at}
 
@@ -36,6 +41,19 @@ pub record IsLine (n : ℕ) (t : Tree Line) : Type 0 where
 pub record IsNode (t : Tree Line) : Type 0 where
   pub line : IsLine 99 t
   pub own : tag_of t ≢ codes "TRLR"
+
+-- each pointer on the line and below it is below a number
+abbrev pub PointsWithin : ℕ → Tree Line → Type 0
+PointsWithin count t = EachOf (λ (l : Link). l.0 < count) (line_links t)
+
+-- the nodes of a file that become records, as lines
+abbrev pub rows : List Item → Lines
+rows f = roots (kept (candidates f))
+
+-- they are nodes, and each pointer in them names one of them
+abbrev pub FilesHaveNodes : Type 0
+FilesHaveNodes = (f : List Item) → IsForest f
+    → EachOf (λ t. IsNode t × PointsWithin (length (rows f)) t) (rows f)
 
 -- an event has a tag of its owner's kind
 abbrev pub HasTagOf : Option Record → Record → Type 0
