@@ -126,6 +126,9 @@ module _ {X : Type 0} where
     pub some_rise : (test : ℕ × X → Bool) → Ascends (keys (filter test (entries m)))
     some_rise test = filter_rises test (entries m) (rising_keys (entries m) (entries_sorted m))
 
+    pub entries_once : IsOnce (keys (entries m))
+    entries_once = once_ascending (keys (entries m)) (rising_keys (entries m) (entries_sorted m))
+
     pub entries_stand : EachOf Stands (entries m)
     entries_stand = each_more (λ e. look e.0 (entries m) ≡ Some e.1) Stands (λ e h. look_get e.0 ∙ h) (entries m)
         (look_own (entries m) (once_ascending (keys (entries m)) (rising_keys (entries m) (entries_sorted m))))

@@ -199,7 +199,7 @@ module _ (c : Content) (is : IsSound c) where
       by (Some (kind.Entry x)) g e = (kind.Entry x, g, refl)
       by (Some (kind.Other x)) g e = (kind.Other x, g, refl)
 
-  wanted_has : (n : ℕ) → S (n, at_level_0) → has n (keys (order m)) ≡ true
+  pub wanted_has : (n : ℕ) → S (n, at_level_0) → has n (keys (order m)) ≡ true
   wanted_has n h = let t = there n h in order_has m n t.0 t.1 t.2
 
   abbrev Small : Numbered → Type 0

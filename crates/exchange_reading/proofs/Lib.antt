@@ -1,0 +1,13 @@
+pub mod Alike
+pub mod Reshaped
+pub mod Others
+pub mod Readable
+pub mod Seen
+pub mod Placed
+pub mod Paths
+pub mod SideLists
+pub mod Persons
+pub mod Sides
+pub mod Inverse
+pub mod Relabelled
+pub mod Drafts
