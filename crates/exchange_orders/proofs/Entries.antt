@@ -34,7 +34,7 @@ use Rattle.archive_state.proofs.Each.{each_more}
 use Rattle.archive_state.proofs.Rising.{first_holds, rest_holds, less_is}
 use Rattle.exchange_orders.proofs.Listed.{has, once_ascending, or_false, other_way, same_self, true_not_false}
 
-ties : (n k : ℕ) → is_eq (nat_cmp n k) ≡ (k == n)
+pub ties : (n k : ℕ) → is_eq (nat_cmp n k) ≡ (k == n)
 ties n k = by (k == n) refl
   where
     by : (b : Bool) → (k == n) ≡ b → is_eq (cond (nat_lt n k) Less (cond (n == k) Equal Greater)) ≡ b

@@ -1,0 +1,30 @@
+-- What an export gives when it is read into an empty archive: rules of our own.
+use Rattle.std.specs.Prelude.{ℕ, ◌≡◌, List, [], Ok}
+use Rattle.std.specs.FinMap.{empty}
+use Rattle.archive_state.specs.Applied.{with_puts}
+use Rattle.archive_state.specs.Changes.{Batch}
+use Rattle.archive_state.specs.Content.{Content, nothing}
+use Rattle.archive_state.specs.Sound.{IsSound}
+use Rattle.gedcom_tree.specs.Forest.{Item}
+use Rattle.gedcom_tree.specs.Text.{IsSame}
+use Rattle.import_forest.specs.Made.{made}
+use Rattle.import_forest.specs.Report.{report}
+use Rattle.export_forest.specs.Forest.{exported}
+use Rattle.exchange_orders.specs.Positions.{new_number}
+use Rattle.exchange_laws.specs.Same.{AreSame, IsCarriedBy}
+
+-- the import is not refused, and its batch has the records of the archive
+abbrev pub ImportHasAll : Type 0
+ImportHasAll = (c : Content) (society : List ℕ) (f : List Item) → IsSound c → IsSame f (exported c.records society)
+    → (b : Batch) × (made nothing f ≡ Ok b)
+    × IsCarriedBy (new_number c.records) c.records (with_puts empty b.records)
+
+-- nothing is reported
+abbrev pub ReportsNothing : Type 0
+ReportsNothing = (c : Content) (society : List ℕ) (f : List Item) → IsSound c
+    → IsSame f (exported c.records society) → report f ≡ []
+
+-- the records are the same up to their numbers, and so are the orders that count
+abbrev pub ComesBack : Type 0
+ComesBack = (c : Content) (society : List ℕ) (f : List Item) → IsSound c → IsSame f (exported c.records society)
+    → (b : Batch) × (made nothing f ≡ Ok b) × (report f ≡ []) × AreSame c.records (with_puts empty b.records)
