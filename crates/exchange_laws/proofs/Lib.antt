@@ -4,3 +4,9 @@ pub mod Results
 pub mod Carried
 pub mod Keys
 pub mod Making
+pub mod Unreported
+pub mod Judged
+pub mod Members
+pub mod PersonSides
+pub mod Reports
+pub mod Whole

@@ -166,10 +166,10 @@ module _ (c : Content) (is : IsSound c) where
   abbrev m : Records
   m = c.records
 
-  abbrev N : Numbered → FileNode
+  abbrev pub N : Numbered → FileNode
   N e = filed (node_of m (household (entries m) e))
 
-  abbrev ns : List FileNode
+  abbrev pub ns : List FileNode
   ns = map N (order m)
 
   abbrev S : Link → Type 0
@@ -227,7 +227,7 @@ module _ (c : Content) (is : IsSound c) where
             ap (λ i. let o : Option ℕ = Some i in o) z)
       ] h
 
-  place_is : (n : ℕ) → S (n, at_level_0) → place_in ns (name_of m n) ≡ Some (pos m n)
+  pub place_is : (n : ℕ) → S (n, at_level_0) → place_in ns (name_of m n) ≡ Some (pos m n)
   place_is n h = let t = there n h in
       position_is n 0 (order m) (small n t.0 t.1) order_small (wanted_has n h)
       ∙ (let z : 0 + position_of n (keys (order m)) ≡ position_of n (keys (order m)) = omega arith in
@@ -269,7 +269,7 @@ module _ (c : Content) (is : IsSound c) where
       → unlined (lined_root (place_in ns) (filed (named (name_of m) own t))) ≡ relabel (line_with (pos m)) t
   root_named own (node l f) v h = λ i. node (record { tag = l.tag; value = v i }) (lines_back f h i)
 
-  other_kind : (n : ℕ) (x : model.Other) → get m n ≡ Some (kind.Other x) → is_other (kind_named x.tag) ≡ true
+  pub other_kind : (n : ℕ) (x : model.Other) → get m n ≡ Some (kind.Other x) → is_other (kind_named x.tag) ≡ true
   other_kind n x g = other_tag x.tag (bytes_eq x.tag (codes "_LOC")) (bytes_eq x.tag (codes "REPO"))
       (bytes_eq x.tag (codes "SOUR")) (bytes_eq x.tag (codes "INDI")) (bytes_eq x.tag (codes "FAM"))
       refl refl refl refl refl (is.rules.shapes n (kind.Other x) g).own
@@ -344,10 +344,12 @@ module _ (c : Content) (is : IsSound c) where
   all_lead (suc k) = each_more (StandsAt0 m) (Leads (suc k)) (λ e h. leads_step k (all_lead k) e h) (order m)
       (order_stands m)
 
-  pub all_kept : kept ns ≡ ns
+  pub each_kept : EachOf (λ t. is_kept ns t ≡ true) ns
   unfolding is_kept
-  all_kept = filter_all (leads ns (length ns)) ns
-      (each_over (λ t. leads ns (length ns) t ≡ true) N (order m) (all_lead (length ns)))
+  each_kept = each_over (λ t. leads ns (length ns) t ≡ true) N (order m) (all_lead (length ns))
+
+  all_kept : kept ns ≡ ns
+  all_kept = filter_all (is_kept ns) ns each_kept
 
   -- ---- none is the society
   no_society : (e : Numbered) → StandsAt0 m e → not (is_society (N e)) ≡ true

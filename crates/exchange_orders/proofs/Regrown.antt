@@ -175,7 +175,7 @@ leads_clear ns (suc k) t =
     ap (names_one (leads (map cleared ns) k) (map cleared ns)) (name_clear t)
     ∙ by_name ns (leads (map cleared ns) k) (leads ns k) (λ u. leads_clear ns k u) (name_in (label t))
 
-kept_same : (ns : List FileNode) (t : FileNode) → is_kept (map cleared ns) (cleared t) ≡ is_kept ns t
+pub kept_same : (ns : List FileNode) (t : FileNode) → is_kept (map cleared ns) (cleared t) ≡ is_kept ns t
 unfolding is_kept
 kept_same ns t = ap (λ k. leads (map cleared ns) k (cleared t)) (length-map {A = FileNode} ns cleared)
     ∙ leads_clear ns (length ns) t
@@ -183,7 +183,7 @@ kept_same ns t = ap (λ k. leads (map cleared ns) k (cleared t)) (length-map {A 
 pub kept_clear : (ns : List FileNode) → kept (map cleared ns) ≡ map cleared (kept ns)
 kept_clear ns = filter_under cleared (is_kept (map cleared ns)) (is_kept ns) ns (kept_same ns)
 
-position_clear : (name : List ℕ) (k : ℕ) (ns : List FileNode)
+pub position_clear : (name : List ℕ) (k : ℕ) (ns : List FileNode)
     → position_from (is_called name) k (map cleared ns) ≡ position_from (is_called name) k ns
 position_clear name k [] = refl
 position_clear name k (t ∷ ns) = λ i. cond (called_clear name t i) (Some k) (position_clear name (k + 1) ns i)

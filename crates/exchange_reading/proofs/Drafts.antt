@@ -6,21 +6,21 @@ use Rattle.std.proofs.lemmas.Bool.Decides.{nat_tests}
 use Rattle.std.proofs.lemmas.List.{length-map, map-append}
 use Rattle.std.proofs.Math.Seq.{take-append_seam}
 use Rattle.std.proofs.lemmas.Simd.{map-map}
-use Rattle.stored_lines.specs.Tree.{Tree, node, forest_of, relabel, relabel_all}
+use Rattle.stored_lines.specs.Tree.{Tree, node, forest_of, label, relabel, relabel_all}
 use Rattle.stored_lines.specs.Line.{Lines}
 use Rattle.record_kinds.specs.Model as model
 use Rattle.record_kinds.specs.declared.record.Record.{Record}
 use Rattle.record_kinds.specs.declared.record.Record.TheVariants as kind
 use Rattle.record_links.specs.Links.{carried_links, value_links}
-use Rattle.record_shapes.specs.Forms.{Known}
+use Rattle.record_shapes.specs.Forms.{Known, below}
 use Rattle.record_shapes.specs.Laws.{FindsFamilies, FindsPath, IsReadAgain, apart, drafted}
 use Rattle.record_shapes.specs.Lists.{EachOf, IsOnce}
 use Rattle.record_shapes.specs.Readable.{IsReadable, IsReadableOther}
-use Rattle.record_shapes.specs.Reading.{Draft, draft_of, read}
+use Rattle.record_shapes.specs.Reading.{Draft, draft_of, family_from, read}
 use Rattle.record_shapes.specs.Shapes.{Around}
 use Rattle.archive_state.specs.Content.{Content, Records}
 use Rattle.archive_state.specs.Known.{known_before, known_of, path_of}
-use Rattle.archive_state.specs.Merging.{other_with, record_with}
+use Rattle.archive_state.specs.Merging.{family_with, other_with, record_with}
 use Rattle.archive_state.specs.Sound.{IsSound}
 use Rattle.archive_state.specs.Sound as sound
 use Rattle.archive_state.proofs.Each.{each_back}
@@ -36,7 +36,7 @@ use Rattle.exchange_orders.proofs.Ordered.{order, order_once, order_stands, Stan
 use Rattle.exchange_orders.proofs.Nodes.{house, node_tree, nodes_are, pos, positions_are}
 use Rattle.exchange_orders.proofs.Renamed.{renamed}
 use Rattle.exchange_reading.specs.Drafts.{drafts, drafts_from, without_owner}
-use Rattle.exchange_reading.specs.Laws.{DraftsComeBack}
+use Rattle.exchange_reading.specs.Laws.{DraftsComeBack, apart_family}
 use Rattle.exchange_reading.proofs.Inverse.{
   moved,
   moved_is,
@@ -113,6 +113,21 @@ module _ (c : Content) (is : IsSound c) (laws : Laws) where
   any_moved earlier' (k, kind.Event x) up st h = absurd (true_not_false (sym st.1))
   any_moved earlier' (k, kind.Citation x) up st h = absurd (true_not_false (sym st.1))
 
+  -- ---- a family as its own node tells it
+  pub family_read : (k : ℕ) (x : model.Family) → get m k ≡ Some (kind.Family x)
+      → family_from (known rs) (below (node_tree m (k, kind.Family x))) ≡ apart_family (family_with (pos m) x)
+  family_read k x g =
+      let e : Numbered = (k, kind.Family x) in
+      let readable : IsReadable (known rs) (known rs) shown (pos m k) (house_moved e) =
+      any_moved (known rs) e (λ (r : 5 ≡ 1). absurd (omega (arith, r))) (g, refl)
+      (shaped c is laws.reads e (g, refl)) in
+      let same : read (kind.Family (family_from (known rs) (below (node_tree m e)))) None
+      ≡ read (kind.Family (apart_family (family_with (pos m) x))) None =
+      ap (λ t. label (draft_of (known rs) (known rs) t))
+      (renamed (pos m) (around m) shown k (house m e) (moved_is c is laws.reads laws.paths))
+      ∙ ap label (laws.again (known rs) (known rs) shown (pos m k) (house_moved e) readable) in
+      cc
+
   -- ---- with the sides of memberships
   abbrev read_apart : Numbered → Draft
   read_apart x = read (apart (record_with (pos m) x.1)) None
@@ -167,7 +182,7 @@ module _ (c : Content) (is : IsSound c) (laws : Laws) where
       ∙ map-append (path_of m) (keys done) (keys rest))
       ∙ ap (λ n. take n (ps done ++ ps rest)) longs ∙ take-append_seam (ps done) (ps rest)
 
-  position_here : (done rest : List Numbered) (e : Numbered) → done ++ e ∷ rest ≡ order m → length done ≡ pos m e.0
+  pub position_here : (done rest : List Numbered) (e : Numbered) → done ++ e ∷ rest ≡ order m → length done ≡ pos m e.0
   position_here done rest e all =
       let keys_are : keys done ++ e.0 ∷ keys rest ≡ keys (order m) =
       sym (map-append (λ (x : Numbered). x.0) done (e ∷ rest)) ∙ ap keys all in

@@ -61,7 +61,7 @@ use Rattle.exchange_reading.proofs.Readable.{ReadsSound, filter_none}
 use Rattle.exchange_reading.proofs.Seen.{position_back, positions_apart, tags_back}
 use Rattle.exchange_reading.proofs.Persons.{PersonAt, children_stand, partners_stand}
 
-flat_none : {A B : Type 0} (g : A → List B) (xs : List A) → EachOf (λ x. g x ≡ []) xs → flat_map g xs ≡ []
+pub flat_none : {A B : Type 0} (g : A → List B) (xs : List A) → EachOf (λ x. g x ≡ []) xs → flat_map g xs ≡ []
 flat_none g [] h = refl
 flat_none g (x ∷ xs) h = λ i. h.0 i ++ flat_none g xs h.1 i
 

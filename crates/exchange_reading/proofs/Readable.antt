@@ -73,7 +73,7 @@ module _ (c : Content) (is : IsSound c) where
   partner_is n (k, kind.Family f) g = partners_are k f (filter (λ (x : model.Partner). x.person == n) f.partners) g
   partner_is n (k, _) g = tt
 
-  around_is : IsAround m (around m)
+  pub around_is : IsAround m (around m)
   around_is = record {
     paths = λ n path h. ap (λ o. unwrap_or o []) ((path_known m n path).0 h);
     child_in = λ n. each_flat (IsSideIn m) (child_sides n) es
