@@ -32,7 +32,6 @@ use Rattle.stored_lines.specs.Line.{Line, Lines}
 use Rattle.stored_lines.specs.declared.carried.Value.{Value}
 use Rattle.stored_lines.specs.declared.carried.Value.TheVariants as value
 use Rattle.gedcom_line.specs.Spelling.{spelling}
-use Rattle.record_shapes.specs.Lists.{EachOf}
 use Rattle.record_shapes.specs.Shapes.{line, pointer_line}
 use Rattle.gedcom_tree.specs.Text.{node_text}
 use Rattle.gedcom_line.specs.Value.{Pointer}
@@ -84,12 +83,6 @@ pub at_index : {A : Type 0} (xs : List A) (i : ℕ) (x : A) → i < length xs �
 at_index {A} xs i x less at =
     drop-cons xs i x less ∙ ap (λ (y : A). y ∷ drop (suc i) xs) (sym at) ∙ ap (λ (k : ℕ). x ∷ drop k xs)
     (sym (add-one i))
-
-pub each_at : {A : Type 0} (P : A → Type 0) (xs : List A) (i : ℕ) (x : A) → EachOf P xs → i < length xs
-    → x ≡ get_or xs i x → P x
-each_at P [] i x h less at = absurd (omega arith)
-each_at P (y ∷ xs) zero x h less at = rw at h.0
-each_at P (y ∷ xs) (suc i) x h less at = each_at P xs i x h.1 (omega arith) at
 
 module _ (names : ℕ → List ℕ) (level : ℕ) where
   -- lines are written, and further lines of that level are left
@@ -171,22 +164,14 @@ module _ (names : ℕ → List ℕ) (level : ℕ) where
 
 -- the children of a line have room one level deeper
 pub room_below : (t : Tree Line) (l : Line) (cs items : Lines) (level : ℕ) → node l (forest_of cs) ≡ t → items ≡ cs
-    → level + levels t ≤ 99 → level + (forest_levels (forest_of items) + 1) ≤ 99
+    → level + levels t ≤ 255 → level + (forest_levels (forest_of items) + 1) ≤ 255
 room_below t l cs items level whole same h =
     omega (arith, h, ap levels whole, ap (λ (us : Lines). forest_levels (forest_of us)) same)
 
 -- one of them has that room
 pub room_of : (ts : Lines) (i : ℕ) (t : Tree Line) (level : ℕ) → i < length ts → t ≡ get_or ts i t
-    → level + (forest_levels (forest_of ts) + 1) ≤ 99 → level + 1 + levels t ≤ 99
+    → level + (forest_levels (forest_of ts) + 1) ≤ 255 → level + 1 + levels t ≤ 255
 room_of ts i t level less at h = omega (arith, h, levels-one ts i t less at)
-
-levels-some : (t : Tree Line) → 0 < levels t
-levels-some (node l f) = omega arith
-
--- so has one of carried lines
-pub room_within : (ts : Lines) (i : ℕ) (t : Tree Line) (level : ℕ) → i < length ts → t ≡ get_or ts i t
-    → forest_levels (forest_of ts) ≤ 99 - level → level + levels t ≤ 99
-room_within ts i t level less at h = omega (arith, h, levels-one ts i t less at, levels-some t)
 
 size-one : (ts : Lines) (i : ℕ) (t : Tree Line) → i < length ts → t ≡ get_or ts i t
     → tree_size t ≤ forest_size (forest_of ts)

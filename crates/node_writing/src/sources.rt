@@ -1,10 +1,6 @@
 //! Repositories, sources and places.
 
-ghost use Rattle.std.specs.Prelude.{◌≡◌, ◌++◌, ◌∷◌, [], map, None, OnOk, string_bytes};
-ghost use Rattle.record_kinds.specs.Model as model;
-ghost use Rattle.record_kinds.specs.declared.record.Record.TheVariants as kind;
-ghost use Rattle.record_shapes.specs.Levels.{AreWithin, HasRoom};
-ghost use Rattle.record_shapes.specs.Lists.{EachOf};
+ghost use Rattle.std.specs.Prelude.{◌≡◌, ◌++◌, ◌∷◌, [], map, OnOk, string_bytes};
 ghost use Rattle.record_shapes.specs.Shapes.{holding_line, loc_lines, place_lines, repo_lines, source_lines};
 ghost use Rattle.record_nodes.specs.Pages.{page};
 
@@ -20,7 +16,6 @@ pub fn push_repo<N: Named>(
     index: &N,
     repo: &Repo,
 ) -> Result<(), AllocError>
-    requires { HasRoom None (kind.Repo repo.now) }
     ensures { OnOk result (string_bytes out.new ≡ string_bytes out.old
         ++ page (N.names index.now) 1 (repo_lines repo.now)) }
 {
@@ -35,7 +30,6 @@ fn push_holding<N: Named>(
     index: &N,
     holding: &Holding,
 ) -> Result<(), AllocError>
-    requires { AreWithin 97 holding.now.carried }
     ensures { OnOk result (string_bytes out.new ≡ string_bytes out.old
         ++ page (N.names index.now) 1 (holding_line holding.now ∷ [])) }
 {
@@ -51,7 +45,6 @@ fn push_holdings<N: Named>(
     index: &N,
     holdings: &[Holding],
 ) -> Result<(), AllocError>
-    requires { EachOf (λ (h : model.Holding). AreWithin 97 h.carried) holdings.now }
     ensures { OnOk result (string_bytes out.new ≡ string_bytes out.old
         ++ page (N.names index.now) 1 (map holding_line holdings.now)) }
 {
@@ -68,7 +61,6 @@ pub fn push_source<N: Named>(
     index: &N,
     source: &Source,
 ) -> Result<(), AllocError>
-    requires { HasRoom None (kind.Source source.now) }
     ensures { OnOk result (string_bytes out.new ≡ string_bytes out.old
         ++ page (N.names index.now) 1 (source_lines source.now)) }
 {
@@ -102,7 +94,6 @@ pub fn push_place<N: Named>(
     index: &N,
     place: &Place,
 ) -> Result<(), AllocError>
-    requires { HasRoom None (kind.Place place.now) }
     ensures { OnOk result (string_bytes out.new ≡ string_bytes out.old
         ++ page (N.names index.now) 1 (place_lines place.now)) }
 {

@@ -1,13 +1,6 @@
-use Rattle.record_kinds.specs.Model as model
-use Rattle.record_shapes.specs.Levels.{AreWithin}
 use Rattle.record_shapes.specs.Shapes.{participant_line}
-use Rattle.node_writing.proofs.Appending.{all_written, each_at, then_next}
+use Rattle.node_writing.proofs.Appending.{all_written, then_next}
 use Rattle.node_writing.proofs.events.push_participants.Goals as goal
-
-pub push_participant-requires : goal.push_participant-requires
-push_participant-requires g c = each_at (λ (p : model.Participant). AreWithin 96 p.carried) c.args.participants.now
-    c.participants.participant-index c.participant-item.result c.requires
-    c.participants-test.true c.participant-item.is
 
 pub participants-preserved : goal.participants-preserved
 participants-preserved g c = then_next (g.N.Named.names c.args.index.now) 2 participant_line c.args.participants.now

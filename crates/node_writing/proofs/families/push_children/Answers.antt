@@ -1,14 +1,6 @@
-use Rattle.record_kinds.specs.Model as model
-use Rattle.record_shapes.specs.Levels.{AreWithin}
 use Rattle.record_shapes.specs.Shapes.{child_line}
-use Rattle.node_writing.proofs.Appending.{all_written, each_at, then_next}
+use Rattle.node_writing.proofs.Appending.{all_written, then_next}
 use Rattle.node_writing.proofs.families.push_children.Goals as goal
-
-pub push_child-requires : goal.push_child-requires
-push_child-requires g c =
-    (each_at (λ (c : model.Child). AreWithin 97 c.carried × AreWithin 97 c.carried_by_person) c.args.children.now
-    c.children.child-index c.child-item.result c.requires
-    c.children-test.true c.child-item.is).0
 
 pub children-preserved : goal.children-preserved
 children-preserved g c = then_next (g.N.Named.names c.args.index.now) 1 child_line c.args.children.now

@@ -1,14 +1,6 @@
-use Rattle.record_kinds.specs.Model as model
-use Rattle.record_shapes.specs.Levels.{AreWithin}
 use Rattle.record_shapes.specs.Shapes.{partner_line}
-use Rattle.node_writing.proofs.Appending.{all_written, each_at, then_next}
+use Rattle.node_writing.proofs.Appending.{all_written, then_next}
 use Rattle.node_writing.proofs.families.push_partners.Goals as goal
-
-pub push_partner-requires : goal.push_partner-requires
-push_partner-requires g c =
-    (each_at (λ (p : model.Partner). AreWithin 97 p.carried × AreWithin 97 p.carried_by_person) c.args.partners.now
-    c.partners.partner-index c.partner-item.result c.requires
-    c.partners-test.true c.partner-item.is).0
 
 pub partners-preserved : goal.partners-preserved
 partners-preserved g c = then_next (g.N.Named.names c.args.index.now) 1 partner_line c.args.partners.now

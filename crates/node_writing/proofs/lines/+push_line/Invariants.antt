@@ -11,5 +11,5 @@ abbrev pub invariant-children : goal.invariant-children
 invariant-children g l = record {
   written : string_bytes l.out ++ page (g.N.Named.names l.index) (l.level + 1) (drop l.child-index l.child-items)
       ≡ string_bytes l.fn.out ++ page (g.N.Named.names l.index) l.level (l.line ∷ []);
-  room : l.level + (forest_levels (forest_of l.child-items) + 1) ≤ 99;
+  room : l.level + (forest_levels (forest_of l.child-items) + 1) ≤ 255;
 }

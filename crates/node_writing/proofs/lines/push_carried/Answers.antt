@@ -1,9 +1,5 @@
-use Rattle.node_writing.proofs.Appending.{lines_written, room_within, then_line}
+use Rattle.node_writing.proofs.Appending.{lines_written, then_line}
 use Rattle.node_writing.proofs.lines.push_carried.Goals as goal
-
-pub push_line-requires : goal.push_line-requires
-push_line-requires g c = room_within c.args.lines.now c.lines.line-index c.line-item.result c.args.level
-    c.lines-test.true c.line-item.is c.requires
 
 pub lines-preserved : goal.lines-preserved
 lines-preserved g c = then_line (g.N.Named.names c.args.index.now) c.args.level c.args.lines.now c.lines.line-index

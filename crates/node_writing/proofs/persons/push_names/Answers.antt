@@ -1,13 +1,6 @@
-use Rattle.record_kinds.specs.Model as model
-use Rattle.record_shapes.specs.Levels.{AreWithin}
 use Rattle.record_shapes.specs.Shapes.{name_line}
-use Rattle.node_writing.proofs.Appending.{all_written, each_at, then_next}
+use Rattle.node_writing.proofs.Appending.{all_written, then_next}
 use Rattle.node_writing.proofs.persons.push_names.Goals as goal
-
-pub push_name-requires : goal.push_name-requires
-push_name-requires g c = each_at (λ (n : model.Name). AreWithin 97 n.carried) c.args.names.now c.names.name-index
-    c.name-item.result c.requires
-    c.names-test.true c.name-item.is
 
 pub names-preserved : goal.names-preserved
 names-preserved g c = then_next (g.N.Named.names c.args.index.now) 1 name_line c.args.names.now c.names.name-index

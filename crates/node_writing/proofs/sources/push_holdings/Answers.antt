@@ -1,13 +1,6 @@
-use Rattle.record_kinds.specs.Model as model
-use Rattle.record_shapes.specs.Levels.{AreWithin}
 use Rattle.record_shapes.specs.Shapes.{holding_line}
-use Rattle.node_writing.proofs.Appending.{all_written, each_at, then_next}
+use Rattle.node_writing.proofs.Appending.{all_written, then_next}
 use Rattle.node_writing.proofs.sources.push_holdings.Goals as goal
-
-pub push_holding-requires : goal.push_holding-requires
-push_holding-requires g c = each_at (λ (h : model.Holding). AreWithin 97 h.carried) c.args.holdings.now
-    c.holdings.holding-index c.holding-item.result c.requires
-    c.holdings-test.true c.holding-item.is
 
 pub holdings-preserved : goal.holdings-preserved
 holdings-preserved g c = then_next (g.N.Named.names c.args.index.now) 1 holding_line c.args.holdings.now

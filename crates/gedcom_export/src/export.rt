@@ -1,0 +1,185 @@
+//! The whole export.
+
+ghost use Rattle.std.specs.Prelude.{◌≡◌, ◌++◌, ◌∷◌, [], None, MatchResult, IfErr, string_bytes};
+ghost use Rattle.std.specs.FinMap.{entries};
+ghost use Rattle.devices.specs.Devices.{Rose};
+ghost use Rattle.gedcom_tree.specs.Text.{line_text, text, trailer};
+ghost use Rattle.record_text.specs.declared.refusal.RefusalKind.TheVariants.{WriteFailed};
+ghost use Rattle.record_nodes.specs.Header.{header};
+ghost use Rattle.record_nodes.specs.Pages.{nodes_text};
+ghost use Rattle.archive_state.specs.Sound.{IsSound};
+ghost use Rattle.archive_view.specs.Looks.{CountsFailures, CountsStops, OnView};
+ghost use Rattle.export_forest.specs.Forest.{exported};
+ghost use Rattle.export_index.specs.Index.{IsArranged};
+ghost use Rattle.gedcom_export.specs.Ends.{IsBegun, IsWhole};
+ghost use Rattle.gedcom_export.specs.Pieces as pieces;
+ghost use Rattle.gedcom_export.specs.Waiting.{Halts, IsShort, Moves};
+
+use crate::output::{Output, hand_over, make_way};
+use crate::page::push_record;
+use archive_view::View;
+use devices::Device;
+use export_index::{Index, Rank, gathered};
+use gedcom_line::write_line;
+use node_writing::push_header;
+use records::{Refusal, RefusalKind};
+use std::alloc::Global;
+use std::io::Write;
+
+/// The kinds of records in the order of an export.
+const RANKS: [Rank; 7] = [
+    Rank::Places,
+    Rank::Repos,
+    Rank::Sources,
+    Rank::Persons,
+    Rank::Families,
+    Rank::Entries,
+    Rank::Others,
+];
+
+/// Writes the archive as the text of its forest (GEDCOM 5.5.1): the header, the society, and each record of level 0
+/// with what it owns, in the order of docs/FORMATS.md. It is refused with 70 (`ExportTooLarge`) where that text has
+/// over 67,108,864 bytes, with 95 (`WriteFailed`) where the writer failed, with 40 or 80 where the view did, and with 1
+/// where memory was refused; at a refusal the writer has got a beginning of the text.
+pub fn export<V: View, W: Write + Device>(
+    alloc: Global,
+    view: &mut V,
+    society: &str,
+    writer: &mut W,
+) -> Result<(), Refusal>
+    ensures written { OnView V.is_honest V.shows V.content view.old view.new (λ c. IsSound c → MatchResult result
+        (λ _. IsWhole (W.contents writer.old) (W.contents writer.new) (text (exported c.records society.now)))
+        (λ e. IsBegun (W.contents writer.old) (W.contents writer.new) (text (exported c.records society.now))
+        e.kind)) }
+
+    // A failure is blamed on the view or on the writer only where its count of failures rose in this call.
+    ensures view { CountsStops (V.failed view.old) (V.failed view.new) result }
+    ensures writer { IfErr result (λ e. e.kind ≡ WriteFailed → Rose (W.failed writer.old) (W.failed writer.new)) }
+    ensures nowhere { IfErr result (λ e. e.at ≡ None) }
+{
+    let before = writer.failures();
+    Ok(write_all(alloc, view, society, writer, before)?)
+}
+
+fn write_all<V: View, W: Write + Device>(
+    alloc: Global,
+    view: &mut V,
+    society: &str,
+    writer: &mut W,
+    before: u64,
+) -> Result<(), RefusalKind>
+    ensures written { OnView V.is_honest V.shows V.content view.old view.new (λ c. IsSound c → MatchResult result
+        (λ _. IsWhole (W.contents writer.old) (W.contents writer.new) (text (exported c.records society.now)))
+        (λ e. IsBegun (W.contents writer.old) (W.contents writer.new) (text (exported c.records society.now)) e)) }
+    ensures view { CountsFailures (V.failed view.old) (V.failed view.new) result }
+    ensures writer { IfErr result (λ e. e ≡ WriteFailed → Rose before (W.failed writer.new)) }
+{
+    let index = gathered(alloc, view)?;
+    let mut out = Output::new(alloc);
+    begin(alloc, society, writer, before, &mut out)?;
+    write_records(alloc, view, &index, writer, before, &mut out)?;
+    end(writer, before, &mut out)
+}
+
+/// Writes the header and the society.
+fn begin<W: Write + Device>(
+    alloc: Global,
+    society: &str,
+    writer: &mut W,
+    before: u64,
+    out: &mut Output,
+) -> Result<(), RefusalKind>
+    ensures written { MatchResult result
+        (λ _. Moves (W.contents writer.old) (W.contents writer.new) out.old out.new (nodes_text 0 (header society.now)))
+        (λ e. Halts (W.contents writer.old) (W.contents writer.new) out.old (nodes_text 0 (header society.now)) e) }
+    ensures writer { IfErr result (λ e. e ≡ WriteFailed → Rose before (W.failed writer.new)) }
+{
+    push_header(alloc, &mut out.text, society)?;
+    make_way(writer, before, out)
+}
+
+/// Writes the trailer, and hands over what waits.
+fn end<W: Write + Device>(writer: &mut W, before: u64, out: &mut Output) -> Result<(), RefusalKind>
+    ensures written { MatchResult result
+        (λ _. Moves (W.contents writer.old) (W.contents writer.new) out.old out.new (line_text trailer)
+        × IsShort out.new)
+        (λ e. Halts (W.contents writer.old) (W.contents writer.new) out.old (line_text trailer) e) }
+    ensures all { MatchResult result (λ _. string_bytes out.new.text ≡ []) (λ _. Unit {0}) }
+    ensures writer { IfErr result (λ e. e ≡ WriteFailed → Rose before (W.failed writer.new)) }
+{
+    write_line(&mut out.text, 0, None, "TRLR", "")?;
+    make_way(writer, before, out)?;
+    hand_over(writer, before, out)
+}
+
+/// Writes the records of level 0, each with what it owns.
+fn write_records<V: View, W: Write + Device>(
+    alloc: Global,
+    view: &mut V,
+    index: &Index,
+    writer: &mut W,
+    before: u64,
+    out: &mut Output,
+) -> Result<(), RefusalKind>
+    requires { IsArranged index.now }
+    ensures written { OnView V.is_honest V.shows V.content view.old view.new (λ c. MatchResult result
+        (λ _. Moves (W.contents writer.old) (W.contents writer.new) out.old out.new
+        (pieces.kinds_text c.records index.now pieces.ranks))
+        (λ e. Halts (W.contents writer.old) (W.contents writer.new) out.old
+        (pieces.kinds_text c.records index.now pieces.ranks) e)) }
+    ensures view { CountsFailures (V.failed view.old) (V.failed view.new) result }
+    ensures writer { IfErr result (λ e. e ≡ WriteFailed → Rose before (W.failed writer.new)) }
+{
+    'ranks: for rank in RANKS {
+        write_kind(alloc, view, index, rank, writer, before, out)?;
+    }
+    Ok(())
+}
+
+/// Writes the records of a kind by number.
+fn write_kind<V: View, W: Write + Device>(
+    alloc: Global,
+    view: &mut V,
+    index: &Index,
+    rank: Rank,
+    writer: &mut W,
+    before: u64,
+    out: &mut Output,
+) -> Result<(), RefusalKind>
+    requires { IsArranged index.now }
+    ensures written { OnView V.is_honest V.shows V.content view.old view.new (λ c. MatchResult result
+        (λ _. Moves (W.contents writer.old) (W.contents writer.new) out.old out.new
+        (pieces.kind_text c.records index.now rank))
+        (λ e. Halts (W.contents writer.old) (W.contents writer.new) out.old
+        (pieces.kind_text c.records index.now rank) e)) }
+    ensures view { CountsFailures (V.failed view.old) (V.failed view.new) result }
+    ensures writer { IfErr result (λ e. e ≡ WriteFailed → Rose before (W.failed writer.new)) }
+{
+    'numbers: for number in index.numbers(rank) {
+        write_record(alloc, view, index, *number, writer, before, out)?;
+    }
+    Ok(())
+}
+
+/// Writes the record of a number, with what it owns.
+fn write_record<V: View, W: Write + Device>(
+    alloc: Global,
+    view: &mut V,
+    index: &Index,
+    number: u32,
+    writer: &mut W,
+    before: u64,
+    out: &mut Output,
+) -> Result<(), RefusalKind>
+    requires { IsArranged index.now }
+    ensures written { OnView V.is_honest V.shows V.content view.old view.new (λ c. MatchResult result
+        (λ _. Moves (W.contents writer.old) (W.contents writer.new) out.old out.new
+        (pieces.text_at c.records index.now number))
+        (λ e. Halts (W.contents writer.old) (W.contents writer.new) out.old
+        (pieces.text_at c.records index.now number) e)) }
+    ensures view { CountsFailures (V.failed view.old) (V.failed view.new) result }
+    ensures writer { IfErr result (λ e. e ≡ WriteFailed → Rose before (W.failed writer.new)) }
+{
+    push_record(alloc, view, index, &mut out.text, number)?;
+    make_way(writer, before, out)
+}
