@@ -1,5 +1,5 @@
 -- How an export ends: rules of our own.
-use Rattle.std.specs.Prelude.{ℕ, ◌≡◌, ◌≤◌, ◌<◌, List, length, Option, true}
+use Rattle.std.specs.Prelude.{ℕ, ◌≡◌, ◌⊎◌, ◌≤◌, ◌<◌, List, length, Option, true}
 use Rattle.std.specs.Io.KnownBytes.{Appends}
 use Rattle.devices.specs.Devices.{AppendsBeginning}
 use Rattle.record_text.specs.declared.refusal.RefusalKind.{RefusalKind}
@@ -11,11 +11,9 @@ pub record IsWhole (old new : Option (List ℕ)) (text : List ℕ) : Type 0 wher
   pub short : length text ≤ 67108864
   pub written : Appends old new text
 
--- why not: the text, of so many bytes, is longer, the writer failed, or it was stopped (1, 40, 80)
+-- why not: it was stopped (1, 40, 80), the writer failed, or the text, of so many bytes, is longer
 abbrev pub IsReason : ℕ → RefusalKind → Type 0
-IsReason size ExportTooLarge = 67108864 < size
-IsReason size WriteFailed = Unit {0}
-IsReason size e = is_stop e ≡ true
+IsReason size e = (is_stop e ≡ true) ⊎ ((e ≡ WriteFailed) ⊎ ((e ≡ ExportTooLarge) × (67108864 < size)))
 
 -- the writer has got a beginning of the text
 pub record IsBegun (old new : Option (List ℕ)) (text : List ℕ) (e : RefusalKind) : Type 0 where

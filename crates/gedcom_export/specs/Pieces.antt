@@ -15,10 +15,10 @@ use Rattle.export_index.specs.declared.rank.Rank.{Rank}
 use Rattle.export_index.specs.declared.rank.Rank.TheVariants as rank
 
 -- ---- what a record owns
--- a record with nothing below it
+-- a citation, with nothing below it; of another record nothing
 abbrev pub alone : Option Record → List (Tree Record)
-alone None = []
-alone (Some r) = node r none ∷ []
+alone (Some (kind.Citation c)) = node (kind.Citation c) none ∷ []
+alone _ = []
 
 abbrev pub those_at : Records → List Owned → List (Tree Record)
 those_at m os = flat_map (λ (o : Owned). alone (get m o.number)) os
@@ -27,10 +27,10 @@ those_at m os = flat_map (λ (o : Owned). alone (get m o.number)) os
 abbrev pub listed : ℕ → List Owned → List Owned
 listed n os = filter (λ (o : Owned). o.owner == n) os
 
--- a record with its citations
+-- an event with its citations; of another record nothing
 abbrev pub with_citations : Records → Index → ℕ → Option Record → List (Tree Record)
-with_citations m i n None = []
-with_citations m i n (Some r) = node r (forest_of (those_at m (listed n i.citations))) ∷ []
+with_citations m i n (Some (kind.Event e)) = node (kind.Event e) (forest_of (those_at m (listed n i.citations))) ∷ []
+with_citations m i n _ = []
 
 abbrev pub events_at : Records → Index → List Owned → List (Tree Record)
 events_at m i os = flat_map (λ (o : Owned). with_citations m i o.number (get m o.number)) os

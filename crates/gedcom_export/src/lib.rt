@@ -7,9 +7,9 @@
 //! in memory than the index and a record with what it owns.
 #![tactic(auto)]
 
-mod export;
 mod output;
 mod owned;
 mod page;
+mod writing;
 
-pub use export::export;
+pub use writing::export;

@@ -1,6 +1,6 @@
 //! The text of what a record owns: its events and its citations.
 
-ghost use Rattle.std.specs.Prelude.{◌≡◌, ◌++◌, ◌≤◌, OnOk, string_bytes};
+ghost use Rattle.std.specs.Prelude.{◌≡◌, ◌++◌, ◌≤◌, OnOk, Some, string_bytes};
 ghost use Rattle.std.specs.FinMap as maps;
 ghost use Rattle.record_kinds.specs.declared.record.Record.TheVariants as kind;
 ghost use Rattle.record_shapes.specs.Shapes.{citation_lines, events_below};
@@ -55,6 +55,7 @@ fn push_event_at<V: View>(
     push_found_event(alloc, view, index, text, number, &found)
 }
 
+#[tactic(auto, using(crate::proofs::Nothing::no_lines))]
 fn push_found_event<V: View>(
     alloc: Global,
     view: &mut V,
@@ -70,7 +71,28 @@ fn push_found_event<V: View>(
     ensures counts { CountsFailures (V.failed view.old) (V.failed view.new) result }
 {
     match found {
-        Some(Record::Event(event)) => push_whole_event(alloc, view, index, text, number, event),
+        Some(record) => push_if_event(alloc, view, index, text, number, record),
+        None => Ok(()),
+    }
+}
+
+#[tactic(auto, using(crate::proofs::Nothing::no_lines))]
+fn push_if_event<V: View>(
+    alloc: Global,
+    view: &mut V,
+    index: &Index,
+    text: &mut String,
+    number: u32,
+    record: &Record,
+) -> Result<(), RefusalKind>
+    requires { IsArranged index.now }
+    ensures shows { OnView V.is_honest V.shows V.content view.old view.new
+        (λ c. Looked result (λ _. string_bytes text.new ≡ string_bytes text.old ++ page (names_in index.now) 1
+        (events_below (around_in index.now) (with_citations c.records index.now number (Some «record».now))))) }
+    ensures counts { CountsFailures (V.failed view.old) (V.failed view.new) result }
+{
+    match record {
+        Record::Event(event) => push_whole_event(alloc, view, index, text, number, event),
         _ => Ok(()),
     }
 }
@@ -138,6 +160,7 @@ fn push_citation_at<V: View>(
     Ok(())
 }
 
+#[tactic(auto, using(crate::proofs::Nothing::no_lines))]
 fn push_found_citation(
     alloc: Global,
     index: &Index,
@@ -150,7 +173,25 @@ fn push_found_citation(
         ++ page (names_in index.now) level (citation_lines (alone found.now))) }
 {
     match found {
-        Some(Record::Citation(citation)) => push_citation(alloc, text, index, level, citation),
+        Some(record) => push_if_citation(alloc, index, text, level, record),
+        None => Ok(()),
+    }
+}
+
+#[tactic(auto, using(crate::proofs::Nothing::no_lines))]
+fn push_if_citation(
+    alloc: Global,
+    index: &Index,
+    text: &mut String,
+    level: u8,
+    record: &Record,
+) -> Result<(), AllocError>
+    requires { level ≤ 2 }
+    ensures { OnOk result (string_bytes text.new ≡ string_bytes text.old
+        ++ page (names_in index.now) level (citation_lines (alone (Some «record».now)))) }
+{
+    match record {
+        Record::Citation(citation) => push_citation(alloc, text, index, level, citation),
         _ => Ok(()),
     }
 }

@@ -1,6 +1,6 @@
 //! The text of one record of level 0, with what it owns.
 
-ghost use Rattle.std.specs.Prelude.{◌≡◌, ◌++◌, [], map, codes, OnOk, string_bytes};
+ghost use Rattle.std.specs.Prelude.{◌≡◌, ◌++◌, [], map, codes, OnOk, Some, string_bytes};
 ghost use Rattle.record_kinds.specs.declared.record.Record.TheVariants as kind;
 ghost use Rattle.record_shapes.specs.Shapes.{shape_of, side_line};
 ghost use Rattle.record_nodes.specs.Pages.{page, record_page};

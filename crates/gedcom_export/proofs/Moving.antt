@@ -1,0 +1,164 @@
+-- Texts that are put behind what waits one after the other, and what of them is handed over.
+use Rattle.std.proofs.Common.{
+  ◌≡◌,
+  ◌⊎◌,
+  ℕ,
+  ◌+◌,
+  ◌<◌,
+  ◌≤◌,
+  List,
+  [],
+  ◌++◌,
+  length,
+  take,
+  true,
+  refl,
+  sym,
+  ap,
+  subst,
+  ◌∙◌,
+  inl,
+  inr,
+  arith,
+  append_assoc,
+  append-nil,
+  length-append,
+  Option,
+  Result,
+  Ok,
+  Err,
+}
+use Rattle.std.specs.Prelude.{MatchResult, string_bytes}
+use Rattle.std.specs.Io.KnownBytes.{Appends}
+use Rattle.std.proofs.KnownBytes.{Appends-nil, Appends-trans}
+use Rattle.std.proofs.lemmas.List.{take-append-le}
+use Rattle.devices.specs.Devices.{AppendsBeginning}
+use Rattle.record_text.specs.declared.refusal.RefusalKind.{RefusalKind}
+use Rattle.archive_view.specs.Looks.{is_stop}
+use Rattle.gedcom_tree.proofs.Handing.{Going, going_rests, going_stops}
+use Rattle.gedcom_export.specs.Ends.{IsReason}
+use Rattle.gedcom_export.specs.Waiting.{Halts, IsShort, Moves}
+use Rattle.gedcom_export.specs.declared.output.Output.{Output}
+
+pub by_result : {A E : Type 0} {P Q : A → Type 0} {S T : E → Type 0} (r : Result A E) → ((a : A) → P a → Q a)
+    → ((e : E) → S e → T e) → MatchResult r P S → MatchResult r Q T
+by_result (Ok a) f g h = f a h
+by_result (Err e) f g h = g e h
+
+-- ---- reasons
+pub reason_more : (n m : ℕ) (e : RefusalKind) → n ≤ m → IsReason n e → IsReason m e
+reason_more n m e le (inl stop) = inl stop
+reason_more n m e le (inr (inl failed)) = inr (inl failed)
+reason_more n m e le (inr (inr large)) =
+    let more : 67108864 < n = large.1 in inr (inr (large.0, omega arith))
+
+-- ---- a beginning of a text is one of a longer text
+pub begins_more : (a b : Option (List ℕ)) (s t : List ℕ) → AppendsBeginning a b s → AppendsBeginning a b (s ++ t)
+begins_more a b s t h =
+    let n : ℕ = h.0 in
+    let short : n ≤ length s = h.1 in
+    (n, omega (arith, length-append s t), subst (Appends a b) (sym (take-append-le n s t h.1)) h.2)
+
+pub begins_none : (a : Option (List ℕ)) (s : List ℕ) → AppendsBeginning a a s
+begins_none a s = (0, omega arith, Appends-nil a)
+
+module _ (a b : Option (List ℕ)) (x y : Output) where
+  -- where it ends after a part, and more was to come
+  pub halts_early : (s t : List ℕ) (e : RefusalKind) → Halts a b x s e → Halts a b x (s ++ t) e
+  halts_early s t e h =
+      let waits : List ℕ = string_bytes x.text in
+      let whole : (waits ++ s) ++ t ≡ waits ++ (s ++ t) = append_assoc waits s t in
+      record {
+        reason = reason_more (x.written + length (waits ++ s)) (x.written + length (waits ++ (s ++ t))) e
+            (omega (arith, ap length whole, length-append (waits ++ s) t)) h.reason;
+        written = subst (AppendsBeginning a b) whole (begins_more a b (waits ++ s) t h.written);
+      }
+
+  -- a text is moved, and it was stopped then
+  pub stops_there : (s t : List ℕ) (e : RefusalKind) → Moves a b x y s → is_stop e ≡ true → Halts a b x (s ++ t) e
+  stops_there s t e m stop =
+      let waits : List ℕ = string_bytes x.text in
+      record {
+        reason = inl stop;
+        written = going_rests a b (waits ++ (s ++ t)) (string_bytes y.text) t (record {
+          front = m.front;
+          taken = m.taken;
+          parts = sym (append_assoc m.front (string_bytes y.text) t) ∙ ap (λ (l : List ℕ). l ++ t) m.parts
+              ∙ append_assoc waits s t;
+        });
+      }
+
+-- nothing is handed over
+pub waits_more : (a : Option (List ℕ)) (x y : Output) (t : List ℕ) → y.written ≡ x.written
+    → string_bytes y.text ≡ string_bytes x.text ++ t → Moves a a x y t
+waits_more a x y t count e = record { front = []; taken = Appends-nil a; parts = e; counted = omega (arith, count) }
+
+pub stops_here : (a : Option (List ℕ)) (x : Output) (t : List ℕ) (e : RefusalKind) → is_stop e ≡ true → Halts a a x t e
+stops_here a x t e stop = record { reason = inl stop; written = begins_none a (string_bytes x.text ++ t) }
+
+module _ (a b c : Option (List ℕ)) (x y : Output) where
+  pub moves_more : (z : Output) (s t : List ℕ) → Moves a b x y s → Moves b c y z t → Moves a c x z (s ++ t)
+  moves_more z s t m n = record {
+    front = m.front ++ n.front;
+    taken = Appends-trans a b c m.front n.front m.taken n.taken;
+    parts =
+        append_assoc m.front n.front (string_bytes z.text) ∙ ap (λ (l : List ℕ). m.front ++ l) n.parts
+        ∙ sym (append_assoc m.front (string_bytes y.text) t) ∙ ap (λ (l : List ℕ). l ++ t) m.parts
+        ∙ append_assoc (string_bytes x.text) s t;
+    counted = omega (arith, m.counted, n.counted, length-append m.front n.front);
+  }
+
+  pub halts_more : (s t : List ℕ) (e : RefusalKind) → Moves a b x y s → Halts b c y t e → Halts a c x (s ++ t) e
+  halts_more s t e m h =
+      let waits : List ℕ = string_bytes x.text in
+      let left : List ℕ = string_bytes y.text in
+      let whole : m.front ++ (left ++ t) ≡ waits ++ (s ++ t) =
+      sym (append_assoc m.front left t) ∙ ap (λ (l : List ℕ). l ++ t) m.parts ∙ append_assoc waits s t in
+      record {
+        reason = reason_more (y.written + length (left ++ t)) (x.written + length (waits ++ (s ++ t))) e
+            (omega (arith, m.counted, ap length whole, length-append m.front (left ++ t))) h.reason;
+        written = going_stops a b c (waits ++ (s ++ t)) left t t []
+            (record { front = m.front; taken = m.taken; parts = whole }) (sym (append-nil t)) h.written;
+      }
+
+-- a text is put behind what waits, and then it is moved
+pub then_moves : (a b : Option (List ℕ)) (x y z : Output) (t : List ℕ) → Moves a a x y t → Moves a b y z []
+    → Moves a b x z t
+then_moves a b x y z t m n = subst (Moves a b x z) (append-nil t) (moves_more a a b x y z t [] m n)
+
+pub then_halts : (a b : Option (List ℕ)) (x y : Output) (t : List ℕ) (e : RefusalKind) → Moves a a x y t
+    → Halts a b y [] e → Halts a b x t e
+then_halts a b x y t e m h = subst (λ (l : List ℕ). Halts a b x l e) (append-nil t) (halts_more a a b x y t [] e m h)
+
+-- ---- of a whole text a part is moved, and the rest is left
+pub record IsOnTheWay (a b : Option (List ℕ)) (x y : Output) (whole rest : List ℕ) : Type 0 where
+  pub added : List ℕ
+  pub moved : Moves a b x y added
+  pub parts : added ++ rest ≡ whole
+
+pub at_start : (a : Option (List ℕ)) (x : Output) (whole : List ℕ) → IsOnTheWay a a x x whole whole
+at_start a x whole = record {
+  added = [];
+  moved = waits_more a x x [] refl (sym (append-nil (string_bytes x.text)));
+  parts = refl;
+}
+
+pub one_further : (a b c : Option (List ℕ)) (x y z : Output) (whole rest t left : List ℕ)
+    → IsOnTheWay a b x y whole rest → rest ≡ t ++ left → Moves b c y z t → IsOnTheWay a c x z whole left
+one_further a b c x y z whole rest t left w e m = record {
+  added = w.added ++ t;
+  moved = moves_more a b c x y z w.added t w.moved m;
+  parts = append_assoc w.added t left ∙ ap (λ (l : List ℕ). w.added ++ l) (sym e) ∙ w.parts;
+}
+
+pub ends_between : (a b c : Option (List ℕ)) (x y : Output) (whole rest t left : List ℕ) (e : RefusalKind)
+    → IsOnTheWay a b x y whole rest → rest ≡ t ++ left → Halts b c y t e → Halts a c x whole e
+ends_between a b c x y whole rest t left e w is h =
+    subst (λ (l : List ℕ). Halts a c x l e)
+    (append_assoc w.added t left ∙ ap (λ (l : List ℕ). w.added ++ l) (sym is) ∙ w.parts)
+    (halts_early a c x x (w.added ++ t) left e (halts_more a b c x y w.added t e w.moved h))
+
+pub at_end : (a b : Option (List ℕ)) (x y : Output) (whole rest : List ℕ) → IsOnTheWay a b x y whole rest → rest ≡ []
+    → Moves a b x y whole
+at_end a b x y whole rest w e =
+    subst (Moves a b x y) (sym (append-nil w.added) ∙ ap (λ (l : List ℕ). w.added ++ l) (sym e) ∙ w.parts) w.moved
