@@ -1,11 +1,11 @@
 //! All records read once.
 
-ghost use Rattle.std.specs.Prelude.{◌≡◌, ◌≤◌, ◌-◌, OnOk};
+ghost use Rattle.std.specs.Prelude.{◌≡◌, ◌≤◌, ◌-◌, IfOk, OnOk};
 ghost use Rattle.std.specs.FinMap as map;
 ghost use Rattle.archive_state.specs.Sound.{IsSound};
 ghost use Rattle.archive_view.specs.Looks.{CountsFailures, Looked, OnView};
 ghost use Rattle.export_index.specs.Adding as adding;
-ghost use Rattle.export_index.specs.Index.{IsIndexOf};
+ghost use Rattle.export_index.specs.Index.{IsArranged, IsIndexOf};
 
 use crate::index::Index;
 use archive_view::View;
@@ -20,6 +20,7 @@ const NUMBERS: u64 = 4_294_967_296;
 pub fn gathered<V: View>(alloc: Global, view: &mut V) -> Result<Index, RefusalKind>
     ensures shows { OnView V.is_honest V.shows V.content view.old view.new
         (λ c. Looked result (λ index. IsSound c → IsIndexOf (map.entries c.records) index)) }
+    ensures arranged { IfOk result (λ index. IsArranged index) }
     ensures counts { CountsFailures (V.failed view.old) (V.failed view.new) result }
 {
     let next = view.next(alloc)?;

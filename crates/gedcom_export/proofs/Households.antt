@@ -30,10 +30,12 @@ use Rattle.stored_lines.specs.Tree.{Forest, Tree, forest_of, list_of, none, more
 use Rattle.record_kinds.specs.declared.record.Record.{Record}
 use Rattle.record_kinds.specs.declared.record.Record.TheVariants as kind
 use Rattle.record_shapes.specs.Shapes.{Around, shape_of}
-use Rattle.record_nodes.specs.Pages.{record_page}
+use Rattle.gedcom_tree.specs.Text.{line_text, text, trailer}
+use Rattle.record_nodes.specs.Header.{header}
+use Rattle.record_nodes.specs.Pages.{nodes_text, record_page}
 use Rattle.archive_state.specs.Content.{Records}
 use Rattle.export_forest.specs.Around.{around}
-use Rattle.export_forest.specs.Forest.{without_numbers}
+use Rattle.export_forest.specs.Forest.{exported, without_numbers}
 use Rattle.export_forest.specs.Names.{name_of}
 use Rattle.export_forest.specs.Order.{
   Numbered,
@@ -48,6 +50,7 @@ use Rattle.export_forest.specs.Order.{
   rank as rank_of,
 }
 use Rattle.export_forest.specs.Pages.{household_page}
+use Rattle.export_forest.proofs.Texts.{text_of_exported}
 use Rattle.export_index.specs.Index.{Index, IsIndexOf, numbers, numbers_in, place_in_export}
 use Rattle.export_index.specs.Shown.{around_in, names_in}
 use Rattle.export_index.specs.declared.owned.Owned.{Owned}
@@ -66,14 +69,13 @@ use Rattle.gedcom_export.specs.Pieces.{
   text_at,
   text_of,
   those_at,
+  whole_text,
   with_citations,
 }
+use Rattle.gedcom_export.proofs.Parted.{listed_again}
 use Rattle.gedcom_export.proofs.Found.{all_got, by_records, same_of, some_at}
 
-number : Owned → ℕ
-number o = o.number
-
-bare : Numbered → Record
+abbrev bare : Numbered → Record
 bare e = e.1
 
 -- ---- trees
@@ -81,10 +83,6 @@ relabelled : {A B : Type 0} (f : A → B) (ts : List (Tree A)) → relabel_all f
     (map (relabel f) ts)
 relabelled f [] = refl
 relabelled f (t ∷ ts) = λ i. more (relabel f t) (relabelled f ts i)
-
-listed_again : {A : Type 0} (ts : List (Tree A)) → list_of (forest_of ts) ≡ ts
-listed_again [] = refl
-listed_again (t ∷ ts) = λ i. t ∷ listed_again ts i
 
 module _ (m : Records) (i : Index) (h : IsIndexOf (entries m) i) where
   -- ---- what a record owns
@@ -185,7 +183,7 @@ module _ (m : Records) (i : Index) (h : IsIndexOf (entries m) i) where
   text_same n k (kind.Citation x) is = absurd (omega (arith, is))
 
   -- ---- kinds
-  pages_of : List Numbered → List ℕ
+  abbrev pages_of : List Numbered → List ℕ
   pages_of es = flat_map (λ (e : Numbered). household_page m (household (entries m) e)) es
 
   ranked_same : (k : ℕ) → flat_map (λ (e : Numbered). text_of m i e.0 (Some e.1)) (of_rank (entries m) (suc k))
@@ -227,3 +225,8 @@ module _ (m : Records) (i : Index) (h : IsIndexOf (entries m) i) where
   -- the text of all records is that of all households
   pub all_same : kinds_text m i ranks ≡ flat_map (household_page m) (households m)
   all_same = kinds_same ranks ∙ sym (flat_map-map (household_page m) (household (entries m)) (in_order (entries m)))
+
+  pub whole_same : (society : List ℕ) → whole_text m i society ≡ text (exported m society)
+  whole_same society =
+      ap (λ (l : List ℕ). nodes_text 0 (header society) ++ (l ++ line_text trailer)) all_same
+      ∙ sym (text_of_exported m society)

@@ -8,8 +8,13 @@ use Rattle.std.proofs.Common.{
   ◌≤◌,
   List,
   [],
+  ◌∷◌,
   ◌++◌,
   length,
+  get_or,
+  drop,
+  drop-cons,
+  add-one,
   take,
   true,
   refl,
@@ -28,15 +33,16 @@ use Rattle.std.proofs.Common.{
   Ok,
   Err,
 }
-use Rattle.std.specs.Prelude.{MatchResult, string_bytes}
+use Rattle.std.specs.Prelude.{MatchResult, OnOk, string_bytes}
 use Rattle.std.specs.Io.KnownBytes.{Appends}
+use Rattle.std.specs.List.{flat_map}
 use Rattle.std.proofs.KnownBytes.{Appends-nil, Appends-trans}
 use Rattle.std.proofs.lemmas.List.{take-append-le}
 use Rattle.devices.specs.Devices.{AppendsBeginning}
 use Rattle.record_text.specs.declared.refusal.RefusalKind.{RefusalKind}
 use Rattle.archive_view.specs.Looks.{is_stop}
-use Rattle.gedcom_tree.proofs.Handing.{Going, going_rests, going_stops}
-use Rattle.gedcom_export.specs.Ends.{IsReason}
+use Rattle.gedcom_tree.proofs.Handing.{Going, going_stops}
+use Rattle.gedcom_export.specs.Ends.{IsBegun, IsReason, IsWhole}
 use Rattle.gedcom_export.specs.Waiting.{Halts, IsShort, Moves}
 use Rattle.gedcom_export.specs.declared.output.Output.{Output}
 
@@ -62,7 +68,7 @@ begins_more a b s t h =
 pub begins_none : (a : Option (List ℕ)) (s : List ℕ) → AppendsBeginning a a s
 begins_none a s = (0, omega arith, Appends-nil a)
 
-module _ (a b : Option (List ℕ)) (x y : Output) where
+module _ (a b : Option (List ℕ)) (x : Output) where
   -- where it ends after a part, and more was to come
   pub halts_early : (s t : List ℕ) (e : RefusalKind) → Halts a b x s e → Halts a b x (s ++ t) e
   halts_early s t e h =
@@ -72,20 +78,6 @@ module _ (a b : Option (List ℕ)) (x y : Output) where
         reason = reason_more (x.written + length (waits ++ s)) (x.written + length (waits ++ (s ++ t))) e
             (omega (arith, ap length whole, length-append (waits ++ s) t)) h.reason;
         written = subst (AppendsBeginning a b) whole (begins_more a b (waits ++ s) t h.written);
-      }
-
-  -- a text is moved, and it was stopped then
-  pub stops_there : (s t : List ℕ) (e : RefusalKind) → Moves a b x y s → is_stop e ≡ true → Halts a b x (s ++ t) e
-  stops_there s t e m stop =
-      let waits : List ℕ = string_bytes x.text in
-      record {
-        reason = inl stop;
-        written = going_rests a b (waits ++ (s ++ t)) (string_bytes y.text) t (record {
-          front = m.front;
-          taken = m.taken;
-          parts = sym (append_assoc m.front (string_bytes y.text) t) ∙ ap (λ (l : List ℕ). l ++ t) m.parts
-              ∙ append_assoc waits s t;
-        });
       }
 
 -- nothing is handed over
@@ -121,15 +113,6 @@ module _ (a b c : Option (List ℕ)) (x y : Output) where
             (record { front = m.front; taken = m.taken; parts = whole }) (sym (append-nil t)) h.written;
       }
 
--- a text is put behind what waits, and then it is moved
-pub then_moves : (a b : Option (List ℕ)) (x y z : Output) (t : List ℕ) → Moves a a x y t → Moves a b y z []
-    → Moves a b x z t
-then_moves a b x y z t m n = subst (Moves a b x z) (append-nil t) (moves_more a a b x y z t [] m n)
-
-pub then_halts : (a b : Option (List ℕ)) (x y : Output) (t : List ℕ) (e : RefusalKind) → Moves a a x y t
-    → Halts a b y [] e → Halts a b x t e
-then_halts a b x y t e m h = subst (λ (l : List ℕ). Halts a b x l e) (append-nil t) (halts_more a a b x y t [] e m h)
-
 -- ---- of a whole text a part is moved, and the rest is left
 pub record IsOnTheWay (a b : Option (List ℕ)) (x y : Output) (whole rest : List ℕ) : Type 0 where
   pub added : List ℕ
@@ -156,9 +139,53 @@ pub ends_between : (a b c : Option (List ℕ)) (x y : Output) (whole rest t left
 ends_between a b c x y whole rest t left e w is h =
     subst (λ (l : List ℕ). Halts a c x l e)
     (append_assoc w.added t left ∙ ap (λ (l : List ℕ). w.added ++ l) (sym is) ∙ w.parts)
-    (halts_early a c x x (w.added ++ t) left e (halts_more a b c x y w.added t e w.moved h))
+    (halts_early a c x (w.added ++ t) left e (halts_more a b c x y w.added t e w.moved h))
 
 pub at_end : (a b : Option (List ℕ)) (x y : Output) (whole rest : List ℕ) → IsOnTheWay a b x y whole rest → rest ≡ []
     → Moves a b x y whole
 at_end a b x y whole rest w e =
     subst (Moves a b x y) (sym (append-nil w.added) ∙ ap (λ (l : List ℕ). w.added ++ l) (sym e) ∙ w.parts) w.moved
+
+-- the text of the next of a list
+pub next_text : {A : Type 0} (f : A → List ℕ) (xs : List A) (i : ℕ) (d : A) → i < length xs
+    → flat_map f (drop i xs) ≡ f (get_or xs i d) ++ flat_map f (drop (i + 1) xs)
+next_text f xs i d less = ap (flat_map f) (drop-cons xs i d less ∙ ap (λ k. get_or xs i d ∷ drop k xs) (sym (add-one i)))
+
+-- ---- where nothing waited at the start
+pub whole_of : (a b c : Option (List ℕ)) (x y z : Output) (t : List ℕ) → x.written ≡ 0 → string_bytes x.text ≡ []
+    → Moves a b x y t → Moves b c y z [] → IsShort z → string_bytes z.text ≡ [] → IsWhole a c t
+whole_of a b c x y z t none empty m n short all =
+    let both : Moves a c x z t = subst (Moves a c x z) (append-nil t) (moves_more a b c x y z t [] m n) in
+    let same : both.front ≡ t =
+    sym (append-nil both.front) ∙ ap (λ (l : List ℕ). both.front ++ l) (sym all) ∙ both.parts
+    ∙ ap (λ (l : List ℕ). l ++ t) empty in
+    record {
+      short = omega (arith, none, both.counted, short, ap length same, ap length all);
+      written = subst (Appends a c) same both.taken;
+    }
+
+pub begun_of : (a b : Option (List ℕ)) (x : Output) (t : List ℕ) (e : RefusalKind) → x.written ≡ 0
+    → string_bytes x.text ≡ [] → Halts a b x t e → IsBegun a b t e
+begun_of a b x t e none empty h =
+    let same : string_bytes x.text ++ t ≡ t = ap (λ (l : List ℕ). l ++ t) empty in
+    record {
+      reason = subst (λ (n : ℕ). IsReason n e)
+          (let counted : x.written + length (string_bytes x.text ++ t) ≡ length t =
+          omega (arith, none, ap length same) in counted) h.reason;
+      written = subst (AppendsBeginning a b) same h.written;
+    }
+
+pub ends_of : {A : Type 0} (r : Result A RefusalKind) (a b c : Option (List ℕ)) (x y z : Output) (t : List ℕ)
+    → x.written ≡ 0 → string_bytes x.text ≡ [] → Moves a b x y t
+    → MatchResult r (λ _. Moves b c y z []) (λ e. Halts b c y [] e) → OnOk r (IsShort z)
+    → OnOk r (string_bytes z.text ≡ []) → MatchResult r (λ _. IsWhole a c t) (λ e. IsBegun a c t e)
+ends_of (Ok u) a b c x y z t none empty m n short all = whole_of a b c x y z t none empty m n short all
+ends_of (Err e) a b c x y z t none empty m h short all =
+    begun_of a c x t e none empty
+    (subst (λ (l : List ℕ). Halts a c x l e) (append-nil t) (halts_more a b c x y t [] e m h))
+
+pub same_ends : {A : Type 0} (r : Result A RefusalKind) (a b : Option (List ℕ)) (s t : List ℕ) → s ≡ t
+    → MatchResult r (λ _. IsWhole a b s) (λ e. IsBegun a b s e)
+    → MatchResult r (λ _. IsWhole a b t) (λ e. IsBegun a b t e)
+same_ends r a b s t e h =
+    by_result r (λ _ whole. subst (IsWhole a b) e whole) (λ k begun. subst (λ (l : List ℕ). IsBegun a b l k) e begun) h

@@ -5,12 +5,14 @@ use Rattle.std.specs.FinMap.{get}
 use Rattle.std.proofs.lemmas.Grind.{flat_map-append}
 use Rattle.stored_lines.specs.Line.{Lines}
 use Rattle.stored_lines.specs.Tree.{Tree, forest_of, list_of, node}
+use Rattle.stored_lines.specs.declared.carried.Value.{Value}
 use Rattle.stored_lines.specs.declared.carried.Value.TheVariants as value
 use Rattle.record_kinds.specs.Model as model
 use Rattle.record_kinds.specs.declared.record.Record.{Record}
 use Rattle.record_kinds.specs.declared.record.Record.TheVariants as kind
 use Rattle.record_shapes.specs.Shapes.{Around, citation_lines, citation_part, event_part, events_below, line, shape_of, side_line}
 use Rattle.record_nodes.specs.Pages.{page, record_page}
+use Rattle.record_nodes.proofs.Pages.{record-below}
 use Rattle.archive_state.specs.Content.{Records}
 use Rattle.export_index.specs.Index.{Index}
 use Rattle.export_index.specs.Shown.{around_in, names_in}
@@ -20,13 +22,20 @@ use Rattle.node_writing.specs.Parts.{event_head, family_head, person_head}
 use Rattle.node_writing.proofs.Parts.{event_parts, family_parts, person_parts}
 use Rattle.gedcom_export.specs.Pieces.{alone, below_at, events_at, listed, text_of, those_at, with_citations}
 
-listed_again : {A : Type 0} (ts : List (Tree A)) → list_of (forest_of ts) ≡ ts
+pub listed_again : {A : Type 0} (ts : List (Tree A)) → list_of (forest_of ts) ≡ ts
 listed_again [] = refl
 listed_again (t ∷ ts) = λ i. t ∷ listed_again ts i
 
 -- a text is put behind, and then all that is left
 behind : (old new last part rest : List ℕ) → new ≡ old ++ part → last ≡ new ++ rest → last ≡ old ++ (part ++ rest)
 behind old new last part rest e f = f ∙ ap (λ (l : List ℕ). l ++ rest) e ∙ append_assoc old part rest
+
+-- the first line of a record, and then those below it
+pub simple_page : (names : ℕ → List ℕ) (n : ℕ) (tag : List ℕ) (v : Value) (below : Lines) (a b d : List ℕ)
+    → b ≡ a ++ record_page names n (line tag v []) → d ≡ b ++ page names 1 below
+    → d ≡ a ++ record_page names n (line tag v below)
+simple_page names n tag v below a b d e f =
+    behind a b d _ _ e f ∙ ap (λ (l : List ℕ). a ++ l) (sym (record-below names n tag v below))
 
 -- ---- events are no citations
 no_event : (a : Around) (o : Option Record) → events_below a (alone o) ≡ []
@@ -121,6 +130,7 @@ module _ (m : Records) (i : Index) (n : ℕ) where
       ∙ sym (person_parts (names_in i) (around_in i) n p (below_at m i n))) where
         evented : events_below (around_in i) (events_at m i es) ≡ events_below (around_in i) (below_at m i n)
         evented = ap (λ os. events_below (around_in i) (events_at m i os)) ev ∙ events_alone m i n
+
         cited : citation_lines (those_at m cs) ≡ citation_lines (below_at m i n)
         cited = ap (λ os. citation_lines (those_at m os)) ci ∙ citations_alone m i n
 
@@ -142,5 +152,6 @@ module _ (m : Records) (i : Index) (n : ℕ) where
       ∙ sym (family_parts (names_in i) (around_in i) n f (below_at m i n))) where
         evented : events_below (around_in i) (events_at m i es) ≡ events_below (around_in i) (below_at m i n)
         evented = ap (λ os. events_below (around_in i) (events_at m i os)) ev ∙ events_alone m i n
+
         cited : citation_lines (those_at m cs) ≡ citation_lines (below_at m i n)
         cited = ap (λ os. citation_lines (those_at m os)) ci ∙ citations_alone m i n

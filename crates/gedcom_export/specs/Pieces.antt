@@ -6,7 +6,9 @@ use Rattle.stored_lines.specs.Tree.{Tree, node, none, forest_of}
 use Rattle.record_kinds.specs.declared.record.Record.{Record}
 use Rattle.record_kinds.specs.declared.record.Record.TheVariants as kind
 use Rattle.record_shapes.specs.Shapes.{shape_of}
-use Rattle.record_nodes.specs.Pages.{record_page}
+use Rattle.gedcom_tree.specs.Text.{line_text, trailer}
+use Rattle.record_nodes.specs.Header.{header}
+use Rattle.record_nodes.specs.Pages.{nodes_text, record_page}
 use Rattle.archive_state.specs.Content.{Records}
 use Rattle.export_index.specs.Index.{Index, numbers_in}
 use Rattle.export_index.specs.Shown.{around_in, names_in}
@@ -60,3 +62,7 @@ kinds_text m i ks = flat_map (kind_text m i) ks
 -- the kinds in the order of an export
 abbrev pub ranks : List Rank
 ranks = rank.Places ∷ rank.Repos ∷ rank.Sources ∷ rank.Persons ∷ rank.Families ∷ rank.Entries ∷ rank.Others ∷ []
+
+-- of all records, with the header and the trailer
+abbrev pub whole_text : Records → Index → List ℕ → List ℕ
+whole_text m i society = nodes_text 0 (header society) ++ (kinds_text m i ranks ++ line_text trailer)

@@ -1,8 +1,9 @@
 //! Text on its way to a writer, counted.
 
-ghost use Rattle.std.specs.Prelude.{◌≡◌, ◌∷◌, [], Err, MatchResult, OnOk, string_bytes};
+ghost use Rattle.std.specs.Prelude.{◌≡◌, [], false, MatchResult, OnOk, IfErr, string_bytes};
 ghost use Rattle.devices.specs.Devices.{Rose};
 ghost use Rattle.record_text.specs.declared.refusal.RefusalKind.TheVariants.{WriteFailed};
+ghost use Rattle.archive_view.specs.Looks.{is_failure};
 ghost use Rattle.gedcom_export.specs.Waiting.{Halts, IsShort, Moves};
 
 use devices::{Device, TransferError, write_bytes};
@@ -59,7 +60,8 @@ pub(crate) fn hand_over<W: Write + Device>(
         (λ e. Halts (W.contents writer.old) (W.contents writer.new) out.old [] e) }
     ensures short { OnOk result (IsShort out.new) }
     ensures all { OnOk result (string_bytes out.new.text ≡ []) }
-    ensures writer { result ≡ Err WriteFailed → Rose before (W.failed writer.new) }
+    ensures writer { IfErr result (λ e. e ≡ WriteFailed → Rose before (W.failed writer.new)) }
+    ensures own { IfErr result (λ e. is_failure e ≡ false) }
 {
     let handed = write_bytes(writer, before, out.text.as_bytes());
     out.written += out.text.len() as u64;
@@ -82,7 +84,8 @@ pub(crate) fn make_way<W: Write + Device>(
         (λ _. Moves (W.contents writer.old) (W.contents writer.new) out.old out.new [])
         (λ e. Halts (W.contents writer.old) (W.contents writer.new) out.old [] e) }
     ensures short { OnOk result (IsShort out.new) }
-    ensures writer { result ≡ Err WriteFailed → Rose before (W.failed writer.new) }
+    ensures writer { IfErr result (λ e. e ≡ WriteFailed → Rose before (W.failed writer.new)) }
+    ensures own { IfErr result (λ e. is_failure e ≡ false) }
 {
     if out.written.saturating_add(out.text.len() as u64) > LIMIT {
         return Err(RefusalKind::ExportTooLarge);

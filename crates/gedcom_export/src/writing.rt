@@ -1,14 +1,13 @@
 //! The whole export.
 
-ghost use Rattle.std.specs.Prelude.{◌≡◌, ◌++◌, ◌∷◌, [], None, MatchResult, IfErr, string_bytes};
-ghost use Rattle.std.specs.FinMap.{entries};
+ghost use Rattle.std.specs.Prelude.{◌≡◌, true, false, None, MatchResult, OnOk, IfErr};
 ghost use Rattle.devices.specs.Devices.{Rose};
 ghost use Rattle.gedcom_tree.specs.Text.{line_text, text, trailer};
 ghost use Rattle.record_text.specs.declared.refusal.RefusalKind.TheVariants.{WriteFailed};
 ghost use Rattle.record_nodes.specs.Header.{header};
 ghost use Rattle.record_nodes.specs.Pages.{nodes_text};
 ghost use Rattle.archive_state.specs.Sound.{IsSound};
-ghost use Rattle.archive_view.specs.Looks.{CountsFailures, CountsStops, OnView};
+ghost use Rattle.archive_view.specs.Looks.{CountsFailures, CountsStops, OnView, is_failure, is_stop};
 ghost use Rattle.export_forest.specs.Forest.{exported};
 ghost use Rattle.export_index.specs.Index.{IsArranged};
 ghost use Rattle.gedcom_export.specs.Ends.{IsBegun, IsWhole};
@@ -38,8 +37,8 @@ const RANKS: [Rank; 7] = [
 ];
 
 /// Writes the archive as the text of its forest (GEDCOM 5.5.1): the header, the society, and each record of level 0
-/// with what it owns, in the order of docs/FORMATS.md. It is refused with 70 (`ExportTooLarge`) where that text has
-/// over 67,108,864 bytes, with 95 (`WriteFailed`) where the writer failed, with 40 or 80 where the view did, and with 1
+/// with what it owns, kind by kind and by number. It is refused with 70 (`ExportTooLarge`) where that text has over
+/// 67,108,864 bytes, with 95 (`WriteFailed`) where the writer failed, with 40 or 80 where the view did, and with 1
 /// where memory was refused; at a refusal the writer has got a beginning of the text.
 pub fn export<V: View, W: Write + Device>(
     alloc: Global,
@@ -74,11 +73,71 @@ fn write_all<V: View, W: Write + Device>(
     ensures view { CountsFailures (V.failed view.old) (V.failed view.new) result }
     ensures writer { IfErr result (λ e. e ≡ WriteFailed → Rose before (W.failed writer.new)) }
 {
-    let index = gathered(alloc, view)?;
+    match gathered(alloc, view) {
+        Ok(index) => write_forest(alloc, view, &index, society, writer, before),
+        Err(kind) => Err(stop_of(kind)),
+    }
+}
+
+/// What an export is refused with where a look is. A view that breaks its rule may answer something else than 1, 40 and
+/// 80: then it is 1.
+fn stop_of(kind: RefusalKind) -> RefusalKind
+    ensures stop { is_stop result ≡ true }
+    ensures failure { is_failure result ≡ true → is_failure kind ≡ true }
+{
+    match kind {
+        RefusalKind::BadStored => RefusalKind::BadStored,
+        RefusalKind::Storage => RefusalKind::Storage,
+        _ => RefusalKind::OutOfMemory,
+    }
+}
+
+/// Writes the text of the forest, as the index has it.
+fn write_forest<V: View, W: Write + Device>(
+    alloc: Global,
+    view: &mut V,
+    index: &Index,
+    society: &str,
+    writer: &mut W,
+    before: u64,
+) -> Result<(), RefusalKind>
+    requires { IsArranged index.now }
+    ensures written { OnView V.is_honest V.shows V.content view.old view.new (λ c. MatchResult result
+        (λ _. IsWhole (W.contents writer.old) (W.contents writer.new)
+        (pieces.whole_text c.records index.now society.now))
+        (λ e. IsBegun (W.contents writer.old) (W.contents writer.new)
+        (pieces.whole_text c.records index.now society.now) e)) }
+    ensures view { CountsFailures (V.failed view.old) (V.failed view.new) result }
+    ensures writer { IfErr result (λ e. e ≡ WriteFailed → Rose before (W.failed writer.new)) }
+{
     let mut out = Output::new(alloc);
-    begin(alloc, society, writer, before, &mut out)?;
-    write_records(alloc, view, &index, writer, before, &mut out)?;
-    end(writer, before, &mut out)
+    write_parts(alloc, view, index, society, writer, before, &mut out)?;
+    hand_over(writer, before, &mut out)
+}
+
+/// Puts the parts of the text behind each other: header, records, trailer.
+fn write_parts<V: View, W: Write + Device>(
+    alloc: Global,
+    view: &mut V,
+    index: &Index,
+    society: &str,
+    writer: &mut W,
+    before: u64,
+    out: &mut Output,
+) -> Result<(), RefusalKind>
+    requires { IsArranged index.now }
+    ensures written { OnView V.is_honest V.shows V.content view.old view.new (λ c. MatchResult result
+        (λ _. Moves (W.contents writer.old) (W.contents writer.new) out.old out.new
+        (pieces.whole_text c.records index.now society.now))
+        (λ e. Halts (W.contents writer.old) (W.contents writer.new) out.old
+        (pieces.whole_text c.records index.now society.now) e)) }
+    ensures short { OnOk result (IsShort out.new) }
+    ensures view { CountsFailures (V.failed view.old) (V.failed view.new) result }
+    ensures writer { IfErr result (λ e. e ≡ WriteFailed → Rose before (W.failed writer.new)) }
+{
+    begin(alloc, society, writer, before, out)?;
+    write_records(alloc, view, index, writer, before, out)?;
+    end(writer, before, out)
 }
 
 /// Writes the header and the society.
@@ -93,23 +152,23 @@ fn begin<W: Write + Device>(
         (λ _. Moves (W.contents writer.old) (W.contents writer.new) out.old out.new (nodes_text 0 (header society.now)))
         (λ e. Halts (W.contents writer.old) (W.contents writer.new) out.old (nodes_text 0 (header society.now)) e) }
     ensures writer { IfErr result (λ e. e ≡ WriteFailed → Rose before (W.failed writer.new)) }
+    ensures own { IfErr result (λ e. is_failure e ≡ false) }
 {
     push_header(alloc, &mut out.text, society)?;
     make_way(writer, before, out)
 }
 
-/// Writes the trailer, and hands over what waits.
+/// Writes the trailer.
 fn end<W: Write + Device>(writer: &mut W, before: u64, out: &mut Output) -> Result<(), RefusalKind>
     ensures written { MatchResult result
-        (λ _. Moves (W.contents writer.old) (W.contents writer.new) out.old out.new (line_text trailer)
-        × IsShort out.new)
+        (λ _. Moves (W.contents writer.old) (W.contents writer.new) out.old out.new (line_text trailer))
         (λ e. Halts (W.contents writer.old) (W.contents writer.new) out.old (line_text trailer) e) }
-    ensures all { MatchResult result (λ _. string_bytes out.new.text ≡ []) (λ _. Unit {0}) }
+    ensures short { OnOk result (IsShort out.new) }
     ensures writer { IfErr result (λ e. e ≡ WriteFailed → Rose before (W.failed writer.new)) }
+    ensures own { IfErr result (λ e. is_failure e ≡ false) }
 {
     write_line(&mut out.text, 0, None, "TRLR", "")?;
-    make_way(writer, before, out)?;
-    hand_over(writer, before, out)
+    make_way(writer, before, out)
 }
 
 /// Writes the records of level 0, each with what it owns.
@@ -130,8 +189,8 @@ fn write_records<V: View, W: Write + Device>(
     ensures view { CountsFailures (V.failed view.old) (V.failed view.new) result }
     ensures writer { IfErr result (λ e. e ≡ WriteFailed → Rose before (W.failed writer.new)) }
 {
-    'ranks: for rank in RANKS {
-        write_kind(alloc, view, index, rank, writer, before, out)?;
+    'ranks: for rank in &RANKS {
+        write_kind(alloc, view, index, *rank, writer, before, out)?;
     }
     Ok(())
 }
@@ -155,7 +214,7 @@ fn write_kind<V: View, W: Write + Device>(
     ensures view { CountsFailures (V.failed view.old) (V.failed view.new) result }
     ensures writer { IfErr result (λ e. e ≡ WriteFailed → Rose before (W.failed writer.new)) }
 {
-    'numbers: for number in index.numbers(rank) {
+    'records: for number in index.numbers(rank) {
         write_record(alloc, view, index, *number, writer, before, out)?;
     }
     Ok(())
@@ -180,6 +239,8 @@ fn write_record<V: View, W: Write + Device>(
     ensures view { CountsFailures (V.failed view.old) (V.failed view.new) result }
     ensures writer { IfErr result (λ e. e ≡ WriteFailed → Rose before (W.failed writer.new)) }
 {
-    push_record(alloc, view, index, &mut out.text, number)?;
-    make_way(writer, before, out)
+    match push_record(alloc, view, index, &mut out.text, number) {
+        Ok(()) => make_way(writer, before, out),
+        Err(kind) => Err(stop_of(kind)),
+    }
 }

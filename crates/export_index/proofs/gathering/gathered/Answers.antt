@@ -14,3 +14,11 @@ returns-clause-shows g c honest =
                 c.in_ok-next.next sound told.1 c.last_number.ensures gathered.1 c.in_ok-arrange.ensures,
           ),
     )
+
+pub returns-clause-arranged : goal.returns-clause-arranged
+returns-clause-arranged g c = record {
+  events = c.in_ok-arrange.ensures.events.ascends;
+  citations = c.in_ok-arrange.ensures.citations.ascends;
+  child_in = c.in_ok-arrange.ensures.child_in.ascends;
+  partner_in = c.in_ok-arrange.ensures.partner_in.ascends;
+}
