@@ -1,35 +1,15 @@
 -- The text that is put together by an index is that of the archive.
-use Rattle.std.proofs.Common.{
-  ◌≡◌,
-  ℕ,
-  zero,
-  suc,
-  List,
-  [],
-  ◌∷◌,
-  ◌++◌,
-  map,
-  Bool,
-  true,
-  false,
-  ◌==◌,
-  refl,
-  sym,
-  ap,
-  ◌∙◌,
-  arith,
-  eqb-true,
-}
-use Rattle.std.specs.Prelude.{Option, Some, None}
+use Rattle.std.proofs.Common.{◌≡◌, ℕ, suc, List, [], ◌∷◌, ◌++◌, map, Bool, true, ◌==◌, refl, sym, ap, ◌∙◌, arith, eqb-true}
+use Rattle.std.specs.Prelude.{Some}
 use Rattle.std.specs.List.{filter, flat_map}
 use Rattle.std.specs.FinMap.{entries, get}
 use Rattle.std.proofs.lemmas.Grind.{flat_map-append}
 use Rattle.std.proofs.lemmas.List.{map-append}
 use Rattle.std.proofs.lemmas.List.Folds.{flat_map-map}
-use Rattle.stored_lines.specs.Tree.{Forest, Tree, forest_of, list_of, none, more, node, relabel, relabel_all}
+use Rattle.stored_lines.specs.Tree.{Tree, forest_of, list_of, none, more, node, relabel, relabel_all}
 use Rattle.record_kinds.specs.declared.record.Record.{Record}
 use Rattle.record_kinds.specs.declared.record.Record.TheVariants as kind
-use Rattle.record_shapes.specs.Shapes.{Around, shape_of}
+use Rattle.record_shapes.specs.Shapes.{shape_of}
 use Rattle.gedcom_tree.specs.Text.{line_text, text, trailer}
 use Rattle.record_nodes.specs.Header.{header}
 use Rattle.record_nodes.specs.Pages.{nodes_text, record_page}
@@ -51,7 +31,7 @@ use Rattle.export_forest.specs.Order.{
 }
 use Rattle.export_forest.specs.Pages.{household_page}
 use Rattle.export_forest.proofs.Texts.{text_of_exported}
-use Rattle.export_index.specs.Index.{Index, IsIndexOf, numbers, numbers_in, place_in_export}
+use Rattle.export_index.specs.Index.{Index, IsIndexOf, numbers, place_in_export}
 use Rattle.export_index.specs.Shown.{around_in, names_in}
 use Rattle.export_index.specs.declared.owned.Owned.{Owned}
 use Rattle.export_index.specs.declared.rank.Rank.{Rank}

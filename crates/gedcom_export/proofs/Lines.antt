@@ -26,8 +26,7 @@ use Rattle.std.proofs.Math.ListN.{drop_of_length-le}
 use Rattle.std.proofs.lemmas.Grind.{flat_map-append}
 use Rattle.stored_lines.specs.Line.{Line, Lines}
 use Rattle.stored_lines.specs.Tree.{Tree}
-use Rattle.record_kinds.specs.declared.record.Record.{Record}
-use Rattle.record_shapes.specs.Shapes.{Around, citation_lines, citation_part, event_part, events_below, side_line}
+use Rattle.record_shapes.specs.Shapes.{citation_lines, citation_part, event_part, events_below, side_line}
 use Rattle.record_nodes.specs.Pages.{page}
 use Rattle.archive_state.specs.Content.{Records}
 use Rattle.export_index.specs.Index.{Index}

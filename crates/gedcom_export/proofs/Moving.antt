@@ -1,38 +1,5 @@
 -- Texts that are put behind what waits one after the other, and what of them is handed over.
-use Rattle.std.proofs.Common.{
-  ◌≡◌,
-  ◌⊎◌,
-  ℕ,
-  ◌+◌,
-  ◌<◌,
-  ◌≤◌,
-  List,
-  [],
-  ◌∷◌,
-  ◌++◌,
-  length,
-  get_or,
-  drop,
-  drop-cons,
-  add-one,
-  take,
-  true,
-  refl,
-  sym,
-  ap,
-  subst,
-  ◌∙◌,
-  inl,
-  inr,
-  arith,
-  append_assoc,
-  append-nil,
-  length-append,
-  Option,
-  Result,
-  Ok,
-  Err,
-}
+use Rattle.std.proofs.Common.{◌≡◌, ℕ, ◌+◌, ◌<◌, ◌≤◌, List, [], ◌∷◌, ◌++◌, length, get_or, drop, drop-cons, add-one, true, refl, sym, ap, subst, ◌∙◌, inl, inr, arith, append_assoc, append-nil, length-append, Option, Result, Ok, Err}
 use Rattle.std.specs.Prelude.{MatchResult, OnOk, string_bytes}
 use Rattle.std.specs.Io.KnownBytes.{Appends}
 use Rattle.std.specs.List.{flat_map}
@@ -41,7 +8,7 @@ use Rattle.std.proofs.lemmas.List.{take-append-le}
 use Rattle.devices.specs.Devices.{AppendsBeginning}
 use Rattle.record_text.specs.declared.refusal.RefusalKind.{RefusalKind}
 use Rattle.archive_view.specs.Looks.{is_stop}
-use Rattle.gedcom_tree.proofs.Handing.{Going, going_stops}
+use Rattle.gedcom_tree.proofs.Handing.{going_stops}
 use Rattle.gedcom_export.specs.Ends.{IsBegun, IsReason, IsWhole}
 use Rattle.gedcom_export.specs.Waiting.{Halts, IsShort, Moves}
 use Rattle.gedcom_export.specs.declared.output.Output.{Output}

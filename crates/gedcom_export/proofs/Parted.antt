@@ -4,13 +4,13 @@ use Rattle.std.specs.Prelude.{codes, Option, Some, None}
 use Rattle.std.specs.FinMap.{get}
 use Rattle.std.proofs.lemmas.Grind.{flat_map-append}
 use Rattle.stored_lines.specs.Line.{Lines}
-use Rattle.stored_lines.specs.Tree.{Tree, forest_of, list_of, node}
+use Rattle.stored_lines.specs.Tree.{Tree, forest_of, list_of}
 use Rattle.stored_lines.specs.declared.carried.Value.{Value}
 use Rattle.stored_lines.specs.declared.carried.Value.TheVariants as value
 use Rattle.record_kinds.specs.Model as model
 use Rattle.record_kinds.specs.declared.record.Record.{Record}
 use Rattle.record_kinds.specs.declared.record.Record.TheVariants as kind
-use Rattle.record_shapes.specs.Shapes.{Around, citation_lines, citation_part, event_part, events_below, line, shape_of, side_line}
+use Rattle.record_shapes.specs.Shapes.{Around, citation_lines, citation_part, event_part, events_below, line, side_line}
 use Rattle.record_nodes.specs.Pages.{page, record_page}
 use Rattle.record_nodes.proofs.Pages.{record-below}
 use Rattle.archive_state.specs.Content.{Records}
