@@ -1,9 +1,11 @@
 mod AllSaid
 mod Below
 mod FieldRows
+mod Found
 mod Fronts
 mod Naming
 mod Partners
 mod SaidMembers
 mod SaidSides
+mod Sorted
 mod Taking

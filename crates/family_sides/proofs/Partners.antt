@@ -157,7 +157,7 @@ module _ (ks : List FileNode) (n : ℕ) where
   part_at (Some (node l f)) e = ap partner_in (sym (first_told f)
       ∙ if_family (bytes_eq l.tag (codes "FAM")) (first_as n (members_told ks (list_of f))) e)
 
-  root_at : (k : ℕ) → slice_get (roots ks) k ≡ option_map unlined (option_map (lined_root (place_in ks)) (slice_get ks k))
+  pub root_at : (k : ℕ) → slice_get (roots ks) k ≡ option_map unlined (option_map (lined_root (place_in ks)) (slice_get ks k))
   unfolding roots
   root_at k = slice_get-map unlined (lined_roots ks) k
       ∙ ap (option_map unlined) (slice_get-map (lined_root (place_in ks)) ks k)

@@ -22,6 +22,7 @@ use Rattle.import_forest.specs.Positions.{known, tag_at}
 use Rattle.import_forest.specs.Report as report
 use Rattle.import_forest.specs.Report.{is_partner, is_sided, judge_side, judged, said_of_person, said_of_persons}
 use Rattle.import_forest.specs.Sides.{names_family}
+use Rattle.family_sides.specs.Lookups.{fit_tag}
 use Rattle.family_sides.specs.Taken.{
   fits,
   named_in,
@@ -42,10 +43,6 @@ use Rattle.family_sides.proofs.Partners.{is_partner_told, partner_in}
 use Rattle.family_sides.proofs.SaidMembers.{line_with}
 
 -- ---- the tag of the lines that count
-abbrev fit_tag : Option Bool → List ℕ
-fit_tag (Some true) = codes "FAMS"
-fit_tag _ = codes "FAMC"
-
 -- a line of the other tag
 other_tag : (tag : List ℕ) (b : Bool) → bytes_eq tag (codes "FAMS") ≡ b → is_side_tag tag ≡ true
     → bytes_eq tag (codes "FAMC") ≡ not b
@@ -58,7 +55,7 @@ other_tag tag false e s = elim (bytes_eq tag (codes "FAMC")) as (λ c. (c || byt
     ] s
 
 -- a line counts exactly where it has that tag
-fit_is : (tag : List ℕ) (b : Bool) (m : Option Bool) → bytes_eq tag (codes "FAMS") ≡ b → is_side_tag tag ≡ true
+pub fit_is : (tag : List ℕ) (b : Bool) (m : Option Bool) → bytes_eq tag (codes "FAMS") ≡ b → is_side_tag tag ≡ true
     → bytes_eq tag (fit_tag m) ≡ fits b m
 fit_is tag true (Some true) e s = e
 fit_is tag false (Some true) e s = e
@@ -100,7 +97,7 @@ absorbs true false x y h = refl
 absorbs true true false y h = refl
 absorbs true true true y h = h refl
 
-same_and : (x f g : Bool) → (x ≡ true → f ≡ g) → (f && x) ≡ (g && x)
+pub same_and : (x f g : Bool) → (x ≡ true → f ≡ g) → (f && x) ≡ (g && x)
 same_and true f g h = ap (λ v. v && true) (h refl)
 same_and false true true h = refl
 same_and false true false h = refl
@@ -130,11 +127,38 @@ module _ (ks : List FileNode) (n : ℕ) where
       ≡ judged (judge_side (roots ks) n) before (list_of (put l v (resolved (place_in ks) g) (resolved (place_in ks) ts)))
 
   -- a line that names a family as one of its members does
-  record Sided (u : Tree Line) (m b : Bool) : Type 0 where
-    field_is : is_same (person_field (known (roots ks)) u) a_side ≡ m
-    tag_is : bytes_eq (tag_of u) (codes "FAMS") ≡ b
-    side : m ≡ true → is_side_tag (tag_of u) ≡ true
-    family : m ≡ true → bytes_eq (tag_at (roots ks) (number_of u)) (codes "FAM") ≡ true
+  pub record Sided (u : Tree Line) (m b : Bool) : Type 0 where
+    pub field_is : is_same (person_field (known (roots ks)) u) a_side ≡ m
+    pub tag_is : bytes_eq (tag_of u) (codes "FAMS") ≡ b
+    pub side : m ≡ true → is_side_tag (tag_of u) ≡ true
+    pub family : m ≡ true → bytes_eq (tag_at (roots ks) (number_of u)) (codes "FAM") ≡ true
+
+  module _ (l : FileLine) (g : Forest FileLine) where
+    pub text_sided : (t : List ℕ) → Sided (line_with l (value.Text t) (resolved (place_in ks) g)) false
+        (bytes_eq l.tag (codes "FAMS"))
+    text_sided t =
+        let u : Tree Line = line_with l (value.Text t) (resolved (place_in ks) g) in
+        record {
+          field_is = text_no_side (tagged (codes "NAME") u && is_text u)
+              (tagged (codes "SEX") u && (is_bare u && is_some (sex_of (text_of u)))) (is_among person_tags u && is_text u)
+              (is_side_tag l.tag) (is_citation (known (roots ks)) u);
+          tag_is = refl;
+          side = λ e. absurd cc;
+          family = λ e. absurd cc;
+        }
+
+    pub pointer_sided : (p : ℕ) → Sided (line_with l (value.Ref p) (resolved (place_in ks) g))
+        (is_side_tag l.tag && bytes_eq (tag_at (roots ks) p) (codes "FAM")) (bytes_eq l.tag (codes "FAMS"))
+    pointer_sided p =
+        let u : Tree Line = line_with l (value.Ref p) (resolved (place_in ks) g) in
+        let d : Bool = bytes_eq (tag_at (roots ks) p) (codes "FAM") in
+        record {
+          field_is = pointer_side (tagged (codes "NAME") u) (tagged (codes "SEX") u) (is_among person_tags u)
+              (is_side_tag l.tag && d) (is_citation (known (roots ks)) u);
+          tag_is = refl;
+          side = λ e. both_first (is_side_tag l.tag) d e;
+          family = λ e. both_second (is_side_tag l.tag) d e;
+        }
 
   module _ (taken : ℕ → Bool) (before : Lines) (so : IsTaken taken before) (l : FileLine) (u : Tree Line) (b : Bool) where
     said_one : (m : Bool) → Sided u m b → said_by member taken l (told_if m b (number_of u))
@@ -191,14 +215,7 @@ module _ (ks : List FileNode) (n : ℕ) where
         let u : Tree Line = line_with l (value.Text t) (resolved (place_in ks) g) in
         let b : Bool = bytes_eq l.tag (codes "FAMS") in
         subst (λ told. Says taken before told l (Some (value.Text t)) g ts) (sym (none_told (is_side_tag l.tag) b))
-        (says u false b (record {
-          field_is = text_no_side (tagged (codes "NAME") u && is_text u)
-              (tagged (codes "SEX") u && (is_bare u && is_some (sex_of (text_of u)))) (is_among person_tags u && is_text u)
-              (is_side_tag l.tag) (is_citation (known (roots ks)) u);
-          tag_is = refl;
-          side = λ e. absurd cc;
-          family = λ e. absurd cc;
-        }))
+        (says u false b (text_sided l g t))
 
     pointer_says : (o : Option ℕ) → Says taken before (side_as l.tag (with_tag (roots ks) (codes "FAM") o)) l
         (option_map value.Ref o) g ts
@@ -210,13 +227,7 @@ module _ (ks : List FileNode) (n : ℕ) where
         let b : Bool = bytes_eq l.tag (codes "FAMS") in
         let d : Bool = bytes_eq (tag_at (roots ks) p) (codes "FAM") in
         subst (λ told. Says taken before told l (Some (value.Ref p)) g ts) (sym (one_told (is_side_tag l.tag) b d p))
-        (says u (is_side_tag l.tag && d) b (record {
-          field_is = pointer_side (tagged (codes "NAME") u) (tagged (codes "SEX") u) (is_among person_tags u)
-              (is_side_tag l.tag && d) (is_citation (known (roots ks)) u);
-          tag_is = refl;
-          side = λ e. both_first (is_side_tag l.tag) d e;
-          family = λ e. both_second (is_side_tag l.tag) d e;
-        }))
+        (says u (is_side_tag l.tag && d) b (pointer_sided l g p))
 
     value_says : (v : Meaning) → Says taken before (side_as l.tag (with_tag (roots ks) (codes "FAM")
         (position_in (place_in ks) v))) l (resolve (place_in ks) v) g ts

@@ -1,3 +1,5 @@
+pub mod Arranged
+pub mod Lookups
 pub mod Members
 pub mod Taken
 pub mod Told

@@ -6,6 +6,7 @@
 //! Callers may rely on: each line of a family or a person that names a membership counts or is reported.
 #![tactic(auto)]
 
+mod arranged;
 pub mod laws;
 mod members;
 mod nodes;
@@ -13,5 +14,6 @@ mod sides;
 mod told;
 mod whole;
 
+pub use arranged::{arrange, sides_in};
 pub use sides::Side;
 pub use whole::sides_of;
