@@ -16,3 +16,11 @@ mod ReadEntries
 mod ReadNodes
 mod Grown
 mod Filed
+mod Links
+mod LinksOwned
+mod Paths
+mod LinksNodes
+mod RootRecords
+mod Going
+mod Renamed
+mod RenamedEntries
