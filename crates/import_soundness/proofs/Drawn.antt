@@ -49,7 +49,7 @@ module _ (P : Drawing → Type 0)
     (file : (d : Drawing) (owner : ℕ) (r : Record) (path : Option (List ℕ)) → P d
     → P (drawn_more d (of_file d.next owner r path)))
     (place : (d : Drawing) (path name : List ℕ) (parent : Option Found) → P d → P (with_made path name parent d))
-    (root : (d : Drawing) → P d → P (root_drawn d)) where
+    where
   pub settled_keeps : (w : Places) (before : Option ℕ) (k : ℕ) (names : List (List ℕ)) (d : Drawing) → P d
       → P (settle w before k names d).0
   settled_keeps w before k [] d h = h
@@ -73,10 +73,11 @@ module _ (P : Drawing → Type 0)
     draw_all_keeps w k owner d (more t ts) h = draw_all_keeps w k owner (draw w k owner d t) ts
         (draw_keeps w k owner d t h)
 
-  pub roots_keep : (rs : Lines) (w : Places) (k : ℕ) (d : Drawing) (behind : Lines) → P d
-      → P (draw_roots rs w k d behind)
-  roots_keep rs w k d [] h = h
-  roots_keep rs w k d (r ∷ behind) h = roots_keep rs w (k + 1) (draw w k 0 (root_drawn d) (draft_at rs k r)) behind
+  pub roots_keep : (root : (d : Drawing) → P d → P (root_drawn d)) (rs : Lines) (w : Places) (k : ℕ) (d : Drawing)
+      (behind : Lines) → P d → P (draw_roots rs w k d behind)
+  roots_keep root rs w k d [] h = h
+  roots_keep root rs w k d (r ∷ behind) h =
+      roots_keep root rs w (k + 1) (draw w k 0 (root_drawn d) (draft_at rs k r)) behind
       (draw_keeps w k 0 (root_drawn d) (draft_at rs k r) (root d h))
 
 -- ---- numbers count up

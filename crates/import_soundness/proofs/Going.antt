@@ -105,14 +105,14 @@ module _ (first : Drawing) where
 
   pub settle_goes : (w : Places) (before : Option ℕ) (k : ℕ) (names : List (List ℕ))
       → GoesOn first (settle w before k names first).0
-  settle_goes w before k names = settled_keeps Since file_since made_since root_since w before k names first
+  settle_goes w before k names = settled_keeps Since file_since made_since w before k names first
       (goes_itself first)
 
   pub draw_goes : (w : Places) (k owner : ℕ) (t : Tree Draft) → GoesOn first (draw w k owner first t)
-  draw_goes w k owner t = draw_keeps Since file_since made_since root_since w k owner first t (goes_itself first)
+  draw_goes w k owner t = draw_keeps Since file_since made_since w k owner first t (goes_itself first)
 
   pub draw_all_goes : (w : Places) (k owner : ℕ) (f : Forest Draft) → GoesOn first (draw_all w k owner first f)
-  draw_all_goes w k owner f = draw_all_keeps Since file_since made_since root_since w k owner first f
+  draw_all_goes w k owner f = draw_all_keeps Since file_since made_since w k owner first f
       (goes_itself first)
 
   pub roots_go : (rs : Lines) (w : Places) (k : ℕ) (behind : Lines) → GoesOn first (draw_roots rs w k first behind)

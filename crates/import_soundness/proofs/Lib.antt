@@ -24,3 +24,5 @@ mod RootRecords
 mod Going
 mod Renamed
 mod RenamedEntries
+mod Rooted
+mod Agreeing

@@ -251,6 +251,17 @@ holding_met known t e =
     (row_next title a_title (row author an_author (row publisher a_publisher last)) a_holding e refl) refl) refl)
     refl)).1
 
+-- the place above one is one
+pub parent_met : (rs : Lines) (k : ℕ) (name : List ℕ) (t : Tree Line)
+    → is_same (parent_field (known_before rs k) name t) a_parent ≡ true
+    → is_above name ((known_before rs k).path (number_of t)) ≡ true
+parent_met rs k name t e =
+    let above : Bool = is_above name ((known_before rs k).path (number_of t)) in
+    let a = and_parts (tagged (codes "_LOC") t) (is_childless t && (not (is_text t) && above))
+    (row_is (tagged (codes "_LOC") t && (is_childless t && (not (is_text t) && above))) a_parent carried a_parent e
+    refl) in
+    (and_parts (not (is_text t)) above (and_parts (is_childless t) (not (is_text t) && above) a.1).1).1
+
 -- ---- nodes
 module _ (rs : Lines) (count : ℕ) (nodes : EachOf (λ t. IsNode t × PointsWithin count t) rs) where
   abbrev kn : Known
@@ -368,16 +379,6 @@ module _ (rs : Lines) (count : ℕ) (nodes : EachOf (λ t. IsNode t × PointsWit
       (lines_named kn count x.carried (each_left L field [] ts h)))
 
   -- ---- places
-  parent_met : (k : ℕ) (name : List ℕ) (t : Tree Line)
-      → is_same (parent_field (known_before rs k) name t) a_parent ≡ true
-      → is_above name ((known_before rs k).path (number_of t)) ≡ true
-  parent_met k name t e =
-      let above : Bool = is_above name ((known_before rs k).path (number_of t)) in
-      let a = and_parts (tagged (codes "_LOC") t) (is_childless t && (not (is_text t) && above))
-      (row_is (tagged (codes "_LOC") t && (is_childless t && (not (is_text t) && above))) a_parent carried a_parent e
-      refl) in
-      (and_parts (not (is_text t)) above (and_parts (is_childless t) (not (is_text t) && above) a.1).1).1
-
   above_loc : (k n : ℕ) (name : List ℕ) (o : Option (List ℕ)) → (known_before rs k).path n ≡ o
       → is_above name o ≡ true → bytes_eq (tag_at rs n) (codes "_LOC") ≡ true
   above_loc k n name None at e = absurd cc
@@ -388,7 +389,7 @@ module _ (rs : Lines) (count : ℕ) (nodes : EachOf (λ t. IsNode t × PointsWit
       → EachOf N (field_links a_place (option_map number_of o))
   parent_named k called None h = tt
   parent_named k called (Some t) h = (
-    above_loc k (number_of t) called ((known_before rs k).path (number_of t)) refl (parent_met k called t h),
+    above_loc k (number_of t) called ((known_before rs k).path (number_of t)) refl (parent_met rs k called t h),
     tt,
   )
 
