@@ -26,3 +26,5 @@ mod Renamed
 mod RenamedEntries
 mod Rooted
 mod Agreeing
+mod Finding
+mod Settling

@@ -67,7 +67,8 @@ abbrev pub PlaceIs : Known → Option (List ℕ) → ℕ → Type 0
 PlaceIs known None n = (q : List ℕ) × (known.path n ≡ Some q) × (has_part q ≡ true)
 PlaceIs known (Some q) n = IsPath q
 
--- the links of a record that is read, with its owner and the path by which its place is sought
+-- the links of a record that is read, with its owner and the path by which its place is sought; an event or a citation
+-- alone has an owner
 abbrev pub NamesAll : Known → ℕ → Option Record → Option (List ℕ) → Record → Type 0
 NamesAll known count o path (kind.Event e) =
     OwnerIs a_holder o
@@ -76,7 +77,7 @@ NamesAll known count o path (kind.Event e) =
     × EachOf (Names known count) (flat_map participant_links e.participants ++ carried_links e.carried)
 NamesAll known count o path (kind.Citation c) =
     OwnerIs a_cited o × NamesAs known count a_source c.source × EachOf (Names known count) (carried_links c.carried)
-NamesAll known count o path r = EachOf (Names known count) (links r)
+NamesAll known count o path r = (o ≡ None) × EachOf (Names known count) (links r)
 
 -- the path is sought at a node of a forest
 abbrev pub IsSought : List ℕ → Forest Draft → Type 0

@@ -434,16 +434,16 @@ module _ (rs : Lines) (count : ℕ) (nodes : EachOf (λ t. IsNode t × PointsWit
             (each_true whole e.mentions d.1))),
       )
 
-  registered_named : (o : Option Record) (tag : List ℕ) (v : Value) (ts : Lines) → EachOf N (value_links v)
-      → EachOf L ts → NamesAll kn count o None (registered kn tag v ts)
-  registered_named o tag v ts said h = by (bytes_eq tag (codes "_REG")) (entry_of kn v ts) refl
+  registered_named : (tag : List ℕ) (v : Value) (ts : Lines) → EachOf N (value_links v)
+      → EachOf L ts → NamesAll kn count None None (registered kn tag v ts)
+  registered_named tag v ts said h = by (bytes_eq tag (codes "_REG")) (entry_of kn v ts) refl
     where
       by : (b : Bool) (e : Option model.Entry) → entry_of kn v ts ≡ e
-          → NamesAll kn count o None (entry_or_other tag v ts (if b then e else None))
+          → NamesAll kn count None None (entry_or_other tag v ts (if b then e else None))
       by true (Some x) is = let g = guessed kn v ts x is in
-          subst (λ y. EachOf N (links (kind.Entry y))) g.1 (is_entry_named (entry_on (text_in v) ts) g.0)
-      by true None is = each_both N (value_links v) (carried_links ts) said (lines_named kn count ts h)
-      by false e is = each_both N (value_links v) (carried_links ts) said (lines_named kn count ts h)
+          (refl, subst (λ y. EachOf N (links (kind.Entry y))) g.1 (is_entry_named (entry_on (text_in v) ts) g.0))
+      by true None is = (refl, each_both N (value_links v) (carried_links ts) said (lines_named kn count ts h))
+      by false e is = (refl, each_both N (value_links v) (carried_links ts) said (lines_named kn count ts h))
 
   pub node_named : (k : ℕ) (r : Tree Line) → IsNode r × L r → EachNamed kn count None (draft_at rs k r)
   node_named k (node l f) h =
@@ -454,18 +454,18 @@ module _ (rs : Lines) (count : ℕ) (nodes : EachOf (λ t. IsNode t × PointsWit
       let Q : Tree Draft → Type 0 = λ t. EachNamed kn count None (root_with_sides rs k t) in
       let of_value : EachOf N (value_links l.value) = value_named kn count l.value
       (each_front (λ (x : Link). x.0 < count) (value_links l.value) (forest_links f) h.1) in
-      chosen Q (bytes_eq l.tag (codes "_LOC")) _ _ (λ e. (place_named k ts lows, tt, tt)) (λ loc.
-      chosen Q (bytes_eq l.tag (codes "REPO")) _ _ (λ e. (repo_named ts lows, tt, tt)) (λ repo.
-      chosen Q (bytes_eq l.tag (codes "SOUR")) _ _ (λ e. (source_named ts lows, tt, tt)) (λ source.
+      chosen Q (bytes_eq l.tag (codes "_LOC")) _ _ (λ e. ((refl, place_named k ts lows), tt, tt)) (λ loc.
+      chosen Q (bytes_eq l.tag (codes "REPO")) _ _ (λ e. ((refl, repo_named ts lows), tt, tt)) (λ repo.
+      chosen Q (bytes_eq l.tag (codes "SOUR")) _ _ (λ e. ((refl, source_named ts lows), tt, tt)) (λ source.
       chosen Q (bytes_eq l.tag (codes "INDI")) _ _ (λ e. (
-        person_named ts lows,
+        (refl, person_named ts lows),
         tt,
         owned_named kn count (kind.Person (person_from kn ts)) refl refl (person_field kn) (person_cites kn) ts fit,
       )) (λ person.
       chosen Q (bytes_eq l.tag (codes "FAM")) _ _ (λ e. (
-        family_named k ts lows,
+        (refl, family_named k ts lows),
         tt,
         owned_named kn count (kind.Family (family_with_sides rs k (family_from kn ts))) refl refl (family_field kn)
             (family_cites kn) ts fit,
       )) (λ family. subst (λ d. EachNamed kn count None (node d none)) (sym (no_sides rs k kn l.tag l.value ts))
-      (registered_named None l.tag l.value ts of_value lows, tt, tt))))))
+      (registered_named l.tag l.value ts of_value lows, tt, tt))))))
