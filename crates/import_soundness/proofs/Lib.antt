@@ -28,3 +28,4 @@ mod Rooted
 mod Agreeing
 mod Finding
 mod Settling
+mod DrawnWell

@@ -86,7 +86,7 @@ number_past (x ∷ xs) (suc j) less = number_past xs j (omega arith)
 abbrev SameRoots : List ℕ → Drawing → Type 0
 SameRoots roots d = d.roots ≡ roots
 
-draw_roots_same : (w : Places) (k owner : ℕ) (d : Drawing) (t : Tree Draft) → (draw w k owner d t).roots ≡ d.roots
+pub draw_roots_same : (w : Places) (k owner : ℕ) (d : Drawing) (t : Tree Draft) → (draw w k owner d t).roots ≡ d.roots
 draw_roots_same w k owner d t = draw_keeps (SameRoots d.roots) (λ e o r p h. h) (λ e path name parent h. h) w k owner d t
     refl
 
