@@ -49,8 +49,8 @@ module _ (P : Drawing → Type 0)
     (file : (d : Drawing) (owner : ℕ) (r : Record) (path : Option (List ℕ)) → P d
     → P (drawn_more d (of_file d.next owner r path)))
     (place : (d : Drawing) (path name : List ℕ) (parent : Option Found) → P d → P (with_made path name parent d))
-    (root : (d : Drawing) → P d → P (root_drawn d)) where
-  settled_keeps : (w : Places) (before : Option ℕ) (k : ℕ) (names : List (List ℕ)) (d : Drawing) → P d
+    where
+  pub settled_keeps : (w : Places) (before : Option ℕ) (k : ℕ) (names : List (List ℕ)) (d : Drawing) → P d
       → P (settle w before k names d).0
   settled_keeps w before k [] d h = h
   settled_keeps w before k (name ∷ names) d h =
@@ -63,20 +63,21 @@ module _ (P : Drawing → Type 0)
       ]
 
   mutual
-    draw_keeps : (w : Places) (k owner : ℕ) (d : Drawing) (t : Tree Draft) → P d → P (draw w k owner d t)
+    pub draw_keeps : (w : Places) (k owner : ℕ) (d : Drawing) (t : Tree Draft) → P d → P (draw w k owner d t)
     draw_keeps w k owner d (node (read r path) f) h =
         draw_all_keeps w k d.next (drawn_more d (of_file d.next owner r path)) f (file d owner r path h)
     draw_keeps w k owner d (node (sought path) f) h = settled_keeps w None k (names_of path) d h
 
-    draw_all_keeps : (w : Places) (k owner : ℕ) (d : Drawing) (f : Forest Draft) → P d → P (draw_all w k owner d f)
+    pub draw_all_keeps : (w : Places) (k owner : ℕ) (d : Drawing) (f : Forest Draft) → P d → P (draw_all w k owner d f)
     draw_all_keeps w k owner d none h = h
     draw_all_keeps w k owner d (more t ts) h = draw_all_keeps w k owner (draw w k owner d t) ts
         (draw_keeps w k owner d t h)
 
-  pub roots_keep : (rs : Lines) (w : Places) (k : ℕ) (d : Drawing) (behind : Lines) → P d
-      → P (draw_roots rs w k d behind)
-  roots_keep rs w k d [] h = h
-  roots_keep rs w k d (r ∷ behind) h = roots_keep rs w (k + 1) (draw w k 0 (root_drawn d) (draft_at rs k r)) behind
+  pub roots_keep : (root : (d : Drawing) → P d → P (root_drawn d)) (rs : Lines) (w : Places) (k : ℕ) (d : Drawing)
+      (behind : Lines) → P d → P (draw_roots rs w k d behind)
+  roots_keep root rs w k d [] h = h
+  roots_keep root rs w k d (r ∷ behind) h =
+      roots_keep root rs w (k + 1) (draw w k 0 (root_drawn d) (draft_at rs k r)) behind
       (draw_keeps w k 0 (root_drawn d) (draft_at rs k r) (root d h))
 
 -- ---- numbers count up

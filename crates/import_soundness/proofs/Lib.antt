@@ -16,3 +16,16 @@ mod ReadEntries
 mod ReadNodes
 mod Grown
 mod Filed
+mod Links
+mod LinksOwned
+mod Paths
+mod LinksNodes
+mod RootRecords
+mod Going
+mod Renamed
+mod RenamedEntries
+mod Rooted
+mod Agreeing
+mod Finding
+mod Settling
+mod DrawnWell

@@ -239,7 +239,7 @@ joined_clean (n ∷ (m ∷ ns)) h =
     (clean_both (codes ", ") (joined (m ∷ ns)) (clean_short 2 (codes ", ") (record { bytes = refl; short = omega arith }))
     (joined_clean (m ∷ ns) h.1))
 
-normal_clean : (t : List ℕ) → IsClean t → IsClean (normal t)
+pub normal_clean : (t : List ℕ) → IsClean t → IsClean (normal t)
 unfolding normal
 normal_clean t h = joined_clean (map trimmed (parts t)) (names_clean t h)
 

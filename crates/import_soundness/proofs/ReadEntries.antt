@@ -80,7 +80,7 @@ mention_on_texts t h = (
 )
 
 -- ---- the rules on mentions
-each_true : {A : Type 0} (q : A → Bool) (xs : List A) → list_all q xs ≡ true → EachOf (λ x. q x ≡ true) xs
+pub each_true : {A : Type 0} (q : A → Bool) (xs : List A) → list_all q xs ≡ true → EachOf (λ x. q x ≡ true) xs
 each_true q [] e = tt
 each_true q (x ∷ xs) e = let p = and_parts (q x) (list_all q xs) e in (p.0, each_true q xs p.1)
 

@@ -128,7 +128,7 @@ once_seen seen (t ∷ ts) =
       )
     ]
 
-each_once : (P : Tree Line → Type 0) (seen : List ℕ) (ts : Lines) → EachOf P ts → EachOf P (once_behind seen ts)
+pub each_once : (P : Tree Line → Type 0) (seen : List ℕ) (ts : Lines) → EachOf P ts → EachOf P (once_behind seen ts)
 each_once P seen [] h = tt
 each_once P seen (t ∷ ts) h =
     elim (has (number_of t) seen) as (λ b. EachOf P

@@ -1,0 +1,288 @@
+-- Places that are made: they stand within the place of their path's other names, and have that path.
+use Rattle.std.proofs.Common.{
+  ◌≡◌,
+  ◌⊎◌,
+  ℕ,
+  ◌+◌,
+  ◌<◌,
+  ◌≤◌,
+  Bool,
+  true,
+  false,
+  List,
+  [],
+  ◌∷◌,
+  ◌++◌,
+  length,
+  map,
+  refl,
+  sym,
+  ap,
+  ◌∙◌,
+  subst,
+  inl,
+  inr,
+  arith,
+  length-append,
+}
+use Rattle.std.specs.Prelude.{Option, Some, None, IfSome, option_map, codes}
+use Rattle.std.specs.List.{onto_first}
+use Rattle.std.specs.FinMap.{get}
+use Rattle.record_kinds.specs.Model as model
+use Rattle.record_kinds.specs.declared.record.Record.{Record}
+use Rattle.record_kinds.specs.declared.record.Record.TheVariants as kind
+use Rattle.record_shapes.specs.Forms.{is_some}
+use Rattle.record_shapes.specs.Lists.{EachOf}
+use Rattle.record_shapes.specs.Paths.{IsWithinLimits, joined, parts}
+use Rattle.archive_state.specs.Content.{Records}
+use Rattle.archive_state.specs.Known.{path_of}
+use Rattle.archive_state.specs.Paths.{HasPath}
+use Rattle.archive_state.proofs.Climbing.{goes_path}
+use Rattle.archive_state.proofs.Each.{each_both, each_more}
+use Rattle.archive_state.proofs.Known.{path_known}
+use Rattle.archive_state.proofs.PathTexts.{parts_both, parts_some}
+use Rattle.import_forest.specs.Numbers.{
+  Drawing,
+  Drawn,
+  Found,
+  Made,
+  Places,
+  at_number,
+  at_position,
+  find,
+  made_within,
+  number_found,
+  of_file,
+  of_path,
+  place_made,
+  settle,
+  unless_found,
+  with_made,
+}
+use Rattle.import_forest.specs.Positions.{path_at}
+use Rattle.import_soundness.proofs.Clean.{IsClean}
+use Rattle.import_soundness.proofs.Finding.{found_by, found_made, made_holds}
+use Rattle.import_soundness.proofs.Going.{GoesOn, goes_itself, goes_made, goes_then, settle_goes}
+use Rattle.import_soundness.proofs.Normal.{IsName}
+use Rattle.import_soundness.proofs.Rooted.{F, There, last_there}
+
+-- ---- the limits of a part of a path
+onto_length : (x : ℕ) (ys : List (List ℕ)) (y : List ℕ) (more : List (List ℕ)) → ys ≡ y ∷ more
+    → length (onto_first x ys) ≡ length ys
+onto_length x ys y more e = ap (λ l. length (onto_first x l)) e ∙ sym (ap length e)
+
+above_limits : (n m : List ℕ) (ns : List (List ℕ)) → IsWithinLimits (joined (n ∷ (m ∷ ns)))
+    → IsWithinLimits (joined (m ∷ ns)) × (length n ≤ 4096)
+above_limits n m ns h =
+    let rest : List ℕ = joined (m ∷ ns) in
+    let s = parts_some rest in
+    let a : length (parts (n ++ (44 ∷ (32 ∷ rest)))) ≡ length (parts n) + length (parts (32 ∷ rest)) =
+    ap length (parts_both n (32 ∷ rest)) ∙ length-append (parts n) (parts (32 ∷ rest)) in
+    let b : length (parts (32 ∷ rest)) ≡ length (parts rest) = onto_length 32 (parts rest) s.0 s.1 s.2 in
+    let c : length (n ++ (44 ∷ (32 ∷ rest))) ≡ length n + length (44 ∷ (32 ∷ rest)) =
+    length-append n (44 ∷ (32 ∷ rest)) in
+    let few : length (parts (n ++ (44 ∷ (32 ∷ rest)))) ≤ 32 = h.0 in
+    let short : length (n ++ (44 ∷ (32 ∷ rest))) ≤ 4096 = h.1 in
+    ((omega arith, omega arith), omega arith)
+
+-- names that may be joined
+pub record AreNames (names : List (List ℕ)) : Type 0 where
+  pub each : EachOf IsName names
+  pub clean : EachOf IsClean names
+  pub within : IsWithinLimits (joined names)
+
+pub fewer_names : (n : List ℕ) (ns : List (List ℕ)) → AreNames (n ∷ ns) → AreNames ns × (length n ≤ 4096)
+fewer_names n [] h = (record { each = tt; clean = tt; within = (omega arith, omega arith) }, h.within.1)
+fewer_names n (m ∷ ns) h =
+    let low = above_limits n m ns h.within in
+    (record { each = h.each.1; clean = h.clean.1; within = low.0 }, low.1)
+
+module _ (A : Records) (w : Places) (D : Drawing) (all : EachOf (There A w D) D.drawn) (first : ℕ)
+    (arch : (q : List ℕ) (n : ℕ) → w.archive q ≡ Some n → (path_of A n ≡ Some q) × (n < first))
+    (filed : (k : ℕ) (q : List ℕ) → path_at w.file k ≡ Some q → path_of A (F A w D k) ≡ Some q) where
+  abbrev pub num : Found → ℕ
+  num f = number_found D.roots (Some f)
+
+  -- a place that was made has its path, and a number below the next one
+  pub record IsMadeAt (next : ℕ) (m : Made) : Type 0 where
+    pub path : path_of A m.number ≡ Some m.path
+    pub low : m.number < next
+
+  -- a place that is drawn
+  pub record IsPlaceDrawn (n : ℕ) (name : List ℕ) (parent : Option Found) : Type 0 where
+    pub name_is : IsName name
+    pub clean : IsClean name
+    pub short : length name ≤ 4096
+    pub path : (q : List ℕ) × (path_of A n ≡ Some q) × IsWithinLimits q
+    pub above : IfSome parent (λ f. (num f < n) × ((q : List ℕ) × (path_of A (num f) ≡ Some q)))
+
+  -- positions before one are drawn
+  pub record IsBehind (k : ℕ) (next : ℕ) : Type 0 where
+    pub low : (j : ℕ) → j < k → F A w D j < next
+    pub from : first ≤ next
+
+  pub behind_later : (k a b : ℕ) → a ≤ b → IsBehind k a → IsBehind k b
+  behind_later k a b less h =
+      let from : first ≤ a = h.from in
+      record { low = λ j l. (let low : F A w D j < a = h.low j l in omega arith); from = omega arith }
+
+  pub made_later : (a b : ℕ) → a ≤ b → (ms : List Made) → EachOf (IsMadeAt a) ms → EachOf (IsMadeAt b) ms
+  made_later a b less ms h = each_more (IsMadeAt a) (IsMadeAt b)
+      (λ m k. (let low : m.number < a = k.low in record { path = k.path; low = omega arith })) ms h
+
+  -- ---- what is found
+  pub found_path : (before : Option ℕ) (made : List Made) (next : ℕ) (q : List ℕ) (f : Found)
+      → EachOf (IsMadeAt next) made → find w before made q ≡ Some f → path_of A (num f) ≡ Some q
+  found_path before made next q f h e =
+      elim (found_by w before made q f e) as (λ _. path_of A (num f) ≡ Some q) [
+        | inl (n, is, at) ↦ ap (λ x. path_of A (num x)) is ∙ (arch q n at).0
+        | inr r ↦ elim r as (λ _. path_of A (num f) ≡ Some q) [
+          | inl (j, is, at, low) ↦ ap (λ x. path_of A (num x)) is ∙ filed j q at
+          | inr (n, is, at) ↦
+              let there = made_holds (IsMadeAt next) q made n h at in
+              ap (λ x. path_of A (num x)) is ∙ ap (path_of A) (sym there.3) ∙ there.1.path ∙ ap Some there.2
+        ]
+      ]
+
+  found_low : (k : ℕ) (made : List Made) (next : ℕ) (q : List ℕ) (f : Found) → EachOf (IsMadeAt next) made
+      → IsBehind k next → find w (Some k) made q ≡ Some f → num f < next
+  found_low k made next q f h behind e =
+      let from : first ≤ next = behind.from in
+      elim (found_by w (Some k) made q f e) as (λ _. num f < next) [
+        | inl (n, is, at) ↦
+            let low : n < first = (arch q n at).1 in
+            let same : num f ≡ n = ap num is in omega arith
+        | inr r ↦ elim r as (λ _. num f < next) [
+          | inl (j, is, at, less) ↦
+              let low : F A w D j < next = behind.low j less in
+              let same : num f ≡ F A w D j = ap num is in omega arith
+          | inr (n, is, at) ↦
+              let there = made_holds (IsMadeAt next) q made n h at in
+              let low : there.0.number < next = there.1.low in
+              let same : num f ≡ n = ap num is in
+              let number : there.0.number ≡ n = there.3 in omega arith
+        ]
+      ]
+
+  module _ (OfFile : ℕ → ℕ → Record → Option (List ℕ) → Type 0) where
+    abbrev pub IsDrawnWell : Drawn → Type 0
+    IsDrawnWell (of_file n owner r path) = OfFile n owner r path
+    IsDrawnWell (of_path n name parent) = IsPlaceDrawn n name parent
+
+    pub record IsGood (d : Drawing) : Type 0 where
+      pub drawn : EachOf IsDrawnWell d.drawn
+      pub made : EachOf (IsMadeAt d.next) d.made
+
+    -- what the names above a place are settled as
+    abbrev IsAbove : List (List ℕ) → Option Found → ℕ → Type 0
+    IsAbove [] o next = o ≡ None
+    IsAbove (n ∷ ns) o next = (f : Found) × (o ≡ Some f) × (path_of A (num f) ≡ Some (joined (n ∷ ns))) × (num f < next)
+
+    -- a place that is made within another has its path
+    made_path : (name : List ℕ) (names : List (List ℕ)) (parent : Option Found) (n : ℕ)
+        → get A n ≡ Some (kind.Place (place_made D.roots name parent)) → IsAbove names parent n
+        → path_of A n ≡ Some (joined (name ∷ names))
+    made_path name [] parent n at is =
+        (path_known A n name).0
+        (goes_path A n (place_made D.roots name parent) name None at (ap (option_map num) is) refl)
+    made_path name (m ∷ ns) parent n at (f, is, path, low) =
+        (path_known A n (joined (name ∷ (m ∷ ns)))).0
+        (goes_path A n (place_made D.roots name parent) (joined (name ∷ (m ∷ ns))) (Some (num f)) at
+        (ap (option_map num) is) (low, (joined (m ∷ ns), refl, (path_known A (num f) (joined (m ∷ ns))).1 path)))
+
+    parent_is : (names : List (List ℕ)) (parent : Option Found) (n : ℕ) → IsAbove names parent n
+        → IfSome parent (λ f. (num f < n) × ((q : List ℕ) × (path_of A (num f) ≡ Some q)))
+    parent_is [] parent n is = subst (λ o. IfSome o (λ f. (num f < n) × ((q : List ℕ) × (path_of A (num f) ≡ Some q))))
+        (sym is) tt
+    parent_is (m ∷ ns) parent n (f, is, path, low) =
+        subst (λ o. IfSome o (λ f. (num f < n) × ((q : List ℕ) × (path_of A (num f) ≡ Some q)))) (sym is)
+        (low, (joined (m ∷ ns), path))
+
+    -- one more place
+    made_good : (name : List ℕ) (names : List (List ℕ)) (parent : Option Found) (d : Drawing) → AreNames (name ∷ names)
+        → GoesOn (with_made (joined (name ∷ names)) name parent d) D → IsGood d → IsAbove names parent d.next
+        → IsGood (with_made (joined (name ∷ names)) name parent d)
+        × (path_of A d.next ≡ Some (joined (name ∷ names)))
+    made_good name names parent d fit goes good above =
+        let x : Drawn = of_path d.next name parent in
+        let m : Made = record { path = joined (name ∷ names); number = d.next } in
+        let here : There A w D x = last_there A w D all d.drawn x goes.drawn in
+        let path : path_of A d.next ≡ Some (joined (name ∷ names)) = made_path name names parent d.next here above in
+        let less : d.next < d.next + 1 = omega arith in (
+          record {
+            drawn = each_both IsDrawnWell d.drawn (x ∷ []) good.drawn (
+              record {
+                name_is = fit.each.0;
+                clean = fit.clean.0;
+                short = (fewer_names name names fit).1;
+                path = (joined (name ∷ names), path, fit.within);
+                above = parent_is names parent d.next above;
+              },
+              tt,
+            );
+            made = each_both (IsMadeAt (d.next + 1)) d.made (m ∷ [])
+                (made_later d.next (d.next + 1) (omega arith) d.made good.made)
+                (record { path = path; low = less }, tt);
+          },
+          path,
+        )
+
+    -- the places above one, of the file those before a position
+    settled_above : (k : ℕ) (names : List (List ℕ)) (d : Drawing) → AreNames names
+        → GoesOn (settle w (Some k) k names d).0 D → IsBehind k d.next → IsGood d
+        → IsGood (settle w (Some k) k names d).0
+        × IsAbove names (settle w (Some k) k names d).1 (settle w (Some k) k names d).0.next
+    settled_above k [] d fit goes behind good = (good, refl)
+    settled_above k (name ∷ names) d fit goes behind good =
+        by (λ on. settled_above k names d (fewer_names name names fit).0 on behind good)
+        (find w (Some k) d.made (joined (name ∷ names))) refl goes
+      where
+        by : (GoesOn (settle w (Some k) k names d).0 D → IsGood (settle w (Some k) k names d).0
+            × IsAbove names (settle w (Some k) k names d).1 (settle w (Some k) k names d).0.next)
+            → (o : Option Found) → find w (Some k) d.made (joined (name ∷ names)) ≡ o
+            → GoesOn (unless_found o d (made_within (joined (name ∷ names)) name (settle w (Some k) k names d))).0 D
+            → IsGood (unless_found o d (made_within (joined (name ∷ names)) name (settle w (Some k) k names d))).0
+            × IsAbove (name ∷ names)
+            (unless_found o d (made_within (joined (name ∷ names)) name (settle w (Some k) k names d))).1
+            (unless_found o d (made_within (joined (name ∷ names)) name (settle w (Some k) k names d))).0.next
+        by again (Some f) e on = (
+          good,
+          (
+            f,
+            refl,
+            found_path (Some k) d.made d.next (joined (name ∷ names)) f good.made e,
+            found_low k d.made d.next (joined (name ∷ names)) f good.made behind e,
+          ),
+        )
+        by again None e on =
+            let d1 : Drawing = (settle w (Some k) k names d).0 in
+            let o1 : Option Found = (settle w (Some k) k names d).1 in
+            let whole : GoesOn d1 D = goes_then d1 (with_made (joined (name ∷ names)) name o1 d1) D
+            (goes_made d1 (joined (name ∷ names)) name o1) on in
+            let above = again whole in
+            let made = made_good name names o1 d1 fit on above.0 above.1 in
+            let less : d1.next < d1.next + 1 = omega arith in
+            (made.0, (at_number d1.next, refl, made.1, less))
+
+    -- a place that is sought: it is found behind
+    pub settled : (k : ℕ) (name : List ℕ) (names : List (List ℕ)) (d : Drawing) → AreNames (name ∷ names)
+        → GoesOn (settle w None k (name ∷ names) d).0 D → IsBehind k d.next → IsGood d
+        → IsGood (settle w None k (name ∷ names) d).0
+        × (is_some (find w None (settle w None k (name ∷ names) d).0.made (joined (name ∷ names))) ≡ true)
+    settled k name names d fit goes behind good = by (find w None d.made (joined (name ∷ names))) refl goes
+      where
+        by : (o : Option Found) → find w None d.made (joined (name ∷ names)) ≡ o
+            → GoesOn (unless_found o d (made_within (joined (name ∷ names)) name (settle w (Some k) k names d))).0 D
+            → IsGood (unless_found o d (made_within (joined (name ∷ names)) name (settle w (Some k) k names d))).0
+            × (is_some (find w None
+            (unless_found o d (made_within (joined (name ∷ names)) name (settle w (Some k) k names d))).0.made
+            (joined (name ∷ names))) ≡ true)
+        by (Some f) e on = (good, ap is_some e)
+        by None e on =
+            let d1 : Drawing = (settle w (Some k) k names d).0 in
+            let o1 : Option Found = (settle w (Some k) k names d).1 in
+            let whole : GoesOn d1 D = goes_then d1 (with_made (joined (name ∷ names)) name o1 d1) D
+            (goes_made d1 (joined (name ∷ names)) name o1) on in
+            let above = settled_above k names d (fewer_names name names fit).0 whole behind good in
+            ((made_good name names o1 d1 fit on above.0 above.1).0,
+            found_made w None (joined (name ∷ names)) d1.made _ refl)
