@@ -29,3 +29,9 @@ mod Agreeing
 mod Finding
 mod Settling
 mod DrawnWell
+mod RenamedLinks
+mod RenamedTexts
+mod Targets
+mod Judging
+mod Keys
+mod Whole
