@@ -22,44 +22,12 @@ use Rattle.record_shapes.specs.Fields.{
   row,
 }
 use Rattle.record_shapes.specs.Picking.{all_of, first, is_left}
-use Rattle.record_shapes.specs.Reading.{
-  Draft,
-  below_event,
-  citation_draft,
-  citation_from,
-  event_place_from,
-  event_place_with,
-  is_loc,
-  participant_from,
-  place_named,
-  sought,
-  sought_drafts,
-  sought_on,
-  unless_named,
-  without,
-}
+use Rattle.record_shapes.specs.Reading.{below_event, citation_draft, citation_from, event_place_from, event_place_with, is_loc, participant_from, place_named, sought, sought_drafts, sought_on, unless_named, without}
 use Rattle.record_reading.specs.Partly.{or_told, unless}
-use Rattle.owner_reading.specs.Told.{number_or}
 use Rattle.owner_reading.specs.Drafts.{EventTold, event_with, part_draft, path_in, unless_placed}
 use Rattle.owner_reading.specs.declared.events.EventPart.{EventPart}
 use Rattle.owner_reading.specs.declared.events.EventPart.TheVariants as part
-use Rattle.record_reading.proofs.Picked.{
-  all_here,
-  all_past,
-  first_none,
-  first_same,
-  is_first,
-  left_closed,
-  left_gone,
-  left_kept,
-  missing_more,
-  missing_one,
-  not_first,
-  other_field,
-  row_is,
-  told_here,
-  told_same,
-}
+use Rattle.record_reading.proofs.Picked.{all_here, all_past, is_first, left_closed, left_gone, left_kept, missing_more, missing_one, not_first, other_field, row_is, told_same}
 
 -- ---- parts
 pub path_cited : (ps : List EventPart) (c : model.Citation) → path_in (ps ++ part.Citation c ∷ []) ≡ path_in ps
@@ -72,11 +40,6 @@ pub path_put : (ps : List EventPart) (p : EventPart) (path : List ℕ) → path_
 path_put [] p path e = e
 path_put (part.Citation d ∷ ps) p path e = path_put ps p path e
 path_put (part.Sought x ∷ ps) p path e = refl
-
-pub parts_put : (ps : List EventPart) (p : EventPart) (rest : List (Tree Draft))
-    → map part_draft (ps ++ p ∷ []) ++ rest ≡ map part_draft ps ++ (part_draft p ∷ rest)
-parts_put [] p rest = refl
-parts_put (x ∷ ps) p rest = ap (λ l. part_draft x ∷ l) (parts_put ps p rest)
 
 told_end : {A : Type 0} (o : Option A) → or_told o None ≡ o
 told_end None = refl
@@ -154,72 +117,6 @@ module _ (known : Known) (t : Tree Line) (ts : Lines) where
   not_and true b e = refl
   not_and false b e = e
 
-  pub date_taken : (e : EventTold) → is_first (event_field known t) a_date e.date ≡ true
-      → event_with known (record {
-        date = Some (text_of t);
-        place = e.place;
-        participants = e.participants;
-        carried = e.carried;
-        path = e.path;
-        drafts = e.drafts;
-      }) ts ≡ event_with known e (t ∷ ts)
-  date_taken e h =
-      let here : is_same (event_field known t) a_date ≡ true = first_same (event_field known t) a_date e.date h in
-      let none : e.date ≡ None = first_none (event_field known t) a_date e.date h in
-      let place : is_same (event_field known t) a_place ≡ false = other_field (event_field known t) a_date a_place here refl in
-      let citation : is_same (event_field known t) a_citation ≡ false = other_field (event_field known t) a_date
-      a_citation here refl in
-      let participant : is_same (event_field known t) a_participant ≡ false = other_field (event_field known t) a_date
-      a_participant here refl in
-      let once : List Field = a_date ∷ a_place ∷ [] in
-      (λ i. record {
-        date = told_here (event_field known) (λ o. o) a_date t ts here i;
-        place = place_past e.place place i;
-        participants = e.participants ++ map participant_from (all_past (event_field known) a_participant t ts participant i);
-        carried = e.carried ++ left_closed (event_field known) once a_date [] (unless e.place a_place) t ts here refl i;
-        path = path_past e.place e.path place i;
-        drafts = e.drafts ++ below_past (is_some e.place) citation
-            (not_and (is_some e.place) (is_same (event_field known t) a_place) place) i;
-      }) ∙ ap (λ (o : Option (List ℕ)). event_with known (record {
-        date = o;
-        place = e.place;
-        participants = e.participants;
-        carried = e.carried;
-        path = e.path;
-        drafts = e.drafts;
-      }) (t ∷ ts)) (sym none)
-
-  pub participant_taken : (e : EventTold) → is_same (event_field known t) a_participant ≡ true
-      → event_with known (record {
-        date = e.date;
-        place = e.place;
-        participants = e.participants ++ participant_from t ∷ [];
-        carried = e.carried;
-        path = e.path;
-        drafts = e.drafts;
-      }) ts ≡ event_with known e (t ∷ ts)
-  participant_taken e here =
-      let x : Field = event_field known t in
-      let place : is_same x a_place ≡ false = other_field x a_participant a_place here refl in
-      let date : is_same x a_date ≡ false = other_field x a_participant a_date here refl in
-      let citation : is_same x a_citation ≡ false = other_field x a_participant a_citation here refl in
-      let none : is_same x carried ≡ false = other_field x a_participant carried here refl in
-      λ i. record {
-        date = told_same (event_field known) (λ o. o) a_date e.date t ts (not_first x a_date e.date date) i;
-        place = place_past e.place place i;
-        participants = (append_assoc e.participants (participant_from t ∷ [])
-            (map participant_from (all_of (event_field known) a_participant ts))
-            ∙ ap (λ us. e.participants ++ map participant_from us)
-            (all_here (event_field known) a_participant t ts here)) i;
-        carried = e.carried ++ left_gone (event_field known) (a_date ∷ a_place ∷ [])
-            (unless e.date a_date ++ unless e.place a_place) t ts
-            (often x a_participant here refl date place none)
-            (missing_more x a_date e.date (unless e.place a_place) (not_first x a_date e.date date)
-            (missing_one x a_place e.place (not_first x a_place e.place place))) i;
-        path = path_past e.place e.path place i;
-        drafts = e.drafts ++ below_past (is_some e.place) citation (not_and (is_some e.place) (is_same x a_place) place) i;
-      }
-
   pub citation_taken : (e : EventTold) → is_same (event_field known t) a_citation ≡ true
       → event_with known (record {
         date = e.date;
@@ -275,42 +172,6 @@ module _ (known : Known) (t : Tree Line) (ts : Lines) where
       }
 
   -- ---- a line of the place
-  -- a further one is carried
-  pub place_carried : (e : EventTold) (p : model.EventPlace) → e.place ≡ Some p → event_field known t ≡ a_place
-      → event_with known (record {
-        date = e.date;
-        place = e.place;
-        participants = e.participants;
-        carried = e.carried ++ t ∷ [];
-        path = e.path;
-        drafts = e.drafts;
-      }) ts ≡ event_with known e (t ∷ ts)
-  place_carried e p there is =
-      let x : Field = event_field known t in
-      let date : is_same x a_date ≡ false = ap (λ y. is_same y a_date) is in
-      let citation : is_same x a_citation ≡ false = ap (λ y. is_same y a_citation) is in
-      let participant : is_same x a_participant ≡ false = ap (λ y. is_same y a_participant) is in
-      let taken : is_first x a_place e.place ≡ false = ap (λ o. is_first x a_place o) there
-      ∙ ap (λ y. is_same y a_place && false) is in
-      λ i. record {
-        date = told_same (event_field known) (λ o. o) a_date e.date t ts (not_first x a_date e.date date) i;
-        place = (ap (λ o. or_told o (option_map (event_place_from known) (first (all_of (event_field known) a_place ts))))
-            there ∙ ap (λ o. or_told o (option_map (event_place_from known)
-            (first (all_of (event_field known) a_place (t ∷ ts))))) (sym there)) i;
-        participants = e.participants ++ map participant_from (all_past (event_field known) a_participant t ts participant i);
-        carried = left_kept (event_field known) e.carried (a_date ∷ a_place ∷ [])
-            (unless e.date a_date ++ unless e.place a_place) t ts (carried_field known t participant citation)
-            (missing_more x a_date e.date (unless e.place a_place) (not_first x a_date e.date date)
-            (missing_one x a_place e.place taken)) i;
-        path = (ap (λ o. or_told e.path (unless_placed o
-            (sought_on known (first (all_of (event_field known) a_place ts))))) there
-            ∙ ap (λ o. or_told e.path (unless_placed o
-            (sought_on known (first (all_of (event_field known) a_place (t ∷ ts)))))) (sym there)) i;
-        drafts = e.drafts ++ (ap (λ o. below_event known (is_some o) ts) there
-            ∙ below_past true citation refl
-            ∙ ap (λ o. below_event known (is_some o) (t ∷ ts)) (sym there)) i;
-      }
-
   -- the first one is the place of the event
   pub place_taken : (e : EventTold) → e.place ≡ None → event_field known t ≡ a_place
       → event_with known (record {
@@ -350,11 +211,6 @@ module _ (known : Known) (t : Tree Line) (ts : Lines) where
 
 -- ---- the line that names the place
 module _ (P : Tree Line → Bool) where
-  pub number_kept : (o : Option ℕ) (n : ℕ) (t : Tree Line) (ts : Lines) → o ≡ Some n
-      → number_or P o ts ≡ number_or P o (t ∷ ts)
-  number_kept None n t ts e = absurd cc
-  number_kept (Some m) n t ts e = refl
-
   pub without_none : (ts : Lines) → first (filter P ts) ≡ None → without P ts ≡ ts
   without_none [] e = refl
   without_none (t ∷ ts) e = elim (P t) as (λ b. first (cond b (t ∷ filter P ts) (filter P ts)) ≡ None
@@ -395,17 +251,6 @@ sought_none known t path o e h n =
         ≡ Some (normal (text_of t))
     cases_of None g = refl
     cases_of (Some loc) g = absurd cc
-
-pub sought_named : (known : Known) (t : Tree Line) (path : List ℕ) (o : Option ℕ) (n : ℕ) → path ≡ normal (text_of t)
-    → o ≡ option_map number_of (first (filter (is_loc known path) (below t))) → o ≡ Some n
-    → sought_on known (Some t) ≡ None
-sought_named known t path o n e h is =
-    cases_of (place_named known t) (sym (ap (λ p. option_map number_of (first (filter (is_loc known p) (below t)))) e)
-    ∙ sym h ∙ is)
-  where
-    cases_of : (f : Option (Tree Line)) → option_map number_of f ≡ Some n → unless_named (normal (text_of t)) f ≡ None
-    cases_of None g = absurd cc
-    cases_of (Some loc) g = refl
 
 -- ---- what is pushed
 abbrev pub with_parts : EventTold → List EventPart → EventTold
