@@ -151,8 +151,11 @@ module _ (count : ℕ) (place : List ℕ → Option ℕ) (low : (name : List ℕ
       let deep : forest_levels (out below) ≤ n = one.deep in
       let beside : forest_levels (out behind) ≤ n + 1 = rest.deep in
       record {
-        of_tags = (tag_fits l.tag h.tag h.own, each_both IsOfRecords (forest_tags (out below))
-            (forest_tags (out behind)) one.of_tags rest.of_tags);
+        of_tags = (
+          tag_fits l.tag h.tag h.own,
+          each_both IsOfRecords (forest_tags (out below))
+              (forest_tags (out behind)) one.of_tags rest.of_tags,
+        );
         of_texts = each_both IsText (value_texts x ++ forest_texts (out below)) (forest_texts (out behind))
             (each_both IsText (value_texts x) (forest_texts (out below)) own.texts one.of_texts) rest.of_texts;
         deep = omega arith;
@@ -164,7 +167,8 @@ module _ (count : ℕ) (place : List ℕ → Option ℕ) (low : (name : List ℕ
   wider n m less f h = let deep : forest_levels f ≤ n = h.deep in
       record { of_tags = h.of_tags; of_texts = h.of_texts; deep = omega arith; links = h.links }
 
-  all_filed : (n : ℕ) (f : Forest FileLine) → HaveFileLines f → forest_levels f ≤ n → AreFiled n (out (resolved place f))
+  all_filed : (n : ℕ) (f : Forest FileLine) → HaveFileLines f → forest_levels f ≤ n
+      → AreFiled n (out (resolved place f))
   all_filed n none h less = record { of_tags = tt; of_texts = tt; deep = omega arith; links = tt }
   all_filed n (more (node l f) ts) h less =
       let inner : AreFiled (forest_levels f) (out (resolved place f)) = all_filed (forest_levels f) f h.0.1
@@ -230,7 +234,8 @@ pub files_have_nodes : FilesHaveNodes
 unfolding roots
 files_have_nodes f h =
     let ks : List FileNode = kept (candidates f) in
-    let size : length (rows f) ≡ length ks = count_same unlined (lined_roots ks) ∙ count_same (lined_root (place_in ks)) ks in
+    let size : length (rows f) ≡ length ks = count_same unlined (lined_roots ks)
+    ∙ count_same (lined_root (place_in ks)) ks in
     let P : Tree Line → Type 0 = λ t. IsNode t × PointsWithin (length ks) t in
     let all : EachOf P (rows f) = each_mapped P unlined (lined_roots ks)
     (each_mapped (λ t. P (unlined t)) (lined_root (place_in ks)) ks

@@ -164,8 +164,7 @@ all_roots f h = each_mapped IsRoot (λ (t : Depth). t.1) (grown (map leveled f))
     falls (i ∷ is) b r =
         let p = and_parts (i.level == 0) (bytes_eq i.tag (codes "HEAD")) b in
         let zero : i.level ≡ 0 = eqb-true i.level 0 p.0 in
-        let rest : Falls 1 (grown (map leveled is)) = all_fall 0 is r in
-        (
+        let rest : Falls 1 (grown (map leveled is)) = all_fall 0 is r in (
           (omega arith),
           back_falls i.level (grown (map leveled is)) (subst (λ k. Falls k (grown (map leveled is)))
               (let one : 1 ≡ i.level + 1 = omega arith in one) rest),

@@ -119,7 +119,8 @@ sound_mentions g e h =
     )
 
 module _ (A : Records) (w : Places) (next : ℕ) (rs : Lines)
-    (all : EachOf (There A w (drawing next w rs)) (drawing next w rs).drawn) (zero_none : get A 0 ≡ None) (last : ℕ) where
+    (all : EachOf (There A w (drawing next w rs)) (drawing next w rs).drawn) (zero_none : get A 0 ≡ None)
+    (last : ℕ) where
   abbrev pub g : ℕ → ℕ
   g k = f A w next rs all zero_none k
 
@@ -340,7 +341,8 @@ module _ (A : Records) (w : Places) (next : ℕ) (rs : Lines)
   pub judge_citation : (k n owner : ℕ) (o : Record) (c : model.Citation) → IsOwner owner o → IsNumber last n
       → (path : Option (List ℕ)) → IsRead (known_before rs k) (known rs) (Some o) (kind.Citation c)
       → NamesAll (known rs) (length rs) (Some o) path (kind.Citation c)
-      → KeepsRules last A n (kind.Citation (record c { owner = owner; source = g c.source; carried = lines_with g c.carried }))
+      → KeepsRules last A n (kind.Citation (record c
+      { owner = owner; source = g c.source; carried = lines_with g c.carried }))
   judge_citation k n owner o c (s, at, like) number path h named = record {
     number = number;
     named = (
@@ -387,7 +389,8 @@ module _ (A : Records) (w : Places) (next : ℕ) (rs : Lines)
       → EachOf (Stands A) (flat_map participant_links (map (participant_with g) e.participants)
       ++ carried_links (lines_with g e.carried))
   parts_stand e h =
-      subst (EachOf (Stands A)) (sym (cat (moved g) (flat_map participant_links e.participants) (carried_links e.carried)
+      subst (EachOf (Stands A)) (sym (cat (moved g) (flat_map participant_links e.participants)
+      (carried_links e.carried)
       _ _ (flat_cat (moved g) (participant_with g) participant_links participant_links (participant_moved g)
       e.participants) (lines_moved g e.carried)))
       (links_stand A w next rs all zero_none (flat_map participant_links e.participants ++ carried_links e.carried) h)

@@ -178,7 +178,8 @@ abbrev pub IsFit98 : ℕ → Tree Line → Type 0
 IsFit98 count t = IsLine 98 t × PointsWithin count t
 
 -- ---- what is owned
-module _ (known : Known) (count : ℕ) (o : Record) (holder : OwnerIs a_holder (Some o)) (cited : OwnerIs a_cited (Some o))
+module _ (known : Known) (count : ℕ) (o : Record) (holder : OwnerIs a_holder (Some o))
+    (cited : OwnerIs a_cited (Some o))
     (field : Tree Line → Field)
     (tells : (t : Tree Line) → is_same (field t) a_citation ≡ true → is_citation known t ≡ true) where
   one_named : (x : Field) (t : Tree Line) → (is_same x a_citation ≡ true → is_citation known t ≡ true)
@@ -327,7 +328,8 @@ module _ (rs : Lines) (count : ℕ) (nodes : EachOf (λ t. IsNode t × PointsWit
   abbrev IsMember : Tree Line → Type 0
   IsMember t = L t × (is_same (family_field kn t) a_member ≡ true)
 
-  partner_named : (k : ℕ) (t : Tree Line) → IsMember t → EachOf N (partner_links (partner_with_side rs k (partner_from t)))
+  partner_named : (k : ℕ) (t : Tree Line) → IsMember t
+      → EachOf N (partner_links (partner_with_side rs k (partner_from t)))
   partner_named k t h = (
     member_met kn t h.1,
     each_both N (carried_links (below t)) (carried_links (side_of rs (codes "FAMS") k (number_of t)))

@@ -283,6 +283,7 @@ module _ (A : Records) (w : Places) (D : Drawing) (all : EachOf (There A w D) D.
             let o1 : Option Found = (settle w (Some k) k names d).1 in
             let whole : GoesOn d1 D = goes_then d1 (with_made (joined (name ∷ names)) name o1 d1) D
             (goes_made d1 (joined (name ∷ names)) name o1) on in
-            let above = settled_above k names d (fewer_names name names fit).0 whole behind good in
-            ((made_good name names o1 d1 fit on above.0 above.1).0,
-            found_made w None (joined (name ∷ names)) d1.made _ refl)
+            let above = settled_above k names d (fewer_names name names fit).0 whole behind good in (
+              (made_good name names o1 d1 fit on above.0 above.1).0,
+              found_made w None (joined (name ∷ names)) d1.made _ refl,
+            )

@@ -143,7 +143,8 @@ file_within rs k q e = by (slice_get rs k) refl
               let both : Some (path_from before ts) ≡ Some q = sym (path_of_place rs k r at is) ∙ e in
               let same : path_from before ts ≡ q = cc in
               subst (λ p. is_within_limits p ≡ true) same
-              (above_within rs k ts (parent_line before ts) (first_is (parent_field before (place_name ts)) a_parent ts))
+              (above_within rs k ts (parent_line before ts)
+              (first_is (parent_field before (place_name ts)) a_parent ts))
         ] refl
 
 module _ (c : Content) (sound : IsSound c) (A : Records) (w : Places) (rs : Lines)
@@ -257,7 +258,8 @@ module _ (c : Content) (sound : IsSound c) (A : Records) (w : Places) (rs : Line
         named.1.0.2,
       )
   judge_event n owner k o e (Some p) (Some q) number is named found owned =
-      judge_event_some A w c.next rs all zero_none last k n owner o e p (number_found D.roots (find w None D.made q)) owned
+      judge_event_some A w c.next rs all zero_none last k n owner o e p (number_found D.roots (find w None D.made q))
+      owned
       number (Some q) is named (sought_place q (find w None D.made q) refl found named.1.0.said)
 
   judge_some : (n owner k : ℕ) (o : Record) (r : Record) (path : Option (List ℕ)) → IsNumber last n
@@ -325,13 +327,15 @@ module _ (c : Content) (sound : IsSound c) (A : Records) (w : Places) (rs : Line
       none_deep = omega arith
 
       named : (parent : Option Found) → IfSome parent
-          (λ x. (number_found D.roots (Some x) < n) × ((q : List ℕ) × (path_of A (number_found D.roots (Some x)) ≡ Some q)))
+          (λ x. (number_found D.roots (Some x) < n)
+          × ((q : List ℕ) × (path_of A (number_found D.roots (Some x)) ≡ Some q)))
           → EachOf (Stands A) (field_links a_place (option_map (λ x. number_found D.roots (Some x)) parent) ++ [])
       named None e = tt
       named (Some x) e = (path_stands A (number_found D.roots (Some x)) e.1.0 e.1.1, tt)
 
       smaller : (parent : Option Found) → IfSome parent
-          (λ x. (number_found D.roots (Some x) < n) × ((q : List ℕ) × (path_of A (number_found D.roots (Some x)) ≡ Some q)))
+          (λ x. (number_found D.roots (Some x) < n)
+          × ((q : List ℕ) × (path_of A (number_found D.roots (Some x)) ≡ Some q)))
           → IfSome (option_map (λ x. number_found D.roots (Some x)) parent) (λ q. q < n)
       smaller None e = tt
       smaller (Some x) e = e.0
@@ -403,10 +407,14 @@ module _ (c : Content) (sound : IsSound c) (A : Records) (w : Places) (rs : Line
       limits k None r path named owned stands q e =
           are_limits q (file_within rs k q (path_known_too A w c.next rs all zero_none k
           ∙ ap (path_of A) (sym owned.0) ∙ e))
-      limits k (Some o) (kind.Event x) None named owned stands q e = absurd (no_place n _ stands refl (path_stands A n q e))
-      limits k (Some o) (kind.Event x) (Some p) named owned stands q e = absurd (no_place n _ stands refl (path_stands A n q e))
-      limits k (Some o) (kind.Citation x) None named owned stands q e = absurd (no_place n _ stands refl (path_stands A n q e))
-      limits k (Some o) (kind.Citation x) (Some p) named owned stands q e = absurd (no_place n _ stands refl (path_stands A n q e))
+      limits k (Some o) (kind.Event x) None named owned stands q e = absurd
+          (no_place n _ stands refl (path_stands A n q e))
+      limits k (Some o) (kind.Event x) (Some p) named owned stands q e = absurd
+          (no_place n _ stands refl (path_stands A n q e))
+      limits k (Some o) (kind.Citation x) None named owned stands q e = absurd
+          (no_place n _ stands refl (path_stands A n q e))
+      limits k (Some o) (kind.Citation x) (Some p) named owned stands q e = absurd
+          (no_place n _ stands refl (path_stands A n q e))
       limits k (Some o) (kind.Place x) path named owned stands q e = absurd
           (let some_is : Some o ≡ None = named.0 in cc)
       limits k (Some o) (kind.Repo x) path named owned stands q e = absurd
@@ -478,7 +486,8 @@ module _ (c : Content) (sound : IsSound c) (A : Records) (w : Places) (rs : Line
       | inl same ↦ same
       | inr r ↦ elim r as (λ _. k ≡ j) [
         | inl less ↦ absurd
-            (clash (same_key (read (kind.Entry e) None) (read (kind.Entry d) None)) (keys_same e d source kinds page item)
+            (clash (same_key (read (kind.Entry e) None) (read (kind.Entry d) None))
+            (keys_same e d source kinds page item)
             ((λ i. same_key (sym from i) (sym of i)) ∙ keys_apart rs none_second k j t u less at there))
         | inr less ↦ absurd
             (clash (same_key (read (kind.Entry d) None) (read (kind.Entry e) None))
@@ -511,7 +520,8 @@ module _ (c : Content) (sound : IsSound c) (A : Records) (w : Places) (rs : Line
     old_and_new n k e d a at source =
         let there = stands_as a_source (get c.records d.source) (sound.named k (kind.Entry d) at).0 in
         let low : d.source < c.next = (sound.rules.numbered d.source there.0 there.1).1 in
-        let from : c.next ≤ h a.old.source = (at_node A w c.next rs all zero_none a.old.source a.source.0 a.source.1).from in
+        let from : c.next ≤ h a.old.source = (at_node A w c.next rs all zero_none a.old.source a.source.0
+        a.source.1).from in
         let is : h a.old.source ≡ e.source = ap (λ (x : model.Entry). x.source) a.is in
         omega arith
 
@@ -546,7 +556,8 @@ whole c file sound forest e =
     let news : EachOf New b.records = each_mapped New (finished w d) d.drawn
     (all_new c sound A w rs stands.still (λ q n x. x) refl all zero_none nodes) in
     let new_is : (n : ℕ) (r : Record) → get c.records n ≡ None → get A n ≡ Some r
-    → New (record { number = n; «record» = r }) = λ n r gone at. new_holds New b.records c.records c.next b.next n r count.0
+    → New (record { number = n; «record» = r }) = λ n r gone at. new_holds New b.records c.records c.next b.next n r
+    count.0
     news gone at in
     more_keeps c after sound (record {
       later = ends (numbers b) c.next b.next count.0;

@@ -1,5 +1,27 @@
 -- Events read from their lines, one line after the other.
-use Rattle.std.specs.Prelude.{ℕ, ◌≡◌, ◌&&◌, ◌||◌, not, cond, Bool, true, false, List, [], ◌∷◌, ◌++◌, map, Option, Some, None, option_map, codes, if◌then◌else◌, refl}
+use Rattle.std.specs.Prelude.{
+  ℕ,
+  ◌≡◌,
+  ◌&&◌,
+  ◌||◌,
+  not,
+  cond,
+  Bool,
+  true,
+  false,
+  List,
+  [],
+  ◌∷◌,
+  ◌++◌,
+  map,
+  Option,
+  Some,
+  None,
+  option_map,
+  codes,
+  if◌then◌else◌,
+  refl,
+}
 use Rattle.std.specs.List.{filter}
 use Rattle.std.specs.Option.{unwrap_or, is_some as some_there}
 use Rattle.std.proofs.Common.{ap, sym, ◌∙◌, append_assoc}
@@ -8,7 +30,18 @@ use Rattle.stored_lines.specs.Line.{Line, Lines}
 use Rattle.record_kinds.specs.Model as model
 use Rattle.record_shapes.specs.Paths.{normal}
 use Rattle.record_shapes.specs.declared.field.Field.{Field}
-use Rattle.record_shapes.specs.Forms.{Known, below, is_bare, is_some, is_text, names_a, number_of, tagged, text_of, value_of}
+use Rattle.record_shapes.specs.Forms.{
+  Known,
+  below,
+  is_bare,
+  is_some,
+  is_text,
+  names_a,
+  number_of,
+  tagged,
+  text_of,
+  value_of,
+}
 use Rattle.record_shapes.specs.Fields.{
   a_citation,
   a_date,
@@ -22,12 +55,39 @@ use Rattle.record_shapes.specs.Fields.{
   row,
 }
 use Rattle.record_shapes.specs.Picking.{all_of, first, is_left}
-use Rattle.record_shapes.specs.Reading.{below_event, citation_draft, citation_from, event_place_from, event_place_with, is_loc, participant_from, place_named, sought, sought_drafts, sought_on, unless_named, without}
+use Rattle.record_shapes.specs.Reading.{
+  below_event,
+  citation_draft,
+  citation_from,
+  event_place_from,
+  event_place_with,
+  is_loc,
+  participant_from,
+  place_named,
+  sought,
+  sought_drafts,
+  sought_on,
+  unless_named,
+  without,
+}
 use Rattle.record_reading.specs.Partly.{or_told, unless}
 use Rattle.owner_reading.specs.Drafts.{EventTold, event_with, part_draft, path_in, unless_placed}
 use Rattle.owner_reading.specs.declared.events.EventPart.{EventPart}
 use Rattle.owner_reading.specs.declared.events.EventPart.TheVariants as part
-use Rattle.record_reading.proofs.Picked.{all_here, all_past, is_first, left_closed, left_gone, left_kept, missing_more, missing_one, not_first, other_field, row_is, told_same}
+use Rattle.record_reading.proofs.Picked.{
+  all_here,
+  all_past,
+  is_first,
+  left_closed,
+  left_gone,
+  left_kept,
+  missing_more,
+  missing_one,
+  not_first,
+  other_field,
+  row_is,
+  told_same,
+}
 
 -- ---- parts
 pub path_cited : (ps : List EventPart) (c : model.Citation) → path_in (ps ++ part.Citation c ∷ []) ≡ path_in ps
@@ -135,7 +195,8 @@ module _ (known : Known) (t : Tree Line) (ts : Lines) where
       λ i. record {
         date = told_same (event_field known) (λ o. o) a_date e.date t ts (not_first x a_date e.date date) i;
         place = place_past e.place place i;
-        participants = e.participants ++ map participant_from (all_past (event_field known) a_participant t ts participant i);
+        participants = e.participants ++ map participant_from
+            (all_past (event_field known) a_participant t ts participant i);
         carried = e.carried ++ left_gone (event_field known) (a_date ∷ a_place ∷ [])
             (unless e.date a_date ++ unless e.place a_place) t ts
             (often x a_citation here refl date place none)
@@ -162,13 +223,15 @@ module _ (known : Known) (t : Tree Line) (ts : Lines) where
       λ i. record {
         date = told_same (event_field known) (λ o. o) a_date e.date t ts h i;
         place = place_past e.place place i;
-        participants = e.participants ++ map participant_from (all_past (event_field known) a_participant t ts participant i);
+        participants = e.participants ++ map participant_from
+            (all_past (event_field known) a_participant t ts participant i);
         carried = left_kept (event_field known) e.carried (a_date ∷ a_place ∷ [])
             (unless e.date a_date ++ unless e.place a_place) t ts (carried_field known t participant citation)
             (missing_more x a_date e.date (unless e.place a_place) h
             (missing_one x a_place e.place (not_first x a_place e.place place))) i;
         path = path_past e.place e.path place i;
-        drafts = e.drafts ++ below_past (is_some e.place) citation (not_and (is_some e.place) (is_same x a_place) place) i;
+        drafts = e.drafts ++ below_past (is_some e.place) citation (not_and (is_some e.place) (is_same x a_place) place)
+            i;
       }
 
   -- ---- a line of the place
@@ -193,8 +256,10 @@ module _ (known : Known) (t : Tree Line) (ts : Lines) where
       (λ i. record {
         date = told_same (event_field known) (λ o. o) a_date e.date t ts (not_first x a_date e.date date) i;
         place = option_map (event_place_from known) (first_one i);
-        participants = e.participants ++ map participant_from (all_past (event_field known) a_participant t ts participant i);
-        carried = e.carried ++ left_closed (event_field known) (a_date ∷ a_place ∷ []) a_place (unless e.date a_date) [] t
+        participants = e.participants ++ map participant_from
+            (all_past (event_field known) a_participant t ts participant i);
+        carried = e.carried ++ left_closed (event_field known) (a_date ∷ a_place ∷ []) a_place (unless e.date a_date) []
+            t
             ts place (missing_one x a_date e.date (not_first x a_date e.date date)) i;
         path = (told_end (or_told e.path (sought_on known (Some t)))
             ∙ ap (λ o. or_told e.path (sought_on known o)) first_one) i;
@@ -223,7 +288,8 @@ abbrev pub placed_at : ℕ → Lines → model.EventPlace
 placed_at n rest = record { place = n; carried = rest }
 
 -- the place of the event, by what is below its line
-pub place_told : (known : Known) (t : Tree Line) (path : List ℕ) (o : Option ℕ) (rest : Lines) → path ≡ normal (text_of t)
+pub place_told : (known : Known) (t : Tree Line) (path : List ℕ) (o : Option ℕ) (rest : Lines) → path
+    ≡ normal (text_of t)
     → o ≡ option_map number_of (first (filter (is_loc known path) (below t)))
     → rest ≡ without (is_loc known path) (below t)
     → placed_at (unwrap_or o 0) rest ≡ event_place_from known t
@@ -263,7 +329,8 @@ with_parts e ps = record {
   drafts = map part_draft ps;
 }
 
-parts_end : (ps : List EventPart) (p : EventPart) → map part_draft (ps ++ p ∷ []) ≡ map part_draft ps ++ part_draft p ∷ []
+parts_end : (ps : List EventPart) (p : EventPart) → map part_draft (ps ++ p ∷ []) ≡ map part_draft ps ++ part_draft p
+    ∷ []
 parts_end [] p = refl
 parts_end (x ∷ ps) p = ap (λ l. part_draft x ∷ l) (parts_end ps p)
 
@@ -284,7 +351,8 @@ citation_pushed known t ts e ps qs c h k here =
     ∙ citation_taken known t ts (with_parts e ps) here
 
 -- a place that no line names is sought by its path
-pub sought_pushed : (known : Known) (t : Tree Line) (ts : Lines) (e : EventTold) (ps qs : List EventPart) (p : EventPart)
+pub sought_pushed : (known : Known) (t : Tree Line) (ts : Lines) (e : EventTold) (ps qs : List EventPart)
+    (p : EventPart)
     (path : List ℕ) (o : Option ℕ) (rest : Lines) → qs ≡ ps ++ p ∷ [] → path_in (p ∷ []) ≡ Some path
     → part_draft p ≡ node (sought path) no_more → e.place ≡ None → event_field known t ≡ a_place
     → path ≡ normal (text_of t) → o ≡ option_map number_of (first (filter (is_loc known path) (below t)))

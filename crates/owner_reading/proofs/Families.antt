@@ -46,7 +46,8 @@ once_is : (P : ℕ → Bool) (seen : List ℕ) → ((n : ℕ) → P n ≡ list_a
 once_is P seen h [] = refl
 once_is P seen h (t ∷ ts) =
     λ i. if h (number_of t) i then once_is P seen h ts i
-    else t ∷ once_is (λ n. number_of t == n || P n) (number_of t ∷ seen) (λ n. ap (λ b. number_of t == n || b) (h n)) ts i
+    else t ∷ once_is (λ n. number_of t == n || P n) (number_of t ∷ seen) (λ n. ap (λ b. number_of t == n || b) (h n)) ts
+    i
 
 -- none was seen yet
 pub family_begun : (known : Known) (P : ℕ → Bool) (ts : Lines) → ((n : ℕ) → P n ≡ false)
@@ -84,8 +85,10 @@ left_one : (known : Known) (t : Tree Line)
 unfolding is_of_family
 left_one known t owned member =
     let y : Field = family_field known t in
-    or_left (is_left [] y) (is_same y a_member) (is_same y an_event) (is_same y a_citation) (family_fields known t) member
-    (or_one (is_same y an_event) (is_same y a_citation) owned) (or_two (is_same y an_event) (is_same y a_citation) owned)
+    or_left (is_left [] y) (is_same y a_member) (is_same y an_event) (is_same y a_citation) (family_fields known t)
+    member
+    (or_one (is_same y an_event) (is_same y a_citation) owned)
+    (or_two (is_same y an_event) (is_same y a_citation) owned)
 
 module _ (known : Known) (P : ℕ → Bool) (f : model.Family) (t : Tree Line) where
   -- a line that is not carried
@@ -137,12 +140,14 @@ module _ (known : Known) (P : ℕ → Bool) (f : model.Family) (t : Tree Line) w
     partners = f.partners ++ map partner_from (cond (not (sym e i)) (t ∷ filter (λ u. not (is_child_line u)) os)
         (filter (λ u. not (is_child_line u)) os));
     children = (append_assoc f.children (child_from t ∷ []) (map child_from (filter is_child_line os))
-        ∙ ap (λ (b : Bool). f.children ++ map child_from (cond b (t ∷ filter is_child_line os) (filter is_child_line os)))
+        ∙ ap (λ (b : Bool). f.children ++ map child_from
+        (cond b (t ∷ filter is_child_line os) (filter is_child_line os)))
         (sym e)) i;
     carried = f.carried ++ left;
   }
   joins false e os left = λ i. record {
-    partners = (append_assoc f.partners (partner_from t ∷ []) (map partner_from (filter (λ u. not (is_child_line u)) os))
+    partners = (append_assoc f.partners (partner_from t ∷ [])
+        (map partner_from (filter (λ u. not (is_child_line u)) os))
         ∙ ap (λ (b : Bool). f.partners ++ map partner_from (cond (not b) (t ∷ filter (λ u. not (is_child_line u)) os)
         (filter (λ u. not (is_child_line u)) os))) (sym e)) i;
     children = f.children ++ map child_from (cond (sym e i) (t ∷ filter is_child_line os) (filter is_child_line os));

@@ -1,5 +1,22 @@
 -- Persons and families with what they own, one line after the other.
-use Rattle.std.specs.Prelude.{◌≡◌, ◌&&◌, ◌||◌, not, Bool, true, false, [], ◌∷◌, ◌++◌, map, Option, Some, None, codes, refl}
+use Rattle.std.specs.Prelude.{
+  ◌≡◌,
+  ◌&&◌,
+  ◌||◌,
+  not,
+  Bool,
+  true,
+  false,
+  [],
+  ◌∷◌,
+  ◌++◌,
+  map,
+  Option,
+  Some,
+  None,
+  codes,
+  refl,
+}
 use Rattle.std.proofs.Common.{ap, sym, ◌∙◌}
 use Rattle.stored_lines.specs.Tree.{Tree}
 use Rattle.stored_lines.specs.Line.{Line, Lines}
@@ -8,12 +25,35 @@ use Rattle.record_kinds.specs.Model as model
 use Rattle.record_shapes.specs.declared.field.Field.{Field}
 use Rattle.record_shapes.specs.Tags.{person_tags}
 use Rattle.record_shapes.specs.Forms.{Known, is_among, is_bare, is_some, is_text, names_a, tagged, text_of, value_of}
-use Rattle.record_shapes.specs.Fields.{a_citation, a_name, a_sex, a_side, an_event, carried, is_citation, is_same, person_field, row}
+use Rattle.record_shapes.specs.Fields.{
+  a_citation,
+  a_name,
+  a_sex,
+  a_side,
+  an_event,
+  carried,
+  is_citation,
+  is_same,
+  person_field,
+  row,
+}
 use Rattle.record_shapes.specs.Picking.{is_left, text_at}
 use Rattle.record_shapes.specs.Reading.{name_from, read_by}
 use Rattle.record_reading.specs.Partly.{left_with, or_told, unless}
 use Rattle.owner_reading.specs.Owners.{person_with}
-use Rattle.record_reading.proofs.Picked.{all_past, first_none, first_same, is_first, left_closed, left_kept, missing_one, other_field, row_is, told_here, told_same}
+use Rattle.record_reading.proofs.Picked.{
+  all_past,
+  first_none,
+  first_same,
+  is_first,
+  left_closed,
+  left_kept,
+  missing_one,
+  other_field,
+  row_is,
+  told_here,
+  told_same,
+}
 
 -- ---- what is owned
 pub or_one : (a b : Bool) → (a || b) ≡ false → a ≡ false
@@ -33,12 +73,14 @@ person_fields : (known : Known) (t : Tree Line) → is_of_person (person_field k
 unfolding is_of_person
 person_fields known t =
     let citation : Bool = is_citation known t in
-    let side : Bool = (tagged (codes "FAMC") t || tagged (codes "FAMS") t) && names_a (codes "FAM") known (value_of t) in
+    let side : Bool = (tagged (codes "FAMC") t || tagged (codes "FAMS") t) && names_a (codes "FAM") known
+    (value_of t) in
     let event : Bool = is_among person_tags t && is_text t in
     let sex : Bool = tagged (codes "SEX") t && (is_bare t && is_some (sex_of (text_of t))) in
     row_is (λ x. is_of_person x) (tagged (codes "NAME") t && is_text t) a_name
     (row sex a_sex (row event an_event (row side a_side (row citation a_citation carried)))) refl
-    (row_is (λ x. is_of_person x) sex a_sex (row event an_event (row side a_side (row citation a_citation carried))) refl
+    (row_is (λ x. is_of_person x) sex a_sex (row event an_event (row side a_side (row citation a_citation carried)))
+    refl
     (row_is (λ x. is_of_person x) event an_event (row side a_side (row citation a_citation carried)) refl
     (row_is (λ x. is_of_person x) side a_side (row citation a_citation carried) refl
     (row_is (λ x. is_of_person x) citation a_citation carried refl refl))))
@@ -62,7 +104,8 @@ sex_told : (known : Known) (t : Tree Line) → is_same (person_field known t) a_
     → is_some (sex_of (text_of t)) ≡ true
 sex_told known t e =
     let citation : Bool = is_citation known t in
-    let side : Bool = (tagged (codes "FAMC") t || tagged (codes "FAMS") t) && names_a (codes "FAM") known (value_of t) in
+    let side : Bool = (tagged (codes "FAMC") t || tagged (codes "FAMS") t) && names_a (codes "FAM") known
+    (value_of t) in
     let event : Bool = is_among person_tags t && is_text t in
     let sex : Bool = tagged (codes "SEX") t && (is_bare t && is_some (sex_of (text_of t))) in
     let P : Field → Bool = λ x. not (is_same x a_sex) || is_some (sex_of (text_of t)) in
