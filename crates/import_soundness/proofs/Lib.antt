@@ -29,3 +29,6 @@ mod Agreeing
 mod Finding
 mod Settling
 mod DrawnWell
+mod RenamedLinks
+mod RenamedTexts
+mod Targets

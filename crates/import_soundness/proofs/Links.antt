@@ -47,7 +47,7 @@ NamesAs known count a_repo n = bytes_eq (known.tag n) (codes "REPO") ≡ true
 NamesAs known count a_source n = bytes_eq (known.tag n) (codes "SOUR") ≡ true
 NamesAs known count a_person n = bytes_eq (known.tag n) (codes "INDI") ≡ true
 NamesAs known count at_level_0 n = n < count
-NamesAs known count _ n = Unit {0}
+NamesAs known count _ n = ⊥
 
 abbrev pub Names : Known → ℕ → Link → Type 0
 Names known count l = NamesAs known count l.1 l.0
@@ -77,6 +77,8 @@ NamesAll known count o path (kind.Event e) =
     × EachOf (Names known count) (flat_map participant_links e.participants ++ carried_links e.carried)
 NamesAll known count o path (kind.Citation c) =
     OwnerIs a_cited o × NamesAs known count a_source c.source × EachOf (Names known count) (carried_links c.carried)
+NamesAll known count o path (kind.Entry e) =
+    (o ≡ None) × EachOf (Names known count) (links (kind.Entry e)) × IfSome e.place (PlaceIs known None)
 NamesAll known count o path r = (o ≡ None) × EachOf (Names known count) (links r)
 
 -- the path is sought at a node of a forest

@@ -157,6 +157,7 @@ use Rattle.import_soundness.proofs.Links.{
   NamesAll,
   NamesAs,
   OwnerIs,
+  PlaceIs,
   below_low,
   field_lines,
   lines_named,
@@ -411,6 +412,23 @@ module _ (rs : Lines) (count : ℕ) (nodes : EachOf (λ t. IsNode t × PointsWit
       by None at f = absurd cc
       by (Some q) at f = placed_loc rs n q at
 
+  -- the place of an entry has a path with a part that is not empty
+  said_place : (o : Option ℕ) → is_said kn o ≡ true → IfSome o (PlaceIs kn None)
+  said_place None e = tt
+  said_place (Some n) e = by (kn.path n) refl e
+    where
+      by : (p : Option (List ℕ)) → kn.path n ≡ p → is_said_path p ≡ true
+          → (q : List ℕ) × (kn.path n ≡ Some q) × (has_part q ≡ true)
+      by None at f = absurd cc
+      by (Some q) at f = (q, at, f)
+
+  entry_said : (e : model.Entry) → is_entry kn e ≡ true → is_said kn e.place ≡ true
+  entry_said e h =
+      let rest : Bool = nat_le 1 (length e.mentions) && (nat_le (length e.mentions) 100
+      && list_all (λ (m : model.Mention). is_role_of e.kind m.role && names_person kn m.link) e.mentions) in
+      (and_parts (is_said kn e.place) rest
+      (and_parts (bytes_eq (kn.tag e.source) (codes "SOUR")) (is_said kn e.place && rest) h).1).0
+
   mention_named : (l : Option model.Link) → names_person kn l ≡ true
       → EachOf N (field_links a_person (option_map (λ (x : model.Link). x.person) l))
   mention_named None e = tt
@@ -441,7 +459,11 @@ module _ (rs : Lines) (count : ℕ) (nodes : EachOf (λ t. IsNode t × PointsWit
       by : (b : Bool) (e : Option model.Entry) → entry_of kn v ts ≡ e
           → NamesAll kn count None None (entry_or_other tag v ts (if b then e else None))
       by true (Some x) is = let g = guessed kn v ts x is in
-          (refl, subst (λ y. EachOf N (links (kind.Entry y))) g.1 (is_entry_named (entry_on (text_in v) ts) g.0))
+          subst (λ y. NamesAll kn count None None (kind.Entry y)) g.1 (
+            refl,
+            is_entry_named (entry_on (text_in v) ts) g.0,
+            said_place (entry_on (text_in v) ts).place (entry_said (entry_on (text_in v) ts) g.0),
+          )
       by true None is = (refl, each_both N (value_links v) (carried_links ts) said (lines_named kn count ts h))
       by false e is = (refl, each_both N (value_links v) (carried_links ts) said (lines_named kn count ts h))
 

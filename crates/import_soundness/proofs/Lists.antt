@@ -1,7 +1,8 @@
 -- What holds of each of a list holds of each that is picked from it.
-use Rattle.std.proofs.Common.{◌≡◌, Bool, true, false, cond, List, [], ◌∷◌, ◌++◌, refl}
+use Rattle.std.proofs.Common.{◌≡◌, Bool, true, false, cond, List, [], ◌∷◌, ◌++◌, refl, sym, ap, ◌∙◌}
 use Rattle.std.specs.Prelude.{Option, Some, None, IfSome, map}
 use Rattle.std.specs.List.{filter, flat_map}
+use Rattle.std.proofs.lemmas.List.{map-append}
 use Rattle.record_shapes.specs.Lists.{EachOf}
 use Rattle.record_shapes.specs.Picking.{first}
 use Rattle.record_shapes.specs.Reading.{without}
@@ -42,3 +43,14 @@ each_joined P f (x ∷ xs) h = each_both P (f x) (flat_map f xs) h.0 (each_joine
 pub if_first : {A : Type 0} (P : A → Type 0) (xs : List A) → EachOf P xs → IfSome (first xs) P
 if_first P [] h = tt
 if_first P (x ∷ xs) h = h.0
+
+-- ---- two lists that are maps of two
+pub cat : {A B : Type 0} (m : A → B) (xs ys : List A) (us vs : List B) → us ≡ map m xs → vs ≡ map m ys
+    → us ++ vs ≡ map m (xs ++ ys)
+cat m xs ys us vs e g = ap (λ l. l ++ vs) e ∙ ap (λ l. map m xs ++ l) g ∙ sym (map-append m xs ys)
+
+pub flat_cat : {A B C : Type 0} (m : B → C) (g : A → A) (h : A → List B) (k : A → List C)
+    → ((a : A) → k (g a) ≡ map m (h a)) → (xs : List A) → flat_map k (map g xs) ≡ map m (flat_map h xs)
+flat_cat m g h k e [] = refl
+flat_cat m g h k e (x ∷ xs) = cat m (h x) (flat_map h xs) (k (g x)) (flat_map k (map g xs)) (e x)
+    (flat_cat m g h k e xs)

@@ -137,7 +137,7 @@ each_once P seen (t ∷ ts) h =
       | false ↦ (h.0, each_once P (number_of t ∷ seen) ts h.1)
     ]
 
-map_by : {A B C : Type 0} (g : B → C) (f : A → B) (h : A → C) → ((a : A) → g (f a) ≡ h a) → (xs : List A)
+pub map_by : {A B C : Type 0} (g : B → C) (f : A → B) (h : A → C) → ((a : A) → g (f a) ≡ h a) → (xs : List A)
     → map g (map f xs) ≡ map h xs
 map_by g f h e [] = refl
 map_by g f h e (x ∷ xs) = λ i. e x i ∷ map_by g f h e xs i
