@@ -301,7 +301,7 @@ module _ (A : Records) (w : Places) (D : Drawing) (all : EachOf (There A w D) D.
         (draw_all_good k d.next own e u is.1 named.2 (stands_as_owner k 0 d1 own None on) behind ran
         (record_good k 0 None d1 own None is.0 named.0 (sym here, (r, at, ap label root.whole)) tt begun))
 
-    roots_good : (k : ℕ) (d : Drawing) (behind : Lines)
+    pub roots_good : (k : ℕ) (d : Drawing) (behind : Lines)
         → ((i : ℕ) (r : Tree Line) → slice_get behind i ≡ Some r → slice_get rs (k + i) ≡ Some r)
         → EachOf (λ t. IsNode t × PointsWithin count t) behind → length d.roots ≡ k → first ≤ d.next
         → GoesOn (draw_roots rs w k d behind) D → Good d → Good (draw_roots rs w k d behind)

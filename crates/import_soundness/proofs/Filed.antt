@@ -222,7 +222,7 @@ kept_roots f h = each_filter IsRoot (is_kept (candidates f)) (candidates f)
     behind [] h = tt
     behind (t ∷ ts) h = h.1
 
-count_same : {A B : Type 0} (g : A → B) (xs : List A) → length (map g xs) ≡ length xs
+pub count_same : {A B : Type 0} (g : A → B) (xs : List A) → length (map g xs) ≡ length xs
 count_same g [] = refl
 count_same g (x ∷ xs) = ap (λ n. suc n) (count_same g xs)
 

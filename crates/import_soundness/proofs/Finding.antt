@@ -45,7 +45,7 @@ use Rattle.import_forest.specs.Numbers.{
 }
 use Rattle.import_forest.specs.Positions.{path_at}
 
-path_has : (path : List ℕ) (o : Option (List ℕ)) → has_path path o ≡ true → o ≡ Some path
+pub path_has : (path : List ℕ) (o : Option (List ℕ)) → has_path path o ≡ true → o ≡ Some path
 path_has path None e = absurd cc
 path_has path (Some p) e = ap Some (bytes_are p path e)
 

@@ -32,3 +32,6 @@ mod DrawnWell
 mod RenamedLinks
 mod RenamedTexts
 mod Targets
+mod Judging
+mod Keys
+mod Whole

@@ -65,7 +65,7 @@ module _ (f : ℕ → ℕ) where
     forest_moved none = refl
     forest_moved (more t ts) = cat (moved f) (line_links t) (forest_links ts) _ _ (line_moved t) (forest_moved ts)
 
-  lines_moved : (ts : Lines) → carried_links (lines_with f ts) ≡ map (moved f) (carried_links ts)
+  pub lines_moved : (ts : Lines) → carried_links (lines_with f ts) ≡ map (moved f) (carried_links ts)
   lines_moved ts = flat_cat (moved f) (relabel (line_with f)) line_links line_links line_moved ts
 
   field_moved : (w : Wanted) (o : Option ℕ) → field_links w (option_map f o) ≡ map (moved f) (field_links w o)
@@ -93,7 +93,7 @@ module _ (f : ℕ → ℕ) where
   place_moved None = refl
   place_moved (Some p) = ap (λ l. (f p.place, a_place) ∷ l) (lines_moved p.carried)
 
-  participant_moved : (p : model.Participant) → participant_links (participant_with f p) ≡ map (moved f)
+  pub participant_moved : (p : model.Participant) → participant_links (participant_with f p) ≡ map (moved f)
       (participant_links p)
   participant_moved p = ap (λ l. (f p.person, a_person) ∷ l) (lines_moved p.carried)
 

@@ -27,7 +27,7 @@ below_stays (p ∷ ps) m first end n h less =
     ∙ put_elsewhere m p.number p.«record» n (λ e. omega (arith, e))
 
 -- the end is not below the first
-ends : (ns : List ℕ) (first end : ℕ) → CountUp first end ns → first ≤ end
+pub ends : (ns : List ℕ) (first end : ℕ) → CountUp first end ns → first ≤ end
 ends [] first end h = omega arith
 ends (n ∷ ns) first end h = let rest : first + 1 ≤ end = ends ns (first + 1) end h.1 in omega arith
 
@@ -65,3 +65,35 @@ records_stand c f b sound e =
       batch = all_stand b.records c.records c.next b.next up;
       new = λ n r gone at. new_from b.records c.records c.next b.next n r up gone at;
     }
+
+-- what holds of each record that is put holds of what is new
+pub new_holds : (P : Numbered → Type 0) (ps : List Numbered) (m : Records) (first end n : ℕ) (r : Record)
+    → CountUp first end (numbers_of ps) → EachOf P ps → get m n ≡ None → get (with_puts m ps) n ≡ Some r
+    → P (record { number = n; «record» = r })
+new_holds P [] m first end n r h each gone at = absurd cc
+new_holds P (p ∷ ps) m first end n r h each gone at =
+    let here : p.number ≡ first = h.0 in
+    elim (put_cases m p.number p.«record» n (get (insert m p.number p.«record») n) refl)
+    as (λ _. P (record { number = n; «record» = r })) [
+      | inl is ↦
+          let same : n ≡ p.number = is.0 in
+          let stays : get (with_puts (insert m p.number p.«record») ps) p.number ≡ Some p.«record» =
+          below_stays ps (insert m p.number p.«record») (first + 1) end p.number h.1 (omega arith)
+          ∙ put_here m p.number p.«record» in
+          let both : Some p.«record» ≡ Some r = sym stays ∙ ap (get (with_puts (insert m p.number p.«record») ps)) (sym same)
+          ∙ at in
+          let record_is : p.«record» ≡ r = cc in
+          subst P (λ i. record { number = sym same i; «record» = record_is i }) each.0
+      | inr is ↦ new_holds P ps (insert m p.number p.«record») (first + 1) end n r h.1 each.1 (sym is.1 ∙ gone) at
+    ]
+
+-- each number is from the first on, and below the end
+pub count_range : (ns : List ℕ) (first end : ℕ) → CountUp first end ns → EachOf (λ n. (first ≤ n) × (n < end)) ns
+count_range [] first end h = tt
+count_range (n ∷ ns) first end h =
+    let here : n ≡ first = h.0 in
+    let up : first + 1 ≤ end = ends ns (first + 1) end h.1 in (
+      (omega arith, omega arith),
+      each_more (λ m. (first + 1 ≤ m) × (m < end)) (λ m. (first ≤ m) × (m < end))
+          (λ m k. (let low : first + 1 ≤ m = k.0 in omega arith, k.1)) ns (count_range ns (first + 1) end h.1),
+    )

@@ -104,7 +104,7 @@ module _ (A : Records) (w : Places) (next : ℕ) (rs : Lines)
   IsThere k = (r : Tree Line) × (slice_get rs k ≡ Some r)
 
   -- what has a tag is a node
-  tagged_there : (k : ℕ) (word : List ℕ) → bytes_eq (tag_at rs k) word ≡ true → (bytes_eq [] word ≡ false)
+  pub tagged_there : (k : ℕ) (word : List ℕ) → bytes_eq (tag_at rs k) word ≡ true → (bytes_eq [] word ≡ false)
       → (r : Tree Line) × (slice_get rs k ≡ Some r) × (bytes_eq (tag_of r) word ≡ true)
   tagged_there k word e lacks = by (slice_get rs k) refl
     where

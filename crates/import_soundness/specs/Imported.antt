@@ -9,6 +9,7 @@ use Rattle.archive_state.specs.Content.{Content}
 use Rattle.archive_state.specs.Sound.{IsSound}
 use Rattle.archive_state.specs.declared.changes.Numbered.{Numbered}
 use Rattle.gedcom_tree.specs.Forest.{Item}
+use Rattle.gedcom_tree.specs.Text.{IsForest}
 use Rattle.import_forest.specs.Made.{made}
 
 -- with the records of the batch at their numbers
@@ -42,3 +43,8 @@ pub record StandsAfter (c : Content) (b : Batch) : Type 0 where
 
 abbrev pub RecordsStand : Type 0
 RecordsStand = (c : Content) (f : List Item) (b : Batch) → IsSound c → made c f ≡ Ok b → StandsAfter c b
+
+-- an import of any forest into a sound archive leaves it sound
+abbrev pub ImportsStaySound : Type 0
+ImportsStaySound = (c : Content) (f : List Item) (b : Batch) → IsSound c → IsForest f → made c f ≡ Ok b
+    → IsSound (imported c b)

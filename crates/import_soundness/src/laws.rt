@@ -1,6 +1,6 @@
 //! What holds of an import, over the definition of what a forest makes of an archive.
 
-ghost use Rattle.import_soundness.specs.Imported.{NumbersAreNew, RecordsStand};
+ghost use Rattle.import_soundness.specs.Imported.{ImportsStaySound, NumbersAreNew, RecordsStand};
 ghost use Rattle.import_soundness.specs.Read.{FilesHaveNodes, NodesAreRead};
 
 /// The numbers that an import draws count up from the next number of the archive to that of the batch, which is at most
@@ -26,4 +26,9 @@ pub fn the_nodes_of_a_file_are_fit()
 /// and their roles, carried lines that no field would take, the shape of a record of no other kind, and levels.
 pub fn what_is_read_keeps_the_rules()
     ensures { NodesAreRead }
+{}
+
+/// An import of any forest into a sound archive leaves it sound.
+pub fn an_import_leaves_an_archive_sound()
+    ensures { ImportsStaySound }
 {}
