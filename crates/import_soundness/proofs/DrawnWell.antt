@@ -109,7 +109,7 @@ path_joined q h = h.normal_is
 
 module _ (A : Records) (w : Places) (D : Drawing) (all : EachOf (There A w D) D.drawn) (first : ℕ)
     (arch : (q : List ℕ) (n : ℕ) → w.archive q ≡ Some n → (path_of A n ≡ Some q) × (n < first))
-    (filed : (k : ℕ) (q : List ℕ) → path_at w.file k ≡ Some q → path_of A (F A w D k) ≡ Some q)
+    (filed : (k : ℕ) (q : List ℕ) → w.file q ≡ Some k → path_of A (F A w D k) ≡ Some q)
     (rs : Lines) (count : ℕ) where
   abbrev f : ℕ → ℕ
   f k = F A w D k
@@ -174,7 +174,8 @@ module _ (A : Records) (w : Places) (D : Drawing) (all : EachOf (There A w D) D.
           (unless_found o d (made_within (joined (name ∷ names)) name (settle w (Some k) k names d))).0.made
           (joined (name ∷ names))) ≡ true
       by (Some x) e = ap is_some e
-      by None e = found_made w None (joined (name ∷ names)) (settle w (Some k) k names d).0.made _ refl
+      by None e = found_made w None (joined (name ∷ names)) (settle w (Some k) k names d).0.made
+          (settle w (Some k) k names d).0.next
 
   some_names : (q : List ℕ) → (name : List ℕ) × (names : List (List ℕ)) × (names_of q ≡ name ∷ names)
   some_names q = let s = parts_some q in (trimmed s.0, map trimmed s.1, ap (map trimmed) s.2)
@@ -208,8 +209,7 @@ module _ (A : Records) (w : Places) (D : Drawing) (all : EachOf (There A w D) D.
       let e : Drawing = draw w k owner d (node (sought p) u) in
       let on : GoesOn e D = goes_then e (draw_all w k owner e ts) D (draw_all_goes e w k owner ts) goes in
       subst (λ x. is_some (find w None D.made x) ≡ true) h
-      (subst (λ ms. is_some (find w None ms p) ≡ true) (sym on.made.whole)
-      (found_more w None p e.made on.made.rest (sought_found k d p named.0)))
+      (found_more w None p e.made D.made (on.made p) (sought_found k d p named.0))
 
   found_if : (path : Option (List ℕ)) (k owner : ℕ) (o : Option Record) (d : Drawing) (g : Forest Draft)
       → IfSome path (λ q. IsSought q g) → AllNamed (known rs) count o g → GoesOn (draw_all w k owner d g) D

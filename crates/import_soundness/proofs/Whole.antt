@@ -69,7 +69,7 @@ use Rattle.import_forest.specs.Numbers.{
   place_made,
   placed,
 }
-use Rattle.import_forest.specs.Positions.{known, known_before, path_at, paths}
+use Rattle.import_forest.specs.Positions.{known, known_before, path_at, paths, position_of}
 use Rattle.import_forest.specs.Sides.{draft_at}
 use Rattle.import_soundness.specs.Imported.{CountUp, ImportsStaySound, StandsAfter, imported, numbers}
 use Rattle.import_soundness.specs.Read.{IsNode, IsRead, PointsWithin, rows}
@@ -78,7 +78,7 @@ use Rattle.import_soundness.proofs.Clean.{clean_text}
 use Rattle.import_soundness.proofs.Drawn.{all_up, drawing_by, made_is, number_drawn, numbers_are_new, places_by}
 use Rattle.import_soundness.proofs.DrawnWell.{Good, IsFileDrawn, IsOwnedAt, roots_good}
 use Rattle.import_soundness.proofs.Filed.{files_have_nodes}
-use Rattle.import_soundness.proofs.Finding.{path_has}
+use Rattle.import_soundness.proofs.Finding.{first_position_has, path_has}
 use Rattle.import_soundness.proofs.Going.{goes_itself}
 use Rattle.import_soundness.proofs.Judging.{
   IsOwner,
@@ -98,7 +98,7 @@ use Rattle.import_soundness.proofs.ReadPlaces.{place_name_within}
 use Rattle.import_soundness.proofs.Lists.{each_mapped, filter_holds, if_first}
 use Rattle.import_soundness.proofs.Normal.{are_limits, name_normal}
 use Rattle.import_soundness.proofs.Rooted.{F, There, all_rooted}
-use Rattle.import_soundness.proofs.Settling.{IsDrawnWell, IsMadeAt, IsPlaceDrawn, found_path}
+use Rattle.import_soundness.proofs.Settling.{IsDrawnWell, IsPlaceDrawn, found_path}
 use Rattle.import_soundness.proofs.Standing.{count_range, ends, new_holds, records_stand}
 use Rattle.import_soundness.proofs.Targets.{IsThere, apart, tagged_there}
 
@@ -149,7 +149,7 @@ file_within rs k q e = by (slice_get rs k) refl
 module _ (c : Content) (sound : IsSound c) (A : Records) (w : Places) (rs : Lines)
     (still : (n : ℕ) (r : Record) → get c.records n ≡ Some r → get A n ≡ Some r)
     (archive_is : (q : List ℕ) (n : ℕ) → w.archive q ≡ Some n → lowest_place c.records q ≡ Some n)
-    (file_is : w.file ≡ paths rs)
+    (file_is : (q : List ℕ) (k : ℕ) → w.file q ≡ Some k → position_of q 0 (paths rs) ≡ Some k)
     (all : EachOf (There A w (drawing c.next w rs)) (drawing c.next w rs).drawn) (zero_none : get A 0 ≡ None)
     (nodes : EachOf (λ t. IsNode t × PointsWithin (length rs) t) rs) where
   abbrev D : Drawing
@@ -169,8 +169,8 @@ module _ (c : Content) (sound : IsSound c) (A : Records) (w : Places) (rs : Line
         (sound.rules.numbered n there.0 there.1).1,
       )
 
-  in_file : (k : ℕ) (q : List ℕ) → path_at w.file k ≡ Some q → path_of A (F A w D k) ≡ Some q
-  in_file k q e = filed A w c.next rs all zero_none k q (ap (λ ps. path_at ps k) (sym file_is) ∙ e)
+  in_file : (k : ℕ) (q : List ℕ) → w.file q ≡ Some k → path_of A (F A w D k) ≡ Some q
+  in_file k q e = filed A w c.next rs all zero_none k q (first_position_has q (paths rs) k (file_is q k e))
 
   abbrev Well : Drawn → Type 0
   Well x = IsDrawnWell A w D all c.next arch in_file (IsFileDrawn A w D all c.next arch in_file rs (length rs)) x
@@ -178,7 +178,7 @@ module _ (c : Content) (sound : IsSound c) (A : Records) (w : Places) (rs : Line
   all_good : Good A w D all c.next arch in_file rs (length rs) D
   all_good = roots_good A w D all c.next arch in_file rs (length rs) nodes (all_rooted A w c.next rs all) 0
       (begun c.next) rs (λ i r at. subst (λ n. slice_get rs n ≡ Some r) (let e : i ≡ 0 + i = omega arith in e) at) nodes
-      refl (omega arith) (goes_itself D) (record { drawn = tt; made = tt })
+      refl (omega arith) (goes_itself D) (record { drawn = tt; made = λ q n e. absurd cc })
 
   -- ---- records of the file
   abbrev OfFile : ℕ → ℕ → Record → Option (List ℕ) → Type 0
@@ -542,9 +542,9 @@ whole c file sound forest e =
     let all : EachOf (There A w d) d.drawn = each_unmapped (λ (p : Numbered). get A p.number ≡ Some p.«record»)
     (finished w d) d.drawn stands.batch in
     let nodes : EachOf (λ t. IsNode t × PointsWithin (length rs) t) rs = files_have_nodes file forest in
-    let New : Numbered → Type 0 = IsNew c sound A w rs stands.still (λ q n x. x) refl all zero_none nodes in
+    let New : Numbered → Type 0 = IsNew c sound A w rs stands.still (λ q n x. x) (λ q k x. x) all zero_none nodes in
     let news : EachOf New b.records = each_mapped New (finished w d) d.drawn
-    (all_new c sound A w rs stands.still (λ q n x. x) refl all zero_none nodes) in
+    (all_new c sound A w rs stands.still (λ q n x. x) (λ q k x. x) all zero_none nodes) in
     let new_is : (n : ℕ) (r : Record) → get c.records n ≡ None → get A n ≡ Some r
     → New (record { number = n; «record» = r }) = λ n r gone at. new_holds New b.records c.records c.next b.next n r count.0
     news gone at in
@@ -562,9 +562,9 @@ whole c file sound forest e =
           elim (cases_of c.records k) as (λ _. n ≡ k) [
             | inl (q, was) ↦
                 let both : Some q ≡ Some (kind.Entry y) = sym (stands.still k q was) ∙ there in
-                absurd (old_and_new c sound A w rs stands.still (λ q n x. x) refl all zero_none nodes is.0 n k x y one
+                absurd (old_and_new c sound A w rs stands.still (λ q n x. x) (λ q k x. x) all zero_none nodes is.0 n k x y one
                 (was ∙ both) source)
-            | inr none_was ↦ two_new c sound A w rs stands.still (λ q n x. x) refl all zero_none nodes is.0 n k x y one
+            | inr none_was ↦ two_new c sound A w rs stands.still (λ q n x. x) (λ q k x. x) all zero_none nodes is.0 n k x y one
                 ((new_is k (kind.Entry y) none_was there).entry y refl) source kinds page item
           ];
     })
