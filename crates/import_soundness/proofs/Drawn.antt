@@ -16,30 +16,8 @@ use Rattle.archive_state.specs.declared.changes.Numbered.{Numbered}
 use Rattle.gedcom_tree.specs.Forest.{Item}
 use Rattle.file_roots.specs.Nodes.{FileNode}
 use Rattle.file_roots.specs.Roots.{candidates, kept}
-use Rattle.file_roots.specs.Lines.{roots}
 use Rattle.import_forest.specs.Sides.{draft_at}
-use Rattle.import_forest.specs.Numbers.{
-  Drawing,
-  Drawn,
-  Found,
-  Places,
-  begun,
-  draw,
-  draw_all,
-  draw_roots,
-  drawn_more,
-  find,
-  finished,
-  made_within,
-  names_of,
-  of_file,
-  of_path,
-  results,
-  root_drawn,
-  settle,
-  unless_found,
-  with_made,
-}
+use Rattle.import_forest.specs.Numbers.{Drawing, Drawn, Found, Places, begun, draw, draw_all, draw_roots, drawn_more, find, finished, made_within, names_of, of_file, of_path, root_drawn, settle, unless_found, with_made}
 use Rattle.import_forest.specs.Made.{batch, drawing, lowest_place, made, places, second, unless_full, unless_second}
 use Rattle.import_soundness.specs.Read.{rows}
 use Rattle.import_soundness.specs.Imported.{CountUp, NumbersAreNew, numbers}
@@ -49,36 +27,36 @@ module _ (P : Drawing → Type 0)
     (file : (d : Drawing) (owner : ℕ) (r : Record) (path : Option (List ℕ)) → P d
     → P (drawn_more d (of_file d.next owner r path)))
     (place : (d : Drawing) (path name : List ℕ) (parent : Option Found) → P d → P (with_made path name parent d))
-    where
-  pub settled_keeps : (w : Places) (before : Option ℕ) (k : ℕ) (names : List (List ℕ)) (d : Drawing) → P d
-      → P (settle w before k names d).0
-  settled_keeps w before k [] d h = h
-  settled_keeps w before k (name ∷ names) d h =
-      let above : P (settle w (Some k) k names d).0 = settled_keeps w (Some k) k names d h in
-      elim (find w before d.made (joined (name ∷ names))) as (λ o. P (unless_found o d
-      (made_within (joined (name ∷ names)) name (settle w (Some k) k names d))).0) [
-        | None ↦ place (settle w (Some k) k names d).0 (joined (name ∷ names)) name (settle w (Some k) k names d).1
-            above
-        | Some f ↦ h
-      ]
+  where
+    pub settled_keeps : (w : Places) (before : Option ℕ) (k : ℕ) (names : List (List ℕ)) (d : Drawing) → P d
+        → P (settle w before k names d).0
+    settled_keeps w before k [] d h = h
+    settled_keeps w before k (name ∷ names) d h =
+        let above : P (settle w (Some k) k names d).0 = settled_keeps w (Some k) k names d h in
+        elim (find w before d.made (joined (name ∷ names))) as (λ o. P (unless_found o d
+        (made_within (joined (name ∷ names)) name (settle w (Some k) k names d))).0) [
+          | None ↦ place (settle w (Some k) k names d).0 (joined (name ∷ names)) name (settle w (Some k) k names d).1
+              above
+          | Some f ↦ h
+        ]
 
-  mutual
-    pub draw_keeps : (w : Places) (k owner : ℕ) (d : Drawing) (t : Tree Draft) → P d → P (draw w k owner d t)
-    draw_keeps w k owner d (node (read r path) f) h =
-        draw_all_keeps w k d.next (drawn_more d (of_file d.next owner r path)) f (file d owner r path h)
-    draw_keeps w k owner d (node (sought path) f) h = settled_keeps w None k (names_of path) d h
+    mutual
+      pub draw_keeps : (w : Places) (k owner : ℕ) (d : Drawing) (t : Tree Draft) → P d → P (draw w k owner d t)
+      draw_keeps w k owner d (node (read r path) f) h =
+          draw_all_keeps w k d.next (drawn_more d (of_file d.next owner r path)) f (file d owner r path h)
+      draw_keeps w k owner d (node (sought path) f) h = settled_keeps w None k (names_of path) d h
 
-    pub draw_all_keeps : (w : Places) (k owner : ℕ) (d : Drawing) (f : Forest Draft) → P d → P (draw_all w k owner d f)
-    draw_all_keeps w k owner d none h = h
-    draw_all_keeps w k owner d (more t ts) h = draw_all_keeps w k owner (draw w k owner d t) ts
-        (draw_keeps w k owner d t h)
+      pub draw_all_keeps : (w : Places) (k owner : ℕ) (d : Drawing) (f : Forest Draft) → P d → P (draw_all w k owner d f)
+      draw_all_keeps w k owner d none h = h
+      draw_all_keeps w k owner d (more t ts) h = draw_all_keeps w k owner (draw w k owner d t) ts
+          (draw_keeps w k owner d t h)
 
-  pub roots_keep : (root : (d : Drawing) → P d → P (root_drawn d)) (rs : Lines) (w : Places) (k : ℕ) (d : Drawing)
-      (behind : Lines) → P d → P (draw_roots rs w k d behind)
-  roots_keep root rs w k d [] h = h
-  roots_keep root rs w k d (r ∷ behind) h =
-      roots_keep root rs w (k + 1) (draw w k 0 (root_drawn d) (draft_at rs k r)) behind
-      (draw_keeps w k 0 (root_drawn d) (draft_at rs k r) (root d h))
+    pub roots_keep : (root : (d : Drawing) → P d → P (root_drawn d)) (rs : Lines) (w : Places) (k : ℕ) (d : Drawing)
+        (behind : Lines) → P d → P (draw_roots rs w k d behind)
+    roots_keep root rs w k d [] h = h
+    roots_keep root rs w k d (r ∷ behind) h =
+        roots_keep root rs w (k + 1) (draw w k 0 (root_drawn d) (draft_at rs k r)) behind
+        (draw_keeps w k 0 (root_drawn d) (draft_at rs k r) (root d h))
 
 -- ---- numbers count up
 abbrev pub number_drawn : Drawn → ℕ

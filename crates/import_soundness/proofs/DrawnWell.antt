@@ -1,31 +1,5 @@
 -- All that is drawn: records of the file, each below its owner, and places that are made.
-use Rattle.std.proofs.Common.{
-  ◌≡◌,
-  ◌⊎◌,
-  ℕ,
-  ◌+◌,
-  zero,
-  suc,
-  ◌<◌,
-  ◌≤◌,
-  true,
-  List,
-  [],
-  ◌∷◌,
-  ◌++◌,
-  length,
-  map,
-  refl,
-  sym,
-  ap,
-  ◌∙◌,
-  subst,
-  inl,
-  inr,
-  arith,
-  append_assoc,
-  length-append,
-}
+use Rattle.std.proofs.Common.{◌≡◌, ℕ, ◌+◌, zero, suc, ◌<◌, ◌≤◌, true, List, [], ◌∷◌, ◌++◌, length, map, refl, sym, ap, ◌∙◌, subst, inl, inr, arith, append_assoc, length-append}
 use Rattle.std.specs.Prelude.{Option, Some, None, IfSome}
 use Rattle.std.specs.FinMap.{get}
 use Rattle.std.specs.List.{slice_get}
@@ -34,10 +8,10 @@ use Rattle.stored_lines.specs.Tree.{Tree, Forest, node, none, more, label}
 use Rattle.record_kinds.specs.declared.record.Record.{Record}
 use Rattle.record_kinds.specs.declared.record.Record.TheVariants as kind
 use Rattle.record_links.specs.Links.{a_cited, a_holder, is_wanted}
-use Rattle.record_shapes.specs.Forms.{Known, below, is_some, tag_of}
+use Rattle.record_shapes.specs.Forms.{is_some}
 use Rattle.record_shapes.specs.Levels.{room_below}
 use Rattle.record_shapes.specs.Lists.{EachOf}
-use Rattle.record_shapes.specs.Paths.{is_within_limits, joined, normal, parts, trimmed}
+use Rattle.record_shapes.specs.Paths.{is_within_limits, joined, normal, trimmed}
 use Rattle.record_shapes.specs.Reading.{Draft, read, sought}
 use Rattle.record_shapes.specs.Tags.{event_tags}
 use Rattle.archive_state.specs.Content.{Records}
@@ -45,46 +19,18 @@ use Rattle.archive_state.specs.Known.{path_of}
 use Rattle.archive_state.specs.Merging.{record_with}
 use Rattle.archive_state.proofs.Each.{each_both, each_more}
 use Rattle.archive_state.proofs.PathTexts.{parts_some}
-use Rattle.import_forest.specs.Numbers.{
-  Drawing,
-  Drawn,
-  Found,
-  Places,
-  draw,
-  draw_all,
-  draw_roots,
-  drawn_more,
-  find,
-  made_within,
-  names_of,
-  number_at,
-  of_file,
-  owned_by,
-  placed,
-  root_drawn,
-  settle,
-  unless_found,
-}
-use Rattle.import_forest.specs.Positions.{known, known_before, path_at}
+use Rattle.import_forest.specs.Numbers.{Drawing, Found, Places, draw, draw_all, draw_roots, drawn_more, find, made_within, names_of, number_at, of_file, owned_by, placed, root_drawn, settle, unless_found}
+use Rattle.import_forest.specs.Positions.{known, known_before}
 use Rattle.import_forest.specs.Sides.{draft_at}
 use Rattle.import_soundness.specs.Read.{AllRead, EachRead, IsNode, IsRead, PointsWithin}
-use Rattle.import_soundness.proofs.Clean.{IsClean}
 use Rattle.import_soundness.proofs.Finding.{found_made, found_more}
-use Rattle.import_soundness.proofs.Going.{
-  GoesOn,
-  IsFront,
-  draw_all_goes,
-  draw_goes,
-  goes_itself,
-  goes_then,
-  roots_go,
-}
+use Rattle.import_soundness.proofs.Going.{GoesOn, draw_all_goes, draw_goes, goes_then, roots_go}
 use Rattle.import_soundness.proofs.Links.{AllNamed, EachNamed, IsPath, IsSought, NamesAll}
 use Rattle.import_soundness.proofs.LinksNodes.{node_named}
-use Rattle.import_soundness.proofs.Normal.{IsName, are_limits, are_names, names_clean}
+use Rattle.import_soundness.proofs.Normal.{are_limits, are_names, names_clean}
 use Rattle.import_soundness.proofs.ReadNodes.{nodes_are_read}
 use Rattle.import_soundness.proofs.Rooted.{F, IsRootAt, There, last_there, draw_roots_same, number_seam}
-use Rattle.import_soundness.proofs.RootRecords.{IsRootOf, root_is_read}
+use Rattle.import_soundness.proofs.RootRecords.{root_is_read}
 use Rattle.import_soundness.proofs.Settling.{
   AreNames,
   IsBehind,

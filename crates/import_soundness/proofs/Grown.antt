@@ -1,37 +1,15 @@
 -- The nodes of a forest: what their lines have, how deep they go, and that all stand at level 0.
-use Rattle.std.proofs.Common.{
-  ◌≡◌,
-  ℕ,
-  ◌+◌,
-  ◌≤◌,
-  ◌==◌,
-  Bool,
-  true,
-  false,
-  not,
-  cond,
-  List,
-  [],
-  ◌∷◌,
-  length,
-  map,
-  refl,
-  sym,
-  ap,
-  ◌∙◌,
-  subst,
-  arith,
-}
+use Rattle.std.proofs.Common.{◌≡◌, ℕ, ◌+◌, ◌≤◌, ◌==◌, true, false, cond, List, [], ◌∷◌, map, refl, sym, ap, ◌∙◌, subst, arith}
 use Rattle.std.specs.Prelude.{◌&&◌, nat_le, bytes_eq, codes}
 use Rattle.std.proofs.lemmas.Bool.{and_parts, eqb-true, eqb-false}
 use Rattle.std.proofs.lemmas.Bool.Decides.{nat_tests}
-use Rattle.stored_lines.specs.Growing.{backs, fronts, graft, grown}
+use Rattle.stored_lines.specs.Growing.{backs, fronts, grown}
 use Rattle.stored_lines.specs.Levels.{forest_levels, levels}
-use Rattle.stored_lines.specs.Tree.{Tree, Forest, node, none, more, forest_of, label}
+use Rattle.stored_lines.specs.Tree.{Forest, node, none, more, forest_of, label}
 use Rattle.record_shapes.specs.Lists.{EachOf}
 use Rattle.gedcom_line.specs.Reading.{is_continuation}
 use Rattle.gedcom_tree.specs.Forest.{Item}
-use Rattle.gedcom_tree.specs.Text.{EachNode, IsForest, IsNodeOf, IsNodeValue, begins, is_tag, rises}
+use Rattle.gedcom_tree.specs.Text.{EachNode, IsForest, IsNodeValue, begins, is_tag, rises}
 use Rattle.gedcom_tree.specs.Text.{behind_first as items_behind}
 use Rattle.file_roots.specs.Nodes.{FileLine, FileNode, leveled, nodes_of}
 use Rattle.import_soundness.proofs.Lists.{each_mapped}
@@ -164,8 +142,7 @@ all_roots f h = each_mapped IsRoot (λ (t : Depth). t.1) (grown (map leveled f))
     falls (i ∷ is) b r =
         let p = and_parts (i.level == 0) (bytes_eq i.tag (codes "HEAD")) b in
         let zero : i.level ≡ 0 = eqb-true i.level 0 p.0 in
-        let rest : Falls 1 (grown (map leveled is)) = all_fall 0 is r in
-        (
+        let rest : Falls 1 (grown (map leveled is)) = all_fall 0 is r in (
           (omega arith),
           back_falls i.level (grown (map leveled is)) (subst (λ k. Falls k (grown (map leveled is)))
               (let one : 1 ≡ i.level + 1 = omega arith in one) rest),

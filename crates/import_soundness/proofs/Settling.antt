@@ -1,34 +1,8 @@
 -- Places that are made: they stand within the place of their path's other names, and have that path.
-use Rattle.std.proofs.Common.{
-  ◌≡◌,
-  ◌⊎◌,
-  ℕ,
-  ◌+◌,
-  ◌<◌,
-  ◌≤◌,
-  Bool,
-  true,
-  false,
-  List,
-  [],
-  ◌∷◌,
-  ◌++◌,
-  length,
-  map,
-  refl,
-  sym,
-  ap,
-  ◌∙◌,
-  subst,
-  inl,
-  inr,
-  arith,
-  length-append,
-}
-use Rattle.std.specs.Prelude.{Option, Some, None, IfSome, option_map, bytes_eq, codes, if◌then◌else◌}
+use Rattle.std.proofs.Common.{◌≡◌, ℕ, ◌+◌, ◌<◌, ◌≤◌, true, false, List, [], ◌∷◌, ◌++◌, length, refl, sym, ap, ◌∙◌, subst, inl, inr, arith, length-append}
+use Rattle.std.specs.Prelude.{Option, Some, None, IfSome, option_map, bytes_eq, if◌then◌else◌}
 use Rattle.std.specs.List.{onto_first}
 use Rattle.std.specs.FinMap.{get}
-use Rattle.record_kinds.specs.Model as model
 use Rattle.record_kinds.specs.declared.record.Record.{Record}
 use Rattle.record_kinds.specs.declared.record.Record.TheVariants as kind
 use Rattle.record_shapes.specs.Forms.{is_some}
@@ -36,32 +10,15 @@ use Rattle.record_shapes.specs.Lists.{EachOf}
 use Rattle.record_shapes.specs.Paths.{IsWithinLimits, joined, parts}
 use Rattle.archive_state.specs.Content.{Records}
 use Rattle.archive_state.specs.Known.{path_of}
-use Rattle.archive_state.specs.Paths.{HasPath}
 use Rattle.archive_state.proofs.Climbing.{goes_path}
-use Rattle.archive_state.proofs.Each.{each_both, each_more}
+use Rattle.archive_state.proofs.Each.{each_both}
 use Rattle.archive_state.proofs.Known.{path_known}
 use Rattle.archive_state.proofs.PathTexts.{parts_both, parts_some}
-use Rattle.import_forest.specs.Numbers.{
-  Drawing,
-  Drawn,
-  Found,
-  Places,
-  at_number,
-  at_position,
-  find,
-  made_within,
-  number_found,
-  of_file,
-  of_path,
-  place_made,
-  settle,
-  unless_found,
-  with_made,
-}
+use Rattle.import_forest.specs.Numbers.{Drawing, Drawn, Found, Places, at_number, find, made_within, number_found, of_file, of_path, place_made, settle, unless_found, with_made}
 use Rattle.record_fields.specs.Bytes.{bytes_are}
 use Rattle.import_soundness.proofs.Clean.{IsClean}
 use Rattle.import_soundness.proofs.Finding.{found_by, found_made}
-use Rattle.import_soundness.proofs.Going.{GoesOn, goes_itself, goes_made, goes_then, settle_goes}
+use Rattle.import_soundness.proofs.Going.{GoesOn, goes_made, goes_then}
 use Rattle.import_soundness.proofs.Normal.{IsName}
 use Rattle.import_soundness.proofs.Rooted.{F, There, last_there}
 
@@ -286,6 +243,7 @@ module _ (A : Records) (w : Places) (D : Drawing) (all : EachOf (There A w D) D.
             let o1 : Option Found = (settle w (Some k) k names d).1 in
             let whole : GoesOn d1 D = goes_then d1 (with_made (joined (name ∷ names)) name o1 d1) D
             (goes_made d1 (joined (name ∷ names)) name o1) on in
-            let above = settled_above k names d (fewer_names name names fit).0 whole behind good in
-            ((made_good name names o1 d1 fit on above.0 above.1).0,
-            found_made w None (joined (name ∷ names)) d1.made d1.next)
+            let above = settled_above k names d (fewer_names name names fit).0 whole behind good in (
+              (made_good name names o1 d1 fit on above.0 above.1).0,
+              found_made w None (joined (name ∷ names)) d1.made d1.next,
+            )

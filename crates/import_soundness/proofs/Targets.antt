@@ -24,34 +24,18 @@ use Rattle.std.proofs.Common.{
   inr,
   arith,
 }
-use Rattle.std.specs.Prelude.{Option, Some, None, IfSome, map, option_map, bytes_eq, codes}
+use Rattle.std.specs.Prelude.{Option, Some, None, map, option_map, bytes_eq, codes}
 use Rattle.std.specs.FinMap.{get}
 use Rattle.std.specs.List.{flat_map, slice_get}
 use Rattle.std.specs.Option.{unwrap_or}
 use Rattle.std.proofs.lemmas.Bool.{eq-eqb, eqb-true, or_parts}
-use Rattle.std.proofs.lemmas.Bool.Decides.{nat_tests}
 use Rattle.std.proofs.lemmas.List.{map-append}
 use Rattle.stored_lines.specs.Line.{Line, Lines}
 use Rattle.stored_lines.specs.Tree.{Tree}
 use Rattle.record_kinds.specs.Model as model
 use Rattle.record_kinds.specs.declared.record.Record.{Record}
 use Rattle.record_kinds.specs.declared.record.Record.TheVariants as kind
-use Rattle.record_links.specs.Links.{
-  Link,
-  Wanted,
-  a_cited,
-  a_holder,
-  a_person,
-  a_place,
-  a_repo,
-  a_source,
-  at_level_0,
-  carried_links,
-  child_links,
-  is_wanted,
-  links,
-  partner_links,
-}
+use Rattle.record_links.specs.Links.{Link, a_cited, a_holder, a_person, a_place, a_repo, a_source, at_level_0, carried_links, child_links, is_wanted, links, partner_links}
 use Rattle.record_shapes.specs.Forms.{tag_of}
 use Rattle.record_shapes.specs.Lists.{EachOf, IsOnce}
 use Rattle.record_shapes.specs.Members.{members}
@@ -68,7 +52,7 @@ use Rattle.import_soundness.proofs.Lists.{each_mapped}
 use Rattle.import_soundness.proofs.Once.{has, or_none}
 use Rattle.import_soundness.proofs.ReadFamilies.{map_by}
 use Rattle.import_soundness.proofs.RenamedLinks.{links_moved, moved}
-use Rattle.import_soundness.proofs.Rooted.{F, IsRootAt, There}
+use Rattle.import_soundness.proofs.Rooted.{There}
 
 -- a record that is wanted as another is
 record IsWantedAs (old r : Record) : Type 0 where
@@ -114,8 +98,12 @@ module _ (A : Records) (w : Places) (next : ℕ) (rs : Lines)
           let empty : bytes_eq [] word ≡ true = sym (ap (λ (o : Option (Tree Line)).
           bytes_eq (unwrap_or (option_map tag_of o) []) word) at) ∙ e in
           let both : true ≡ false = sym empty ∙ lacks in absurd cc
-      by (Some r) at = (r, at, sym (ap (λ (o : Option (Tree Line)).
-          bytes_eq (unwrap_or (option_map tag_of o) []) word) at) ∙ e)
+      by (Some r) at = (
+        r,
+        at,
+        sym (ap (λ (o : Option (Tree Line)).
+            bytes_eq (unwrap_or (option_map tag_of o) []) word) at) ∙ e,
+      )
 
   pub link_stands : (l : Link) → Names (known rs) (length rs) l → Stands A (moved g l)
   link_stands (n, a_place) h =
