@@ -11,25 +11,22 @@ use Rattle.std.proofs.Common.{
   Bool,
   true,
   false,
-  cond,
   nat_lt,
   List,
   [],
   ◌∷◌,
-  ◌++◌,
   length,
   take,
   refl,
   sym,
   ap,
   ◌∙◌,
-  subst,
   inl,
   inr,
   arith,
   add-one,
 }
-use Rattle.std.specs.Prelude.{Option, Some, None, IfSome, option_map, bytes_eq, codes, if◌then◌else◌}
+use Rattle.std.specs.Prelude.{Option, Some, None, IfSome, option_map, codes, if◌then◌else◌}
 use Rattle.std.specs.FinMap.{get}
 use Rattle.std.specs.List.{slice_get}
 use Rattle.std.specs.Option.{unwrap_or}
@@ -42,8 +39,7 @@ use Rattle.record_kinds.specs.declared.record.Record.TheVariants as kind
 use Rattle.record_shapes.specs.Fields.{a_parent, is_above, is_same, parent_field, path_below}
 use Rattle.record_shapes.specs.Forms.{Known, below, number_of, tag_of, tagged}
 use Rattle.record_shapes.specs.Lists.{EachOf}
-use Rattle.record_shapes.specs.Picking.{first}
-use Rattle.record_shapes.specs.Reading.{parent_line, path_from, path_on, place_from, place_name}
+use Rattle.record_shapes.specs.Reading.{parent_line, path_on, place_from, place_name}
 use Rattle.archive_state.specs.Content.{Records}
 use Rattle.archive_state.specs.Known.{
   known_before as archive_before,
@@ -59,10 +55,10 @@ use Rattle.archive_state.specs.Paths.{HasPath}
 use Rattle.archive_state.proofs.Climbing.{goes_path}
 use Rattle.archive_state.proofs.Known.{path_known}
 use Rattle.import_forest.specs.Made.{drawing}
-use Rattle.import_forest.specs.Numbers.{Drawing, Places, number_at, owned_by}
+use Rattle.import_forest.specs.Numbers.{Places, owned_by}
 use Rattle.import_forest.specs.Positions.{known, known_before, path_at, paths, tag_at}
 use Rattle.import_soundness.proofs.Left.{first_is}
-use Rattle.import_soundness.proofs.LinksNodes.{parent_met}
+use Rattle.import_soundness.proofs.LinksMet.{parent_met}
 use Rattle.import_soundness.proofs.Paths.{
   get_past_take,
   get_take,

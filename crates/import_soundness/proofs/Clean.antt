@@ -18,7 +18,6 @@ use Rattle.std.proofs.Common.{
   get_or,
   refl,
   sym,
-  ap,
   ◌∙◌,
   subst,
   arith,

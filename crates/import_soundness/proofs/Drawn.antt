@@ -34,7 +34,6 @@ use Rattle.archive_state.specs.declared.changes.Numbered.{Numbered}
 use Rattle.gedcom_tree.specs.Forest.{Item}
 use Rattle.file_roots.specs.Nodes.{FileNode}
 use Rattle.file_roots.specs.Roots.{candidates, kept}
-use Rattle.file_roots.specs.Lines.{roots}
 use Rattle.import_forest.specs.Sides.{draft_at}
 use Rattle.import_forest.specs.Numbers.{
   Drawing,
@@ -52,7 +51,6 @@ use Rattle.import_forest.specs.Numbers.{
   names_of,
   of_file,
   of_path,
-  results,
   root_drawn,
   settle,
   unless_found,

@@ -1,7 +1,6 @@
 -- All that is drawn: records of the file, each below its owner, and places that are made.
 use Rattle.std.proofs.Common.{
   ◌≡◌,
-  ◌⊎◌,
   ℕ,
   ◌+◌,
   zero,
@@ -34,10 +33,10 @@ use Rattle.stored_lines.specs.Tree.{Tree, Forest, node, none, more, label}
 use Rattle.record_kinds.specs.declared.record.Record.{Record}
 use Rattle.record_kinds.specs.declared.record.Record.TheVariants as kind
 use Rattle.record_links.specs.Links.{a_cited, a_holder, is_wanted}
-use Rattle.record_shapes.specs.Forms.{Known, below, is_some, tag_of}
+use Rattle.record_shapes.specs.Forms.{is_some}
 use Rattle.record_shapes.specs.Levels.{room_below}
 use Rattle.record_shapes.specs.Lists.{EachOf}
-use Rattle.record_shapes.specs.Paths.{is_within_limits, joined, normal, parts, trimmed}
+use Rattle.record_shapes.specs.Paths.{is_within_limits, joined, normal, trimmed}
 use Rattle.record_shapes.specs.Reading.{Draft, read, sought}
 use Rattle.record_shapes.specs.Tags.{event_tags}
 use Rattle.archive_state.specs.Content.{Records}
@@ -47,7 +46,6 @@ use Rattle.archive_state.proofs.Each.{each_both, each_more}
 use Rattle.archive_state.proofs.PathTexts.{parts_some}
 use Rattle.import_forest.specs.Numbers.{
   Drawing,
-  Drawn,
   Found,
   Places,
   draw,
@@ -65,26 +63,17 @@ use Rattle.import_forest.specs.Numbers.{
   settle,
   unless_found,
 }
-use Rattle.import_forest.specs.Positions.{known, known_before, path_at}
+use Rattle.import_forest.specs.Positions.{known, known_before}
 use Rattle.import_forest.specs.Sides.{draft_at}
 use Rattle.import_soundness.specs.Read.{AllRead, EachRead, IsNode, IsRead, PointsWithin}
-use Rattle.import_soundness.proofs.Clean.{IsClean}
 use Rattle.import_soundness.proofs.Finding.{found_made, found_more}
-use Rattle.import_soundness.proofs.Going.{
-  GoesOn,
-  IsFront,
-  draw_all_goes,
-  draw_goes,
-  goes_itself,
-  goes_then,
-  roots_go,
-}
+use Rattle.import_soundness.proofs.Going.{GoesOn, draw_all_goes, draw_goes, goes_then, roots_go}
 use Rattle.import_soundness.proofs.Links.{AllNamed, EachNamed, IsPath, IsSought, NamesAll}
 use Rattle.import_soundness.proofs.LinksNodes.{node_named}
-use Rattle.import_soundness.proofs.Normal.{IsName, are_limits, are_names, names_clean}
+use Rattle.import_soundness.proofs.Normal.{are_limits, are_names, names_clean}
 use Rattle.import_soundness.proofs.ReadNodes.{nodes_are_read}
 use Rattle.import_soundness.proofs.Rooted.{F, IsRootAt, There, last_there, draw_roots_same, number_seam}
-use Rattle.import_soundness.proofs.RootRecords.{IsRootOf, root_is_read}
+use Rattle.import_soundness.proofs.RootRecords.{root_is_read}
 use Rattle.import_soundness.proofs.Settling.{
   AreNames,
   IsBehind,
@@ -109,7 +98,7 @@ path_joined q h = h.normal_is
 
 module _ (A : Records) (w : Places) (D : Drawing) (all : EachOf (There A w D) D.drawn) (first : ℕ)
     (arch : (q : List ℕ) (n : ℕ) → w.archive q ≡ Some n → (path_of A n ≡ Some q) × (n < first))
-    (filed : (k : ℕ) (q : List ℕ) → path_at w.file k ≡ Some q → path_of A (F A w D k) ≡ Some q)
+    (filed : (k : ℕ) (q : List ℕ) → w.file q ≡ Some k → path_of A (F A w D k) ≡ Some q)
     (rs : Lines) (count : ℕ) where
   abbrev f : ℕ → ℕ
   f k = F A w D k
@@ -174,7 +163,8 @@ module _ (A : Records) (w : Places) (D : Drawing) (all : EachOf (There A w D) D.
           (unless_found o d (made_within (joined (name ∷ names)) name (settle w (Some k) k names d))).0.made
           (joined (name ∷ names))) ≡ true
       by (Some x) e = ap is_some e
-      by None e = found_made w None (joined (name ∷ names)) (settle w (Some k) k names d).0.made _ refl
+      by None e = found_made w None (joined (name ∷ names)) (settle w (Some k) k names d).0.made
+          (settle w (Some k) k names d).0.next
 
   some_names : (q : List ℕ) → (name : List ℕ) × (names : List (List ℕ)) × (names_of q ≡ name ∷ names)
   some_names q = let s = parts_some q in (trimmed s.0, map trimmed s.1, ap (map trimmed) s.2)
@@ -210,8 +200,7 @@ module _ (A : Records) (w : Places) (D : Drawing) (all : EachOf (There A w D) D.
       let e : Drawing = draw w k owner d (node (sought p) u) in
       let on : GoesOn e D = goes_then e (draw_all w k owner e ts) D (draw_all_goes e w k owner ts) goes in
       subst (λ x. is_some (find w None D.made x) ≡ true) h
-      (subst (λ ms. is_some (find w None ms p) ≡ true) (sym on.made.whole)
-      (found_more w None p e.made on.made.rest (sought_found k d p named.0)))
+      (found_more w None p e.made D.made (on.made p) (sought_found k d p named.0))
 
   found_if : (path : Option (List ℕ)) (k owner : ℕ) (o : Option Record) (d : Drawing) (g : Forest Draft)
       → IfSome path (λ q. IsSought q g) → AllNamed (known rs) count o g → GoesOn (draw_all w k owner d g) D

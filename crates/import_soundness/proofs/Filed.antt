@@ -1,7 +1,6 @@
 -- The lines of a file's nodes: tags, texts, levels, and pointers to nodes that are there.
 use Rattle.std.proofs.Common.{
   ◌≡◌,
-  ◌≢◌,
   ℕ,
   ◌+◌,
   ◌-◌,
@@ -27,22 +26,21 @@ use Rattle.std.proofs.Common.{
   subst,
   arith,
 }
-use Rattle.std.specs.Prelude.{Option, Some, None, option_map, ◌&&◌, ◌||◌, nat_lt, nat_le, bytes_eq, codes}
-use Rattle.std.specs.List.{filter, list_all, list_any}
+use Rattle.std.specs.Prelude.{Option, Some, None, option_map, ◌&&◌, ◌||◌, nat_lt, nat_le, codes}
+use Rattle.std.specs.List.{list_all, list_any}
 use Rattle.std.proofs.lemmas.Bool.{and_parts, ltb-true, leb-true}
-use Rattle.stored_lines.specs.Levels.{forest_levels, levels}
-use Rattle.stored_lines.specs.Line.{Line, Lines}
-use Rattle.stored_lines.specs.Tree.{Tree, Forest, node, none, more, label, relabel, relabel_all}
+use Rattle.stored_lines.specs.Levels.{forest_levels}
+use Rattle.stored_lines.specs.Line.{Line}
+use Rattle.stored_lines.specs.Tree.{Tree, Forest, node, none, more, relabel_all}
 use Rattle.stored_lines.specs.declared.carried.Value.{Value}
 use Rattle.stored_lines.specs.declared.carried.Value.TheVariants as value
 use Rattle.record_fields.specs.Bytes.{bytes_same}
-use Rattle.record_links.specs.Carried.{forest_tags, tags}
-use Rattle.record_links.specs.Links.{Link, forest_links, line_links, value_links}
-use Rattle.record_text.specs.Text.{IsTag, IsText}
-use Rattle.record_shapes.specs.Forms.{tag_of}
+use Rattle.record_links.specs.Carried.{forest_tags}
+use Rattle.record_links.specs.Links.{Link, forest_links, value_links}
+use Rattle.record_text.specs.Text.{IsText}
 use Rattle.record_shapes.specs.Lists.{EachOf}
 use Rattle.archive_state.specs.Sound.{IsOfRecords}
-use Rattle.archive_state.specs.Texts.{forest_texts, line_texts, value_texts}
+use Rattle.archive_state.specs.Texts.{forest_texts, value_texts}
 use Rattle.archive_state.proofs.Each.{each_both, each_more}
 use Rattle.gedcom_line.specs.Reading.{is_continuation}
 use Rattle.gedcom_line.specs.Spelling.{is_textual}
@@ -67,9 +65,9 @@ use Rattle.file_roots.specs.Lines.{
 }
 use Rattle.file_roots.specs.Nodes.{FileLine, FileNode, nodes_of}
 use Rattle.file_roots.specs.Roots.{behind_first, candidates, is_called, is_kept, is_society, kept}
-use Rattle.import_soundness.specs.Read.{FilesHaveNodes, IsLine, IsNode, PointsWithin, rows}
+use Rattle.import_soundness.specs.Read.{FilesHaveNodes, IsNode, PointsWithin, rows}
 use Rattle.import_soundness.proofs.Fine.{empty_text}
-use Rattle.import_soundness.proofs.Grown.{HasFileLines, HaveFileLines, IsFileLine, IsRoot, all_roots}
+use Rattle.import_soundness.proofs.Grown.{HaveFileLines, IsFileLine, IsRoot, all_roots}
 use Rattle.import_soundness.proofs.Lists.{each_filter, each_mapped}
 
 -- ---- tags and texts

@@ -1,35 +1,34 @@
 -- A drawing that goes on from another: nothing of what was drawn is changed.
 use Rattle.std.proofs.Common.{
   ◌≡◌,
+  Bool,
+  true,
+  false,
+  cond,
   ℕ,
-  ◌+◌,
   ◌≤◌,
-  ◌<◌,
   List,
   [],
   ◌∷◌,
   ◌++◌,
-  length,
   refl,
   sym,
   ap,
   ◌∙◌,
-  subst,
   arith,
   append_assoc,
   append-nil,
-  length-append,
 }
-use Rattle.std.specs.Prelude.{Option, Some, None}
+use Rattle.std.specs.Prelude.{Option, Some, bytes_eq}
 use Rattle.stored_lines.specs.Line.{Lines}
 use Rattle.stored_lines.specs.Tree.{Tree, Forest}
 use Rattle.record_kinds.specs.declared.record.Record.{Record}
+use Rattle.record_shapes.specs.Forms.{is_some}
 use Rattle.record_shapes.specs.Reading.{Draft}
 use Rattle.import_forest.specs.Numbers.{
   Drawing,
   Drawn,
   Found,
-  Made,
   Places,
   draw,
   draw_all,
@@ -49,7 +48,7 @@ pub record IsFront {A : Type 0} (xs all : List A) : Type 0 where
 pub record GoesOn (d later : Drawing) : Type 0 where
   pub drawn : IsFront d.drawn later.drawn
   pub roots : IsFront d.roots later.roots
-  pub made : IsFront d.made later.made
+  pub made : (q : List ℕ) → is_some (d.made q) ≡ true → is_some (later.made q) ≡ true
   pub next : d.next ≤ later.next
 
 front_itself : {A : Type 0} (xs : List A) → IsFront xs xs
@@ -64,11 +63,15 @@ front_then xs ys zs h k = record {
 front_one : {A : Type 0} (xs : List A) (x : A) → IsFront xs (xs ++ x ∷ [])
 front_one xs x = record { rest = x ∷ []; whole = refl }
 
+either : {A : Type 0} (b : Bool) (x y : Option A) → is_some x ≡ true → is_some y ≡ true → is_some (cond b x y) ≡ true
+either true x y e g = e
+either false x y e g = g
+
 pub goes_itself : (d : Drawing) → GoesOn d d
 goes_itself d = record {
   drawn = front_itself d.drawn;
   roots = front_itself d.roots;
-  made = front_itself d.made;
+  made = λ q e. e;
   next = omega arith;
 }
 
@@ -79,7 +82,7 @@ goes_then d e f h k =
     record {
       drawn = front_then d.drawn e.drawn f.drawn h.drawn k.drawn;
       roots = front_then d.roots e.roots f.roots h.roots k.roots;
-      made = front_then d.made e.made f.made h.made k.made;
+      made = λ q e. k.made q (h.made q e);
       next = omega arith;
     }
 
@@ -87,7 +90,7 @@ pub goes_file : (d : Drawing) (x : Drawn) → GoesOn d (drawn_more d x)
 goes_file d x = record {
   drawn = front_one d.drawn x;
   roots = front_itself d.roots;
-  made = front_itself d.made;
+  made = λ q e. e;
   next = omega arith;
 }
 
@@ -95,7 +98,7 @@ pub goes_made : (d : Drawing) (path name : List ℕ) (parent : Option Found) →
 goes_made d path name parent = record {
   drawn = front_one d.drawn _;
   roots = front_itself d.roots;
-  made = front_one d.made _;
+  made = λ q e. either (bytes_eq path q) (Some d.next) (d.made q) refl e;
   next = omega arith;
 }
 
@@ -103,7 +106,7 @@ pub goes_root : (d : Drawing) → GoesOn d (root_drawn d)
 goes_root d = record {
   drawn = front_itself d.drawn;
   roots = front_one d.roots d.next;
-  made = front_itself d.made;
+  made = λ q e. e;
   next = omega arith;
 }
 

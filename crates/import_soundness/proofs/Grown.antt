@@ -5,15 +5,12 @@ use Rattle.std.proofs.Common.{
   ◌+◌,
   ◌≤◌,
   ◌==◌,
-  Bool,
   true,
   false,
-  not,
   cond,
   List,
   [],
   ◌∷◌,
-  length,
   map,
   refl,
   sym,
@@ -25,13 +22,13 @@ use Rattle.std.proofs.Common.{
 use Rattle.std.specs.Prelude.{◌&&◌, nat_le, bytes_eq, codes}
 use Rattle.std.proofs.lemmas.Bool.{and_parts, eqb-true, eqb-false}
 use Rattle.std.proofs.lemmas.Bool.Decides.{nat_tests}
-use Rattle.stored_lines.specs.Growing.{backs, fronts, graft, grown}
+use Rattle.stored_lines.specs.Growing.{backs, fronts, grown}
 use Rattle.stored_lines.specs.Levels.{forest_levels, levels}
-use Rattle.stored_lines.specs.Tree.{Tree, Forest, node, none, more, forest_of, label}
+use Rattle.stored_lines.specs.Tree.{Forest, node, none, more, forest_of, label}
 use Rattle.record_shapes.specs.Lists.{EachOf}
 use Rattle.gedcom_line.specs.Reading.{is_continuation}
 use Rattle.gedcom_tree.specs.Forest.{Item}
-use Rattle.gedcom_tree.specs.Text.{EachNode, IsForest, IsNodeOf, IsNodeValue, begins, is_tag, rises}
+use Rattle.gedcom_tree.specs.Text.{EachNode, IsForest, IsNodeValue, begins, is_tag, rises}
 use Rattle.gedcom_tree.specs.Text.{behind_first as items_behind}
 use Rattle.file_roots.specs.Nodes.{FileLine, FileNode, leveled, nodes_of}
 use Rattle.import_soundness.proofs.Lists.{each_mapped}

@@ -1,30 +1,10 @@
 -- Each record that is drawn keeps the rules on one record, among the records that stand after the import.
-use Rattle.std.proofs.Common.{
-  ◌≡◌,
-  ℕ,
-  ◌<◌,
-  ◌≤◌,
-  Bool,
-  true,
-  false,
-  List,
-  [],
-  ◌∷◌,
-  ◌++◌,
-  length,
-  refl,
-  sym,
-  ap,
-  ◌∙◌,
-  subst,
-  arith,
-}
+use Rattle.std.proofs.Common.{◌≡◌, ℕ, ◌<◌, true, false, List, ◌∷◌, ◌++◌, length, refl, sym, ap, ◌∙◌, subst, arith}
 use Rattle.std.specs.Prelude.{Option, Some, None, IfSome, map, option_map, bytes_eq, codes}
 use Rattle.std.specs.FinMap.{get}
 use Rattle.std.specs.List.{flat_map, list_any, slice_get}
-use Rattle.import_soundness.proofs.Filed.{count_same}
 use Rattle.stored_lines.specs.Line.{Line, Lines}
-use Rattle.stored_lines.specs.Tree.{Tree, label, none}
+use Rattle.stored_lines.specs.Tree.{Tree, label}
 use Rattle.record_kinds.specs.Model as model
 use Rattle.record_kinds.specs.declared.record.Record.{Record}
 use Rattle.record_kinds.specs.declared.record.Record.TheVariants as kind
@@ -36,34 +16,24 @@ use Rattle.record_links.specs.Links.{
   a_source,
   carried_links,
   is_wanted,
-  links,
   participant_links,
 }
 use Rattle.record_shapes.specs.Entries.{entry_of}
 use Rattle.record_shapes.specs.Fields.{a_parent, is_above, is_same, parent_field}
-use Rattle.record_shapes.specs.Forms.{Known, below, is_some, number_of, tag_of, tagged}
-use Rattle.record_shapes.specs.Levels.{AreWithin, HasRoom, room_below}
+use Rattle.record_shapes.specs.Forms.{Known, below, number_of, tagged}
+use Rattle.record_shapes.specs.Levels.{room_below}
 use Rattle.record_shapes.specs.Lists.{EachOf}
 use Rattle.record_shapes.specs.Paths.{has_part}
-use Rattle.record_shapes.specs.Picking.{first}
-use Rattle.record_shapes.specs.Reading.{Draft, parent_line, place_from, place_name, read}
-use Rattle.record_shapes.specs.Roles.{is_role_of}
-use Rattle.record_shapes.specs.Tags.{event_tags, is_event_tag}
+use Rattle.record_shapes.specs.Reading.{parent_line, place_from, place_name, read}
+use Rattle.record_shapes.specs.Tags.{is_event_tag}
 use Rattle.record_shapes.specs.Untaken.{HasUntaken}
 use Rattle.archive_state.specs.Content.{Records}
 use Rattle.archive_state.specs.Known.{known_before as archive_before, known_of, path_of}
-use Rattle.archive_state.specs.Merging.{
-  event_place_with,
-  lines_with,
-  mention_with,
-  participant_with,
-  record_with,
-}
-use Rattle.archive_state.specs.Paths.{Climbs, HasPath}
-use Rattle.archive_state.specs.Sound.{HasSoundMentions, IsNumber, Stands}
-use Rattle.archive_state.proofs.Each.{each_both, each_more}
+use Rattle.archive_state.specs.Merging.{lines_with, participant_with, record_with}
+use Rattle.archive_state.specs.Paths.{HasPath}
+use Rattle.archive_state.specs.Sound.{IsNumber, Stands}
+use Rattle.archive_state.proofs.Each.{each_both}
 use Rattle.archive_state.proofs.Keeping.{KeepsRules}
-use Rattle.archive_state.proofs.Known.{path_known}
 use Rattle.import_forest.specs.Made.{drawing}
 use Rattle.import_forest.specs.Numbers.{Places}
 use Rattle.import_forest.specs.Positions.{known, known_before}
@@ -72,9 +42,9 @@ use Rattle.import_soundness.specs.Read.{IsRead}
 use Rattle.import_soundness.proofs.Agreeing.{all_known, at_node, before_known, f, filed}
 use Rattle.import_soundness.proofs.DrawnWell.{IsOwnerLike}
 use Rattle.import_soundness.proofs.Left.{first_is}
-use Rattle.import_soundness.proofs.Links.{Names, NamesAll, OwnerIs, PlaceIs}
-use Rattle.import_soundness.proofs.LinksNodes.{parent_met}
-use Rattle.import_soundness.proofs.Lists.{cat, each_mapped, flat_cat}
+use Rattle.import_soundness.proofs.Links.{Names, NamesAll, PlaceIs}
+use Rattle.import_soundness.proofs.LinksMet.{parent_met}
+use Rattle.import_soundness.proofs.Lists.{cat, flat_cat}
 use Rattle.import_soundness.proofs.Paths.{known_earlier}
 use Rattle.import_soundness.proofs.Renamed.{through, untaken_with}
 use Rattle.import_soundness.proofs.RenamedEntries.{no_entry_with}
@@ -83,40 +53,7 @@ use Rattle.import_soundness.proofs.RenamedTexts.{of_records_with, room_with, tex
 use Rattle.import_soundness.proofs.RootRecords.{root_is_read}
 use Rattle.import_soundness.proofs.Rooted.{There}
 use Rattle.import_soundness.proofs.Targets.{family_once, link_stands, links_stand, record_stands}
-
--- where there is a path, a place stands
-pub path_stands : (A : Records) (n : ℕ) (q : List ℕ) → path_of A n ≡ Some q → Stands A (n, a_place)
-path_stands A n q e = let h : HasPath A n q = (path_known A n q).1 e in climbs h.0 h.1
-  where
-    climbs : (names : List (List ℕ)) → Climbs A n names → Stands A (n, a_place)
-    climbs [] h = absurd h
-    climbs (name ∷ []) h = ap (option_map (is_wanted a_place)) h.1
-    climbs (name ∷ (above ∷ names)) h = ap (option_map (is_wanted a_place)) h.1
-
--- the path of a place is one
-pub said_at : (A : Records) (n : ℕ) (q : List ℕ) → path_of A n ≡ Some q → has_part q ≡ true → (path : List ℕ)
-    → HasPath A n path → has_part path ≡ true
-said_at A n q e said path h =
-    let both : Some q ≡ Some path = sym e ∙ (path_known A n path).0 h in
-    let same : q ≡ path = cc in
-    ap has_part (sym same) ∙ said
-
--- a record whose carried lines are judged by no path of a place before it
-abbrev is_no_place : Record → Bool
-is_no_place (kind.Place p) = false
-is_no_place _ = true
-
-sound_mentions : (g : ℕ → ℕ) (e : model.Entry) → HasSoundMentions (kind.Entry e)
-    → HasSoundMentions (record_with g (kind.Entry e))
-sound_mentions g e h =
-    let size : length (map (mention_with g) e.mentions) ≡ length e.mentions = count_same (mention_with g) e.mentions in
-    let low : 1 ≤ length e.mentions = h.0.0 in
-    let high : length e.mentions ≤ 100 = h.0.1 in (
-      (omega arith, omega arith),
-      each_mapped (λ (x : model.Mention). is_role_of e.kind x.role ≡ true) (mention_with g) e.mentions
-          (each_more (λ (x : model.Mention). is_role_of e.kind x.role ≡ true)
-          (λ x. is_role_of e.kind (mention_with g x).role ≡ true) (λ x k. k) e.mentions h.1),
-    )
+use Rattle.import_soundness.proofs.Said.{is_no_place, path_stands, said_at, sound_mentions}
 
 module _ (A : Records) (w : Places) (next : ℕ) (rs : Lines)
     (all : EachOf (There A w (drawing next w rs)) (drawing next w rs).drawn) (zero_none : get A 0 ≡ None)

@@ -18,9 +18,12 @@ use Rattle.std.proofs.Common.{
   ap,
   ◌∙◌,
   subst,
+  inl,
+  inr,
+  ◌⊎◌,
   arith,
 }
-use Rattle.std.specs.Prelude.{Option, Some, None, ◌&&◌, ◌||◌, ◌==◌, bytes_eq}
+use Rattle.std.specs.Prelude.{Some, None, ◌&&◌}
 use Rattle.std.specs.List.{list_any, slice_get}
 use Rattle.std.proofs.lemmas.Bool.{eq-eqb, or_parts}
 use Rattle.stored_lines.specs.Line.{Line, Lines}
@@ -30,8 +33,8 @@ use Rattle.record_fields.specs.Bytes.{bytes_same}
 use Rattle.record_fields.specs.Words.{entry_kind_word}
 use Rattle.record_fields.specs.declared.item.Item.{Item}
 use Rattle.record_shapes.specs.Lists.{EachOf}
-use Rattle.record_shapes.specs.Reading.{Draft}
-use Rattle.archive_state.proofs.Each.{each_more}
+use Rattle.record_kinds.specs.declared.record.Record.TheVariants as kind
+use Rattle.record_shapes.specs.Reading.{Draft, read}
 use Rattle.import_forest.specs.Made.{has_key_of, same_key, second}
 use Rattle.import_forest.specs.Sides.{draft_at}
 
@@ -113,3 +116,27 @@ keys_same e h source kinds page item =
     && (bytes_same (entry_kind_word e.kind) (entry_kind_word h.kind) (ap entry_kind_word kinds) i
     && (bytes_same e.page h.page page i
     && eq-eqb e.item.number h.item.number (ap (λ (x : Item). x.number) item) i))
+
+-- the nodes of two entries of one key are one
+pub one_node : (rs : Lines) → second rs 0 [] rs ≡ None → (k j : ℕ) (t u : Tree Line) (e d : model.Entry)
+    → slice_get rs k ≡ Some t → slice_get rs j ≡ Some u
+    → label (draft_at rs k t) ≡ read (kind.Entry e) None → label (draft_at rs j u) ≡ read (kind.Entry d) None
+    → e.source ≡ d.source → e.kind ≡ d.kind → e.page ≡ d.page → e.item ≡ d.item → k ≡ j
+one_node rs none_second k j t u e d at there from of source kinds page item = elim (order k j) as (λ _. k ≡ j) [
+  | inl same ↦ same
+  | inr r ↦ elim r as (λ _. k ≡ j) [
+    | inl less ↦ absurd
+        (clash (same_key (read (kind.Entry e) None) (read (kind.Entry d) None)) (keys_same e d source kinds page item)
+        ((λ i. same_key (sym from i) (sym of i)) ∙ keys_apart rs none_second k j t u less at there))
+    | inr less ↦ absurd
+        (clash (same_key (read (kind.Entry d) None) (read (kind.Entry e) None))
+        (keys_same d e (sym source) (sym kinds) (sym page) (sym item))
+        ((λ i. same_key (sym of i) (sym from i)) ∙ keys_apart rs none_second j k u t less there at))
+  ]
+]
+  where
+    order : (a b : ℕ) → (a ≡ b) ⊎ ((a < b) ⊎ (b < a))
+    order a b = grind arith
+
+    clash : (b : Bool) → b ≡ true → b ≡ false → ⊥
+    clash b yes_is not_is = let both : true ≡ false = sym yes_is ∙ not_is in cc

@@ -1,17 +1,17 @@
 -- Lines that are left once the fields of a part are taken out: no field would take them.
-use Rattle.std.proofs.Common.{◌≡◌, ℕ, ◌+◌, ◌==◌, Bool, true, false, cond, List, [], ◌∷◌, refl, sym, ap, ◌∙◌, arith}
+use Rattle.std.proofs.Common.{◌≡◌, Bool, true, false, cond, List, [], ◌∷◌, refl, sym, ap, ◌∙◌}
 use Rattle.std.specs.Prelude.{Option, Some, None, IfSome, option_map, ◌&&◌}
 use Rattle.std.specs.List.{list_all}
-use Rattle.std.proofs.lemmas.Bool.{eq-eqb, eqb-true}
+use Rattle.std.proofs.lemmas.Bool.{eq-eqb}
 use Rattle.stored_lines.specs.Tree.{Tree}
 use Rattle.stored_lines.specs.Line.{Line, Lines}
 use Rattle.record_shapes.specs.declared.field.Field.{Field}
 use Rattle.record_shapes.specs.Fields.{field_number, is_same, row}
 use Rattle.record_shapes.specs.Forms.{is_some, text_of}
 use Rattle.record_shapes.specs.Lists.{EachOf}
-use Rattle.record_shapes.specs.Picking.{all_of, first, is_left, left, text_at, without_firsts}
+use Rattle.record_shapes.specs.Picking.{all_of, first, is_left, left, without_firsts}
 use Rattle.record_shapes.specs.Untaken.{AreUntaken}
-use Rattle.archive_state.proofs.Each.{each_all, each_more, each_zip}
+use Rattle.archive_state.proofs.Each.{each_more, each_zip}
 use Rattle.import_soundness.proofs.Fine.{each_but_firsts}
 use Rattle.import_soundness.proofs.Lists.{each_filter, filter_holds, if_first}
 

@@ -35,3 +35,8 @@ mod Targets
 mod Judging
 mod Keys
 mod Whole
+mod EntryLines
+mod LinksMet
+mod Said
+mod Within
+mod New

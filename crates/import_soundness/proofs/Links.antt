@@ -1,5 +1,5 @@
 -- What the numbers of what is read name, as positions of nodes; and the paths by which places are sought.
-use Rattle.std.proofs.Common.{◌≡◌, ◌⊎◌, ℕ, ◌<◌, Bool, true, false, List, [], ◌∷◌, ◌++◌, refl, sym, ap, ◌∙◌}
+use Rattle.std.proofs.Common.{◌≡◌, ◌⊎◌, ℕ, ◌<◌, true, List, [], ◌∷◌, ◌++◌}
 use Rattle.std.specs.Prelude.{Option, Some, None, IfSome, map, option_map, bytes_eq, codes}
 use Rattle.std.specs.List.{flat_map}
 use Rattle.stored_lines.specs.Line.{Line, Lines}

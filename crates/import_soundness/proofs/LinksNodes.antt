@@ -1,24 +1,5 @@
 -- What the records that are read at nodes of a file name.
-use Rattle.std.proofs.Common.{
-  ◌≡◌,
-  ℕ,
-  ◌<◌,
-  Bool,
-  true,
-  false,
-  not,
-  cond,
-  List,
-  [],
-  ◌∷◌,
-  ◌++◌,
-  length,
-  refl,
-  sym,
-  ap,
-  ◌∙◌,
-  subst,
-}
+use Rattle.std.proofs.Common.{◌≡◌, ℕ, ◌<◌, Bool, true, false, not, List, [], ◌∷◌, ◌++◌, length, refl, sym, subst}
 use Rattle.std.specs.Prelude.{
   Option,
   Some,
@@ -27,7 +8,6 @@ use Rattle.std.specs.Prelude.{
   map,
   option_map,
   ◌&&◌,
-  ◌||◌,
   ◌==◌,
   nat_le,
   bytes_eq,
@@ -37,18 +17,14 @@ use Rattle.std.specs.Prelude.{
 use Rattle.std.specs.List.{filter, flat_map, list_all, list_any, slice_get}
 use Rattle.std.proofs.lemmas.Bool.{and_parts}
 use Rattle.stored_lines.specs.Line.{Line, Lines}
-use Rattle.stored_lines.specs.Tree.{Tree, Forest, node, none, forest_of, list_of}
+use Rattle.stored_lines.specs.Tree.{Tree, node, none, list_of}
 use Rattle.stored_lines.specs.declared.carried.Value.{Value}
 use Rattle.record_kinds.specs.Model as model
-use Rattle.record_kinds.specs.declared.record.Record.{Record}
 use Rattle.record_kinds.specs.declared.record.Record.TheVariants as kind
 use Rattle.record_links.specs.Links.{
   Link,
-  a_cited,
-  a_holder,
   a_person,
   a_place,
-  a_source,
   carried_links,
   child_links,
   field_links,
@@ -64,54 +40,31 @@ use Rattle.record_shapes.specs.declared.field.Field.{Field}
 use Rattle.record_shapes.specs.Entries.{entry_of, entry_on, is_entry, is_said, is_said_path, names_person, below_on}
 use Rattle.record_shapes.specs.Fields.{
   a_call_number,
-  a_citation,
   a_holding,
   a_member,
   a_name,
   a_parent,
   a_publisher,
   a_sex,
-  a_side,
   a_title,
   an_author,
-  an_event,
-  carried,
   family_field,
   holding_field,
   is_above,
-  is_citation,
   is_same,
   parent_field,
   person_field,
   place_field,
   repo_field,
-  row,
   source_field,
 }
-use Rattle.record_shapes.specs.Forms.{
-  Known,
-  below,
-  is_among,
-  is_bare,
-  is_childless,
-  is_some,
-  is_text,
-  names_a,
-  number_of,
-  tagged,
-  text_in,
-  text_of,
-  value_of,
-}
-use Rattle.record_fields.specs.Words.{sex_of}
+use Rattle.record_shapes.specs.Forms.{Known, below, is_some, number_of, text_in}
 use Rattle.record_shapes.specs.Lists.{EachOf}
 use Rattle.record_shapes.specs.Paths.{has_part}
-use Rattle.record_shapes.specs.Picking.{all_of, first, left, without_first}
+use Rattle.record_shapes.specs.Picking.{all_of, without_first}
 use Rattle.record_shapes.specs.Reading.{
   Draft,
   child_from,
-  draft_if,
-  draft_of,
   entry_or_other,
   family_from,
   holding_from,
@@ -123,15 +76,13 @@ use Rattle.record_shapes.specs.Reading.{
   person_from,
   place_from,
   place_name,
-  read,
   registered,
   repo_from,
   source_from,
 }
 use Rattle.record_shapes.specs.Roles.{is_role_of}
-use Rattle.record_shapes.specs.Tags.{family_tags, person_tags}
-use Rattle.archive_state.proofs.Each.{each_back, each_both, each_front, each_more, each_zip}
-use Rattle.import_forest.specs.Positions.{known, known_before, paths, path_at, positions, tag_at}
+use Rattle.archive_state.proofs.Each.{each_both, each_front, each_more, each_zip}
+use Rattle.import_forest.specs.Positions.{known, known_before, positions, tag_at}
 use Rattle.import_forest.specs.Sides.{
   child_with_side,
   draft_at,
@@ -147,122 +98,33 @@ use Rattle.import_forest.specs.Sides.{
   side_of,
 }
 use Rattle.import_soundness.specs.Read.{IsLine, IsNode, PointsWithin}
-use Rattle.import_soundness.proofs.Fine.{AreLines, below_lines, each_but_first, each_left}
-use Rattle.import_soundness.proofs.Left.{first_is, row_is, row_next, row_not}
+use Rattle.import_soundness.proofs.Fine.{below_lines, each_but_first, each_left}
+use Rattle.import_soundness.proofs.Left.{first_is}
 use Rattle.import_soundness.proofs.Links.{
-  AllNamed,
   EachNamed,
-  Low,
   Names,
   NamesAll,
-  NamesAs,
-  OwnerIs,
   PlaceIs,
   below_low,
   field_lines,
   lines_named,
   made_of_each,
-  named_a,
-  named_both,
   value_named,
 }
-use Rattle.import_soundness.proofs.LinksOwned.{citation_named, event_named}
 use Rattle.import_soundness.proofs.Lists.{each_filter, each_joined, each_mapped, filter_holds, if_first}
 use Rattle.import_soundness.proofs.Paths.{known_earlier, placed_loc}
 use Rattle.import_soundness.proofs.ReadEntries.{each_true, guessed}
 use Rattle.import_soundness.proofs.ReadFamilies.{each_get, each_once}
 use Rattle.import_soundness.proofs.ReadNodes.{chosen, no_sides}
-
--- a line that may stand below a node
-abbrev pub IsFit98 : ℕ → Tree Line → Type 0
-IsFit98 count t = IsLine 98 t × PointsWithin count t
-
--- ---- what is owned
-module _ (known : Known) (count : ℕ) (o : Record) (holder : OwnerIs a_holder (Some o))
-    (cited : OwnerIs a_cited (Some o))
-    (field : Tree Line → Field)
-    (tells : (t : Tree Line) → is_same (field t) a_citation ≡ true → is_citation known t ≡ true) where
-  one_named : (x : Field) (t : Tree Line) → (is_same x a_citation ≡ true → is_citation known t ≡ true)
-      → IsFit98 count t → AllNamed known count (Some o) (forest_of (draft_if known x t))
-  one_named an_event t cites h = (
-    event_named known count (Some o) t holder h.1
-        (each_zip (IsLine 97) (PointsWithin count) (λ u. IsLine 97 u × PointsWithin count u) (λ u a b. (a, b)) (below t)
-        (below_lines 97 98 refl t h.0) (below_low known count t h.1)),
-    tt,
-  )
-  one_named a_citation t cites h = (citation_named known count (Some o) t cited h.1 (cites refl), tt)
-  one_named _ t cites h = tt
-
-  owned_named : (ts : Lines) → EachOf (IsFit98 count) ts → AllNamed known count (Some o)
-      (forest_of (flat_map (λ t. draft_if known (field t) t) ts))
-  owned_named [] h = tt
-  owned_named (t ∷ ts) h = named_both known count (Some o) (draft_if known (field t) t)
-      (flat_map (λ t. draft_if known (field t) t) ts) (one_named (field t) t (tells t) h.0) (owned_named ts h.1)
-
-person_cites : (known : Known) (t : Tree Line) → is_same (person_field known t) a_citation ≡ true
-    → is_citation known t ≡ true
-person_cites known t e =
-    let side = (tagged (codes "FAMC") t || tagged (codes "FAMS") t) && names_a (codes "FAM") known (value_of t) in
-    let fits = is_among person_tags t && is_text t in
-    let last : Field = row side a_side (row (is_citation known t) a_citation carried) in
-    let sex = tagged (codes "SEX") t && (is_bare t && is_some (sex_of (text_of t))) in
-    row_is (is_citation known t) a_citation carried a_citation
-    (row_next side a_side (row (is_citation known t) a_citation carried) a_citation
-    (row_next fits an_event last a_citation
-    (row_next sex a_sex (row fits an_event last) a_citation
-    (row_next (tagged (codes "NAME") t && is_text t) a_name (row sex a_sex (row fits an_event last)) a_citation e refl)
-    refl) refl) refl) refl
-
-abbrev is_member : Known → Tree Line → Bool
-is_member known t = (tagged (codes "HUSB") t ||
-    (tagged (codes "WIFE") t || tagged (codes "CHIL") t)) && names_a (codes "INDI") known (value_of t)
-
-family_cites : (known : Known) (t : Tree Line) → is_same (family_field known t) a_citation ≡ true
-    → is_citation known t ≡ true
-family_cites known t e =
-    let fits = is_among family_tags t && is_text t in
-    let last : Field = row (is_citation known t) a_citation carried in
-    row_is (is_citation known t) a_citation carried a_citation
-    (row_next fits an_event last a_citation
-    (row_next (is_member known t) a_member (row fits an_event last) a_citation e refl) refl) refl
-
-member_met : (known : Known) (t : Tree Line) → is_same (family_field known t) a_member ≡ true
-    → bytes_eq (known.tag (number_of t)) (codes "INDI") ≡ true
-member_met known t e =
-    let fits = is_among family_tags t && is_text t in
-    let last : Field = row (is_citation known t) a_citation carried in
-    named_a (codes "INDI") known (value_of t)
-    (and_parts (tagged (codes "HUSB") t || (tagged (codes "WIFE") t || tagged (codes "CHIL") t))
-    (names_a (codes "INDI") known (value_of t))
-    (row_is (is_member known t) a_member (row fits an_event last) a_member e
-    (row_not fits an_event last a_member refl (row_not (is_citation known t) a_citation carried a_member refl refl)))).1
-
-holding_met : (known : Known) (t : Tree Line) → is_same (source_field known t) a_holding ≡ true
-    → bytes_eq (known.tag (number_of t)) (codes "REPO") ≡ true
-holding_met known t e =
-    let fits = tagged (codes "REPO") t && names_a (codes "REPO") known (value_of t) in
-    let publisher = tagged (codes "PUBL") t && is_bare t in
-    let author = tagged (codes "AUTH") t && is_bare t in
-    let title = tagged (codes "TITL") t && is_bare t in
-    let last : Field = row fits a_holding carried in
-    named_a (codes "REPO") known (value_of t)
-    (and_parts (tagged (codes "REPO") t) (names_a (codes "REPO") known (value_of t))
-    (row_is fits a_holding carried a_holding
-    (row_next publisher a_publisher last a_holding
-    (row_next author an_author (row publisher a_publisher last) a_holding
-    (row_next title a_title (row author an_author (row publisher a_publisher last)) a_holding e refl) refl) refl)
-    refl)).1
-
--- the place above one is one
-pub parent_met : (rs : Lines) (k : ℕ) (name : List ℕ) (t : Tree Line)
-    → is_same (parent_field (known_before rs k) name t) a_parent ≡ true
-    → is_above name ((known_before rs k).path (number_of t)) ≡ true
-parent_met rs k name t e =
-    let above : Bool = is_above name ((known_before rs k).path (number_of t)) in
-    let a = and_parts (tagged (codes "_LOC") t) (is_childless t && (not (is_text t) && above))
-    (row_is (tagged (codes "_LOC") t && (is_childless t && (not (is_text t) && above))) a_parent carried a_parent e
-    refl) in
-    (and_parts (not (is_text t)) above (and_parts (is_childless t) (not (is_text t) && above) a.1).1).1
+use Rattle.import_soundness.proofs.LinksMet.{
+  IsFit98,
+  family_cites,
+  holding_met,
+  member_met,
+  owned_named,
+  parent_met,
+  person_cites,
+}
 
 -- ---- nodes
 module _ (rs : Lines) (count : ℕ) (nodes : EachOf (λ t. IsNode t × PointsWithin count t) rs) where

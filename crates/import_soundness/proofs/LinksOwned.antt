@@ -1,35 +1,15 @@
 -- What events and citations that are read name.
-use Rattle.std.proofs.Common.{
-  ◌≡◌,
-  ◌⊎◌,
-  ℕ,
-  Bool,
-  true,
-  false,
-  not,
-  cond,
-  List,
-  [],
-  ◌∷◌,
-  ◌++◌,
-  refl,
-  sym,
-  ap,
-  ◌∙◌,
-  inl,
-  inr,
-}
-use Rattle.std.specs.Prelude.{Option, Some, None, IfSome, map, option_map, ◌&&◌, bytes_eq, codes}
+use Rattle.std.proofs.Common.{◌≡◌, ℕ, Bool, true, false, not, cond, List, [], ◌∷◌, ◌++◌, refl, ap, inl, inr}
+use Rattle.std.specs.Prelude.{Option, Some, None, IfSome, option_map, ◌&&◌, bytes_eq, codes}
 use Rattle.std.specs.List.{filter, flat_map}
 use Rattle.std.proofs.lemmas.Bool.{and_parts}
 use Rattle.stored_lines.specs.Line.{Line, Lines}
-use Rattle.stored_lines.specs.Tree.{Tree, node, none, forest_of}
+use Rattle.stored_lines.specs.Tree.{Tree, node, forest_of}
 use Rattle.record_kinds.specs.Model as model
 use Rattle.record_kinds.specs.declared.record.Record.{Record}
 use Rattle.record_kinds.specs.declared.record.Record.TheVariants as kind
 use Rattle.record_fields.specs.Bytes.{bytes_are}
-use Rattle.record_links.specs.Links.{Link, a_cited, a_holder, a_person, a_source, carried_links, participant_links}
-use Rattle.record_text.specs.Text.{IsText}
+use Rattle.record_links.specs.Links.{Link, a_cited, a_holder, carried_links, participant_links}
 use Rattle.record_shapes.specs.declared.field.Field.{Field}
 use Rattle.record_shapes.specs.Fields.{
   a_citation,
@@ -62,7 +42,7 @@ use Rattle.record_shapes.specs.Forms.{
 }
 use Rattle.record_shapes.specs.Lists.{EachOf}
 use Rattle.record_shapes.specs.Paths.{has_part, is_within_limits, normal}
-use Rattle.record_shapes.specs.Picking.{all_of, first, left}
+use Rattle.record_shapes.specs.Picking.{all_of, first}
 use Rattle.record_shapes.specs.Reading.{
   Draft,
   below_event,
@@ -82,7 +62,7 @@ use Rattle.record_shapes.specs.Reading.{
   sought_on,
   unless_named,
 }
-use Rattle.archive_state.proofs.Each.{each_both, each_more, each_zip}
+use Rattle.archive_state.proofs.Each.{each_both, each_zip}
 use Rattle.import_soundness.specs.Read.{IsLine}
 use Rattle.import_soundness.proofs.Clean.{text_clean}
 use Rattle.import_soundness.proofs.Fine.{each_left, text_is}
@@ -94,8 +74,6 @@ use Rattle.import_soundness.proofs.Links.{
   IsSought,
   Low,
   Names,
-  NamesAll,
-  NamesAs,
   OwnerIs,
   PlaceIs,
   below_low,

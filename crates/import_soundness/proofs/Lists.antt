@@ -1,6 +1,6 @@
 -- What holds of each of a list holds of each that is picked from it.
 use Rattle.std.proofs.Common.{◌≡◌, Bool, true, false, cond, List, [], ◌∷◌, ◌++◌, refl, sym, ap, ◌∙◌}
-use Rattle.std.specs.Prelude.{Option, Some, None, IfSome, map}
+use Rattle.std.specs.Prelude.{IfSome, map}
 use Rattle.std.specs.List.{filter, flat_map}
 use Rattle.std.proofs.lemmas.List.{map-append}
 use Rattle.record_shapes.specs.Lists.{EachOf}

@@ -2,7 +2,6 @@
 use Rattle.std.proofs.Common.{
   ◌≡◌,
   ℕ,
-  ◌+◌,
   ◌<◌,
   ◌≤◌,
   ◌==◌,
@@ -22,10 +21,8 @@ use Rattle.std.proofs.Common.{
   ◌∙◌,
   subst,
   arith,
-  append_assoc,
-  length-append,
 }
-use Rattle.std.specs.Prelude.{codes, ◌||◌, ◌&&◌, nat_le}
+use Rattle.std.specs.Prelude.{codes, ◌||◌, nat_le}
 use Rattle.std.specs.List.{join_with_byte, list_any, onto_first}
 use Rattle.std.proofs.Math.Seq.{drop-append_seam}
 use Rattle.std.proofs.lemmas.Bool.{and_parts, eqb-true, or_parts}

@@ -1,36 +1,12 @@
 -- Lists on which no number stands twice.
-use Rattle.std.proofs.Common.{
-  ◌≡◌,
-  ℕ,
-  ◌+◌,
-  zero,
-  suc,
-  ◌<◌,
-  ◌==◌,
-  Bool,
-  true,
-  false,
-  not,
-  cond,
-  List,
-  [],
-  ◌∷◌,
-  ◌++◌,
-  refl,
-  sym,
-  ap,
-  ◌∙◌,
-  arith,
-  append-nil,
-}
-use Rattle.std.specs.Prelude.{map, ◌||◌, ◌&&◌}
+use Rattle.std.proofs.Common.{◌≡◌, ℕ, ◌==◌, Bool, true, false, not, cond, List, [], ◌∷◌, ◌++◌, refl, sym, ◌∙◌, arith}
+use Rattle.std.specs.Prelude.{map, ◌||◌}
 use Rattle.std.specs.List.{filter, list_any}
-use Rattle.std.proofs.lemmas.Bool.{and_parts, eq-eqb, eqb-true, or_parts}
+use Rattle.std.proofs.lemmas.Bool.{or_parts}
 use Rattle.std.proofs.lemmas.Bool.Decides.{nat_tests}
 use Rattle.std.proofs.lemmas.List.Folds.{list_any-append}
 use Rattle.record_shapes.specs.Lists.{EachOf, IsOnce}
 use Rattle.archive_state.proofs.Each.{each_more}
-use Rattle.import_soundness.proofs.Lists.{each_filter, filter_holds}
 
 abbrev pub has : ℕ → List ℕ → Bool
 has n ns = list_any (λ m. m == n) ns

@@ -21,13 +21,12 @@ use Rattle.std.proofs.Common.{
   sym,
   ap,
   ◌∙◌,
-  subst,
   arith,
   append_assoc,
   append-nil,
   length-append,
 }
-use Rattle.std.specs.Prelude.{Option, Some, None, IfSome, option_map, bytes_eq, codes}
+use Rattle.std.specs.Prelude.{Option, Some, None, option_map, bytes_eq, codes}
 use Rattle.std.specs.List.{slice_get}
 use Rattle.std.specs.Option.{unwrap_or}
 use Rattle.std.proofs.Math.Seq.{take-append_seam}
@@ -35,16 +34,7 @@ use Rattle.stored_lines.specs.Line.{Line, Lines}
 use Rattle.stored_lines.specs.Tree.{Tree}
 use Rattle.record_shapes.specs.Forms.{below, tag_of, tagged}
 use Rattle.record_shapes.specs.Reading.{path_from}
-use Rattle.import_forest.specs.Positions.{
-  known,
-  known_before,
-  known_by,
-  path_at,
-  path_behind,
-  paths,
-  paths_behind,
-  tag_at,
-}
+use Rattle.import_forest.specs.Positions.{known_before, path_at, path_behind, paths, paths_behind, tag_at}
 
 abbrev Path : Type 0
 Path = Option (List ℕ)

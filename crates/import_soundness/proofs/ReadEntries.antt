@@ -11,20 +11,18 @@ use Rattle.std.proofs.Common.{
   List,
   [],
   ◌∷◌,
-  ◌++◌,
   length,
   refl,
   sym,
-  ap,
   ◌∙◌,
   subst,
   arith,
 }
-use Rattle.std.specs.Prelude.{Option, Some, None, IfSome, ◌&&◌, ◌||◌, nat_le, bytes_eq, codes, map, option_map}
+use Rattle.std.specs.Prelude.{Option, Some, None, IfSome, ◌&&◌, nat_le, bytes_eq, codes, map, option_map}
 use Rattle.std.specs.List.{filter, flat_map, list_all}
 use Rattle.std.proofs.lemmas.Bool.{and_parts}
 use Rattle.std.proofs.lemmas.Bool.Decides.{nat_tests}
-use Rattle.stored_lines.specs.Tree.{Tree, Forest, node, none, forest_of, list_of}
+use Rattle.stored_lines.specs.Tree.{Tree, node, none, forest_of}
 use Rattle.stored_lines.specs.Line.{Line, Lines}
 use Rattle.stored_lines.specs.declared.carried.Value.{Value}
 use Rattle.record_kinds.specs.Model as model

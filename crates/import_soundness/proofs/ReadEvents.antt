@@ -1,25 +1,7 @@
 -- Events that are read from lines, with the citations below them, keep the rules on one record.
-use Rattle.std.proofs.Common.{
-  ◌≡◌,
-  ℕ,
-  ◌+◌,
-  Bool,
-  true,
-  false,
-  cond,
-  List,
-  [],
-  ◌∷◌,
-  ◌++◌,
-  refl,
-  sym,
-  ap,
-  ◌∙◌,
-  subst,
-  arith,
-}
+use Rattle.std.proofs.Common.{◌≡◌, ℕ, Bool, true, false, cond, List, [], ◌∷◌, ◌++◌, refl, arith}
 use Rattle.std.specs.Prelude.{Option, Some, None, IfSome, ◌&&◌, not, bytes_eq, codes, map, option_map}
-use Rattle.std.specs.List.{filter, flat_map}
+use Rattle.std.specs.List.{flat_map}
 use Rattle.std.specs.Option.{unwrap_or}
 use Rattle.std.proofs.lemmas.Bool.{and_parts}
 use Rattle.stored_lines.specs.Tree.{Tree, forest_of}
@@ -29,7 +11,6 @@ use Rattle.record_kinds.specs.declared.record.Record.{Record}
 use Rattle.record_kinds.specs.declared.record.Record.TheVariants as kind
 use Rattle.record_fields.specs.Bytes.{bytes_same}
 use Rattle.record_fields.specs.Dated.{date_if, date_of, spelt}
-use Rattle.record_fields.specs.declared.date.Date.{Date}
 use Rattle.record_links.specs.Carried.{place_line_carried}
 use Rattle.record_text.specs.Text.{IsText}
 use Rattle.record_shapes.specs.declared.field.Field.{Field}
@@ -48,7 +29,7 @@ use Rattle.record_shapes.specs.Forms.{Known, below, is_bare, is_empty, is_some, 
 use Rattle.record_shapes.specs.Levels.{AreWithin}
 use Rattle.record_shapes.specs.Lists.{EachOf}
 use Rattle.record_shapes.specs.Paths.{normal}
-use Rattle.record_shapes.specs.Picking.{all_of, first, is_left, left, text_at}
+use Rattle.record_shapes.specs.Picking.{all_of, first, is_left, text_at}
 use Rattle.record_shapes.specs.Reading.{
   Draft,
   below_event,
@@ -64,7 +45,6 @@ use Rattle.record_shapes.specs.Reading.{
   read_by,
   sought_drafts,
   sought_on,
-  without,
 }
 use Rattle.record_shapes.specs.Tags.{is_event_tag}
 use Rattle.record_shapes.specs.Untaken.{AreUntaken, event_leaves, participant_leaves}

@@ -2,7 +2,6 @@
 use Rattle.std.proofs.Common.{
   ◌≡◌,
   ℕ,
-  ◌+◌,
   zero,
   suc,
   ◌<◌,
@@ -25,8 +24,8 @@ use Rattle.std.proofs.Common.{
   arith,
 }
 use Rattle.std.specs.Prelude.{Option, Some, None, IfSome, ◌&&◌, ◌||◌, codes, map}
-use Rattle.std.specs.List.{filter, flat_map, list_any, slice_get}
-use Rattle.std.proofs.lemmas.Bool.{and_parts, eq-eqb, eqb-true, or_parts}
+use Rattle.std.specs.List.{filter, flat_map, slice_get}
+use Rattle.std.proofs.lemmas.Bool.{and_parts, eq-eqb, eqb-true}
 use Rattle.std.proofs.lemmas.Bool.Decides.{nat_tests}
 use Rattle.std.proofs.lemmas.List.{append_assoc, map-append}
 use Rattle.stored_lines.specs.Tree.{Tree, forest_of}
@@ -37,24 +36,23 @@ use Rattle.record_kinds.specs.declared.record.Record.TheVariants as kind
 use Rattle.record_shapes.specs.declared.field.Field.{Field}
 use Rattle.record_shapes.specs.Entries.{below_on}
 use Rattle.record_shapes.specs.Fields.{a_citation, a_member, an_event, carried, family_field, is_citation, is_same, row}
-use Rattle.record_shapes.specs.Forms.{Known, below, is_among, is_text, names_a, number_of, tag_of, tagged, value_of}
+use Rattle.record_shapes.specs.Forms.{Known, is_among, is_text, names_a, number_of, tag_of, tagged, value_of}
 use Rattle.record_shapes.specs.Levels.{AreWithin}
 use Rattle.record_shapes.specs.Lists.{EachOf, IsOnce}
 use Rattle.record_shapes.specs.Members.{members}
-use Rattle.record_shapes.specs.Picking.{all_of, is_left, left}
+use Rattle.record_shapes.specs.Picking.{all_of, is_left}
 use Rattle.record_shapes.specs.Reading.{
   child_from,
   draft_if,
   family_from,
   is_child_line,
   member_lines,
-  once,
   once_behind,
   partner_from,
 }
 use Rattle.record_shapes.specs.Tags.{family_tags, is_event_tag}
-use Rattle.record_shapes.specs.Untaken.{AreUntaken, family_leaves}
-use Rattle.archive_state.proofs.Each.{each_both, each_more, each_zip}
+use Rattle.record_shapes.specs.Untaken.{family_leaves}
+use Rattle.archive_state.proofs.Each.{each_both, each_more}
 use Rattle.import_forest.specs.Positions.{known, positions}
 use Rattle.import_forest.specs.Sides.{
   child_with_side,
@@ -81,16 +79,7 @@ use Rattle.import_soundness.proofs.Fine.{
 }
 use Rattle.import_soundness.proofs.Left.{all_find, left_untaken, row_is, row_next, row_not}
 use Rattle.import_soundness.proofs.Lists.{each_filter, each_joined, each_mapped, filter_holds, if_first}
-use Rattle.import_soundness.proofs.Once.{
-  has,
-  has_both,
-  not_either,
-  not_true,
-  once_apart,
-  once_both,
-  once_filter,
-  or_none,
-}
+use Rattle.import_soundness.proofs.Once.{has, not_true, once_apart, once_both, once_filter, or_none}
 use Rattle.import_soundness.proofs.ReadPersons.{owned_read}
 
 -- ---- each person once

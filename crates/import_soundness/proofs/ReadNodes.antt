@@ -1,23 +1,20 @@
 -- Each record that is read at a node of a file, or below it, keeps the rules on one record.
-use Rattle.std.proofs.Common.{◌≡◌, ℕ, Bool, true, false, List, [], ◌∷◌, refl, sym, ap, ◌∙◌, subst}
+use Rattle.std.proofs.Common.{◌≡◌, ℕ, Bool, true, false, List, refl, sym, subst}
 use Rattle.std.specs.Prelude.{Option, Some, None, ◌||◌, bytes_eq, codes, if◌then◌else◌}
-use Rattle.std.specs.List.{flat_map}
-use Rattle.stored_lines.specs.Tree.{Tree, Forest, node, none, forest_of, list_of}
-use Rattle.stored_lines.specs.Line.{Line, Lines}
+use Rattle.stored_lines.specs.Tree.{Tree, node, none, list_of}
+use Rattle.stored_lines.specs.Line.{Lines}
 use Rattle.stored_lines.specs.declared.carried.Value.{Value}
 use Rattle.record_kinds.specs.Model as model
 use Rattle.record_kinds.specs.declared.record.Record.{Record}
-use Rattle.record_kinds.specs.declared.record.Record.TheVariants as kind
 use Rattle.record_text.specs.Text.{IsText}
 use Rattle.record_shapes.specs.Forms.{Known}
-use Rattle.record_shapes.specs.Lists.{EachOf}
 use Rattle.record_shapes.specs.Entries.{entry_of}
-use Rattle.record_shapes.specs.Reading.{Draft, draft_of, entry_or_other, read, registered}
+use Rattle.record_shapes.specs.Reading.{Draft, entry_or_other, read, registered}
 use Rattle.archive_state.specs.Texts.{forest_texts, value_texts}
 use Rattle.archive_state.proofs.Each.{each_front}
 use Rattle.import_forest.specs.Positions.{known, known_before}
-use Rattle.import_forest.specs.Sides.{draft_at, root_with_sides, with_sides}
-use Rattle.import_soundness.specs.Read.{EachRead, IsNode, IsRead, NodesAreRead}
+use Rattle.import_forest.specs.Sides.{root_with_sides, with_sides}
+use Rattle.import_soundness.specs.Read.{EachRead, IsRead, NodesAreRead}
 use Rattle.import_soundness.proofs.Fine.{AreLines, below_lines}
 use Rattle.import_soundness.proofs.ReadEntries.{registered_read}
 use Rattle.import_soundness.proofs.ReadFamilies.{family_owned, family_read}

@@ -1,5 +1,5 @@
 -- Persons that are read from lines keep the rules on one record, and so does what a person or a family owns.
-use Rattle.std.proofs.Common.{◌≡◌, ℕ, ◌+◌, true, false, List, [], ◌∷◌, ◌++◌, refl, sym, ap, ◌∙◌, arith}
+use Rattle.std.proofs.Common.{◌≡◌, true, [], ◌∷◌, ◌++◌, refl, arith}
 use Rattle.std.specs.Prelude.{Option, Some, None, IfSome, ◌&&◌, ◌||◌, codes, map, option_map}
 use Rattle.std.specs.List.{flat_map}
 use Rattle.std.proofs.lemmas.Bool.{and_parts}
@@ -37,11 +37,10 @@ use Rattle.record_shapes.specs.Forms.{
   value_of,
 }
 use Rattle.record_shapes.specs.Levels.{AreWithin, room_below}
-use Rattle.record_shapes.specs.Lists.{EachOf}
-use Rattle.record_shapes.specs.Picking.{all_of, first, is_left, left, text_at}
-use Rattle.record_shapes.specs.Reading.{Draft, draft_if, name_from, person_from, read_by}
+use Rattle.record_shapes.specs.Picking.{all_of, first, is_left}
+use Rattle.record_shapes.specs.Reading.{draft_if, name_from, person_from, read_by}
 use Rattle.record_shapes.specs.Tags.{is_event_tag, person_tags}
-use Rattle.record_shapes.specs.Untaken.{AreUntaken, person_leaves}
+use Rattle.record_shapes.specs.Untaken.{person_leaves}
 use Rattle.archive_state.proofs.Each.{each_both}
 use Rattle.import_soundness.specs.Read.{AllRead, IsLine, IsRead}
 use Rattle.import_soundness.proofs.Fine.{
@@ -56,15 +55,7 @@ use Rattle.import_soundness.proofs.Fine.{
   mapped_lines,
   text_is,
 }
-use Rattle.import_soundness.proofs.Left.{
-  all_find,
-  first_is,
-  left_untaken,
-  row_is,
-  row_next,
-  row_not,
-  same_itself,
-}
+use Rattle.import_soundness.proofs.Left.{all_find, first_is, left_untaken, row_is, row_next, row_not}
 use Rattle.import_soundness.proofs.Lists.{each_joined, each_mapped}
 use Rattle.import_soundness.proofs.ReadEvents.{event_draft_read, read_both}
 use Rattle.import_soundness.proofs.ReadSources.{citation_read}

@@ -1,5 +1,5 @@
 -- Places that are read from lines keep the rules on one record.
-use Rattle.std.proofs.Common.{◌≡◌, ℕ, ◌+◌, true, false, List, [], ◌∷◌, ◌++◌, refl, sym, ap, ◌∙◌, subst, arith}
+use Rattle.std.proofs.Common.{◌≡◌, true, [], ◌∷◌, refl}
 use Rattle.std.specs.Prelude.{Option, Some, None, IfSome, ◌&&◌, codes, option_map}
 use Rattle.std.specs.Option.{unwrap_or}
 use Rattle.std.proofs.lemmas.Bool.{and_parts}
@@ -12,9 +12,8 @@ use Rattle.record_text.specs.Text.{IsText}
 use Rattle.record_shapes.specs.declared.field.Field.{Field}
 use Rattle.record_shapes.specs.Fields.{a_name, a_parent, carried, is_same, parent_field, place_field}
 use Rattle.record_shapes.specs.Forms.{Known, is_bare, is_some, number_of, tagged, text_of}
-use Rattle.record_shapes.specs.Lists.{EachOf}
 use Rattle.record_shapes.specs.Paths.{is_within_limits, normal}
-use Rattle.record_shapes.specs.Picking.{all_of, first, is_left, left, without_first}
+use Rattle.record_shapes.specs.Picking.{all_of, first, is_left, without_first}
 use Rattle.record_shapes.specs.Reading.{place_from, place_name}
 use Rattle.record_shapes.specs.Untaken.{place_leaves}
 use Rattle.import_soundness.specs.Read.{IsLine, IsRead}

@@ -1,6 +1,6 @@
 -- Repositories, sources and citations that are read from lines keep the rules on one record.
-use Rattle.std.proofs.Common.{◌≡◌, ℕ, ◌+◌, true, false, List, [], ◌∷◌, ◌++◌, refl, sym, ap, ◌∙◌, subst, arith}
-use Rattle.std.specs.Prelude.{Option, Some, None, IfSome, ◌&&◌, codes, map, option_map}
+use Rattle.std.proofs.Common.{◌≡◌, ℕ, ◌+◌, true, [], ◌∷◌, ◌++◌, refl, sym, subst, arith}
+use Rattle.std.specs.Prelude.{Option, Some, None, IfSome, ◌&&◌, codes, option_map}
 use Rattle.std.specs.List.{flat_map}
 use Rattle.std.proofs.lemmas.Bool.{and_parts}
 use Rattle.stored_lines.specs.Tree.{Tree}
@@ -9,8 +9,6 @@ use Rattle.record_kinds.specs.Model as model
 use Rattle.record_kinds.specs.declared.record.Record.{Record}
 use Rattle.record_kinds.specs.declared.record.Record.TheVariants as kind
 use Rattle.record_fields.specs.Words.{quality_of}
-use Rattle.record_fields.specs.declared.words.Quality.{Quality}
-use Rattle.record_links.specs.Carried.{tags}
 use Rattle.record_text.specs.Text.{IsText}
 use Rattle.record_shapes.specs.declared.field.Field.{Field}
 use Rattle.record_shapes.specs.Fields.{
@@ -33,7 +31,7 @@ use Rattle.record_shapes.specs.Fields.{
 use Rattle.record_shapes.specs.Forms.{Known, below, is_bare, is_some, tagged, text_of}
 use Rattle.record_shapes.specs.Levels.{AreWithin, room_below}
 use Rattle.record_shapes.specs.Lists.{EachOf}
-use Rattle.record_shapes.specs.Picking.{all_of, first, is_left, left, text_at}
+use Rattle.record_shapes.specs.Picking.{all_of, first, is_left}
 use Rattle.record_shapes.specs.Reading.{citation_from, holding_from, read_by, repo_from, source_from}
 use Rattle.record_shapes.specs.Untaken.{AreUntaken, citation_leaves, holding_leaves, repo_leaves, source_leaves}
 use Rattle.archive_state.specs.Texts.{line_texts, there}

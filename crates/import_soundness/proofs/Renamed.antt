@@ -1,16 +1,13 @@
 -- Carried lines with their numbers changed: no field would take one that took none before, where of each number that it
 -- becomes the same is known.
-use Rattle.std.proofs.Common.{◌≡◌, ℕ, List, [], ◌∷◌, ◌++◌, Bool, true, refl, sym, ap, ◌∙◌}
+use Rattle.std.proofs.Common.{◌≡◌, ℕ, List, [], ◌∷◌, Bool, refl, ap, ◌∙◌}
 use Rattle.std.specs.Prelude.{Option, Some, None, option_map, ◌&&◌}
 use Rattle.std.specs.List.{list_all}
-use Rattle.std.proofs.lemmas.Bool.{and_parts}
 use Rattle.stored_lines.specs.Tree.{Tree, Forest, node, none, more, relabel, relabel_all}
 use Rattle.stored_lines.specs.Line.{Line, Lines}
 use Rattle.stored_lines.specs.declared.carried.Value.{Value}
 use Rattle.stored_lines.specs.declared.carried.Value.TheVariants as value
 use Rattle.record_kinds.specs.Model as model
-use Rattle.record_fields.specs.declared.words.Sex.{Sex}
-use Rattle.record_fields.specs.declared.words.Sex.TheVariants as sex
 use Rattle.record_kinds.specs.declared.record.Record.{Record}
 use Rattle.record_kinds.specs.declared.record.Record.TheVariants as kind
 use Rattle.record_shapes.specs.Forms.{Known, is_some}
@@ -42,9 +39,6 @@ use Rattle.archive_state.specs.Merging.{
   event_place_with,
   participant_with,
   record_with,
-  sex_of_two,
-  second_sex,
-  joined_person,
 }
 use Rattle.archive_state.proofs.Each.{each_more}
 use Rattle.import_soundness.proofs.Lists.{each_mapped}

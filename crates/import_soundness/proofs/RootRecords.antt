@@ -1,18 +1,18 @@
 -- The record that a node of level 0 is read as, by its tag.
-use Rattle.std.proofs.Common.{◌≡◌, ℕ, Bool, true, false, List, [], ◌∷◌, refl, sym, ap, ◌∙◌, subst}
+use Rattle.std.proofs.Common.{◌≡◌, ℕ, Bool, true, false, List, refl, sym, ap, ◌∙◌}
 use Rattle.std.specs.Prelude.{Option, Some, None, bytes_eq, codes, if◌then◌else◌}
 use Rattle.stored_lines.specs.Line.{Line, Lines}
-use Rattle.stored_lines.specs.Tree.{Tree, Forest, node, none, forest_of, list_of}
+use Rattle.stored_lines.specs.Tree.{Tree, Forest, node, none, list_of}
 use Rattle.stored_lines.specs.declared.carried.Value.{Value}
 use Rattle.record_kinds.specs.Model as model
 use Rattle.record_kinds.specs.declared.record.Record.{Record}
 use Rattle.record_kinds.specs.declared.record.Record.TheVariants as kind
 use Rattle.record_fields.specs.Bytes.{bytes_are}
-use Rattle.record_links.specs.Links.{a_person, a_place, a_repo, a_source, at_level_0, is_wanted}
+use Rattle.record_links.specs.Links.{a_person, a_repo, a_source, at_level_0, is_wanted}
 use Rattle.record_shapes.specs.Entries.{entry_of}
-use Rattle.record_shapes.specs.Forms.{Known, below, tag_of}
+use Rattle.record_shapes.specs.Forms.{below, tag_of}
 use Rattle.record_shapes.specs.Reading.{Draft, entry_or_other, place_from, read, registered}
-use Rattle.archive_state.specs.Known.{path_with, written_tag}
+use Rattle.archive_state.specs.Known.{written_tag}
 use Rattle.import_forest.specs.Positions.{known, known_before}
 use Rattle.import_forest.specs.Sides.{draft_at, root_with_sides}
 use Rattle.import_soundness.proofs.ReadNodes.{chosen, no_sides}

@@ -12,7 +12,6 @@ use Rattle.std.proofs.Common.{
   ◌∷◌,
   ◌++◌,
   length,
-  get_or,
   refl,
   sym,
   ap,
@@ -22,16 +21,15 @@ use Rattle.std.proofs.Common.{
   append_assoc,
   length-append,
 }
-use Rattle.std.specs.Prelude.{Option, Some, None, slice_index_or}
+use Rattle.std.specs.Prelude.{Some, None}
 use Rattle.std.specs.FinMap.{get}
 use Rattle.std.specs.List.{slice_get}
 use Rattle.std.proofs.Math.Seq.{get_or-append_seam}
 use Rattle.stored_lines.specs.Line.{Line, Lines}
-use Rattle.stored_lines.specs.Tree.{Tree, Forest, node}
-use Rattle.record_kinds.specs.declared.record.Record.{Record}
+use Rattle.stored_lines.specs.Tree.{Tree}
 use Rattle.record_shapes.specs.Forms.{below, tag_of}
 use Rattle.record_shapes.specs.Lists.{EachOf}
-use Rattle.record_shapes.specs.Reading.{Draft, read}
+use Rattle.record_shapes.specs.Reading.{Draft}
 use Rattle.archive_state.specs.Content.{Records}
 use Rattle.archive_state.specs.Merging.{record_with}
 use Rattle.archive_state.proofs.Each.{each_back, each_both, each_front, each_more}
@@ -39,7 +37,6 @@ use Rattle.import_forest.specs.Made.{drawing}
 use Rattle.import_forest.specs.Numbers.{
   Drawing,
   Drawn,
-  Found,
   Places,
   begun,
   draw,
@@ -51,20 +48,10 @@ use Rattle.import_forest.specs.Numbers.{
   of_file,
   owned_by,
   root_drawn,
-  with_made,
 }
 use Rattle.import_forest.specs.Sides.{draft_at}
 use Rattle.import_soundness.proofs.Drawn.{draw_keeps}
-use Rattle.import_soundness.proofs.Going.{
-  GoesOn,
-  IsFront,
-  draw_all_goes,
-  draw_goes,
-  goes_itself,
-  goes_root,
-  goes_then,
-  roots_go,
-}
+use Rattle.import_soundness.proofs.Going.{GoesOn, IsFront, draw_all_goes, draw_goes, goes_itself, goes_then, roots_go}
 use Rattle.import_soundness.proofs.RootRecords.{IsRootOf, root_is_read}
 
 -- ---- numbers of positions

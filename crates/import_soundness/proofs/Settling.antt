@@ -1,12 +1,10 @@
 -- Places that are made: they stand within the place of their path's other names, and have that path.
 use Rattle.std.proofs.Common.{
   ◌≡◌,
-  ◌⊎◌,
   ℕ,
   ◌+◌,
   ◌<◌,
   ◌≤◌,
-  Bool,
   true,
   false,
   List,
@@ -14,7 +12,6 @@ use Rattle.std.proofs.Common.{
   ◌∷◌,
   ◌++◌,
   length,
-  map,
   refl,
   sym,
   ap,
@@ -25,10 +22,9 @@ use Rattle.std.proofs.Common.{
   arith,
   length-append,
 }
-use Rattle.std.specs.Prelude.{Option, Some, None, IfSome, option_map, codes}
+use Rattle.std.specs.Prelude.{Option, Some, None, IfSome, option_map, bytes_eq, if◌then◌else◌}
 use Rattle.std.specs.List.{onto_first}
 use Rattle.std.specs.FinMap.{get}
-use Rattle.record_kinds.specs.Model as model
 use Rattle.record_kinds.specs.declared.record.Record.{Record}
 use Rattle.record_kinds.specs.declared.record.Record.TheVariants as kind
 use Rattle.record_shapes.specs.Forms.{is_some}
@@ -36,19 +32,16 @@ use Rattle.record_shapes.specs.Lists.{EachOf}
 use Rattle.record_shapes.specs.Paths.{IsWithinLimits, joined, parts}
 use Rattle.archive_state.specs.Content.{Records}
 use Rattle.archive_state.specs.Known.{path_of}
-use Rattle.archive_state.specs.Paths.{HasPath}
 use Rattle.archive_state.proofs.Climbing.{goes_path}
-use Rattle.archive_state.proofs.Each.{each_both, each_more}
+use Rattle.archive_state.proofs.Each.{each_both}
 use Rattle.archive_state.proofs.Known.{path_known}
 use Rattle.archive_state.proofs.PathTexts.{parts_both, parts_some}
 use Rattle.import_forest.specs.Numbers.{
   Drawing,
   Drawn,
   Found,
-  Made,
   Places,
   at_number,
-  at_position,
   find,
   made_within,
   number_found,
@@ -59,10 +52,10 @@ use Rattle.import_forest.specs.Numbers.{
   unless_found,
   with_made,
 }
-use Rattle.import_forest.specs.Positions.{path_at}
+use Rattle.record_fields.specs.Bytes.{bytes_are}
 use Rattle.import_soundness.proofs.Clean.{IsClean}
-use Rattle.import_soundness.proofs.Finding.{found_by, found_made, made_holds}
-use Rattle.import_soundness.proofs.Going.{GoesOn, goes_itself, goes_made, goes_then, settle_goes}
+use Rattle.import_soundness.proofs.Finding.{found_by, found_made}
+use Rattle.import_soundness.proofs.Going.{GoesOn, goes_made, goes_then}
 use Rattle.import_soundness.proofs.Normal.{IsName}
 use Rattle.import_soundness.proofs.Rooted.{F, There, last_there}
 
@@ -99,14 +92,13 @@ fewer_names n (m ∷ ns) h =
 
 module _ (A : Records) (w : Places) (D : Drawing) (all : EachOf (There A w D) D.drawn) (first : ℕ)
     (arch : (q : List ℕ) (n : ℕ) → w.archive q ≡ Some n → (path_of A n ≡ Some q) × (n < first))
-    (filed : (k : ℕ) (q : List ℕ) → path_at w.file k ≡ Some q → path_of A (F A w D k) ≡ Some q) where
+    (filed : (k : ℕ) (q : List ℕ) → w.file q ≡ Some k → path_of A (F A w D k) ≡ Some q) where
   abbrev pub num : Found → ℕ
   num f = number_found D.roots (Some f)
 
-  -- a place that was made has its path, and a number below the next one
-  pub record IsMadeAt (next : ℕ) (m : Made) : Type 0 where
-    pub path : path_of A m.number ≡ Some m.path
-    pub low : m.number < next
+  -- places that were made have their paths, and numbers below the next one
+  abbrev pub AreMadeAt : ℕ → (List ℕ → Option ℕ) → Type 0
+  AreMadeAt next made = (q : List ℕ) (n : ℕ) → made q ≡ Some n → (path_of A n ≡ Some q) × (n < next)
 
   -- a place that is drawn
   pub record IsPlaceDrawn (n : ℕ) (name : List ℕ) (parent : Option Found) : Type 0 where
@@ -126,25 +118,22 @@ module _ (A : Records) (w : Places) (D : Drawing) (all : EachOf (There A w D) D.
       let from : first ≤ a = h.from in
       record { low = λ j l. (let low : F A w D j < a = h.low j l in omega arith); from = omega arith }
 
-  pub made_later : (a b : ℕ) → a ≤ b → (ms : List Made) → EachOf (IsMadeAt a) ms → EachOf (IsMadeAt b) ms
-  made_later a b less ms h = each_more (IsMadeAt a) (IsMadeAt b)
-      (λ m k. (let low : m.number < a = k.low in record { path = k.path; low = omega arith })) ms h
+  pub made_later : (a b : ℕ) → a ≤ b → (made : List ℕ → Option ℕ) → AreMadeAt a made → AreMadeAt b made
+  made_later a b less made h q n e = let r = h q n e in (r.0, (let low : n < a = r.1 in omega arith))
 
   -- ---- what is found
-  pub found_path : (before : Option ℕ) (made : List Made) (next : ℕ) (q : List ℕ) (f : Found)
-      → EachOf (IsMadeAt next) made → find w before made q ≡ Some f → path_of A (num f) ≡ Some q
+  pub found_path : (before : Option ℕ) (made : List ℕ → Option ℕ) (next : ℕ) (q : List ℕ) (f : Found)
+      → AreMadeAt next made → find w before made q ≡ Some f → path_of A (num f) ≡ Some q
   found_path before made next q f h e =
       elim (found_by w before made q f e) as (λ _. path_of A (num f) ≡ Some q) [
         | inl (n, is, at) ↦ ap (λ x. path_of A (num x)) is ∙ (arch q n at).0
         | inr r ↦ elim r as (λ _. path_of A (num f) ≡ Some q) [
           | inl (j, is, at, low) ↦ ap (λ x. path_of A (num x)) is ∙ filed j q at
-          | inr (n, is, at) ↦
-              let there = made_holds (IsMadeAt next) q made n h at in
-              ap (λ x. path_of A (num x)) is ∙ ap (path_of A) (sym there.3) ∙ there.1.path ∙ ap Some there.2
+          | inr (n, is, at) ↦ ap (λ x. path_of A (num x)) is ∙ (h q n at).0
         ]
       ]
 
-  found_low : (k : ℕ) (made : List Made) (next : ℕ) (q : List ℕ) (f : Found) → EachOf (IsMadeAt next) made
+  found_low : (k : ℕ) (made : List ℕ → Option ℕ) (next : ℕ) (q : List ℕ) (f : Found) → AreMadeAt next made
       → IsBehind k next → find w (Some k) made q ≡ Some f → num f < next
   found_low k made next q f h behind e =
       let from : first ≤ next = behind.from in
@@ -157,10 +146,8 @@ module _ (A : Records) (w : Places) (D : Drawing) (all : EachOf (There A w D) D.
               let low : F A w D j < next = behind.low j less in
               let same : num f ≡ F A w D j = ap num is in omega arith
           | inr (n, is, at) ↦
-              let there = made_holds (IsMadeAt next) q made n h at in
-              let low : there.0.number < next = there.1.low in
-              let same : num f ≡ n = ap num is in
-              let number : there.0.number ≡ n = there.3 in omega arith
+              let low : n < next = (h q n at).1 in
+              let same : num f ≡ n = ap num is in omega arith
         ]
       ]
 
@@ -171,7 +158,7 @@ module _ (A : Records) (w : Places) (D : Drawing) (all : EachOf (There A w D) D.
 
     pub record IsGood (d : Drawing) : Type 0 where
       pub drawn : EachOf IsDrawnWell d.drawn
-      pub made : EachOf (IsMadeAt d.next) d.made
+      pub made : AreMadeAt d.next d.made
 
     -- what the names above a place are settled as
     abbrev IsAbove : List (List ℕ) → Option Found → ℕ → Type 0
@@ -199,13 +186,24 @@ module _ (A : Records) (w : Places) (D : Drawing) (all : EachOf (There A w D) D.
         (low, (joined (m ∷ ns), path))
 
     -- one more place
+    one_more : {next : ℕ} (path : List ℕ) (k : ℕ) (made : List ℕ → Option ℕ) → AreMadeAt next made
+        → path_of A k ≡ Some path → k < next → (q : List ℕ) (n : ℕ)
+        → (if bytes_eq path q then Some k else made q) ≡ Some n → (path_of A n ≡ Some q) × (n < next)
+    one_more {next} path k made h is low q n e =
+        elim (bytes_eq path q) as (λ b. bytes_eq path q ≡ b → (if b then Some k else made q) ≡ Some n
+        → (path_of A n ≡ Some q) × (n < next)) [
+          | true ↦ λ same f.
+              let number : k ≡ n = cc in
+              (ap (path_of A) (sym number) ∙ is ∙ ap Some (bytes_are path q same), omega arith)
+          | false ↦ λ same f. h q n f
+        ] refl e
+
     made_good : (name : List ℕ) (names : List (List ℕ)) (parent : Option Found) (d : Drawing) → AreNames (name ∷ names)
         → GoesOn (with_made (joined (name ∷ names)) name parent d) D → IsGood d → IsAbove names parent d.next
         → IsGood (with_made (joined (name ∷ names)) name parent d)
         × (path_of A d.next ≡ Some (joined (name ∷ names)))
     made_good name names parent d fit goes good above =
         let x : Drawn = of_path d.next name parent in
-        let m : Made = record { path = joined (name ∷ names); number = d.next } in
         let here : There A w D x = last_there A w D all d.drawn x goes.drawn in
         let path : path_of A d.next ≡ Some (joined (name ∷ names)) = made_path name names parent d.next here above in
         let less : d.next < d.next + 1 = omega arith in (
@@ -220,9 +218,8 @@ module _ (A : Records) (w : Places) (D : Drawing) (all : EachOf (There A w D) D.
               },
               tt,
             );
-            made = each_both (IsMadeAt (d.next + 1)) d.made (m ∷ [])
-                (made_later d.next (d.next + 1) (omega arith) d.made good.made)
-                (record { path = path; low = less }, tt);
+            made = λ q n e. one_more (joined (name ∷ names)) d.next d.made
+                (made_later d.next (d.next + 1) (omega arith) d.made good.made) path less q n e;
           },
           path,
         )
@@ -285,5 +282,5 @@ module _ (A : Records) (w : Places) (D : Drawing) (all : EachOf (There A w D) D.
             (goes_made d1 (joined (name ∷ names)) name o1) on in
             let above = settled_above k names d (fewer_names name names fit).0 whole behind good in (
               (made_good name names o1 d1 fit on above.0 above.1).0,
-              found_made w None (joined (name ∷ names)) d1.made _ refl,
+              found_made w None (joined (name ∷ names)) d1.made d1.next,
             )

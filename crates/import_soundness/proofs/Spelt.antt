@@ -1,10 +1,8 @@
 -- The canonical spelling of what a text says is a text, and is spelt as it is.
 use Rattle.std.proofs.Common.{
   ◌≡◌,
-  ◌⊎◌,
   ℕ,
   ◌+◌,
-  ◌-◌,
   ◌/◌,
   ◌%◌,
   ◌<◌,
@@ -20,9 +18,6 @@ use Rattle.std.proofs.Common.{
   ◌∷◌,
   ◌++◌,
   length,
-  take,
-  drop,
-  get_or,
   refl,
   sym,
   ap,
@@ -31,27 +26,13 @@ use Rattle.std.proofs.Common.{
   inl,
   inr,
   arith,
-  length-append,
-  append_assoc,
 }
-use Rattle.std.specs.Prelude.{Some, codes, decimal, ◌&&◌, ◌||◌, not, nat_lt, nat_le}
-use Rattle.std.specs.List.{list_all, list_any}
-use Rattle.std.specs.Str.{IsUtf8, IsAscii, IsCharBoundary}
+use Rattle.std.specs.Prelude.{codes, decimal, ◌&&◌}
+use Rattle.std.specs.List.{list_all}
 use Rattle.std.specs.Str.Parse.{AllDigits}
-use Rattle.std.proofs.lemmas.Bool.{and_parts, or_parts}
 use Rattle.std.proofs.lemmas.Bool.Decides.{nat_tests}
-use Rattle.std.proofs.Math.Seq.{drop-append_seam, get_or-append_seam, take-append_seam}
-use Rattle.std.proofs.lemmas.List.Folds.{list_all-append, list_any-append}
 use Rattle.std.proofs.lemmas.Fmt.{decimal_is_IsNumeral, length-decimal-le}
 use Rattle.std.proofs.lemmas.Str.Parse.{digit_from_value}
-use Rattle.std.proofs.lemmas.Str.Ascii.{IsAscii-cons, IsAscii-nil}
-use Rattle.std.proofs.lemmas.Str.{
-  IsCharBoundary-before_ascii,
-  IsUtf8-append,
-  IsUtf8-drop,
-  IsUtf8-from_ascii,
-  IsUtf8-take,
-}
 use Rattle.calendar_days.specs.Calendars.{IsCounted, IsExtent, counted}
 use Rattle.calendar_days.specs.Told.{Exists, Told}
 use Rattle.calendar_days.specs.declared.calendar.Calendar.{Calendar}
@@ -78,7 +59,7 @@ use Rattle.gedcom_date.specs.Form.{
   UntilDate,
   VerbatimText,
 }
-use Rattle.gedcom_date.specs.Grammar.{FitsNone, Fits, IsGood, IsOfForm, IsPhrased, IsShort, Says}
+use Rattle.gedcom_date.specs.Grammar.{IsGood, IsOfForm, IsPhrased, IsShort, Says}
 use Rattle.gedcom_date.specs.Spelling.{
   after_text,
   approximation_text,
@@ -107,7 +88,7 @@ use Rattle.import_soundness.proofs.Clean.{
   short_space,
   text_clean,
 }
-use Rattle.record_fields.specs.Dated.{date_of, date_text, one_said, spelt}
+use Rattle.record_fields.specs.Dated.{one_said, spelt}
 
 -- ---- it is spelt as it is
 read_if : (text : List ℕ) (f : Form) → IsOfForm text f → IsRead f

@@ -1,17 +1,15 @@
 -- Where records stand that are put at numbers that count up.
 use Rattle.std.proofs.Common.{◌≡◌, ℕ, ◌+◌, ◌<◌, ◌≤◌, List, [], ◌∷◌, refl, sym, ap, ◌∙◌, inl, inr, subst, arith}
-use Rattle.std.specs.Prelude.{Option, Some, None, Ok, map}
+use Rattle.std.specs.Prelude.{Some, None, map}
 use Rattle.std.specs.FinMap.{get, insert}
 use Rattle.record_kinds.specs.declared.record.Record.{Record}
 use Rattle.record_shapes.specs.Lists.{EachOf}
 use Rattle.archive_state.specs.Applied.{with_puts}
-use Rattle.archive_state.specs.Changes.{Batch}
-use Rattle.archive_state.specs.Content.{Content, Records}
-use Rattle.archive_state.specs.Sound.{IsSound}
+use Rattle.archive_state.specs.Content.{Records}
 use Rattle.archive_state.specs.declared.changes.Numbered.{Numbered}
 use Rattle.archive_state.proofs.Each.{each_more}
 use Rattle.archive_state.proofs.Putting.{put_cases, put_elsewhere, put_here}
-use Rattle.import_soundness.specs.Imported.{CountUp, IsAt, RecordsStand, StandsAfter, imported}
+use Rattle.import_soundness.specs.Imported.{CountUp, RecordsStand}
 use Rattle.import_soundness.proofs.Drawn.{numbers_are_new}
 
 abbrev numbers_of : List Numbered → List ℕ

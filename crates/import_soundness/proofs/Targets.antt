@@ -24,12 +24,11 @@ use Rattle.std.proofs.Common.{
   inr,
   arith,
 }
-use Rattle.std.specs.Prelude.{Option, Some, None, IfSome, map, option_map, bytes_eq, codes}
+use Rattle.std.specs.Prelude.{Option, Some, None, map, option_map, bytes_eq, codes}
 use Rattle.std.specs.FinMap.{get}
 use Rattle.std.specs.List.{flat_map, slice_get}
 use Rattle.std.specs.Option.{unwrap_or}
 use Rattle.std.proofs.lemmas.Bool.{eq-eqb, eqb-true, or_parts}
-use Rattle.std.proofs.lemmas.Bool.Decides.{nat_tests}
 use Rattle.std.proofs.lemmas.List.{map-append}
 use Rattle.stored_lines.specs.Line.{Line, Lines}
 use Rattle.stored_lines.specs.Tree.{Tree}
@@ -38,7 +37,6 @@ use Rattle.record_kinds.specs.declared.record.Record.{Record}
 use Rattle.record_kinds.specs.declared.record.Record.TheVariants as kind
 use Rattle.record_links.specs.Links.{
   Link,
-  Wanted,
   a_cited,
   a_holder,
   a_person,
@@ -68,7 +66,7 @@ use Rattle.import_soundness.proofs.Lists.{each_mapped}
 use Rattle.import_soundness.proofs.Once.{has, or_none}
 use Rattle.import_soundness.proofs.ReadFamilies.{map_by}
 use Rattle.import_soundness.proofs.RenamedLinks.{links_moved, moved}
-use Rattle.import_soundness.proofs.Rooted.{F, IsRootAt, There}
+use Rattle.import_soundness.proofs.Rooted.{There}
 
 -- a record that is wanted as another is
 record IsWantedAs (old r : Record) : Type 0 where

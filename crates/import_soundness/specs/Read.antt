@@ -12,7 +12,7 @@ use Rattle.record_shapes.specs.Forms.{Known, tag_of}
 use Rattle.record_shapes.specs.Levels.{HasRoom}
 use Rattle.record_shapes.specs.Lists.{EachOf}
 use Rattle.record_shapes.specs.Readable.{IsReadableOther}
-use Rattle.record_shapes.specs.Reading.{Draft, draft_of, read, sought}
+use Rattle.record_shapes.specs.Reading.{Draft, read, sought}
 use Rattle.record_shapes.specs.Tags.{is_event_tag}
 use Rattle.record_shapes.specs.Untaken.{HasUntaken}
 use Rattle.archive_state.specs.Sound.{
