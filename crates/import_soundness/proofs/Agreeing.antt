@@ -1,5 +1,31 @@
 -- What is known of positions in a file, and of the numbers that they become in the archive, is the same.
-use Rattle.std.proofs.Common.{◌≡◌, ◌⊎◌, ℕ, ◌+◌, zero, suc, ◌<◌, ◌≤◌, Bool, true, false, nat_lt, List, [], ◌∷◌, length, take, refl, sym, ap, ◌∙◌, inl, inr, arith, add-one}
+use Rattle.std.proofs.Common.{
+  ◌≡◌,
+  ◌⊎◌,
+  ℕ,
+  ◌+◌,
+  zero,
+  suc,
+  ◌<◌,
+  ◌≤◌,
+  Bool,
+  true,
+  false,
+  nat_lt,
+  List,
+  [],
+  ◌∷◌,
+  length,
+  take,
+  refl,
+  sym,
+  ap,
+  ◌∙◌,
+  inl,
+  inr,
+  arith,
+  add-one,
+}
 use Rattle.std.specs.Prelude.{Option, Some, None, IfSome, option_map, codes, if◌then◌else◌}
 use Rattle.std.specs.FinMap.{get}
 use Rattle.std.specs.List.{slice_get}
@@ -15,7 +41,14 @@ use Rattle.record_shapes.specs.Forms.{Known, below, number_of, tag_of, tagged}
 use Rattle.record_shapes.specs.Lists.{EachOf}
 use Rattle.record_shapes.specs.Reading.{parent_line, path_on, place_from, place_name}
 use Rattle.archive_state.specs.Content.{Records}
-use Rattle.archive_state.specs.Known.{known_before as archive_before, known_of, path_by, path_of, path_with, written_tag}
+use Rattle.archive_state.specs.Known.{
+  known_before as archive_before,
+  known_of,
+  path_by,
+  path_of,
+  path_with,
+  written_tag,
+}
 use Rattle.archive_state.specs.Known.{tag_at as archive_tag}
 use Rattle.archive_state.specs.Merging.{place_with, record_with}
 use Rattle.archive_state.specs.Paths.{HasPath}
@@ -134,7 +167,8 @@ module _ (A : Records) (w : Places) (next : ℕ) (rs : Lines)
       → path_of A (f k) ≡ None
   no_place_there k r at is =
       let root = at_node k r at in
-      path_is (f k) ∙ ap (path_with (f k) (path_by (f k) A)) root.stands ∙ no_path f (f k) 0 (path_by (f k) A) root.root.own (root.root.fits.no_loc is)
+      path_is (f k) ∙ ap (path_with (f k) (path_by (f k) A)) root.stands
+      ∙ no_path f (f k) 0 (path_by (f k) A) root.root.own (root.root.fits.no_loc is)
 
   -- the path of a place by that of the one above it
   loc_path : (k : ℕ) (p : model.Place) (o : Option (Tree Line)) → get A (f k) ≡ Some (kind.Place (place_with f p))
@@ -175,7 +209,8 @@ module _ (A : Records) (w : Places) (next : ℕ) (rs : Lines)
               let stands : get A (f k) ≡ Some (kind.Place (place_with f p)) = root.stands
               ∙ ap (λ x. Some (owned_by 0 (record_with f x))) (root.root.fits.loc is) in
               let above : IfSome (parent_line before ts) (λ t. is_above p.name (before.path (number_of t)) ≡ true) =
-              met k (place_name ts) (parent_line before ts) (first_is (parent_field before (place_name ts)) a_parent ts) in
+              met k (place_name ts) (parent_line before ts) (first_is (parent_field before
+              (place_name ts)) a_parent ts) in
               loc_path k p (parent_line before ts) stands refl above root.later
               (λ j path low is_path. filed_by steps j path (omega arith) is_path)
               ∙ sym (path_of_place rs k r at is) ∙ e

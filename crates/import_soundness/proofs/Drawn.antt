@@ -1,5 +1,23 @@
 -- What holds of a drawing from its begin on, where each step keeps it; and the numbers drawn count up.
-use Rattle.std.proofs.Common.{◌≡◌, ℕ, ◌+◌, ◌≤◌, List, [], ◌∷◌, ◌++◌, true, false, cond, refl, sym, ap, ◌∙◌, subst, arith}
+use Rattle.std.proofs.Common.{
+  ◌≡◌,
+  ℕ,
+  ◌+◌,
+  ◌≤◌,
+  List,
+  [],
+  ◌∷◌,
+  ◌++◌,
+  true,
+  false,
+  cond,
+  refl,
+  sym,
+  ap,
+  ◌∙◌,
+  subst,
+  arith,
+}
 use Rattle.std.specs.Prelude.{Option, Some, None, Result, Ok, Err, map, nat_lt}
 use Rattle.std.proofs.lemmas.List.{map-append}
 use Rattle.std.proofs.lemmas.Bool.Decides.{nat_tests}
@@ -17,7 +35,27 @@ use Rattle.gedcom_tree.specs.Forest.{Item}
 use Rattle.file_roots.specs.Nodes.{FileNode}
 use Rattle.file_roots.specs.Roots.{candidates, kept}
 use Rattle.import_forest.specs.Sides.{draft_at}
-use Rattle.import_forest.specs.Numbers.{Drawing, Drawn, Found, Places, begun, draw, draw_all, draw_roots, drawn_more, find, finished, made_within, names_of, of_file, of_path, root_drawn, settle, unless_found, with_made}
+use Rattle.import_forest.specs.Numbers.{
+  Drawing,
+  Drawn,
+  Found,
+  Places,
+  begun,
+  draw,
+  draw_all,
+  draw_roots,
+  drawn_more,
+  find,
+  finished,
+  made_within,
+  names_of,
+  of_file,
+  of_path,
+  root_drawn,
+  settle,
+  unless_found,
+  with_made,
+}
 use Rattle.import_forest.specs.Made.{batch, drawing, lowest_place, made, places, second, unless_full, unless_second}
 use Rattle.import_soundness.specs.Read.{rows}
 use Rattle.import_soundness.specs.Imported.{CountUp, NumbersAreNew, numbers}
@@ -46,7 +84,8 @@ module _ (P : Drawing → Type 0)
           draw_all_keeps w k d.next (drawn_more d (of_file d.next owner r path)) f (file d owner r path h)
       draw_keeps w k owner d (node (sought path) f) h = settled_keeps w None k (names_of path) d h
 
-      pub draw_all_keeps : (w : Places) (k owner : ℕ) (d : Drawing) (f : Forest Draft) → P d → P (draw_all w k owner d f)
+      pub draw_all_keeps : (w : Places) (k owner : ℕ) (d : Drawing) (f : Forest Draft) → P d
+          → P (draw_all w k owner d f)
       draw_all_keeps w k owner d none h = h
       draw_all_keeps w k owner d (more t ts) h = draw_all_keeps w k owner (draw w k owner d t) ts
           (draw_keeps w k owner d t h)

@@ -1,5 +1,30 @@
 -- All that is drawn: records of the file, each below its owner, and places that are made.
-use Rattle.std.proofs.Common.{◌≡◌, ℕ, ◌+◌, zero, suc, ◌<◌, ◌≤◌, true, List, [], ◌∷◌, ◌++◌, length, map, refl, sym, ap, ◌∙◌, subst, inl, inr, arith, append_assoc, length-append}
+use Rattle.std.proofs.Common.{
+  ◌≡◌,
+  ℕ,
+  ◌+◌,
+  zero,
+  suc,
+  ◌<◌,
+  ◌≤◌,
+  true,
+  List,
+  [],
+  ◌∷◌,
+  ◌++◌,
+  length,
+  map,
+  refl,
+  sym,
+  ap,
+  ◌∙◌,
+  subst,
+  inl,
+  inr,
+  arith,
+  append_assoc,
+  length-append,
+}
 use Rattle.std.specs.Prelude.{Option, Some, None, IfSome}
 use Rattle.std.specs.FinMap.{get}
 use Rattle.std.specs.List.{slice_get}
@@ -19,7 +44,25 @@ use Rattle.archive_state.specs.Known.{path_of}
 use Rattle.archive_state.specs.Merging.{record_with}
 use Rattle.archive_state.proofs.Each.{each_both, each_more}
 use Rattle.archive_state.proofs.PathTexts.{parts_some}
-use Rattle.import_forest.specs.Numbers.{Drawing, Found, Places, draw, draw_all, draw_roots, drawn_more, find, made_within, names_of, number_at, of_file, owned_by, placed, root_drawn, settle, unless_found}
+use Rattle.import_forest.specs.Numbers.{
+  Drawing,
+  Found,
+  Places,
+  draw,
+  draw_all,
+  draw_roots,
+  drawn_more,
+  find,
+  made_within,
+  names_of,
+  number_at,
+  of_file,
+  owned_by,
+  placed,
+  root_drawn,
+  settle,
+  unless_found,
+}
 use Rattle.import_forest.specs.Positions.{known, known_before}
 use Rattle.import_forest.specs.Sides.{draft_at}
 use Rattle.import_soundness.specs.Read.{AllRead, EachRead, IsNode, IsRead, PointsWithin}
@@ -132,14 +175,16 @@ module _ (A : Records) (w : Places) (D : Drawing) (all : EachOf (There A w D) D.
       let s = some_names q in
       let Claim : List (List ℕ) → Type 0 = λ ns. AreNames ns → GoesOn (settle w None k ns d).0 D
       → Good (settle w None k ns d).0 in
-      subst Claim (sym s.2) (λ fit on. (settled A w D all first arch filed IsFileDrawn k s.0 s.1 d fit on behind good).0)
+      subst Claim (sym s.2) (λ fit on.
+      (settled A w D all first arch filed IsFileDrawn k s.0 s.1 d fit on behind good).0)
       (are_path_names q h) goes
 
   sought_found : (k : ℕ) (d : Drawing) (q : List ℕ) → IsPath q
       → is_some (find w None (settle w None k (names_of q) d).0.made q) ≡ true
   sought_found k d q h =
       let s = some_names q in
-      let Claim : List (List ℕ) → Type 0 = λ ns. is_some (find w None (settle w None k ns d).0.made (joined ns)) ≡ true in
+      let Claim : List (List ℕ) → Type 0 = λ ns. is_some (find w None (settle w None k ns d).0.made (joined ns))
+      ≡ true in
       subst (λ p. is_some (find w None (settle w None k (names_of q) d).0.made p) ≡ true) (path_joined q h)
       (subst Claim (sym s.2) (found_now k s.0 s.1 d))
 

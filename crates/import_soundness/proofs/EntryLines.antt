@@ -15,7 +15,19 @@ use Rattle.record_fields.proofs.Worded.{entry_kind_exact}
 use Rattle.record_kinds.specs.Model as model
 use Rattle.record_shapes.specs.Forms.{Known, is_some}
 use Rattle.record_shapes.specs.Shapes.{entry_lines}
-use Rattle.record_shapes.specs.Entries.{around, entry_if, entry_of, entry_on, has_its_lines, is_entry, is_said, is_said_path, same_forest, same_tree, same_value}
+use Rattle.record_shapes.specs.Entries.{
+  around,
+  entry_if,
+  entry_of,
+  entry_on,
+  has_its_lines,
+  is_entry,
+  is_said,
+  is_said_path,
+  same_forest,
+  same_tree,
+  same_value,
+}
 use Rattle.record_shapes.proofs.Entries.{entry_back}
 
 -- ---- lines that are found the same are the same
@@ -77,7 +89,8 @@ pub record IsOf (known : Known) (word : List ℕ) (ts : Lines) : Type 0 where
   pub rules : is_entry known e ≡ true
   pub called : entry_kind_word e.kind ≡ word
 
-pub is_of : (known : Known) (word : List ℕ) (ts : Lines) (e : model.Entry) → entry_of known (value.Text word) ts ≡ Some e
+pub is_of : (known : Known) (word : List ℕ) (ts : Lines) (e : model.Entry) → entry_of known (value.Text word) ts
+    ≡ Some e
     → IsOf known word ts
 unfolding entry_of
 is_of known word ts e is =

@@ -1,5 +1,31 @@
 -- The lines of a file's nodes: tags, texts, levels, and pointers to nodes that are there.
-use Rattle.std.proofs.Common.{◌≡◌, ℕ, ◌+◌, ◌-◌, suc, ◌<◌, ◌≤◌, ◌==◌, Bool, true, false, not, cond, List, [], ◌∷◌, ◌++◌, length, map, refl, sym, ap, ◌∙◌, subst, arith}
+use Rattle.std.proofs.Common.{
+  ◌≡◌,
+  ℕ,
+  ◌+◌,
+  ◌-◌,
+  suc,
+  ◌<◌,
+  ◌≤◌,
+  ◌==◌,
+  Bool,
+  true,
+  false,
+  not,
+  cond,
+  List,
+  [],
+  ◌∷◌,
+  ◌++◌,
+  length,
+  map,
+  refl,
+  sym,
+  ap,
+  ◌∙◌,
+  subst,
+  arith,
+}
 use Rattle.std.specs.Prelude.{Option, Some, None, option_map, ◌&&◌, ◌||◌, nat_lt, nat_le, codes}
 use Rattle.std.specs.List.{list_all, list_any}
 use Rattle.std.proofs.lemmas.Bool.{and_parts, ltb-true, leb-true}
@@ -139,7 +165,8 @@ module _ (count : ℕ) (place : List ℕ → Option ℕ) (low : (name : List ℕ
   wider n m less f h = let deep : forest_levels f ≤ n = h.deep in
       record { of_tags = h.of_tags; of_texts = h.of_texts; deep = omega arith; links = h.links }
 
-  all_filed : (n : ℕ) (f : Forest FileLine) → HaveFileLines f → forest_levels f ≤ n → AreFiled n (out (resolved place f))
+  all_filed : (n : ℕ) (f : Forest FileLine) → HaveFileLines f → forest_levels f ≤ n
+      → AreFiled n (out (resolved place f))
   all_filed n none h less = record { of_tags = tt; of_texts = tt; deep = omega arith; links = tt }
   all_filed n (more (node l f) ts) h less =
       let inner : AreFiled (forest_levels f) (out (resolved place f)) = all_filed (forest_levels f) f h.0.1
@@ -205,7 +232,8 @@ pub files_have_nodes : FilesHaveNodes
 unfolding roots
 files_have_nodes f h =
     let ks : List FileNode = kept (candidates f) in
-    let size : length (rows f) ≡ length ks = count_same unlined (lined_roots ks) ∙ count_same (lined_root (place_in ks)) ks in
+    let size : length (rows f) ≡ length ks = count_same unlined (lined_roots ks)
+    ∙ count_same (lined_root (place_in ks)) ks in
     let P : Tree Line → Type 0 = λ t. IsNode t × PointsWithin (length ks) t in
     let all : EachOf P (rows f) = each_mapped P unlined (lined_roots ks)
     (each_mapped (λ t. P (unlined t)) (lined_root (place_in ks)) ks

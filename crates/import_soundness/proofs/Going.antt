@@ -1,5 +1,24 @@
 -- A drawing that goes on from another: nothing of what was drawn is changed.
-use Rattle.std.proofs.Common.{◌≡◌, Bool, true, false, cond, ℕ, ◌≤◌, List, [], ◌∷◌, ◌++◌, refl, sym, ap, ◌∙◌, arith, append_assoc, append-nil}
+use Rattle.std.proofs.Common.{
+  ◌≡◌,
+  Bool,
+  true,
+  false,
+  cond,
+  ℕ,
+  ◌≤◌,
+  List,
+  [],
+  ◌∷◌,
+  ◌++◌,
+  refl,
+  sym,
+  ap,
+  ◌∙◌,
+  arith,
+  append_assoc,
+  append-nil,
+}
 use Rattle.std.specs.Prelude.{Option, Some, bytes_eq}
 use Rattle.stored_lines.specs.Line.{Lines}
 use Rattle.stored_lines.specs.Tree.{Tree, Forest}

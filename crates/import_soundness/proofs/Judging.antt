@@ -8,7 +8,16 @@ use Rattle.stored_lines.specs.Tree.{Tree, label}
 use Rattle.record_kinds.specs.Model as model
 use Rattle.record_kinds.specs.declared.record.Record.{Record}
 use Rattle.record_kinds.specs.declared.record.Record.TheVariants as kind
-use Rattle.record_links.specs.Links.{Link, a_cited, a_holder, a_place, a_source, carried_links, is_wanted, participant_links}
+use Rattle.record_links.specs.Links.{
+  Link,
+  a_cited,
+  a_holder,
+  a_place,
+  a_source,
+  carried_links,
+  is_wanted,
+  participant_links,
+}
 use Rattle.record_shapes.specs.Entries.{entry_of}
 use Rattle.record_shapes.specs.Fields.{a_parent, is_above, is_same, parent_field}
 use Rattle.record_shapes.specs.Forms.{Known, below, number_of, tagged}
@@ -47,7 +56,8 @@ use Rattle.import_soundness.proofs.Targets.{family_once, link_stands, links_stan
 use Rattle.import_soundness.proofs.Said.{is_no_place, path_stands, said_at, sound_mentions}
 
 module _ (A : Records) (w : Places) (next : ℕ) (rs : Lines)
-    (all : EachOf (There A w (drawing next w rs)) (drawing next w rs).drawn) (zero_none : get A 0 ≡ None) (last : ℕ) where
+    (all : EachOf (There A w (drawing next w rs)) (drawing next w rs).drawn) (zero_none : get A 0
+    ≡ None) (last : ℕ) where
   abbrev pub g : ℕ → ℕ
   g k = f A w next rs all zero_none k
 
@@ -268,7 +278,8 @@ module _ (A : Records) (w : Places) (next : ℕ) (rs : Lines)
   pub judge_citation : (k n owner : ℕ) (o : Record) (c : model.Citation) → IsOwner owner o → IsNumber last n
       → (path : Option (List ℕ)) → IsRead (known_before rs k) (known rs) (Some o) (kind.Citation c)
       → NamesAll (known rs) (length rs) (Some o) path (kind.Citation c)
-      → KeepsRules last A n (kind.Citation (record c { owner = owner; source = g c.source; carried = lines_with g c.carried }))
+      → KeepsRules last A n (kind.Citation
+      (record c { owner = owner; source = g c.source; carried = lines_with g c.carried }))
   judge_citation k n owner o c (s, at, like) number path h named = record {
     number = number;
     named = (
@@ -315,7 +326,8 @@ module _ (A : Records) (w : Places) (next : ℕ) (rs : Lines)
       → EachOf (Stands A) (flat_map participant_links (map (participant_with g) e.participants)
       ++ carried_links (lines_with g e.carried))
   parts_stand e h =
-      subst (EachOf (Stands A)) (sym (cat (moved g) (flat_map participant_links e.participants) (carried_links e.carried)
+      subst (EachOf (Stands A)) (sym (cat (moved g) (flat_map participant_links e.participants)
+      (carried_links e.carried)
       _ _ (flat_cat (moved g) (participant_with g) participant_links participant_links (participant_moved g)
       e.participants) (lines_moved g e.carried)))
       (links_stand A w next rs all zero_none (flat_map participant_links e.participants ++ carried_links e.carried) h)

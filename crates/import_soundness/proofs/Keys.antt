@@ -89,7 +89,8 @@ all_apart rs k before (x ∷ behind) e zero (suc i) q r less at there =
     (subst (λ n. same_key (label (draft_at rs n q)) (label (draft_at rs ((k + 1) + i) r)) ≡ false) first
     (subst (λ y. same_key (label (draft_at rs k y)) (label (draft_at rs ((k + 1) + i) r)) ≡ false) same rest.0))
 all_apart rs k before (x ∷ behind) e (suc j) (suc i) q r less at there =
-    let rest = all_apart rs (k + 1) (label (draft_at rs k x) ∷ before) behind (second_none rs k before x behind e).1 j i q r
+    let rest = all_apart rs (k + 1) (label (draft_at rs k x) ∷ before) behind
+    (second_none rs k before x behind e).1 j i q r
     (omega arith) at there in
     let one : (k + 1) + j ≡ k + suc j = omega arith in
     let two : (k + 1) + i ≡ k + suc i = omega arith in
@@ -117,7 +118,8 @@ keys_same e h source kinds page item =
     && eq-eqb e.item.number h.item.number (ap (λ (x : Item). x.number) item) i))
 
 -- the nodes of two entries of one key are one
-pub one_node : (rs : Lines) → second rs 0 [] rs ≡ None → (k j : ℕ) (t u : Tree Line) (e d : model.Entry) → slice_get rs k ≡ Some t → slice_get rs j ≡ Some u
+pub one_node : (rs : Lines) → second rs 0 [] rs ≡ None → (k j : ℕ) (t u : Tree Line) (e d : model.Entry)
+    → slice_get rs k ≡ Some t → slice_get rs j ≡ Some u
     → label (draft_at rs k t) ≡ read (kind.Entry e) None → label (draft_at rs j u) ≡ read (kind.Entry d) None
     → e.source ≡ d.source → e.kind ≡ d.kind → e.page ≡ d.page → e.item ≡ d.item → k ≡ j
 one_node rs none_second k j t u e d at there from of source kinds page item = elim (order k j) as (λ _. k ≡ j) [

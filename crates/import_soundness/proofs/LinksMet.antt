@@ -8,8 +8,42 @@ use Rattle.stored_lines.specs.Tree.{Tree, forest_of}
 use Rattle.record_kinds.specs.declared.record.Record.{Record}
 use Rattle.record_links.specs.Links.{a_cited, a_holder}
 use Rattle.record_shapes.specs.declared.field.Field.{Field}
-use Rattle.record_shapes.specs.Fields.{a_citation, a_holding, a_member, a_name, a_parent, a_publisher, a_sex, a_side, a_title, an_author, an_event, carried, family_field, is_above, is_citation, is_same, parent_field, person_field, row, source_field}
-use Rattle.record_shapes.specs.Forms.{Known, below, is_among, is_bare, is_childless, is_some, is_text, names_a, number_of, tagged, text_of, value_of}
+use Rattle.record_shapes.specs.Fields.{
+  a_citation,
+  a_holding,
+  a_member,
+  a_name,
+  a_parent,
+  a_publisher,
+  a_sex,
+  a_side,
+  a_title,
+  an_author,
+  an_event,
+  carried,
+  family_field,
+  is_above,
+  is_citation,
+  is_same,
+  parent_field,
+  person_field,
+  row,
+  source_field,
+}
+use Rattle.record_shapes.specs.Forms.{
+  Known,
+  below,
+  is_among,
+  is_bare,
+  is_childless,
+  is_some,
+  is_text,
+  names_a,
+  number_of,
+  tagged,
+  text_of,
+  value_of,
+}
 use Rattle.record_fields.specs.Words.{sex_of}
 use Rattle.record_shapes.specs.Lists.{EachOf}
 use Rattle.record_shapes.specs.Reading.{draft_if}
@@ -27,7 +61,8 @@ abbrev pub IsFit98 : ℕ → Tree Line → Type 0
 IsFit98 count t = IsLine 98 t × PointsWithin count t
 
 -- ---- what is owned
-module _ (known : Known) (count : ℕ) (o : Record) (holder : OwnerIs a_holder (Some o)) (cited : OwnerIs a_cited (Some o))
+module _ (known : Known) (count : ℕ) (o : Record) (holder : OwnerIs a_holder (Some o)) (cited : OwnerIs a_cited
+    (Some o))
     (field : Tree Line → Field)
     (tells : (t : Tree Line) → is_same (field t) a_citation ≡ true → is_citation known t ≡ true) where
   one_named : (x : Field) (t : Tree Line) → (is_same x a_citation ≡ true → is_citation known t ≡ true)

@@ -1,6 +1,19 @@
 -- What the records that are read at nodes of a file name.
 use Rattle.std.proofs.Common.{◌≡◌, ℕ, ◌<◌, Bool, true, false, not, List, [], ◌∷◌, ◌++◌, length, refl, sym, subst}
-use Rattle.std.specs.Prelude.{Option, Some, None, IfSome, map, option_map, ◌&&◌, ◌==◌, nat_le, bytes_eq, codes, if◌then◌else◌}
+use Rattle.std.specs.Prelude.{
+  Option,
+  Some,
+  None,
+  IfSome,
+  map,
+  option_map,
+  ◌&&◌,
+  ◌==◌,
+  nat_le,
+  bytes_eq,
+  codes,
+  if◌then◌else◌,
+}
 use Rattle.std.specs.List.{filter, flat_map, list_all, list_any, slice_get}
 use Rattle.std.proofs.lemmas.Bool.{and_parts}
 use Rattle.stored_lines.specs.Line.{Line, Lines}
@@ -8,15 +21,65 @@ use Rattle.stored_lines.specs.Tree.{Tree, node, none, list_of}
 use Rattle.stored_lines.specs.declared.carried.Value.{Value}
 use Rattle.record_kinds.specs.Model as model
 use Rattle.record_kinds.specs.declared.record.Record.TheVariants as kind
-use Rattle.record_links.specs.Links.{Link, a_person, a_place, carried_links, child_links, field_links, forest_links, holding_links, links, mention_links, name_links, partner_links, value_links}
+use Rattle.record_links.specs.Links.{
+  Link,
+  a_person,
+  a_place,
+  carried_links,
+  child_links,
+  field_links,
+  forest_links,
+  holding_links,
+  links,
+  mention_links,
+  name_links,
+  partner_links,
+  value_links,
+}
 use Rattle.record_shapes.specs.declared.field.Field.{Field}
 use Rattle.record_shapes.specs.Entries.{entry_of, entry_on, is_entry, is_said, is_said_path, names_person, below_on}
-use Rattle.record_shapes.specs.Fields.{a_call_number, a_holding, a_member, a_name, a_parent, a_publisher, a_sex, a_title, an_author, family_field, holding_field, is_above, is_same, parent_field, person_field, place_field, repo_field, source_field}
+use Rattle.record_shapes.specs.Fields.{
+  a_call_number,
+  a_holding,
+  a_member,
+  a_name,
+  a_parent,
+  a_publisher,
+  a_sex,
+  a_title,
+  an_author,
+  family_field,
+  holding_field,
+  is_above,
+  is_same,
+  parent_field,
+  person_field,
+  place_field,
+  repo_field,
+  source_field,
+}
 use Rattle.record_shapes.specs.Forms.{Known, below, is_some, number_of, text_in}
 use Rattle.record_shapes.specs.Lists.{EachOf}
 use Rattle.record_shapes.specs.Paths.{has_part}
 use Rattle.record_shapes.specs.Picking.{all_of, without_first}
-use Rattle.record_shapes.specs.Reading.{Draft, child_from, entry_or_other, family_from, holding_from, is_child_line, member_lines, name_from, parent_line, partner_from, person_from, place_from, place_name, registered, repo_from, source_from}
+use Rattle.record_shapes.specs.Reading.{
+  Draft,
+  child_from,
+  entry_or_other,
+  family_from,
+  holding_from,
+  is_child_line,
+  member_lines,
+  name_from,
+  parent_line,
+  partner_from,
+  person_from,
+  place_from,
+  place_name,
+  registered,
+  repo_from,
+  source_from,
+}
 use Rattle.record_shapes.specs.Roles.{is_role_of}
 use Rattle.archive_state.proofs.Each.{each_both, each_front, each_more, each_zip}
 use Rattle.import_forest.specs.Positions.{known, known_before, positions, tag_at}
@@ -37,13 +100,31 @@ use Rattle.import_forest.specs.Sides.{
 use Rattle.import_soundness.specs.Read.{IsLine, IsNode, PointsWithin}
 use Rattle.import_soundness.proofs.Fine.{below_lines, each_but_first, each_left}
 use Rattle.import_soundness.proofs.Left.{first_is}
-use Rattle.import_soundness.proofs.Links.{EachNamed, Names, NamesAll, PlaceIs, below_low, field_lines, lines_named, made_of_each, value_named}
+use Rattle.import_soundness.proofs.Links.{
+  EachNamed,
+  Names,
+  NamesAll,
+  PlaceIs,
+  below_low,
+  field_lines,
+  lines_named,
+  made_of_each,
+  value_named,
+}
 use Rattle.import_soundness.proofs.Lists.{each_filter, each_joined, each_mapped, filter_holds, if_first}
 use Rattle.import_soundness.proofs.Paths.{known_earlier, placed_loc}
 use Rattle.import_soundness.proofs.ReadEntries.{each_true, guessed}
 use Rattle.import_soundness.proofs.ReadFamilies.{each_get, each_once}
 use Rattle.import_soundness.proofs.ReadNodes.{chosen, no_sides}
-use Rattle.import_soundness.proofs.LinksMet.{IsFit98, family_cites, holding_met, member_met, owned_named, parent_met, person_cites}
+use Rattle.import_soundness.proofs.LinksMet.{
+  IsFit98,
+  family_cites,
+  holding_met,
+  member_met,
+  owned_named,
+  parent_met,
+  person_cites,
+}
 
 -- ---- nodes
 module _ (rs : Lines) (count : ℕ) (nodes : EachOf (λ t. IsNode t × PointsWithin count t) rs) where
@@ -109,7 +190,8 @@ module _ (rs : Lines) (count : ℕ) (nodes : EachOf (λ t. IsNode t × PointsWit
   abbrev IsMember : Tree Line → Type 0
   IsMember t = L t × (is_same (family_field kn t) a_member ≡ true)
 
-  partner_named : (k : ℕ) (t : Tree Line) → IsMember t → EachOf N (partner_links (partner_with_side rs k (partner_from t)))
+  partner_named : (k : ℕ) (t : Tree Line) → IsMember t → EachOf N (partner_links (partner_with_side rs k
+      (partner_from t)))
   partner_named k t h = (
     member_met kn t h.1,
     each_both N (carried_links (below t)) (carried_links (side_of rs (codes "FAMS") k (number_of t)))

@@ -1,5 +1,31 @@
 -- The paths of the places of a file, position by position.
-use Rattle.std.proofs.Common.{◌≡◌, ℕ, ◌+◌, zero, suc, ◌<◌, ◌≤◌, Bool, true, false, cond, List, [], ◌∷◌, ◌++◌, length, take, refl, sym, ap, ◌∙◌, arith, append_assoc, append-nil, length-append}
+use Rattle.std.proofs.Common.{
+  ◌≡◌,
+  ℕ,
+  ◌+◌,
+  zero,
+  suc,
+  ◌<◌,
+  ◌≤◌,
+  Bool,
+  true,
+  false,
+  cond,
+  List,
+  [],
+  ◌∷◌,
+  ◌++◌,
+  length,
+  take,
+  refl,
+  sym,
+  ap,
+  ◌∙◌,
+  arith,
+  append_assoc,
+  append-nil,
+  length-append,
+}
 use Rattle.std.specs.Prelude.{Option, Some, None, option_map, bytes_eq, codes}
 use Rattle.std.specs.List.{slice_get}
 use Rattle.std.specs.Option.{unwrap_or}

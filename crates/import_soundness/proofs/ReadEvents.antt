@@ -30,7 +30,22 @@ use Rattle.record_shapes.specs.Levels.{AreWithin}
 use Rattle.record_shapes.specs.Lists.{EachOf}
 use Rattle.record_shapes.specs.Paths.{normal}
 use Rattle.record_shapes.specs.Picking.{all_of, first, is_left, text_at}
-use Rattle.record_shapes.specs.Reading.{Draft, below_event, citation_draft, dated, event_draft, event_from, event_place_from, event_place_with, is_loc, participant_from, place_named, read_by, sought_drafts, sought_on}
+use Rattle.record_shapes.specs.Reading.{
+  Draft,
+  below_event,
+  citation_draft,
+  dated,
+  event_draft,
+  event_from,
+  event_place_from,
+  event_place_with,
+  is_loc,
+  participant_from,
+  place_named,
+  read_by,
+  sought_drafts,
+  sought_on,
+}
 use Rattle.record_shapes.specs.Tags.{is_event_tag}
 use Rattle.record_shapes.specs.Untaken.{AreUntaken, event_leaves, participant_leaves}
 use Rattle.archive_state.specs.Texts.{date_texts, there}

@@ -1,5 +1,28 @@
 -- Families that are read from lines, with both sides of their memberships, keep the rules on one record.
-use Rattle.std.proofs.Common.{◌≡◌, ℕ, zero, suc, ◌<◌, ◌==◌, Bool, true, false, not, cond, List, [], ◌∷◌, ◌++◌, length, refl, sym, ap, ◌∙◌, subst, arith}
+use Rattle.std.proofs.Common.{
+  ◌≡◌,
+  ℕ,
+  zero,
+  suc,
+  ◌<◌,
+  ◌==◌,
+  Bool,
+  true,
+  false,
+  not,
+  cond,
+  List,
+  [],
+  ◌∷◌,
+  ◌++◌,
+  length,
+  refl,
+  sym,
+  ap,
+  ◌∙◌,
+  subst,
+  arith,
+}
 use Rattle.std.specs.Prelude.{Option, Some, None, IfSome, ◌&&◌, ◌||◌, codes, map}
 use Rattle.std.specs.List.{filter, flat_map, slice_get}
 use Rattle.std.proofs.lemmas.Bool.{and_parts, eq-eqb, eqb-true}
@@ -18,7 +41,15 @@ use Rattle.record_shapes.specs.Levels.{AreWithin}
 use Rattle.record_shapes.specs.Lists.{EachOf, IsOnce}
 use Rattle.record_shapes.specs.Members.{members}
 use Rattle.record_shapes.specs.Picking.{all_of, is_left}
-use Rattle.record_shapes.specs.Reading.{child_from, draft_if, family_from, is_child_line, member_lines, once_behind, partner_from}
+use Rattle.record_shapes.specs.Reading.{
+  child_from,
+  draft_if,
+  family_from,
+  is_child_line,
+  member_lines,
+  once_behind,
+  partner_from,
+}
 use Rattle.record_shapes.specs.Tags.{family_tags, is_event_tag}
 use Rattle.record_shapes.specs.Untaken.{family_leaves}
 use Rattle.archive_state.proofs.Each.{each_both, each_more}

@@ -27,7 +27,19 @@ use Rattle.record_shapes.specs.Untaken.{
   source_leaves,
   citation_leaves,
 }
-use Rattle.archive_state.specs.Merging.{value_with, line_with, lines_with, holding_with, person_with, place_with, source_with, event_with, event_place_with, participant_with, record_with}
+use Rattle.archive_state.specs.Merging.{
+  value_with,
+  line_with,
+  lines_with,
+  holding_with,
+  person_with,
+  place_with,
+  source_with,
+  event_with,
+  event_place_with,
+  participant_with,
+  record_with,
+}
 use Rattle.archive_state.proofs.Each.{each_more}
 use Rattle.import_soundness.proofs.Lists.{each_mapped}
 

@@ -1,5 +1,26 @@
 -- The records of level 0 that are drawn: where they stand, in the order of their positions.
-use Rattle.std.proofs.Common.{◌≡◌, ℕ, ◌+◌, zero, suc, ◌<◌, ◌≤◌, List, [], ◌∷◌, ◌++◌, length, refl, sym, ap, ◌∙◌, subst, arith, append_assoc, length-append}
+use Rattle.std.proofs.Common.{
+  ◌≡◌,
+  ℕ,
+  ◌+◌,
+  zero,
+  suc,
+  ◌<◌,
+  ◌≤◌,
+  List,
+  [],
+  ◌∷◌,
+  ◌++◌,
+  length,
+  refl,
+  sym,
+  ap,
+  ◌∙◌,
+  subst,
+  arith,
+  append_assoc,
+  length-append,
+}
 use Rattle.std.specs.Prelude.{Some, None}
 use Rattle.std.specs.FinMap.{get}
 use Rattle.std.specs.List.{slice_get}
@@ -13,7 +34,21 @@ use Rattle.archive_state.specs.Content.{Records}
 use Rattle.archive_state.specs.Merging.{record_with}
 use Rattle.archive_state.proofs.Each.{each_back, each_both, each_front, each_more}
 use Rattle.import_forest.specs.Made.{drawing}
-use Rattle.import_forest.specs.Numbers.{Drawing, Drawn, Places, begun, draw, draw_all, draw_roots, drawn_more, finished, number_at, of_file, owned_by, root_drawn}
+use Rattle.import_forest.specs.Numbers.{
+  Drawing,
+  Drawn,
+  Places,
+  begun,
+  draw,
+  draw_all,
+  draw_roots,
+  drawn_more,
+  finished,
+  number_at,
+  of_file,
+  owned_by,
+  root_drawn,
+}
 use Rattle.import_forest.specs.Sides.{draft_at}
 use Rattle.import_soundness.proofs.Drawn.{draw_keeps}
 use Rattle.import_soundness.proofs.Going.{GoesOn, IsFront, draw_all_goes, draw_goes, goes_itself, goes_then, roots_go}
@@ -39,7 +74,8 @@ abbrev SameRoots : List ℕ → Drawing → Type 0
 SameRoots roots d = d.roots ≡ roots
 
 pub draw_roots_same : (w : Places) (k owner : ℕ) (d : Drawing) (t : Tree Draft) → (draw w k owner d t).roots ≡ d.roots
-draw_roots_same w k owner d t = draw_keeps (SameRoots d.roots) (λ e o r p h. h) (λ e path name parent h. h) w k owner d t
+draw_roots_same w k owner d t = draw_keeps (SameRoots d.roots) (λ e o r p h. h)
+    (λ e path name parent h. h) w k owner d t
     refl
 
 roots_count : (rs : Lines) (w : Places) (k : ℕ) (d : Drawing) (behind : Lines)
@@ -128,7 +164,8 @@ module _ (A : Records) (w : Places) (D : Drawing) where
         (each_both (λ n. n < e.next) d.roots (d.next ∷ [])
         (each_more (λ n. n < d.next) (λ n. n < e.next) (λ n h. let l : n < d.next = h in omega arith) d.roots low)
         (drawn_once, tt)) in
-        let rest : IsRootAt rs first ((k + 1) + i) r = roots_at (k + 1) e behind (omega arith) lower (omega arith) goes i r
+        let rest : IsRootAt rs first ((k + 1) + i) r = roots_at (k + 1) e behind (omega arith) lower
+        (omega arith) goes i r
         at in
         let number : (k + 1) + i ≡ k + suc i = omega arith in
         subst (λ n. IsRootAt rs first n r) number rest

@@ -1,5 +1,27 @@
 -- Places that are made: they stand within the place of their path's other names, and have that path.
-use Rattle.std.proofs.Common.{◌≡◌, ℕ, ◌+◌, ◌<◌, ◌≤◌, true, false, List, [], ◌∷◌, ◌++◌, length, refl, sym, ap, ◌∙◌, subst, inl, inr, arith, length-append}
+use Rattle.std.proofs.Common.{
+  ◌≡◌,
+  ℕ,
+  ◌+◌,
+  ◌<◌,
+  ◌≤◌,
+  true,
+  false,
+  List,
+  [],
+  ◌∷◌,
+  ◌++◌,
+  length,
+  refl,
+  sym,
+  ap,
+  ◌∙◌,
+  subst,
+  inl,
+  inr,
+  arith,
+  length-append,
+}
 use Rattle.std.specs.Prelude.{Option, Some, None, IfSome, option_map, bytes_eq, if◌then◌else◌}
 use Rattle.std.specs.List.{onto_first}
 use Rattle.std.specs.FinMap.{get}
@@ -14,7 +36,22 @@ use Rattle.archive_state.proofs.Climbing.{goes_path}
 use Rattle.archive_state.proofs.Each.{each_both}
 use Rattle.archive_state.proofs.Known.{path_known}
 use Rattle.archive_state.proofs.PathTexts.{parts_both, parts_some}
-use Rattle.import_forest.specs.Numbers.{Drawing, Drawn, Found, Places, at_number, find, made_within, number_found, of_file, of_path, place_made, settle, unless_found, with_made}
+use Rattle.import_forest.specs.Numbers.{
+  Drawing,
+  Drawn,
+  Found,
+  Places,
+  at_number,
+  find,
+  made_within,
+  number_found,
+  of_file,
+  of_path,
+  place_made,
+  settle,
+  unless_found,
+  with_made,
+}
 use Rattle.record_fields.specs.Bytes.{bytes_are}
 use Rattle.import_soundness.proofs.Clean.{IsClean}
 use Rattle.import_soundness.proofs.Finding.{found_by, found_made}

@@ -35,7 +35,21 @@ use Rattle.stored_lines.specs.Tree.{Tree}
 use Rattle.record_kinds.specs.Model as model
 use Rattle.record_kinds.specs.declared.record.Record.{Record}
 use Rattle.record_kinds.specs.declared.record.Record.TheVariants as kind
-use Rattle.record_links.specs.Links.{Link, a_cited, a_holder, a_person, a_place, a_repo, a_source, at_level_0, carried_links, child_links, is_wanted, links, partner_links}
+use Rattle.record_links.specs.Links.{
+  Link,
+  a_cited,
+  a_holder,
+  a_person,
+  a_place,
+  a_repo,
+  a_source,
+  at_level_0,
+  carried_links,
+  child_links,
+  is_wanted,
+  links,
+  partner_links,
+}
 use Rattle.record_shapes.specs.Forms.{tag_of}
 use Rattle.record_shapes.specs.Lists.{EachOf, IsOnce}
 use Rattle.record_shapes.specs.Members.{members}
@@ -213,7 +227,8 @@ module _ (A : Records) (w : Places) (next : ℕ) (rs : Lines)
       (flat_map child_links x.children ++ carried_links x.carried) h))
       (children_there x.children (each_front N (flat_map child_links x.children) (carried_links x.carried) rest)) in
       let by_partner : map (λ (p : model.Partner). p.person) (map (partner_with g) x.partners) ≡ map g ps =
-      map_by (λ (p : model.Partner). p.person) (partner_with g) (λ (p : model.Partner). g p.person) (λ p. refl) x.partners
+      map_by (λ (p : model.Partner). p.person) (partner_with g) (λ (p : model.Partner). g p.person)
+      (λ p. refl) x.partners
       ∙ sym (map_by g (λ (p : model.Partner). p.person) (λ (p : model.Partner). g p.person) (λ p. refl) x.partners) in
       let by_child : map (λ (c : model.Child). c.person) (map (child_with g) x.children) ≡ map g cs =
       map_by (λ (c : model.Child). c.person) (child_with g) (λ (c : model.Child). g c.person) (λ c. refl) x.children
