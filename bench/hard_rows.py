@@ -1,10 +1,10 @@
 """Times the rows that cost most: python3 bench/hard_rows.py [MEGABYTES].
 
 Over the executable that the gate has built, on archives in real files. Told are wall and processor time, and the most
-memory: of opening and closing an empty archive, which is in all the others; of 500, 1,000 and 2,000 names added to one
-person, each of which writes all names anew, beside as many persons; of 1,000 entries with pages of 20 and of 1,200 bytes,
-of which the index of entries does not have the page; and of one row of MEGABYTES (100) millions of commas, and one of a
-field of twice as many bytes, each of which is refused.
+memory: of opening and closing an empty archive, which is in all the others; of 500, 1,000 and 2,000 names added to
+one person, each of which writes all names anew, beside as many persons; of 1,000 entries with pages of 20 and of
+1,200 bytes, of which the index of entries does not have the page; and of one row of MEGABYTES (100) millions of
+commas, and one of a field of twice as many bytes, each of which is refused.
 """
 
 import os

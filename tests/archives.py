@@ -417,6 +417,7 @@ def two_programs_at_once(tools):
             first.stdin.flush()
             demand(first.stdout.readline() == b"a,ok,1,1\n", "the first is not answered")
             expect(at.apply(b"b,person,Eva,F\n"), refused(80))
+            expect(run(at.parish, ("export", at.file)), refused(80))
             first.stdin.write(b"c,person,Eve,F\n")
             first.stdin.close()
             demand(first.stdout.read() == b"c,ok,2,1\n", "the first does not go on")

@@ -40,6 +40,7 @@ REFUSALS = {
     60: "DuplicateEntry",
     62: "NotOfKind",
     63: "Full",
+    70: "ExportTooLarge",
     80: "Storage",
     82: "NotAnArchive",
     83: "NewerSchema",

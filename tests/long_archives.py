@@ -2,12 +2,13 @@
 
     python3 tests/long_archives.py kills [ROWS [KILLS [SEED]]]
     python3 tests/long_archives.py compare 'COMMAND' [ROWS [SEED]]
+    python3 tests/long_archives.py exports 'COMMAND' [ARCHIVES [SEED]]
 
 `kills` gives ROWS generated rows (2,000) to `apply`, kills it KILLS times (20) at random moments and gives the same
 rows again: each answer has to be that of a run that was not stopped, and so have the tables. `compare` gives ROWS rows
 (5,000), in archives of 200 rows each, to `apply` and to a second program, which takes the same words, then drawn
-batches to `entries`, and their rows one by one to `apply`, and compares what is told. The last line is `N passed, M
-failed`.
+batches to `entries`, and their rows one by one to `apply`, and compares what is told. `exports` gives the rows of
+ARCHIVES archives (500) to both, and compares what they export. The last line is `N passed, M failed`.
 """
 
 from __future__ import annotations
@@ -109,6 +110,27 @@ def compared(command, rows, seed):
     return passed, failed
 
 
+def exports_compared(command, archives, seed):
+    """How many archives of drawn rows are exported as a second program exports them, and how many are not."""
+    passed = failed = lines = 0
+    for number in range(archives):
+        told = []
+        for program in (PARISH, command):
+            with tempfile.TemporaryDirectory() as folder:
+                file = os.path.join(folder, "ashby.db")
+                run(program, ("init", file, "--society", "Ashby"))
+                run(program, ("apply", file), generated(seed * 1_000 + number, EACH), limit=600)
+                told.append(run(program, ("export", file), b"", limit=600))
+        same = said(told[0]) == said(told[1]) and told[0].status == 0
+        passed += same
+        failed += not same
+        lines += told[0].out.count(b"\n")
+        if not same:
+            print(f"archive {number}: {difference(told[1].out, told[0].out)} {told[0].err!r} {told[1].err!r}")
+    print(f"{lines} lines exported")
+    return passed, failed
+
+
 def stopped(rows, kills, seed):
     try:
         killed_and_run_again(Tools(PARISH, None), seed, rows, kills)
@@ -126,6 +148,9 @@ def main():
         case ["compare", command, *numbers]:
             rows, seed = [*map(int, numbers), *(5_000, 1)[len(numbers) :]]
             passed, failed = compared(tuple(shlex.split(command)), rows, seed)
+        case ["exports", command, *numbers]:
+            archives, seed = [*map(int, numbers), *(500, 1)[len(numbers) :]]
+            passed, failed = exports_compared(tuple(shlex.split(command)), archives, seed)
         case _:
             print(__doc__.strip())
             return 2

@@ -22,6 +22,7 @@ sys.dont_write_bytecode = True
 
 import archives  # noqa: E402
 import documents  # noqa: E402
+import exports  # noqa: E402
 import files  # noqa: E402
 import layout  # noqa: E402
 import memory  # noqa: E402
@@ -34,7 +35,7 @@ import streams  # noqa: E402
 from harness import ROOT, Case, Failed, Tools  # noqa: E402
 
 # The longest ones first, since they run side by side.
-PARTS = (sizes, archives, merges, memory, properties, streams, scripts, documents, refusals, files, layout)
+PARTS = (sizes, archives, merges, exports, memory, properties, streams, scripts, documents, refusals, files, layout)
 PIECES = "tree_pieces"
 
 

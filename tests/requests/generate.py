@@ -297,10 +297,10 @@ class Rows:
         found = ["person"] * 3 + ["place", "repo", "source"]
         if self.people:
             found += ["family"] * 2 + ["event"] * 3 + ["name", "sex"]
-        if self.families:
+        if self.families and self.people:
             found += ["child"] * 2
         if self.events:
-            found += ["amend", "participant", "participant"]
+            found += ["amend"] + ["participant"] * 2 * bool(self.people)
         if self.sources and (self.people or self.families or self.events):
             found += ["citation"] * 3
         if self.sources:

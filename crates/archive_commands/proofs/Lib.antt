@@ -1,4 +1,5 @@
 mod Answering
 mod Entered
+mod Exported
 mod Opened
 mod Refusing

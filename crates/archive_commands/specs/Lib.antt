@@ -1,5 +1,6 @@
 pub mod Applying
 pub mod Closing
 pub mod Entering
+pub mod Exporting
 pub mod Made
 pub mod Opening

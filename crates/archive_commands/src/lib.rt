@@ -8,9 +8,11 @@
 #![tactic(auto)]
 
 mod entering;
+mod exporting;
 mod opening;
 mod running;
 
 pub use entering::entries;
+pub use exporting::export;
 pub use opening::OpenFile;
 pub use running::{ClosedFile, apply, close, init};

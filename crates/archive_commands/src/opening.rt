@@ -31,6 +31,7 @@ pub(crate) fn open<S: Start>(
 ) -> Result<Archive<FileStore<FileFrom<S>>>, (RefusalKind, Option<OpenFile<S>>)>
     ensures opened { IfOk result (λ taken. (taken.is_lost ≡ false) × IsTakenUp (image_at S.Start)
         (file_state taken.conn)) }
+    ensures quiet { IfOk result (λ taken. taken.failures ≡ 0) }
     ensures refused { IfErr result (λ e. Unopened (image_at S.Start) e.0 e.1) }
 {
     match fs::exists(rt, file) {
@@ -49,6 +50,7 @@ fn open_file<S: Start>(
 ) -> Result<Archive<FileStore<FileFrom<S>>>, (RefusalKind, Option<OpenFile<S>>)>
     ensures opened { IfOk result (λ taken. (taken.is_lost ≡ false) × IsTakenUp (image_at S.Start)
         (file_state taken.conn)) }
+    ensures quiet { IfOk result (λ taken. taken.failures ≡ 0) }
     ensures refused { IfErr result (λ e. Unopened (image_at S.Start) e.0 e.1) }
 {
     match Connection::open_from(rt, file, false, start) {

@@ -27,7 +27,7 @@ use Rattle.clap.specs.ValueTests.{is_unsigned_in}
 use Rattle.clap.specs.declared.builder.action.ArgAction.TheVariants.{Set}
 use Rattle.clap.specs.declared.builder.value_parser.ValueParser.TheVariants.{Unsigned}
 use Rattle.command_line.specs.declared.reading.Asked.{Asked}
-use Rattle.command_line.specs.declared.reading.Asked.TheVariants.{Apply, Check, Entries, Init, Norm}
+use Rattle.command_line.specs.declared.reading.Asked.TheVariants.{Apply, Check, Entries, Export, Init, Norm}
 use Rattle.command_line.specs.declared.reading.Refused.{Refused}
 use Rattle.command_line.specs.declared.reading.Refused.TheVariants.{OutOfMemory}
 
@@ -83,13 +83,20 @@ apply_shape = record (new_shape (codes "apply")) { rules = file_rule ∷ [] }
 abbrev pub entries_shape : Shape
 entries_shape = record (new_shape (codes "entries")) { rules = file_rule ∷ source_rule ∷ token_rule ∷ [] }
 
+abbrev pub export_shape : Shape
+export_shape = record (new_shape (codes "export")) { rules = file_rule ∷ [] }
+
 -- the commands that take no word
 abbrev pub with_streams_alone : App
 with_streams_alone = with_subcommand (with_subcommand bare (new_shape (codes "norm"))) (new_shape (codes "check"))
 
+-- with those that make an archive and enter rows
+abbrev pub with_rows : App
+with_rows = with_subcommand (with_subcommand (with_subcommand with_streams_alone init_shape) apply_shape) entries_shape
+
 -- the program with its commands
 abbrev pub program : App
-program = with_subcommand (with_subcommand (with_subcommand with_streams_alone init_shape) apply_shape) entries_shape
+program = with_subcommand with_rows export_shape
 
 -- the command that words name, the program's name being the first
 abbrev pub command_named : List Text → Option Text
@@ -102,6 +109,7 @@ name_of Check = Some (codes "check")
 name_of (Init file society) = Some (codes "init")
 name_of (Apply file) = Some (codes "apply")
 name_of (Entries file source token) = Some (codes "entries")
+name_of (Export file) = Some (codes "export")
 name_of _ = None
 
 -- the word that a command is given for its FILE or for an option; the grammar takes no words that lack one
@@ -120,6 +128,7 @@ HasWords found (Apply file) = file.now ≡ word_in found (codes "FILE")
 HasWords found (Entries file source token) =
     (file.now ≡ word_in found (codes "FILE")) × (source ≡ number_of (word_in found (codes "source")))
     × (token.now ≡ word_in found (codes "token"))
+HasWords found (Export file) = file.now ≡ word_in found (codes "FILE")
 HasWords found _ = ⊤
 
 -- the words are those of a command, with nothing that it does not take: the grammar has no fault to find in them

@@ -7,12 +7,14 @@ ghost use Rattle.command_line.specs.Commands.{
   apply_shape,
   bare,
   entries_shape,
+  export_shape,
   file_rule,
   init_shape,
   program,
   society_rule,
   source_rule,
   token_rule,
+  with_rows,
   with_streams_alone,
 };
 
@@ -153,6 +155,25 @@ do; so it does of the others: 1, 40, 80, 82, 83, 94 and 95.
 Example:
   parish entries ashby.db --source 3 --token page-12 < page12.csv";
 
+const EXPORT_ABOUT: &str = "Write the archive as a GEDCOM 5.5.1 file";
+
+const EXPORT_EXAMPLE: &str = "\
+It is written to standard output in UTF-8, record by record, with all that the
+archive holds, the living too. The archive is not changed. At a refusal a
+beginning of the file may have been written.
+
+Refusals:
+  40 BadStored       what is stored is no record: somebody else wrote FILE
+  70 ExportTooLarge  the file would have more than 67108864 bytes
+  82 NotAnArchive    there is no FILE, or it is no archive
+  95 WriteFailed     standard output could not be written
+  1, 80, 83
+docs/REFUSALS.md, beside the source of parish, says what to do about each, and
+docs/FORMATS.md what is written of each record.
+
+Example:
+  parish export ashby.db > ashby.ged";
+
 const FILE_HELP: &str = "The file of the archive";
 
 const SOCIETY_HELP: &str = "The name of the society";
@@ -266,6 +287,16 @@ fn entries_command<'a>(alloc: Global) -> Result<Command<'a>, AllocError>
         .arg(token_arg(alloc))
 }
 
+fn export_command<'a>(alloc: Global) -> Result<Command<'a>, AllocError>
+    ensures shape { IfOk result (λ c. shape_of c ≡ export_shape) }
+    ensures local { IfOk result (λ c. (out-Command c).has_globals ≡ false) }
+{
+    Command::new(alloc, "export")
+        .about(EXPORT_ABOUT)
+        .after_help(EXPORT_EXAMPLE)
+        .arg(file_arg(alloc))
+}
+
 /// `parish` without its commands.
 fn bare_command<'a>(alloc: Global) -> Result<Command<'a>, AllocError>
     ensures { IfOk result (λ c. app_of c ≡ bare) }
@@ -290,9 +321,9 @@ fn streams_alone<'a>(alloc: Global) -> Result<Command<'a>, AllocError>
         .subcommand(check_command(alloc))
 }
 
-/// `parish` and its commands.
-pub(crate) fn parish_command<'a>(alloc: Global) -> Result<Command<'a>, AllocError>
-    ensures { IfOk result (λ c. app_of c ≡ program) }
+/// `parish` with its commands that make an archive and enter rows.
+fn with_rows<'a>(alloc: Global) -> Result<Command<'a>, AllocError>
+    ensures { IfOk result (λ c. app_of c ≡ with_rows) }
 {
     let init = init_command(alloc)?;
     let apply = apply_command(alloc)?;
@@ -301,4 +332,12 @@ pub(crate) fn parish_command<'a>(alloc: Global) -> Result<Command<'a>, AllocErro
         .subcommand(init)?
         .subcommand(apply)?
         .subcommand(entries)
+}
+
+/// `parish` and its commands.
+pub(crate) fn parish_command<'a>(alloc: Global) -> Result<Command<'a>, AllocError>
+    ensures { IfOk result (λ c. app_of c ≡ program) }
+{
+    let export = export_command(alloc)?;
+    with_rows(alloc)?.subcommand(export)
 }

@@ -32,6 +32,10 @@ pub enum Asked<'a> {
         source: u32,
         token: &'a str,
     },
+    /// `export`: the archive in a file as a GEDCOM file, on standard output.
+    Export {
+        file: &'a str,
+    },
     /// `--help` or `--version`, of the program or of a command: the text for standard output.
     Show {
         text: String,
@@ -83,6 +87,7 @@ fn command_found<'a>(alloc: Global, found: &ArgMatches<'a>) -> Result<Asked<'a>,
     ensures init { subcommand_name_of found.now ≡ Some (codes "init") → AsksForWork result }
     ensures apply { subcommand_name_of found.now ≡ Some (codes "apply") → AsksForWork result }
     ensures entries { subcommand_name_of found.now ≡ Some (codes "entries") → AsksForWork result }
+    ensures export { subcommand_name_of found.now ≡ Some (codes "export") → AsksForWork result }
 {
     match found.subcommand() {
         Some((name, given)) => command_named(alloc, name, given),
@@ -103,6 +108,7 @@ fn command_named<'a>(
     ensures init { name.now ≡ codes "init" → AsksForWork result }
     ensures apply { name.now ≡ codes "apply" → AsksForWork result }
     ensures entries { name.now ≡ codes "entries" → AsksForWork result }
+    ensures export { name.now ≡ codes "export" → AsksForWork result }
 {
     match name {
         "norm" => Ok(Asked::Norm),
@@ -118,6 +124,9 @@ fn command_named<'a>(
             file: word_of(given, "FILE"),
             source: number_of(word_of(given, "source")),
             token: word_of(given, "token"),
+        }),
+        "export" => Ok(Asked::Export {
+            file: word_of(given, "FILE"),
         }),
         _ => no_such_command(alloc),
     }

@@ -1,6 +1,6 @@
 -- Lines compared, one after the other.
-use Rattle.std.specs.Prelude.{ℕ, ◌≡◌, ◌==◌, ◌&&◌, length, Bool, true, false, List, [], ◌∷◌, bytes_eq, refl}
-use Rattle.std.proofs.Common.{ap, sym, ◌∙◌, arith}
+use Rattle.std.specs.Prelude.{ℕ, ◌≡◌, ◌==◌, ◌&&◌, length, List, [], ◌∷◌, bytes_eq, refl}
+use Rattle.std.proofs.Common.{ap, sym, arith}
 use Rattle.std.proofs.lemmas.Bool.Decides.{nat_tests}
 use Rattle.stored_lines.specs.Tree.{Tree, Forest, node, none, more, forest_of, list_of}
 use Rattle.stored_lines.specs.Line.{Line, Lines}
@@ -25,22 +25,6 @@ pub bare_tree_is : (t : Tree Line) (tag : List ℕ) (v : Value)
     → same_tree t (line tag v []) ≡ (tagged tag t && (same_value (value_of t) v && is_childless t))
 bare_tree_is (node l none) tag v = refl
 bare_tree_is (node l (more t f)) tag v = refl
-
--- the first line, and those behind it
-pub first_is : (lines : Lines) (t : Tree Line) (ts : Lines) (k : Tree Line) (ks : Lines) → lines ≡ t ∷ ts
-    → same_tree t k ≡ true → are lines (k ∷ ks) ≡ are ts ks
-first_is lines t ts k ks e same = ap (λ us. are us (k ∷ ks)) e ∙ ap (λ b. b && are ts ks) same
-
-pub first_is_not : (lines : Lines) (t : Tree Line) (ts : Lines) (k : Tree Line) (ks : Lines) → lines ≡ t ∷ ts
-    → same_tree t k ≡ false → are lines (k ∷ ks) ≡ false
-first_is_not lines t ts k ks e other = ap (λ us. are us (k ∷ ks)) e ∙ ap (λ b. b && are ts ks) other
-
-pub none_is : (lines : Lines) (k : Tree Line) (ks : Lines) → lines ≡ [] → are lines (k ∷ ks) ≡ false
-none_is lines k ks e = ap (λ us. are us (k ∷ ks)) e
-
-pub and_false : (b : Bool) → (b && false) ≡ false
-and_false true = refl
-and_false false = refl
 
 pub end_is : (ts : Lines) → are ts [] ≡ (length ts == 0)
 end_is [] = refl

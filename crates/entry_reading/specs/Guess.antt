@@ -14,7 +14,15 @@ use Rattle.record_fields.specs.declared.entry_words.EntryKind.{EntryKind}
 use Rattle.record_shapes.specs.Roles.{is_role_of}
 use Rattle.record_shapes.specs.Forms.{Known, number_of, tagged, text_of}
 use Rattle.record_shapes.specs.Entries.{below_on, line_at, mention_on, names_person, number_on, same_forest, text_on}
-use Rattle.record_shapes.specs.Shapes.{Around, entry_place_lines, link_lines, mention_line, pointer_line, text_line, text_lines}
+use Rattle.record_shapes.specs.Shapes.{
+  Around,
+  entry_place_lines,
+  link_lines,
+  mention_line,
+  pointer_line,
+  text_line,
+  text_lines,
+}
 
 -- the kind whose word a value is
 abbrev pub kind_in : Value → Option EntryKind

@@ -1,5 +1,25 @@
 -- The lines of a person that name families are for such persons, and name each family once.
-use Rattle.std.specs.Prelude.{ℕ, ◌≡◌, ◌==◌, ◌||◌, ◌&&◌, Bool, true, false, cond, List, [], ◌∷◌, ◌++◌, map, codes, Some, option_map, bytes_eq, refl}
+use Rattle.std.specs.Prelude.{
+  ℕ,
+  ◌≡◌,
+  ◌==◌,
+  ◌||◌,
+  ◌&&◌,
+  Bool,
+  true,
+  false,
+  cond,
+  List,
+  [],
+  ◌∷◌,
+  ◌++◌,
+  map,
+  codes,
+  Some,
+  option_map,
+  bytes_eq,
+  refl,
+}
 use Rattle.std.specs.List.{filter, flat_map, list_any}
 use Rattle.std.specs.FinMap.{get, entries}
 use Rattle.std.proofs.Common.{ap, sym, ◌∙◌, append-nil, subst, eqb}
@@ -27,7 +47,16 @@ use Rattle.export_forest.specs.Order.{Numbered}
 use Rattle.exchange_orders.specs.Laws.{side_with}
 use Rattle.exchange_orders.specs.Positions.{nodes_by_position}
 use Rattle.exchange_orders.proofs.Entries.{entries_once, entries_stand, keys, Stands}
-use Rattle.exchange_orders.proofs.Listed.{each_flat, each_over, has, has_neither, once_append, once_not_front, or_false, other_way}
+use Rattle.exchange_orders.proofs.Listed.{
+  each_flat,
+  each_over,
+  has,
+  has_neither,
+  once_append,
+  once_not_front,
+  or_false,
+  other_way,
+}
 use Rattle.exchange_orders.proofs.Nodes.{node_tree, pos}
 use Rattle.exchange_reading.proofs.Drafts.{Laws, family_read}
 use Rattle.exchange_reading.proofs.Readable.{around_is, filter_none}

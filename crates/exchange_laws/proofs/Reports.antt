@@ -1,5 +1,24 @@
 -- Nothing is reported of an export.
-use Rattle.std.specs.Prelude.{ℕ, ◌≡◌, ◌+◌, Bool, true, false, cond, List, [], ◌∷◌, ◌++◌, map, length, codes, Some, option_map, bytes_eq, refl}
+use Rattle.std.specs.Prelude.{
+  ℕ,
+  ◌≡◌,
+  ◌+◌,
+  Bool,
+  true,
+  false,
+  cond,
+  List,
+  [],
+  ◌∷◌,
+  ◌++◌,
+  map,
+  length,
+  codes,
+  Some,
+  option_map,
+  bytes_eq,
+  refl,
+}
 use Rattle.std.specs.FinMap.{get}
 use Rattle.std.proofs.Common.{ap, sym, ◌∙◌, append_assoc, length-append, subst, arith}
 use Rattle.stored_lines.specs.Tree.{Tree, node, children, list_of}
@@ -22,7 +41,17 @@ use Rattle.file_roots.specs.Nodes.{FileNode}
 use Rattle.file_roots.specs.Roots.{candidates, kept}
 use Rattle.file_roots.specs.Lines.{Lined, lined_roots, roots, unlined}
 use Rattle.import_forest.specs.Positions.{known}
-use Rattle.import_forest.specs.Report.{in_order, judge_member, judge_side, judged, report, said_of_family, said_of_members, said_of_person, said_of_persons}
+use Rattle.import_forest.specs.Report.{
+  in_order,
+  judge_member,
+  judge_side,
+  judged,
+  report,
+  said_of_family,
+  said_of_members,
+  said_of_person,
+  said_of_persons,
+}
 use Rattle.export_forest.specs.Forest.{exported}
 use Rattle.export_forest.specs.Order.{Numbered}
 use Rattle.exchange_orders.specs.Positions.{nodes_by_position}

@@ -1,5 +1,22 @@
 -- Of an export no node is left out, no value is dropped, and no pointer names nothing.
-use Rattle.std.specs.Prelude.{ℕ, ◌≡◌, Bool, true, false, cond, List, [], ◌∷◌, ◌++◌, map, Option, None, option_map, is_some, refl}
+use Rattle.std.specs.Prelude.{
+  ℕ,
+  ◌≡◌,
+  Bool,
+  true,
+  false,
+  cond,
+  List,
+  [],
+  ◌∷◌,
+  ◌++◌,
+  map,
+  Option,
+  None,
+  option_map,
+  is_some,
+  refl,
+}
 use Rattle.std.proofs.Common.{ap, sym, ◌∙◌, subst}
 use Rattle.stored_lines.specs.Tree.{Tree, Forest, node, none, more, children, label, relabel_all}
 use Rattle.stored_lines.specs.Line.{Line}

@@ -1,12 +1,14 @@
 -- What an export gives when it is read into an empty archive: rules of our own.
-use Rattle.std.specs.Prelude.{ℕ, ◌≡◌, List, [], Ok}
+use Rattle.std.specs.Prelude.{ℕ, ◌≡◌, ◌≤◌, length, List, [], Ok}
 use Rattle.std.specs.FinMap.{empty}
+use Rattle.record_text.specs.Text.{IsText}
 use Rattle.archive_state.specs.Applied.{with_puts}
 use Rattle.archive_state.specs.Changes.{Batch}
 use Rattle.archive_state.specs.Content.{Content, nothing}
 use Rattle.archive_state.specs.Sound.{IsSound}
 use Rattle.gedcom_tree.specs.Forest.{Item}
-use Rattle.gedcom_tree.specs.Text.{IsSame}
+use Rattle.gedcom_tree.specs.File.{ReadsFile}
+use Rattle.gedcom_tree.specs.Text.{IsSame, text}
 use Rattle.import_forest.specs.Made.{made}
 use Rattle.import_forest.specs.Report.{report}
 use Rattle.export_forest.specs.Forest.{exported}
@@ -28,3 +30,11 @@ ReportsNothing = (c : Content) (society : List ℕ) (f : List Item) → IsSound 
 abbrev pub ComesBack : Type 0
 ComesBack = (c : Content) (society : List ℕ) (f : List Item) → IsSound c → IsSame f (exported c.records society)
     → (b : Batch) × (made nothing f ≡ Ok b) × (report f ≡ []) × AreSame c.records (with_puts empty b.records)
+
+-- The text of an export, where it has room in a file, reads as a forest; what that gives is the same as the archive, up
+-- to numbers. A file reads as one forest at the most: a law of `gedcom_tree`.
+abbrev pub FileComesBack : Type 0
+FileComesBack = (c : Content) (society : List ℕ) → IsSound c → IsText society
+    → length (text (exported c.records society)) ≤ 67108864
+    → (f : List Item) × ReadsFile (text (exported c.records society)) f
+    × ((b : Batch) × (made nothing f ≡ Ok b) × (report f ≡ []) × AreSame c.records (with_puts empty b.records))

@@ -134,7 +134,7 @@ module _ (m : Records) where
       ∙ behind_letter (get m k) k in
       decimal_injective n k a b (append_cancel_right (decimal n) (decimal k) (codes "@") same)
 
-  names_tell : (n k : ℕ) → n < 2 ^ 64 → k < 2 ^ 64 → bytes_eq (name_of m n) (name_of m k) ≡ (k == n)
+  pub names_tell : (n k : ℕ) → n < 2 ^ 64 → k < 2 ^ 64 → bytes_eq (name_of m n) (name_of m k) ≡ (k == n)
   names_tell n k a b = by (k == n) refl (bytes_eq (name_of m n) (name_of m k)) refl
     where
       by : (c : Bool) → (k == n) ≡ c → (d : Bool) → bytes_eq (name_of m n) (name_of m k) ≡ d → d ≡ c
@@ -183,7 +183,7 @@ module _ (c : Content) (is : IsSound c) where
       omega arith
 
   -- a record that is wanted at level 0
-  there : (n : ℕ) → S (n, at_level_0) → (r : Record) × (get m n ≡ Some r) × (nat_lt 0 (rank r) ≡ true)
+  pub there : (n : ℕ) → S (n, at_level_0) → (r : Record) × (get m n ≡ Some r) × (nat_lt 0 (rank r) ≡ true)
   there n h = by (get m n) refl h
     where
       by : (o : Option Record) → get m n ≡ o → option_map (is_wanted at_level_0) o ≡ Some true

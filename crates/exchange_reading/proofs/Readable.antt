@@ -107,7 +107,7 @@ module _ (c : Content) (is : IsSound c) where
   events_are k ((n, kind.Event x) ∷ xs) h = ((n, h.0.0, eqb-true x.owner k h.0.1, cited n), events_are k xs h.1)
   events_are k ((n, _) ∷ xs) h = absurd (true_not_false (sym h.0.1))
 
-  owned_are : (k : ℕ) → AreOwned m k (owns m k)
+  pub owned_are : (k : ℕ) → AreOwned m k (owns m k)
   owned_are k = record {
     events = records_of (events_of es k);
     citations = records_of (citations_of es k);

@@ -1,5 +1,23 @@
 -- A node of the code, by what it is and by the nodes right below it.
-use Rattle.std.proofs.Common.{◌≡◌, ℕ, ◌≤◌, Bool, true, false, List, [], ◌∷◌, ◌++◌, length, drop, refl, sym, ap, ◌∙◌, cond}
+use Rattle.std.proofs.Common.{
+  ◌≡◌,
+  ℕ,
+  ◌≤◌,
+  Bool,
+  true,
+  false,
+  List,
+  [],
+  ◌∷◌,
+  ◌++◌,
+  length,
+  drop,
+  refl,
+  sym,
+  ap,
+  ◌∙◌,
+  cond,
+}
 use Rattle.std.specs.Prelude.{Option, None, bytes_eq, codes, Result, Ok, Err, IfOk, OnOk}
 use Rattle.std.proofs.Math.ListN.{drop_of_length-le}
 use Rattle.stored_lines.specs.Tree.{Tree, children, forest_of, label, list_of, node}

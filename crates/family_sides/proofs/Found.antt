@@ -1,5 +1,25 @@
 -- The lines of the side of a person in a family are those that an import reads there.
-use Rattle.std.proofs.Common.{◌≡◌, ℕ, ◌+◌, Bool, true, false, List, [], ◌∷◌, ◌++◌, length, refl, sym, ap, ◌∙◌, subst, cond, append_assoc, arith}
+use Rattle.std.proofs.Common.{
+  ◌≡◌,
+  ℕ,
+  ◌+◌,
+  Bool,
+  true,
+  false,
+  List,
+  [],
+  ◌∷◌,
+  ◌++◌,
+  length,
+  refl,
+  sym,
+  ap,
+  ◌∙◌,
+  subst,
+  cond,
+  append_assoc,
+  arith,
+}
 use Rattle.std.specs.Prelude.{◌&&◌, ◌||◌, ◌==◌, Option, Some, None, option_map, bytes_eq, codes}
 use Rattle.std.specs.List.{filter, slice_get}
 use Rattle.std.proofs.lemmas.Bool.{eqb-true}
@@ -63,7 +83,8 @@ module _ (ks : List FileNode) (n k : ℕ) where
   ours_of false w i t m h = refl
   ours_of true false i t m h = refl
   ours_of true true i t m h = elim (t.other == k) as (λ x. (x ≡ true → true ≡ false)
-      → ◌≡◌ {A = List Side} [] (cond x ((record { family = t.other; person = n; line = i; is_late = is_none m }) ∷ []) [])) [
+      → ◌≡◌ {A = List Side} [] (cond x ((record { family = t.other; person = n; line = i; is_late = is_none m }) ∷ [])
+      [])) [
         | true ↦ λ g. absurd (let e : true ≡ false = g refl in cc)
         | false ↦ λ g. refl
       ] h
@@ -104,7 +125,8 @@ module _ (ks : List FileNode) (n k : ℕ) where
     names_one false s = ap (λ f. f && (bytes_eq (tag_of u) (fit_tag (member k)) && (number_of u == k))) s.field_is
 
   -- the lines of the side are those below the first line of the person that names the family so
-  abbrev Finds : Option Told → Option Value → FileLine → Forest FileLine → Forest FileLine → (ℕ → Bool) → List FileNode → Type 0
+  abbrev Finds : Option Told → Option Value → FileLine → Forest FileLine → Forest FileLine → (ℕ → Bool) → List FileNode
+      → Type 0
   Finds told v l g ts taken pre =
       lines_in ks (pre ++ (node l g ∷ list_of ts)) (ours (side_by n member taken (length pre) told
       ++ sides_on ks n member (taken_by member taken told) (length pre + 1) (list_of ts)))
@@ -165,7 +187,8 @@ module _ (ks : List FileNode) (n k : ℕ) where
         (sym (none_told (is_side_tag l.tag) (bytes_eq l.tag (codes "FAMS"))))
         (finds (value.Text t) false (bytes_eq l.tag (codes "FAMS")) (text_sided ks n l g t))
 
-    pointer_finds : (o : Option ℕ) → Finds (side_as l.tag (with_tag (roots ks) (codes "FAM") o)) (option_map value.Ref o)
+    pointer_finds : (o : Option ℕ) → Finds (side_as l.tag (with_tag (roots ks) (codes "FAM") o))
+        (option_map value.Ref o)
         l g ts taken pre
     pointer_finds None = subst (λ told. Finds told None l g ts taken pre)
         (sym (none_told (is_side_tag l.tag) (bytes_eq l.tag (codes "FAMS")))) (passes None refl free)

@@ -106,9 +106,11 @@ module _ (ks : List FileNode) (n : ℕ) where
       (list_of (relabel_all (λ (x : Lined). x.1) (put l v (resolved (place_in ks) g) (resolved (place_in ks) ts))))
 
   module _ (ts : Forest FileLine) (rest : first_as n (members_told ks (list_of ts)) ≡ line_first (known (roots ks)) n
-      (list_of (relabel_all (λ (x : Lined). x.1) (resolved (place_in ks) ts)))) (l : FileLine) (g : Forest FileLine) where
+      (list_of (relabel_all (λ (x : Lined). x.1) (resolved (place_in ks) ts)))) (l : FileLine)
+      (g : Forest FileLine) where
     names : (u : Tree Line) (m : Bool) → is_same (family_field (known (roots ks)) u) a_member ≡ m
-        → or_else (names_as n (told_if m (not (is_child_line u)) (number_of u))) (first_as n (members_told ks (list_of ts)))
+        → or_else (names_as n (told_if m (not (is_child_line u)) (number_of u)))
+        (first_as n (members_told ks (list_of ts)))
         ≡ or_else (cond (is_same (family_field (known (roots ks)) u) a_member && (number_of u == n))
         (Some (not (is_child_line u))) None)
         (line_first (known (roots ks)) n (list_of (relabel_all (λ (x : Lined). x.1) (resolved (place_in ks) ts))))
@@ -128,7 +130,8 @@ module _ (ks : List FileNode) (n : ℕ) where
 
     pointer_names : (o : Option ℕ) → Names (member_as l.tag (with_tag (roots ks) (codes "INDI") o)) l
         (option_map value.Ref o) g ts
-    pointer_names None = subst (λ told. Names told l None g ts) (sym (none_told (is_member_tag l.tag) (as_partner l))) rest
+    pointer_names None = subst (λ told. Names told l None g ts) (sym (none_told (is_member_tag l.tag) (as_partner l)))
+        rest
     pointer_names (Some p) =
         let u : Tree Line = line_with l (value.Ref p) (resolved (place_in ks) g) in
         let d : Bool = bytes_eq (tag_at (roots ks) p) (codes "INDI") in
@@ -157,7 +160,8 @@ module _ (ks : List FileNode) (n : ℕ) where
   part_at (Some (node l f)) e = ap partner_in (sym (first_told f)
       ∙ if_family (bytes_eq l.tag (codes "FAM")) (first_as n (members_told ks (list_of f))) e)
 
-  pub root_at : (k : ℕ) → slice_get (roots ks) k ≡ option_map unlined (option_map (lined_root (place_in ks)) (slice_get ks k))
+  pub root_at : (k : ℕ) → slice_get (roots ks) k
+      ≡ option_map unlined (option_map (lined_root (place_in ks)) (slice_get ks k))
   unfolding roots
   root_at k = slice_get-map unlined (lined_roots ks) k
       ∙ ap (option_map unlined) (slice_get-map (lined_root (place_in ks)) ks k)

@@ -76,13 +76,15 @@ module _ (ks : List FileNode) where
     text_says : (t : List ℕ) → Says s before (member_as l.tag None) l (Some (value.Text t)) g ts
     text_says t =
         let u : Tree Line = line_with l (value.Text t) (resolved (place_in ks) g) in
-        subst (λ told. Says s before told l (Some (value.Text t)) g ts) (sym (none_told (is_member_tag l.tag) (as_partner l)))
+        subst (λ told. Says s before told l (Some (value.Text t)) g ts)
+        (sym (none_told (is_member_tag l.tag) (as_partner l)))
         (says u false false (member_row (is_member_tag l.tag && false) (is_among family_tags u && is_text u)
         (is_citation (known (roots ks)) u) ∙ and_false (is_member_tag l.tag)))
 
     pointer_says : (o : Option ℕ) → Says s before (member_as l.tag (with_tag (roots ks) (codes "INDI") o)) l
         (option_map value.Ref o) g ts
-    pointer_says None = subst (λ told. Says s before told l None g ts) (sym (none_told (is_member_tag l.tag) (as_partner l)))
+    pointer_says None = subst (λ told. Says s before told l None g ts)
+        (sym (none_told (is_member_tag l.tag) (as_partner l)))
         (rest s before so)
     pointer_says (Some p) =
         let u : Tree Line = line_with l (value.Ref p) (resolved (place_in ks) g) in
@@ -90,7 +92,8 @@ module _ (ks : List FileNode) where
         subst (λ told. Says s before told l (Some (value.Ref p)) g ts)
         (sym (one_told (is_member_tag l.tag) (as_partner l) d p))
         (says u (is_member_tag l.tag && d) (as_partner l)
-        (member_row (is_member_tag l.tag && d) (is_among family_tags u && is_text u) (is_citation (known (roots ks)) u)))
+        (member_row (is_member_tag l.tag && d) (is_among family_tags u && is_text u)
+        (is_citation (known (roots ks)) u)))
 
     value_says : (v : Meaning) → Says s before (member_as l.tag (with_tag (roots ks) (codes "INDI")
         (position_in (place_in ks) v))) l (resolve (place_in ks) v) g ts

@@ -124,7 +124,8 @@ module _ (ks : List FileNode) (n : ℕ) where
   abbrev Says : (ℕ → Bool) → Lines → Option Told → FileLine → Option Value → Forest FileLine → Forest FileLine → Type 0
   Says taken before told l v g ts = said_by member taken l told
       ++ said_on ks member (taken_by member taken told) (list_of ts)
-      ≡ judged (judge_side (roots ks) n) before (list_of (put l v (resolved (place_in ks) g) (resolved (place_in ks) ts)))
+      ≡ judged (judge_side (roots ks) n) before
+      (list_of (put l v (resolved (place_in ks) g) (resolved (place_in ks) ts)))
 
   -- a line that names a family as one of its members does
   pub record Sided (u : Tree Line) (m b : Bool) : Type 0 where
@@ -140,7 +141,8 @@ module _ (ks : List FileNode) (n : ℕ) where
         let u : Tree Line = line_with l (value.Text t) (resolved (place_in ks) g) in
         record {
           field_is = text_no_side (tagged (codes "NAME") u && is_text u)
-              (tagged (codes "SEX") u && (is_bare u && is_some (sex_of (text_of u)))) (is_among person_tags u && is_text u)
+              (tagged (codes "SEX") u && (is_bare u && is_some (sex_of (text_of u))))
+              (is_among person_tags u && is_text u)
               (is_side_tag l.tag) (is_citation (known (roots ks)) u);
           tag_is = refl;
           side = λ e. absurd cc;
@@ -160,7 +162,8 @@ module _ (ks : List FileNode) (n : ℕ) where
           family = λ e. both_second (is_side_tag l.tag) d e;
         }
 
-  module _ (taken : ℕ → Bool) (before : Lines) (so : IsTaken taken before) (l : FileLine) (u : Tree Line) (b : Bool) where
+  module _ (taken : ℕ → Bool) (before : Lines) (so : IsTaken taken before) (l : FileLine) (u : Tree Line)
+      (b : Bool) where
     said_one : (m : Bool) → Sided u m b → said_by member taken l (told_if m b (number_of u))
         ≡ report.said_on l.line (judge_side (roots ks) n before u)
     said_one false s = ap (λ f. report.said_on l.line (cond f (cond (is_sided (is_partner (roots ks) n (number_of u)) u)
@@ -177,7 +180,8 @@ module _ (ks : List FileNode) (n : ℕ) where
         ∙ ap (λ c. cond c (cond (was (tag_of u)) (Some word.Doubled) None) (Some word.OneSided))
         (sym (ap (λ p. is_sided p u) (is_partner_told ks n k (s.family refl))
         ∙ ap (λ c. cond (partner_in (member k)) c (not c)) s.tag_is ∙ sided_is b (member k)))
-        ∙ ap (λ c. cond c (cond (is_sided (is_partner (roots ks) n k) u) (cond (was (tag_of u)) (Some word.Doubled) None)
+        ∙ ap (λ c. cond c (cond (is_sided (is_partner (roots ks) n k) u)
+        (cond (was (tag_of u)) (Some word.Doubled) None)
         (Some word.OneSided)) None) (sym s.field_is)
         )
 

@@ -31,7 +31,8 @@ module _ (ks : List FileNode) (n : ℕ) (member : ℕ → Option Bool) (t : File
   sides_step i j sides after all next one so =
       ap (λ us. us ++ sides_on ks n member new j rest) one
       ∙ ap (λ k. (sides ++ side_by n member old i (side_told ks t)) ++ sides_on ks n member new k rest) next
-      ∙ ap (λ taken. (sides ++ side_by n member old i (side_told ks t)) ++ sides_on ks n member taken (i + 1) rest) new_is
+      ∙ ap (λ taken. (sides ++ side_by n member old i (side_told ks t)) ++ sides_on ks n member taken (i + 1) rest)
+      new_is
       ∙ append_assoc sides (side_by n member old i (side_told ks t))
       (sides_on ks n member (taken_by member old (side_told ks t)) (i + 1) rest)
       ∙ ap (λ us. sides ++ sides_on ks n member old i us) (sym e) ∙ so

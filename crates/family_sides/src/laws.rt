@@ -23,6 +23,7 @@ pub fn what_is_said_is_what_an_import_reports()
 pub fn the_side_of_a_person_is_found()
     ensures { (ks : List FileNode) (n k : ℕ) (t : FileNode) → slice_get ks n ≡ Some t
         → bytes_eq (label t).tag (codes "INDI") ≡ true
-        → lines_in ks (list_of (children t)) (filter (λ (s : Side). s.family == k) (sides_by_members ks (named_in ks) n t))
+        → lines_in ks (list_of (children t)) (filter (λ (s : Side). s.family == k)
+        (sides_by_members ks (named_in ks) n t))
         ≡ side_of (roots ks) (fit_tag (named_in ks k n)) k n }
 {}

@@ -36,7 +36,8 @@ pub(crate) fn sides_of_all(
     members: &[BTreeMap<usize, bool>],
     report: &mut Vec<ReportLine>,
 ) -> Result<Vec<Side>, AllocError>
-    ensures sides { IfOk result (λ all. all.items ≡ taken_words.sides_from roots.now (member_in members.now) 0 roots.now) }
+    ensures sides { IfOk result (λ all. all.items
+        ≡ taken_words.sides_from roots.now (member_in members.now) 0 roots.now) }
     ensures report { OnOk result (report.new.items
         ≡ report.old.items ++ taken_words.said_from roots.now (member_in members.now) 0 roots.now) }
 {

@@ -1,5 +1,23 @@
 -- The text that is put together by an index is that of the archive.
-use Rattle.std.proofs.Common.{◌≡◌, ℕ, suc, List, [], ◌∷◌, ◌++◌, map, Bool, true, ◌==◌, refl, sym, ap, ◌∙◌, arith, eqb-true}
+use Rattle.std.proofs.Common.{
+  ◌≡◌,
+  ℕ,
+  suc,
+  List,
+  [],
+  ◌∷◌,
+  ◌++◌,
+  map,
+  Bool,
+  true,
+  ◌==◌,
+  refl,
+  sym,
+  ap,
+  ◌∙◌,
+  arith,
+  eqb-true,
+}
 use Rattle.std.specs.Prelude.{Some}
 use Rattle.std.specs.List.{filter, flat_map}
 use Rattle.std.specs.FinMap.{entries, get}
@@ -182,7 +200,8 @@ module _ (m : Records) (i : Index) (h : IsIndexOf (entries m) i) where
   kind_same : (r : Rank) (k : ℕ) → place_in_export r ≡ suc k → kind_text m i r
       ≡ pages_of (of_rank (entries m) (place_in_export r))
   kind_same r k is =
-      ap (flat_map (text_at m i)) (numbers_are (entries m) i h.gathered r ∙ ap (λ q. numbers (of_rank (entries m) q)) is)
+      ap (flat_map (text_at m i)) (numbers_are (entries m) i h.gathered r
+      ∙ ap (λ q. numbers (of_rank (entries m) q)) is)
       ∙ numbered_same k ∙ ap (λ q. pages_of (of_rank (entries m) q)) (sym is)
 
   any_kind : (r : Rank) → kind_text m i r ≡ pages_of (of_rank (entries m) (place_in_export r))

@@ -1,5 +1,36 @@
 -- Texts that are put behind what waits one after the other, and what of them is handed over.
-use Rattle.std.proofs.Common.{◌≡◌, ℕ, ◌+◌, ◌<◌, ◌≤◌, List, [], ◌∷◌, ◌++◌, length, get_or, drop, drop-cons, add-one, true, refl, sym, ap, subst, ◌∙◌, inl, inr, arith, append_assoc, append-nil, length-append, Option, Result, Ok, Err}
+use Rattle.std.proofs.Common.{
+  ◌≡◌,
+  ℕ,
+  ◌+◌,
+  ◌<◌,
+  ◌≤◌,
+  List,
+  [],
+  ◌∷◌,
+  ◌++◌,
+  length,
+  get_or,
+  drop,
+  drop-cons,
+  add-one,
+  true,
+  refl,
+  sym,
+  ap,
+  subst,
+  ◌∙◌,
+  inl,
+  inr,
+  arith,
+  append_assoc,
+  append-nil,
+  length-append,
+  Option,
+  Result,
+  Ok,
+  Err,
+}
 use Rattle.std.specs.Prelude.{MatchResult, OnOk, string_bytes}
 use Rattle.std.specs.Io.KnownBytes.{Appends}
 use Rattle.std.specs.List.{flat_map}
@@ -116,7 +147,8 @@ at_end a b x y whole rest w e =
 -- the text of the next of a list
 pub next_text : {A : Type 0} (f : A → List ℕ) (xs : List A) (i : ℕ) (d : A) → i < length xs
     → flat_map f (drop i xs) ≡ f (get_or xs i d) ++ flat_map f (drop (i + 1) xs)
-next_text f xs i d less = ap (flat_map f) (drop-cons xs i d less ∙ ap (λ k. get_or xs i d ∷ drop k xs) (sym (add-one i)))
+next_text f xs i d less = ap (flat_map f)
+    (drop-cons xs i d less ∙ ap (λ k. get_or xs i d ∷ drop k xs) (sym (add-one i)))
 
 -- ---- where nothing waited at the start
 pub whole_of : (a b c : Option (List ℕ)) (x y z : Output) (t : List ℕ) → x.written ≡ 0 → string_bytes x.text ≡ []

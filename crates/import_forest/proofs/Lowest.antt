@@ -42,7 +42,8 @@ module _ {X : Type 0} where
             | Less ↦ λ q.
                 let below : T (below_all nat_cmp n es) = below_below n e.0 es q
                 (first_holds (below_all nat_cmp e.0 es) (is_sorted nat_cmp es) s) in
-                absurd (there n low.0 (ap (λ o. cond (is_eq o) (Some e.1) (find nat_cmp n es)) q ∙ not_found n es below))
+                absurd (there n low.0 (ap (λ o. cond (is_eq o) (Some e.1) (find nat_cmp n es)) q
+                ∙ not_found n es below))
             | Equal ↦ λ q. ap Some (ranked n e.0 Equal (sym q))
             | Greater ↦ λ q. absurd (low.1 e.0 (ranked n e.0 Greater (sym q)) p)
           ] refl

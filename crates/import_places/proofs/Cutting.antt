@@ -162,7 +162,8 @@ within_name : (name above : List ℕ) → is_within_limits (path_below name abov
 within_name name above e = let q = few_bytes name above e in within name (few_parts name above e) (omega arith)
 
 -- ---- the parts of the text of a path
-pub front_is_path : (t part after : List ℕ) → t ≡ part ++ (44 ∷ after) → Without 44 part → IsPathText t → IsPathText part
+pub front_is_path : (t part after : List ℕ) → t ≡ part ++ (44 ∷ after) → Without 44 part → IsPathText t
+    → IsPathText part
 front_is_path t part after e h p = record {
   plain = plain_front t part (44 ∷ after) e p.plain;
   within = ap is_within_limits (normal_alone part h) ∙ within_name (trimmed part) (normal after)

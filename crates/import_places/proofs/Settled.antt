@@ -23,7 +23,8 @@ module _ (w : numbers.Places) (before : Option ℕ) (k : ℕ) (t : List ℕ) (d 
       (made_within (normal t) y (settle w (Some k) k ys d))
   unfolding normal
   by_names y ys e = ap (λ ns. settle w before k ns d) e
-      ∙ ap (λ p. unless_found (find w before d.made p) d (made_within p y (settle w (Some k) k ys d))) (sym (ap joined e))
+      ∙ ap (λ p. unless_found (find w before d.made p) d (made_within p y (settle w (Some k) k ys d)))
+      (sym (ap joined e))
 
   -- it is there
   pub is_found : (f : numbers.Found) → find w before d.made (normal t) ≡ Some f → (right.0 ≡ d) × (right.1 ≡ Some f)

@@ -1,6 +1,19 @@
 //! Numbers drawn, and what they are drawn for.
 
-ghost use Rattle.std.specs.Prelude.{◌≡◌, ◌<◌, List, ℕ, false, Some, IfErr, OnOk, MatchResult, bytes_eq, if◌then◌else◌, option_map};
+ghost use Rattle.std.specs.Prelude.{
+  ◌≡◌,
+  ◌<◌,
+  List,
+  ℕ,
+  false,
+  Some,
+  IfErr,
+  OnOk,
+  MatchResult,
+  bytes_eq,
+  if◌then◌else◌,
+  option_map,
+};
 ghost use Rattle.archive_view.specs.Looks.{is_failure, is_stop};
 ghost use Rattle.record_text.specs.Text.{IsPlain};
 ghost use Rattle.import_forest.specs.Numbers as numbers;

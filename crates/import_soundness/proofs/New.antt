@@ -22,7 +22,20 @@ use Rattle.archive_state.proofs.Changing.{path_within}
 use Rattle.archive_state.proofs.Each.{each_zip}
 use Rattle.archive_state.proofs.Keeping.{KeepsRules, stands_as}
 use Rattle.import_forest.specs.Made.{drawing, lowest_place, second}
-use Rattle.import_forest.specs.Numbers.{Drawing, Drawn, Found, Places, begun, find, finished, number_found, of_file, of_path, owned_by, placed}
+use Rattle.import_forest.specs.Numbers.{
+  Drawing,
+  Drawn,
+  Found,
+  Places,
+  begun,
+  find,
+  finished,
+  number_found,
+  of_file,
+  of_path,
+  owned_by,
+  placed,
+}
 use Rattle.import_forest.specs.Positions.{known, known_before, paths, position_of}
 use Rattle.import_forest.specs.Sides.{draft_at}
 use Rattle.import_soundness.specs.Read.{IsNode, IsRead, PointsWithin}

@@ -24,17 +24,24 @@ module _ (n : Named) (tag : List ℕ) where
 pub kind_is : (n : Named) (tag : List ℕ) → is_kind n (kind_named tag) ≡ bytes_eq tag (named_tag n)
 kind_is named.Repo tag =
     if_tag named.Repo tag (codes "_LOC") kind.Place _ refl (λ l. if_tag named.Repo tag (codes "REPO") kind.Repo _ refl
-    (λ r. if_tag named.Repo tag (codes "SOUR") kind.Source _ refl (λ s. if_tag named.Repo tag (codes "INDI") kind.Person _
+    (λ r. if_tag named.Repo tag (codes "SOUR") kind.Source _ refl
+    (λ s. if_tag named.Repo tag (codes "INDI") kind.Person _
     refl (λ i. if_tag named.Repo tag (codes "FAM") kind.Family kind.Other refl (λ f. sym r)))))
 kind_is named.Source tag =
-    if_tag named.Source tag (codes "_LOC") kind.Place _ refl (λ l. if_tag named.Source tag (codes "REPO") kind.Repo _ refl
-    (λ r. if_tag named.Source tag (codes "SOUR") kind.Source _ refl (λ s. if_tag named.Source tag (codes "INDI") kind.Person
+    if_tag named.Source tag (codes "_LOC") kind.Place _ refl
+    (λ l. if_tag named.Source tag (codes "REPO") kind.Repo _ refl
+    (λ r. if_tag named.Source tag (codes "SOUR") kind.Source _ refl
+    (λ s. if_tag named.Source tag (codes "INDI") kind.Person
     _ refl (λ i. if_tag named.Source tag (codes "FAM") kind.Family kind.Other refl (λ f. sym s)))))
 kind_is named.Person tag =
-    if_tag named.Person tag (codes "_LOC") kind.Place _ refl (λ l. if_tag named.Person tag (codes "REPO") kind.Repo _ refl
-    (λ r. if_tag named.Person tag (codes "SOUR") kind.Source _ refl (λ s. if_tag named.Person tag (codes "INDI") kind.Person
+    if_tag named.Person tag (codes "_LOC") kind.Place _ refl
+    (λ l. if_tag named.Person tag (codes "REPO") kind.Repo _ refl
+    (λ r. if_tag named.Person tag (codes "SOUR") kind.Source _ refl
+    (λ s. if_tag named.Person tag (codes "INDI") kind.Person
     _ refl (λ i. if_tag named.Person tag (codes "FAM") kind.Family kind.Other refl (λ f. sym i)))))
 kind_is named.Family tag =
-    if_tag named.Family tag (codes "_LOC") kind.Place _ refl (λ l. if_tag named.Family tag (codes "REPO") kind.Repo _ refl
-    (λ r. if_tag named.Family tag (codes "SOUR") kind.Source _ refl (λ s. if_tag named.Family tag (codes "INDI") kind.Person
+    if_tag named.Family tag (codes "_LOC") kind.Place _ refl
+    (λ l. if_tag named.Family tag (codes "REPO") kind.Repo _ refl
+    (λ r. if_tag named.Family tag (codes "SOUR") kind.Source _ refl
+    (λ s. if_tag named.Family tag (codes "INDI") kind.Person
     _ refl (λ i. if_tag named.Family tag (codes "FAM") kind.Family kind.Other refl (λ f. sym f)))))

@@ -1,5 +1,27 @@
 -- Events read from their lines, one line after the other.
-use Rattle.std.specs.Prelude.{ℕ, ◌≡◌, ◌&&◌, ◌||◌, not, cond, Bool, true, false, List, [], ◌∷◌, ◌++◌, map, Option, Some, None, option_map, codes, if◌then◌else◌, refl}
+use Rattle.std.specs.Prelude.{
+  ℕ,
+  ◌≡◌,
+  ◌&&◌,
+  ◌||◌,
+  not,
+  cond,
+  Bool,
+  true,
+  false,
+  List,
+  [],
+  ◌∷◌,
+  ◌++◌,
+  map,
+  Option,
+  Some,
+  None,
+  option_map,
+  codes,
+  if◌then◌else◌,
+  refl,
+}
 use Rattle.std.specs.List.{filter}
 use Rattle.std.specs.Option.{unwrap_or, is_some as some_there}
 use Rattle.std.proofs.Common.{ap, sym, ◌∙◌, append_assoc}
@@ -8,7 +30,18 @@ use Rattle.stored_lines.specs.Line.{Line, Lines}
 use Rattle.record_kinds.specs.Model as model
 use Rattle.record_shapes.specs.Paths.{normal}
 use Rattle.record_shapes.specs.declared.field.Field.{Field}
-use Rattle.record_shapes.specs.Forms.{Known, below, is_bare, is_some, is_text, names_a, number_of, tagged, text_of, value_of}
+use Rattle.record_shapes.specs.Forms.{
+  Known,
+  below,
+  is_bare,
+  is_some,
+  is_text,
+  names_a,
+  number_of,
+  tagged,
+  text_of,
+  value_of,
+}
 use Rattle.record_shapes.specs.Fields.{
   a_citation,
   a_date,
@@ -23,7 +56,6 @@ use Rattle.record_shapes.specs.Fields.{
 }
 use Rattle.record_shapes.specs.Picking.{all_of, first, is_left}
 use Rattle.record_shapes.specs.Reading.{
-  Draft,
   below_event,
   citation_draft,
   citation_from,
@@ -39,15 +71,12 @@ use Rattle.record_shapes.specs.Reading.{
   without,
 }
 use Rattle.record_reading.specs.Partly.{or_told, unless}
-use Rattle.owner_reading.specs.Told.{number_or}
 use Rattle.owner_reading.specs.Drafts.{EventTold, event_with, part_draft, path_in, unless_placed}
 use Rattle.owner_reading.specs.declared.events.EventPart.{EventPart}
 use Rattle.owner_reading.specs.declared.events.EventPart.TheVariants as part
 use Rattle.record_reading.proofs.Picked.{
   all_here,
   all_past,
-  first_none,
-  first_same,
   is_first,
   left_closed,
   left_gone,
@@ -57,7 +86,6 @@ use Rattle.record_reading.proofs.Picked.{
   not_first,
   other_field,
   row_is,
-  told_here,
   told_same,
 }
 
@@ -72,11 +100,6 @@ pub path_put : (ps : List EventPart) (p : EventPart) (path : List ℕ) → path_
 path_put [] p path e = e
 path_put (part.Citation d ∷ ps) p path e = path_put ps p path e
 path_put (part.Sought x ∷ ps) p path e = refl
-
-pub parts_put : (ps : List EventPart) (p : EventPart) (rest : List (Tree Draft))
-    → map part_draft (ps ++ p ∷ []) ++ rest ≡ map part_draft ps ++ (part_draft p ∷ rest)
-parts_put [] p rest = refl
-parts_put (x ∷ ps) p rest = ap (λ l. part_draft x ∷ l) (parts_put ps p rest)
 
 told_end : {A : Type 0} (o : Option A) → or_told o None ≡ o
 told_end None = refl
@@ -154,72 +177,6 @@ module _ (known : Known) (t : Tree Line) (ts : Lines) where
   not_and true b e = refl
   not_and false b e = e
 
-  pub date_taken : (e : EventTold) → is_first (event_field known t) a_date e.date ≡ true
-      → event_with known (record {
-        date = Some (text_of t);
-        place = e.place;
-        participants = e.participants;
-        carried = e.carried;
-        path = e.path;
-        drafts = e.drafts;
-      }) ts ≡ event_with known e (t ∷ ts)
-  date_taken e h =
-      let here : is_same (event_field known t) a_date ≡ true = first_same (event_field known t) a_date e.date h in
-      let none : e.date ≡ None = first_none (event_field known t) a_date e.date h in
-      let place : is_same (event_field known t) a_place ≡ false = other_field (event_field known t) a_date a_place here refl in
-      let citation : is_same (event_field known t) a_citation ≡ false = other_field (event_field known t) a_date
-      a_citation here refl in
-      let participant : is_same (event_field known t) a_participant ≡ false = other_field (event_field known t) a_date
-      a_participant here refl in
-      let once : List Field = a_date ∷ a_place ∷ [] in
-      (λ i. record {
-        date = told_here (event_field known) (λ o. o) a_date t ts here i;
-        place = place_past e.place place i;
-        participants = e.participants ++ map participant_from (all_past (event_field known) a_participant t ts participant i);
-        carried = e.carried ++ left_closed (event_field known) once a_date [] (unless e.place a_place) t ts here refl i;
-        path = path_past e.place e.path place i;
-        drafts = e.drafts ++ below_past (is_some e.place) citation
-            (not_and (is_some e.place) (is_same (event_field known t) a_place) place) i;
-      }) ∙ ap (λ (o : Option (List ℕ)). event_with known (record {
-        date = o;
-        place = e.place;
-        participants = e.participants;
-        carried = e.carried;
-        path = e.path;
-        drafts = e.drafts;
-      }) (t ∷ ts)) (sym none)
-
-  pub participant_taken : (e : EventTold) → is_same (event_field known t) a_participant ≡ true
-      → event_with known (record {
-        date = e.date;
-        place = e.place;
-        participants = e.participants ++ participant_from t ∷ [];
-        carried = e.carried;
-        path = e.path;
-        drafts = e.drafts;
-      }) ts ≡ event_with known e (t ∷ ts)
-  participant_taken e here =
-      let x : Field = event_field known t in
-      let place : is_same x a_place ≡ false = other_field x a_participant a_place here refl in
-      let date : is_same x a_date ≡ false = other_field x a_participant a_date here refl in
-      let citation : is_same x a_citation ≡ false = other_field x a_participant a_citation here refl in
-      let none : is_same x carried ≡ false = other_field x a_participant carried here refl in
-      λ i. record {
-        date = told_same (event_field known) (λ o. o) a_date e.date t ts (not_first x a_date e.date date) i;
-        place = place_past e.place place i;
-        participants = (append_assoc e.participants (participant_from t ∷ [])
-            (map participant_from (all_of (event_field known) a_participant ts))
-            ∙ ap (λ us. e.participants ++ map participant_from us)
-            (all_here (event_field known) a_participant t ts here)) i;
-        carried = e.carried ++ left_gone (event_field known) (a_date ∷ a_place ∷ [])
-            (unless e.date a_date ++ unless e.place a_place) t ts
-            (often x a_participant here refl date place none)
-            (missing_more x a_date e.date (unless e.place a_place) (not_first x a_date e.date date)
-            (missing_one x a_place e.place (not_first x a_place e.place place))) i;
-        path = path_past e.place e.path place i;
-        drafts = e.drafts ++ below_past (is_some e.place) citation (not_and (is_some e.place) (is_same x a_place) place) i;
-      }
-
   pub citation_taken : (e : EventTold) → is_same (event_field known t) a_citation ≡ true
       → event_with known (record {
         date = e.date;
@@ -238,7 +195,8 @@ module _ (known : Known) (t : Tree Line) (ts : Lines) where
       λ i. record {
         date = told_same (event_field known) (λ o. o) a_date e.date t ts (not_first x a_date e.date date) i;
         place = place_past e.place place i;
-        participants = e.participants ++ map participant_from (all_past (event_field known) a_participant t ts participant i);
+        participants = e.participants ++ map participant_from
+            (all_past (event_field known) a_participant t ts participant i);
         carried = e.carried ++ left_gone (event_field known) (a_date ∷ a_place ∷ [])
             (unless e.date a_date ++ unless e.place a_place) t ts
             (often x a_citation here refl date place none)
@@ -265,52 +223,18 @@ module _ (known : Known) (t : Tree Line) (ts : Lines) where
       λ i. record {
         date = told_same (event_field known) (λ o. o) a_date e.date t ts h i;
         place = place_past e.place place i;
-        participants = e.participants ++ map participant_from (all_past (event_field known) a_participant t ts participant i);
+        participants = e.participants ++ map participant_from
+            (all_past (event_field known) a_participant t ts participant i);
         carried = left_kept (event_field known) e.carried (a_date ∷ a_place ∷ [])
             (unless e.date a_date ++ unless e.place a_place) t ts (carried_field known t participant citation)
             (missing_more x a_date e.date (unless e.place a_place) h
             (missing_one x a_place e.place (not_first x a_place e.place place))) i;
         path = path_past e.place e.path place i;
-        drafts = e.drafts ++ below_past (is_some e.place) citation (not_and (is_some e.place) (is_same x a_place) place) i;
+        drafts = e.drafts ++ below_past (is_some e.place) citation (not_and (is_some e.place) (is_same x a_place) place)
+            i;
       }
 
   -- ---- a line of the place
-  -- a further one is carried
-  pub place_carried : (e : EventTold) (p : model.EventPlace) → e.place ≡ Some p → event_field known t ≡ a_place
-      → event_with known (record {
-        date = e.date;
-        place = e.place;
-        participants = e.participants;
-        carried = e.carried ++ t ∷ [];
-        path = e.path;
-        drafts = e.drafts;
-      }) ts ≡ event_with known e (t ∷ ts)
-  place_carried e p there is =
-      let x : Field = event_field known t in
-      let date : is_same x a_date ≡ false = ap (λ y. is_same y a_date) is in
-      let citation : is_same x a_citation ≡ false = ap (λ y. is_same y a_citation) is in
-      let participant : is_same x a_participant ≡ false = ap (λ y. is_same y a_participant) is in
-      let taken : is_first x a_place e.place ≡ false = ap (λ o. is_first x a_place o) there
-      ∙ ap (λ y. is_same y a_place && false) is in
-      λ i. record {
-        date = told_same (event_field known) (λ o. o) a_date e.date t ts (not_first x a_date e.date date) i;
-        place = (ap (λ o. or_told o (option_map (event_place_from known) (first (all_of (event_field known) a_place ts))))
-            there ∙ ap (λ o. or_told o (option_map (event_place_from known)
-            (first (all_of (event_field known) a_place (t ∷ ts))))) (sym there)) i;
-        participants = e.participants ++ map participant_from (all_past (event_field known) a_participant t ts participant i);
-        carried = left_kept (event_field known) e.carried (a_date ∷ a_place ∷ [])
-            (unless e.date a_date ++ unless e.place a_place) t ts (carried_field known t participant citation)
-            (missing_more x a_date e.date (unless e.place a_place) (not_first x a_date e.date date)
-            (missing_one x a_place e.place taken)) i;
-        path = (ap (λ o. or_told e.path (unless_placed o
-            (sought_on known (first (all_of (event_field known) a_place ts))))) there
-            ∙ ap (λ o. or_told e.path (unless_placed o
-            (sought_on known (first (all_of (event_field known) a_place (t ∷ ts)))))) (sym there)) i;
-        drafts = e.drafts ++ (ap (λ o. below_event known (is_some o) ts) there
-            ∙ below_past true citation refl
-            ∙ ap (λ o. below_event known (is_some o) (t ∷ ts)) (sym there)) i;
-      }
-
   -- the first one is the place of the event
   pub place_taken : (e : EventTold) → e.place ≡ None → event_field known t ≡ a_place
       → event_with known (record {
@@ -332,8 +256,10 @@ module _ (known : Known) (t : Tree Line) (ts : Lines) where
       (λ i. record {
         date = told_same (event_field known) (λ o. o) a_date e.date t ts (not_first x a_date e.date date) i;
         place = option_map (event_place_from known) (first_one i);
-        participants = e.participants ++ map participant_from (all_past (event_field known) a_participant t ts participant i);
-        carried = e.carried ++ left_closed (event_field known) (a_date ∷ a_place ∷ []) a_place (unless e.date a_date) [] t
+        participants = e.participants ++ map participant_from
+            (all_past (event_field known) a_participant t ts participant i);
+        carried = e.carried ++ left_closed (event_field known) (a_date ∷ a_place ∷ []) a_place (unless e.date a_date) []
+            t
             ts place (missing_one x a_date e.date (not_first x a_date e.date date)) i;
         path = (told_end (or_told e.path (sought_on known (Some t)))
             ∙ ap (λ o. or_told e.path (sought_on known o)) first_one) i;
@@ -350,11 +276,6 @@ module _ (known : Known) (t : Tree Line) (ts : Lines) where
 
 -- ---- the line that names the place
 module _ (P : Tree Line → Bool) where
-  pub number_kept : (o : Option ℕ) (n : ℕ) (t : Tree Line) (ts : Lines) → o ≡ Some n
-      → number_or P o ts ≡ number_or P o (t ∷ ts)
-  number_kept None n t ts e = absurd cc
-  number_kept (Some m) n t ts e = refl
-
   pub without_none : (ts : Lines) → first (filter P ts) ≡ None → without P ts ≡ ts
   without_none [] e = refl
   without_none (t ∷ ts) e = elim (P t) as (λ b. first (cond b (t ∷ filter P ts) (filter P ts)) ≡ None
@@ -367,7 +288,8 @@ abbrev pub placed_at : ℕ → Lines → model.EventPlace
 placed_at n rest = record { place = n; carried = rest }
 
 -- the place of the event, by what is below its line
-pub place_told : (known : Known) (t : Tree Line) (path : List ℕ) (o : Option ℕ) (rest : Lines) → path ≡ normal (text_of t)
+pub place_told : (known : Known) (t : Tree Line) (path : List ℕ) (o : Option ℕ) (rest : Lines) → path
+    ≡ normal (text_of t)
     → o ≡ option_map number_of (first (filter (is_loc known path) (below t)))
     → rest ≡ without (is_loc known path) (below t)
     → placed_at (unwrap_or o 0) rest ≡ event_place_from known t
@@ -396,17 +318,6 @@ sought_none known t path o e h n =
     cases_of None g = refl
     cases_of (Some loc) g = absurd cc
 
-pub sought_named : (known : Known) (t : Tree Line) (path : List ℕ) (o : Option ℕ) (n : ℕ) → path ≡ normal (text_of t)
-    → o ≡ option_map number_of (first (filter (is_loc known path) (below t))) → o ≡ Some n
-    → sought_on known (Some t) ≡ None
-sought_named known t path o n e h is =
-    cases_of (place_named known t) (sym (ap (λ p. option_map number_of (first (filter (is_loc known p) (below t)))) e)
-    ∙ sym h ∙ is)
-  where
-    cases_of : (f : Option (Tree Line)) → option_map number_of f ≡ Some n → unless_named (normal (text_of t)) f ≡ None
-    cases_of None g = absurd cc
-    cases_of (Some loc) g = refl
-
 -- ---- what is pushed
 abbrev pub with_parts : EventTold → List EventPart → EventTold
 with_parts e ps = record {
@@ -418,7 +329,8 @@ with_parts e ps = record {
   drafts = map part_draft ps;
 }
 
-parts_end : (ps : List EventPart) (p : EventPart) → map part_draft (ps ++ p ∷ []) ≡ map part_draft ps ++ part_draft p ∷ []
+parts_end : (ps : List EventPart) (p : EventPart) → map part_draft (ps ++ p ∷ []) ≡ map part_draft ps ++ part_draft p
+    ∷ []
 parts_end [] p = refl
 parts_end (x ∷ ps) p = ap (λ l. part_draft x ∷ l) (parts_end ps p)
 
@@ -439,7 +351,8 @@ citation_pushed known t ts e ps qs c h k here =
     ∙ citation_taken known t ts (with_parts e ps) here
 
 -- a place that no line names is sought by its path
-pub sought_pushed : (known : Known) (t : Tree Line) (ts : Lines) (e : EventTold) (ps qs : List EventPart) (p : EventPart)
+pub sought_pushed : (known : Known) (t : Tree Line) (ts : Lines) (e : EventTold) (ps qs : List EventPart)
+    (p : EventPart)
     (path : List ℕ) (o : Option ℕ) (rest : Lines) → qs ≡ ps ++ p ∷ [] → path_in (p ∷ []) ≡ Some path
     → part_draft p ≡ node (sought path) no_more → e.place ≡ None → event_field known t ≡ a_place
     → path ≡ normal (text_of t) → o ≡ option_map number_of (first (filter (is_loc known path) (below t)))

@@ -25,7 +25,7 @@ use Rattle.std.specs.Prelude.{
   OnOk,
 }
 use Rattle.std.specs.List.{filter, list_any}
-use Rattle.std.proofs.Common.{ap, sym, ◌∙◌, append_assoc, arith}
+use Rattle.std.proofs.Common.{ap, sym, ◌∙◌, append_assoc}
 use Rattle.stored_lines.specs.Tree.{Tree}
 use Rattle.stored_lines.specs.Line.{Line, Lines}
 use Rattle.record_kinds.specs.Model as model
@@ -41,23 +41,13 @@ use Rattle.record_reading.proofs.Picked.{all_here, all_past, left_gone, left_kep
 use Rattle.owner_reading.proofs.Persons.{or_one, or_two}
 
 -- ---- numbers that were seen
-same_bool : (a b : Bool) → (a ≡ true → b ≡ true) → (a || b) ≡ b
-same_bool true b h = sym (h refl)
-same_bool false b h = refl
-
-is_it : (a b : ℕ) → (a == b) ≡ true → a ≡ b
-is_it a b e = grind (arith)
-
--- a number that was seen adds none
-pub seen_same : (P Q : ℕ → Bool) (k : ℕ) → ((n : ℕ) → Q n ≡ (k == n || P n)) → P k ≡ true → Q ≡ P
-seen_same P Q k h e = λ i n. (h n ∙ same_bool (k == n) (P n) (λ same. sym (ap P (is_it k n same)) ∙ e)) i
-
 once_is : (P : ℕ → Bool) (seen : List ℕ) → ((n : ℕ) → P n ≡ list_any (λ m. m == n) seen) → (ts : Lines)
     → once_of P ts ≡ once_behind seen ts
 once_is P seen h [] = refl
 once_is P seen h (t ∷ ts) =
     λ i. if h (number_of t) i then once_is P seen h ts i
-    else t ∷ once_is (λ n. number_of t == n || P n) (number_of t ∷ seen) (λ n. ap (λ b. number_of t == n || b) (h n)) ts i
+    else t ∷ once_is (λ n. number_of t == n || P n) (number_of t ∷ seen) (λ n. ap (λ b. number_of t == n || b) (h n)) ts
+    i
 
 -- none was seen yet
 pub family_begun : (known : Known) (P : ℕ → Bool) (ts : Lines) → ((n : ℕ) → P n ≡ false)
@@ -95,8 +85,10 @@ left_one : (known : Known) (t : Tree Line)
 unfolding is_of_family
 left_one known t owned member =
     let y : Field = family_field known t in
-    or_left (is_left [] y) (is_same y a_member) (is_same y an_event) (is_same y a_citation) (family_fields known t) member
-    (or_one (is_same y an_event) (is_same y a_citation) owned) (or_two (is_same y an_event) (is_same y a_citation) owned)
+    or_left (is_left [] y) (is_same y a_member) (is_same y an_event) (is_same y a_citation) (family_fields known t)
+    member
+    (or_one (is_same y an_event) (is_same y a_citation) owned)
+    (or_two (is_same y an_event) (is_same y a_citation) owned)
 
 module _ (known : Known) (P : ℕ → Bool) (f : model.Family) (t : Tree Line) where
   -- a line that is not carried
@@ -104,28 +96,6 @@ module _ (known : Known) (P : ℕ → Bool) (f : model.Family) (t : Tree Line) w
       → left_with (family_field known) [] [] ts ≡ left_with (family_field known) [] [] (t ∷ ts)
   gone x here c ts = left_gone (family_field known) [] [] t ts
       (λ i. other_field (family_field known t) x carried here c i || false) refl
-
-  family_other : (x : Field) → is_same (family_field known t) x ≡ true → is_same x carried ≡ false
-      → is_same x a_member ≡ false → (ts : Lines) → family_with known P f ts ≡ family_with known P f (t ∷ ts)
-  family_other x here c m ts =
-      let member : is_same (family_field known t) a_member ≡ false = other_field (family_field known t) x a_member here m in
-      λ i. record {
-        partners = f.partners ++ map partner_from (filter (λ u. not (is_child_line u))
-            (once_of P (all_past (family_field known) a_member t ts member i)));
-        children = f.children ++ map child_from (filter is_child_line
-            (once_of P (all_past (family_field known) a_member t ts member i)));
-        carried = f.carried ++ gone x here c ts i;
-      }
-
-  pub family_owner : (is_same (family_field known t) an_event || is_same (family_field known t) a_citation) ≡ true
-      → (ts : Lines) → family_with known P f ts ≡ family_with known P f (t ∷ ts)
-  family_owner e ts = cases_of (is_same (family_field known t) an_event) (is_same (family_field known t) a_citation) refl refl e
-    where
-      cases_of : (a b : Bool) → is_same (family_field known t) an_event ≡ a → is_same (family_field known t) a_citation ≡ b
-          → (a || b) ≡ true → family_with known P f ts ≡ family_with known P f (t ∷ ts)
-      cases_of true b h k e = family_other an_event h refl refl ts
-      cases_of false true h k e = family_other a_citation k refl refl ts
-      cases_of false false h k e = absurd (let wrong : true ≡ false = sym e in cc)
 
   pub family_carried : (is_same (family_field known t) an_event || is_same (family_field known t) a_citation) ≡ false
       → is_same (family_field known t) a_member ≡ false → (ts : Lines)
@@ -137,22 +107,6 @@ module _ (known : Known) (P : ℕ → Bool) (f : model.Family) (t : Tree Line) w
     children = f.children ++ map child_from (filter is_child_line
         (once_of P (all_past (family_field known) a_member t ts member i)));
     carried = left_kept (family_field known) f.carried [] [] t ts (left_one known t owned member) refl i;
-  }
-
-  -- a member, and whether the person was seen
-  again : is_same (family_field known t) a_member ≡ true → P (number_of t) ≡ true → (ts : Lines)
-      → once_of P (all_of (family_field known) a_member ts) ≡ once_of P (all_of (family_field known) a_member (t ∷ ts))
-  again here seen ts =
-      let all : Lines = all_of (family_field known) a_member ts in
-      ap (λ (b : Bool). if b then once_of P all else t ∷ once_of (λ n. number_of t == n || P n) all) (sym seen)
-      ∙ ap (once_of P) (all_here (family_field known) a_member t ts here)
-
-  pub family_seen : is_same (family_field known t) a_member ≡ true → P (number_of t) ≡ true → (ts : Lines)
-      → family_with known P f ts ≡ family_with known P f (t ∷ ts)
-  family_seen here seen ts = λ i. record {
-    partners = f.partners ++ map partner_from (filter (λ u. not (is_child_line u)) (again here seen ts i));
-    children = f.children ++ map child_from (filter is_child_line (again here seen ts i));
-    carried = f.carried ++ gone a_member here refl ts i;
   }
 
   anew : (Q : ℕ → Bool) → ((n : ℕ) → Q n ≡ (number_of t == n || P n)) → is_same (family_field known t) a_member ≡ true
@@ -186,12 +140,14 @@ module _ (known : Known) (P : ℕ → Bool) (f : model.Family) (t : Tree Line) w
     partners = f.partners ++ map partner_from (cond (not (sym e i)) (t ∷ filter (λ u. not (is_child_line u)) os)
         (filter (λ u. not (is_child_line u)) os));
     children = (append_assoc f.children (child_from t ∷ []) (map child_from (filter is_child_line os))
-        ∙ ap (λ (b : Bool). f.children ++ map child_from (cond b (t ∷ filter is_child_line os) (filter is_child_line os)))
+        ∙ ap (λ (b : Bool). f.children ++ map child_from
+        (cond b (t ∷ filter is_child_line os) (filter is_child_line os)))
         (sym e)) i;
     carried = f.carried ++ left;
   }
   joins false e os left = λ i. record {
-    partners = (append_assoc f.partners (partner_from t ∷ []) (map partner_from (filter (λ u. not (is_child_line u)) os))
+    partners = (append_assoc f.partners (partner_from t ∷ [])
+        (map partner_from (filter (λ u. not (is_child_line u)) os))
         ∙ ap (λ (b : Bool). f.partners ++ map partner_from (cond (not b) (t ∷ filter (λ u. not (is_child_line u)) os)
         (filter (λ u. not (is_child_line u)) os))) (sym e)) i;
     children = f.children ++ map child_from (cond (sym e i) (t ∷ filter is_child_line os) (filter is_child_line os));

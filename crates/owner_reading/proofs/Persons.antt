@@ -1,37 +1,54 @@
 -- Persons and families with what they own, one line after the other.
-use Rattle.std.specs.Prelude.{◌≡◌, ◌&&◌, ◌||◌, not, Bool, true, false, List, [], ◌∷◌, ◌++◌, map, Option, Some, None, codes, if◌then◌else◌, refl}
-use Rattle.std.proofs.Common.{ap, sym, ◌∙◌, append_assoc}
+use Rattle.std.specs.Prelude.{
+  ◌≡◌,
+  ◌&&◌,
+  ◌||◌,
+  not,
+  Bool,
+  true,
+  false,
+  [],
+  ◌∷◌,
+  ◌++◌,
+  map,
+  Option,
+  Some,
+  None,
+  codes,
+  refl,
+}
+use Rattle.std.proofs.Common.{ap, sym, ◌∙◌}
 use Rattle.stored_lines.specs.Tree.{Tree}
 use Rattle.stored_lines.specs.Line.{Line, Lines}
 use Rattle.record_fields.specs.Words.{sex_of}
 use Rattle.record_kinds.specs.Model as model
 use Rattle.record_shapes.specs.declared.field.Field.{Field}
-use Rattle.record_shapes.specs.declared.field.Field.TheVariants as part
 use Rattle.record_shapes.specs.Tags.{person_tags}
 use Rattle.record_shapes.specs.Forms.{Known, is_among, is_bare, is_some, is_text, names_a, tagged, text_of, value_of}
-use Rattle.record_shapes.specs.Fields.{a_citation, a_name, a_sex, a_side, an_event, carried, is_citation, is_same, person_field, row}
-use Rattle.record_shapes.specs.Picking.{all_of, is_left, text_at}
-use Rattle.record_shapes.specs.Reading.{
-  Draft,
-  citation_draft,
-  draft_if,
-  event_draft,
-  name_from,
-  read_by,
+use Rattle.record_shapes.specs.Fields.{
+  a_citation,
+  a_name,
+  a_sex,
+  a_side,
+  an_event,
+  carried,
+  is_citation,
+  is_same,
+  person_field,
+  row,
 }
+use Rattle.record_shapes.specs.Picking.{is_left, text_at}
+use Rattle.record_shapes.specs.Reading.{name_from, read_by}
 use Rattle.record_reading.specs.Partly.{left_with, or_told, unless}
-use Rattle.owner_reading.specs.Owners.{drafts_if, owned_on, person_with}
+use Rattle.owner_reading.specs.Owners.{person_with}
 use Rattle.record_reading.proofs.Picked.{
-  all_here,
   all_past,
   first_none,
   first_same,
   is_first,
   left_closed,
-  left_gone,
   left_kept,
   missing_one,
-  not_first,
   other_field,
   row_is,
   told_here,
@@ -39,27 +56,6 @@ use Rattle.record_reading.proofs.Picked.{
 }
 
 -- ---- what is owned
-pub draft_is : (known : Known) (x : Field) (t : Tree Line) → drafts_if known x t ≡ draft_if known x t
-draft_is known part.Name t = refl
-draft_is known part.Parent t = refl
-draft_is known part.Sex t = refl
-draft_is known part.Event t = refl
-draft_is known part.Side t = refl
-draft_is known part.Citation t = refl
-draft_is known part.Title t = refl
-draft_is known part.Author t = refl
-draft_is known part.Publisher t = refl
-draft_is known part.Holding t = refl
-draft_is known part.CallNumber t = refl
-draft_is known part.Member t = refl
-draft_is known part.Page t = refl
-draft_is known part.Quality t = refl
-draft_is known part.Date t = refl
-draft_is known part.Place t = refl
-draft_is known part.Participant t = refl
-draft_is known part.Role t = refl
-draft_is known part.Carried t = refl
-
 pub or_one : (a b : Bool) → (a || b) ≡ false → a ≡ false
 or_one true b e = e
 or_one false b e = refl
@@ -67,24 +63,6 @@ or_one false b e = refl
 pub or_two : (a b : Bool) → (a || b) ≡ false → b ≡ false
 or_two true b e = absurd (let wrong : true ≡ false = e in cc)
 or_two false b e = e
-
-pub owned_taken : (known : Known) (field : Tree Line → Field) (before after : List (Tree Draft)) (t : Tree Line)
-    → after ≡ before ++ drafts_if known (field t) t → (ts : Lines)
-    → after ++ owned_on known field ts ≡ before ++ owned_on known field (t ∷ ts)
-owned_taken known field before after t e ts =
-    ap (λ us. us ++ owned_on known field ts) e
-    ∙ append_assoc before (drafts_if known (field t) t) (owned_on known field ts)
-    ∙ ap (λ us. before ++ (us ++ owned_on known field ts)) (draft_is known (field t) t)
-
-pub owned_past : (known : Known) (field : Tree Line → Field) (before : List (Tree Draft)) (t : Tree Line)
-    → (is_same (field t) an_event || is_same (field t) a_citation) ≡ false → (ts : Lines)
-    → before ++ owned_on known field ts ≡ before ++ owned_on known field (t ∷ ts)
-owned_past known field before t e ts =
-    let none : drafts_if known (field t) t ≡ [] =
-    λ i. if or_one (is_same (field t) an_event) (is_same (field t) a_citation) e i then event_draft known t ∷ []
-    else (if or_two (is_same (field t) an_event) (is_same (field t) a_citation) e i then citation_draft t ∷ []
-    else []) in
-    ap (λ us. before ++ (us ++ owned_on known field ts)) (sym none ∙ draft_is known (field t) t)
 
 -- ---- persons
 is_of_person : Field → Bool
@@ -95,12 +73,14 @@ person_fields : (known : Known) (t : Tree Line) → is_of_person (person_field k
 unfolding is_of_person
 person_fields known t =
     let citation : Bool = is_citation known t in
-    let side : Bool = (tagged (codes "FAMC") t || tagged (codes "FAMS") t) && names_a (codes "FAM") known (value_of t) in
+    let side : Bool = (tagged (codes "FAMC") t || tagged (codes "FAMS") t) && names_a (codes "FAM") known
+    (value_of t) in
     let event : Bool = is_among person_tags t && is_text t in
     let sex : Bool = tagged (codes "SEX") t && (is_bare t && is_some (sex_of (text_of t))) in
     row_is (λ x. is_of_person x) (tagged (codes "NAME") t && is_text t) a_name
     (row sex a_sex (row event an_event (row side a_side (row citation a_citation carried)))) refl
-    (row_is (λ x. is_of_person x) sex a_sex (row event an_event (row side a_side (row citation a_citation carried))) refl
+    (row_is (λ x. is_of_person x) sex a_sex (row event an_event (row side a_side (row citation a_citation carried)))
+    refl
     (row_is (λ x. is_of_person x) event an_event (row side a_side (row citation a_citation carried)) refl
     (row_is (λ x. is_of_person x) side a_side (row citation a_citation carried) refl
     (row_is (λ x. is_of_person x) citation a_citation carried refl refl))))
@@ -124,7 +104,8 @@ sex_told : (known : Known) (t : Tree Line) → is_same (person_field known t) a_
     → is_some (sex_of (text_of t)) ≡ true
 sex_told known t e =
     let citation : Bool = is_citation known t in
-    let side : Bool = (tagged (codes "FAMC") t || tagged (codes "FAMS") t) && names_a (codes "FAM") known (value_of t) in
+    let side : Bool = (tagged (codes "FAMC") t || tagged (codes "FAMS") t) && names_a (codes "FAM") known
+    (value_of t) in
     let event : Bool = is_among person_tags t && is_text t in
     let sex : Bool = tagged (codes "SEX") t && (is_bare t && is_some (sex_of (text_of t))) in
     let P : Field → Bool = λ x. not (is_same x a_sex) || is_some (sex_of (text_of t)) in
@@ -154,30 +135,6 @@ left_one known t owned name side =
     (or_two (is_same y an_event) (is_same y a_citation) owned)
 
 module _ (known : Known) (p : model.Person) (t : Tree Line) where
-  -- a line of a field that a person may have often, or that is not kept, is no other
-  past : (x : Field) → is_same (person_field known t) x ≡ true → is_left (a_sex ∷ []) x ≡ false
-      → is_same x carried ≡ false → is_same x a_sex ≡ false
-      → (ts : Lines) → left_with (person_field known) (a_sex ∷ []) (unless p.sex a_sex) ts
-      ≡ left_with (person_field known) (a_sex ∷ []) (unless p.sex a_sex) (t ∷ ts)
-  past x here l c s ts =
-      let y : Field = person_field known t in
-      let none : is_same y carried ≡ false = other_field y x carried here c in
-      let sex : is_same y a_sex ≡ false = other_field y x a_sex here s in
-      left_gone (person_field known) (a_sex ∷ []) (unless p.sex a_sex) t ts (λ i. none i || (sex i || false))
-      (missing_one y a_sex p.sex (not_first y a_sex p.sex sex))
-
-  pub person_name : is_same (person_field known t) a_name ≡ true → (ts : Lines)
-      → person_with known (record { names = p.names ++ name_from t ∷ []; sex = p.sex; carried = p.carried }) ts
-      ≡ person_with known p (t ∷ ts)
-  person_name here ts =
-      let y : Field = person_field known t in
-      let sex : is_same y a_sex ≡ false = other_field y a_name a_sex here refl in λ i. record {
-        names = (append_assoc p.names (name_from t ∷ []) (map name_from (all_of (person_field known) a_name ts))
-            ∙ ap (λ us. p.names ++ map name_from us) (all_here (person_field known) a_name t ts here)) i;
-        sex = told_same (person_field known) (read_by sex_of) a_sex p.sex t ts (not_first y a_sex p.sex sex) i;
-        carried = p.carried ++ past a_name here refl refl refl ts i;
-      }
-
   pub person_sex : is_first (person_field known t) a_sex p.sex ≡ true → (ts : Lines)
       → person_with known (record { names = p.names; sex = sex_of (text_of t); carried = p.carried }) ts
       ≡ person_with known p (t ∷ ts)
@@ -199,32 +156,6 @@ module _ (known : Known) (p : model.Person) (t : Tree Line) where
       missing_none : {A : Type 0} (o : Option A) → is_some o ≡ true → unless o a_sex ≡ []
       missing_none None e = absurd (let wrong : true ≡ false = sym e in cc)
       missing_none (Some a) e = refl
-
-  person_other : (x : Field) → is_same (person_field known t) x ≡ true → is_left (a_sex ∷ []) x ≡ false
-      → is_same x carried ≡ false → is_same x a_sex ≡ false → is_same x a_name ≡ false → (ts : Lines)
-      → person_with known p ts ≡ person_with known p (t ∷ ts)
-  person_other x here l c s n ts =
-      let y : Field = person_field known t in
-      let name : is_same y a_name ≡ false = other_field y x a_name here n in
-      let sex : is_same y a_sex ≡ false = other_field y x a_sex here s in λ i. record {
-        names = p.names ++ map name_from (all_past (person_field known) a_name t ts name i);
-        sex = told_same (person_field known) (read_by sex_of) a_sex p.sex t ts (not_first y a_sex p.sex sex) i;
-        carried = p.carried ++ past x here l c s ts i;
-      }
-
-  pub person_side : is_same (person_field known t) a_side ≡ true → (ts : Lines)
-      → person_with known p ts ≡ person_with known p (t ∷ ts)
-  person_side here ts = person_other a_side here refl refl refl refl ts
-
-  pub person_owner : (is_same (person_field known t) an_event || is_same (person_field known t) a_citation) ≡ true
-      → (ts : Lines) → person_with known p ts ≡ person_with known p (t ∷ ts)
-  person_owner e ts = cases_of (is_same (person_field known t) an_event) (is_same (person_field known t) a_citation) refl refl e
-    where
-      cases_of : (a b : Bool) → is_same (person_field known t) an_event ≡ a → is_same (person_field known t) a_citation ≡ b
-          → (a || b) ≡ true → person_with known p ts ≡ person_with known p (t ∷ ts)
-      cases_of true b h k e = person_other an_event h refl refl refl refl ts
-      cases_of false true h k e = person_other a_citation k refl refl refl refl ts
-      cases_of false false h k e = absurd (let wrong : true ≡ false = sym e in cc)
 
   pub person_carried : (is_same (person_field known t) an_event || is_same (person_field known t) a_citation) ≡ false
       → is_same (person_field known t) a_name ≡ false → is_first (person_field known t) a_sex p.sex ≡ false

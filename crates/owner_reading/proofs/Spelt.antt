@@ -1,5 +1,49 @@
 -- What a text says as a date is spelt as a text.
-use Rattle.std.proofs.Common.{◌≡◌, inl, inr, ℕ, ◌+◌, ◌/◌, ◌%◌, ◌==◌, ◌≤◌, ◌<◌, ◌^◌, ◌&&◌, Bool, true, false, if◌then◌else◌, nat_le, List, [], ◌∷◌, ◌++◌, length, get_or, codes, decimal, refl, ap, sym, subst, ◌∙◌, arith, length-append, append_assoc, ◌||◌, ℤ, Option, Some, None, MatchOption, Result, Ok, Err, IfOk}
+use Rattle.std.proofs.Common.{
+  ◌≡◌,
+  inl,
+  inr,
+  ℕ,
+  ◌+◌,
+  ◌/◌,
+  ◌%◌,
+  ◌==◌,
+  ◌≤◌,
+  ◌<◌,
+  ◌^◌,
+  ◌&&◌,
+  Bool,
+  true,
+  false,
+  if◌then◌else◌,
+  nat_le,
+  List,
+  [],
+  ◌∷◌,
+  ◌++◌,
+  length,
+  get_or,
+  codes,
+  decimal,
+  refl,
+  ap,
+  sym,
+  subst,
+  ◌∙◌,
+  arith,
+  length-append,
+  append_assoc,
+  ◌||◌,
+  ℤ,
+  Option,
+  Some,
+  None,
+  MatchOption,
+  Result,
+  Ok,
+  Err,
+  IfOk,
+}
 use Rattle.std.specs.List.{list_all, list_any}
 use Rattle.std.specs.Str.{IsUtf8, IsAscii}
 use Rattle.std.proofs.Math.Seq.{take-append_seam, drop-append_seam}
@@ -215,7 +259,8 @@ told_printed d h = date_printed d.calendar d.extent h
 after_printed : (keyword : List ℕ) (d : Told) → Printed 4 keyword → Exists d → Printed 34 (after_text keyword d)
 after_printed keyword d k h = joins 4 30 keyword (32 ∷ told_text d) k (spaced 29 (told_text d) (told_printed d h))
 
-two_printed_dates : (opening joining : List ℕ) (d e : Told) → Printed 4 opening → Printed 4 joining → Exists d → Exists e
+two_printed_dates : (opening joining : List ℕ) (d e : Told) → Printed 4 opening → Printed 4 joining → Exists d
+    → Exists e
     → Printed 69 (two_text opening joining d e)
 two_printed_dates opening joining d e k j h i =
     joins 39 30 (opening ++ 32 ∷ told_text d ++ 32 ∷ joining) (32 ∷ told_text e)
@@ -244,7 +289,8 @@ between_utf8 front phrase after u =
     (ap (λ (l : List ℕ). l ++ inner) (sym (encode_ascii 40 (omega arith)))) in
     subst IsUtf8 (take-append_seam phrase (41 ∷ after))
     (IsUtf8-take inner (length phrase) rest
-    (IsCharBoundary-before_ascii inner (length phrase) (inside phrase 41 after) (at_seam phrase 41 after (omega arith))))
+    (IsCharBoundary-before_ascii inner (length phrase) (inside phrase 41 after)
+    (at_seam phrase 41 after (omega arith))))
   where
     inside : (xs : List ℕ) (b : ℕ) (ys : List ℕ) → length xs < length (xs ++ (b ∷ ys))
     inside xs b ys = omega (arith, length-append xs (b ∷ ys))
@@ -311,7 +357,8 @@ form_is_text text (BeforeDate d) is h t = text_of_printed 34 (after_text (codes 
     (after_printed (codes "BEF") d (word 4 (codes "BEF") refl) h)
 form_is_text text (AfterDate d) is h t = text_of_printed 34 (after_text (codes "AFT") d) (omega arith)
     (after_printed (codes "AFT") d (word 4 (codes "AFT") refl) h)
-form_is_text text (BetweenDates d e) is h t = text_of_printed 69 (two_text (codes "BET") (codes "AND") d e) (omega arith)
+form_is_text text (BetweenDates d e) is h t = text_of_printed 69 (two_text (codes "BET") (codes "AND") d e)
+    (omega arith)
     (two_printed_dates (codes "BET") (codes "AND") d e (word 4 (codes "BET") refl) (word 4 (codes "AND") refl) h.0 h.1)
 form_is_text text (SinceDate d) is h t = text_of_printed 34 (after_text (codes "FROM") d) (omega arith)
     (after_printed (codes "FROM") d (word 4 (codes "FROM") refl) h)

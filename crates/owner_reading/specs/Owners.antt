@@ -8,7 +8,16 @@ use Rattle.record_kinds.specs.declared.record.Record.TheVariants as kind
 use Rattle.record_fields.specs.Words.{sex_of}
 use Rattle.record_shapes.specs.declared.field.Field.{Field}
 use Rattle.record_shapes.specs.Forms.{Known, number_of}
-use Rattle.record_shapes.specs.Fields.{a_citation, a_member, a_name, a_sex, an_event, family_field, is_same, person_field}
+use Rattle.record_shapes.specs.Fields.{
+  a_citation,
+  a_member,
+  a_name,
+  a_sex,
+  an_event,
+  family_field,
+  is_same,
+  person_field,
+}
 use Rattle.record_shapes.specs.Picking.{all_of, text_at}
 use Rattle.record_shapes.specs.Reading.{
   Draft,
@@ -59,7 +68,8 @@ abbrev pub family_with : Known → (ℕ → Bool) → model.Family → Lines →
 family_with known seen f ts = record {
   partners = f.partners ++ map partner_from (filter (λ t. not (is_child_line t))
       (once_of seen (all_of (family_field known) a_member ts)));
-  children = f.children ++ map child_from (filter is_child_line (once_of seen (all_of (family_field known) a_member ts)));
+  children = f.children ++ map child_from (filter is_child_line
+      (once_of seen (all_of (family_field known) a_member ts)));
   carried = f.carried ++ left_with (family_field known) [] [] ts;
 }
 

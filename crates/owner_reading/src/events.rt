@@ -116,7 +116,8 @@ fn take_line(
 ) -> Result<(), AllocError>
     ensures { IfOk result (λ _. (known : KnownOf) (ts : Lines) → field ≡ fields.event_field known line
         → fields.is_same field fields.a_place ≡ false
-        → drafts.event_with known (drafts.seen told.new) ts ≡ drafts.event_with known (drafts.seen told.old) (line ∷ ts)) }
+        → drafts.event_with known (drafts.seen told.new) ts
+        ≡ drafts.event_with known (drafts.seen told.old) (line ∷ ts)) }
 {
     if is_first(field, Field::Date, &told.date) {
         told.date = Some(into_text(alloc, line));

@@ -42,7 +42,8 @@ fn take_role_line(
         → partly.text_or fields.participant_field fields.a_role role.new ts
         ≡ partly.text_or fields.participant_field fields.a_role role.old (line ∷ ts)) }
     ensures carried { IfOk result (λ _. (ts : Lines)
-        → carried.new.items ++ told.roles_left role.new ts ≡ carried.old.items ++ told.roles_left role.old (line ∷ ts)) }
+        → carried.new.items ++ told.roles_left role.new ts
+        ≡ carried.old.items ++ told.roles_left role.old (line ∷ ts)) }
 {
     if is_first(participant_field(&line), Field::Role, role) {
         *role = Some(into_text(alloc, line));

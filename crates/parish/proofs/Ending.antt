@@ -7,12 +7,13 @@ use Rattle.sqlite_disk.specs.declared.Disk as disk
 use Rattle.sqlite_store.specs.declared.store.FileStore.{FileStore}
 use Rattle.sqlite_wal.specs.Recovery.{Image}
 use Rattle.archive_commands.specs.Applying.{Answered, Unanswered}
+use Rattle.archive_commands.specs.Exporting.{Exported, Unexported}
 use Rattle.archive_commands.specs.Made.{IsMadeIn, Unmade}
 use Rattle.gedcom_rules.specs.Faults.{Fault}
 use Rattle.gedcom_rules.specs.declared.fault.TreeKind.TheVariants.{OutOfMemory}
 use Rattle.record_text.specs.declared.refusal.RefusalKind.{RefusalKind}
 use Rattle.record_text.specs.declared.refusal.RefusalKind.TheVariants as refusal
-use Rattle.parish.specs.Ends.{ApplyEnds, CheckEnds, InitEnds, NormEnds}
+use Rattle.parish.specs.Ends.{ApplyEnds, CheckEnds, ExportEnds, InitEnds, NormEnds}
 
 pub keeps : (old : Option (List ℕ)) → Keeps old old
 keeps None = tt
@@ -48,6 +49,14 @@ module _ {D : Type 0} {g : disk.Ghosts D} (image : Image) where
   pub apply_wanting : (status : ℕ) (input old quiet told : Option (List ℕ)) (ReaderFailed WriterFailed : Type 0)
       → status ≡ 1 → ApplyEnds {D = D} {g = g} image status input old old quiet told ReaderFailed WriterFailed None
   apply_wanting status input old quiet told ReaderFailed WriterFailed e = record {
+    bound = omega (arith, e);
+    done = λ none. absurd (omega (arith, e, none));
+    refused = λ _. (refusal.OutOfMemory, inl (refl, refl, keeps old));
+  }
+
+  pub export_wanting : (status : ℕ) (old : Option (List ℕ)) (WriterFailed : Type 0) → status ≡ 1
+      → ExportEnds {D = D} {g = g} image status old old WriterFailed None
+  export_wanting status old WriterFailed e = record {
     bound = omega (arith, e);
     done = λ none. absurd (omega (arith, e, none));
     refused = λ _. (refusal.OutOfMemory, inl (refl, refl, keeps old));
@@ -115,3 +124,28 @@ module _ {D : Type 0} {g : disk.Ghosts D} (image : Image) where
       (sym same)
       (apply_by r status input old new (told quiet) (told after) ReaderFailed WriterFailed left e
       (still_told r input old new told quiet between after left kept all) part)
+
+  export_by : {A : Type 0} (r : Result A RefusalKind) (status : ℕ) (old new : Option (List ℕ)) (WriterFailed : Type 0)
+      (left : Option (Held (FileStore D g)))
+      → status ≡ (if is_ok r then 0 else 1) → OnOk r (Exported image old new left)
+      → IfErr r (λ kind. Unexported image kind old new WriterFailed left)
+      → ExportEnds image status old new WriterFailed left
+  export_by (Ok a) status old new WriterFailed left e whole part = record {
+    bound = omega (arith, e);
+    done = λ zero. whole;
+    refused = λ one. absurd (omega (arith, e, one));
+  }
+  export_by (Err kind) status old new WriterFailed left e whole part = record {
+    bound = omega (arith, e);
+    done = λ zero. absurd (omega (arith, e, zero));
+    refused = λ one. (kind, inr part);
+  }
+
+  pub export_ends : {A : Type 0} (r : Result A RefusalKind) (status : ℕ) (old new : Option (List ℕ))
+      (WriterFailed : Type 0) (left back : Option (Held (FileStore D g)))
+      → back ≡ left → status ≡ (if is_ok r then 0 else 1) → OnOk r (Exported image old new left)
+      → IfErr r (λ kind. Unexported image kind old new WriterFailed left)
+      → ExportEnds image status old new WriterFailed back
+  export_ends r status old new WriterFailed left back same e whole part =
+      subst (λ (x : Option (Held (FileStore D g))). ExportEnds image status old new WriterFailed x) (sym same)
+      (export_by r status old new WriterFailed left e whole part)

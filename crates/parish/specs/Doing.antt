@@ -10,7 +10,7 @@ use Rattle.sqlite_wal.specs.Recovery.{Image}
 use Rattle.devices.specs.Devices.{Rose}
 use Rattle.devices.specs.declared.device.Device as device
 use Rattle.batch_reading.specs.Input.{row_bytes}
-use Rattle.parish.specs.Ends.{ApplyEnds, CheckEnds, EntriesEnds, NormEnds}
+use Rattle.parish.specs.Ends.{ApplyEnds, CheckEnds, EntriesEnds, ExportEnds, NormEnds}
 
 module _ {R W : Type 0} (reader : read.Ghosts R) (reads : device.Ghosts R) (writer : write.Ghosts W)
     (writes : device.Ghosts W) where
@@ -37,6 +37,10 @@ module _ {R W : Type 0} (reader : read.Ghosts R) (reads : device.Ghosts R) (writ
   Applies image status input rest output written quiet told left =
       ApplyEnds image status (row_bytes (reader.remaining input)) (writer.contents output) (writer.contents written)
       quiet told (HasReadFailed input rest) (HasWriteFailed output written) left
+
+  abbrev pub Exports : {D : Type 0} {g : disk.Ghosts D} → Image → ℕ → W → W → Option (Held (FileStore D g)) → Type 0
+  Exports image status output written left =
+      ExportEnds image status (writer.contents output) (writer.contents written) (HasWriteFailed output written) left
 
   -- a batch under this token, of this source
   abbrev pub EntersBatch : {D : Type 0} {g : disk.Ghosts D} → Image → List ℕ → ℕ → ℕ → R → R → W → W

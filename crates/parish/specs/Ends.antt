@@ -9,6 +9,7 @@ use Rattle.sqlite_store.specs.declared.store.FileStore.{FileStore}
 use Rattle.sqlite_wal.specs.Recovery.{Image}
 use Rattle.archive_commands.specs.Applying.{Answered, Unanswered}
 use Rattle.archive_commands.specs.Entering.{Entered, Unentered}
+use Rattle.archive_commands.specs.Exporting.{Exported, Unexported}
 use Rattle.archive_commands.specs.Made.{IsMadeIn, Unmade}
 use Rattle.command_line.specs.Commands.{IsTaken, command_named, number_of, program, word_in}
 use Rattle.devices.specs.Devices.{AppendsBeginning}
@@ -128,6 +129,15 @@ module _ {D : Type 0} {g : disk.Ghosts D} where
     pub done : status ≡ 0 → Answered image input old new quiet told left
     pub refused : status ≡ 1 → (kind : RefusalKind)
         × (IsWanting kind old new left ⊎ Unanswered image kind input old new ReaderFailed WriterFailed left)
+
+  -- ---- export
+  -- 0 where the archive that the file held was written, 1 where there is a reason why it was not, or not all of it
+  pub record ExportEnds (image : Image) (status : ℕ) (old new : Option (List ℕ)) (WriterFailed : Type 0)
+      (left : Option (Held (FileStore D g))) : Type 0 where
+    pub bound : status ≤ 1
+    pub done : status ≡ 0 → Exported image old new left
+    pub refused : status ≡ 1 → (kind : RefusalKind)
+        × (IsWanting kind old new left ⊎ Unexported image kind old new WriterFailed left)
 
   -- ---- entries
   -- 0 where the batch of the input's rows was entered on the archive that the file held, and its line was told. 1 where

@@ -22,12 +22,12 @@ ghost use Rattle.command_line.specs.Commands.{HasWords, IsTaken, name_of, number
 ghost use Rattle.devices.specs.Devices.{AppendsBeginning, Rose};
 ghost use Rattle.gedcom_rules.specs.Views.{fault_view};
 ghost use Rattle.gedcom_tree.specs.Streams.{NotWritten};
-ghost use Rattle.parish.specs.Doing.{Applies, Checks, EntersBatch, Normalises};
+ghost use Rattle.parish.specs.Doing.{Applies, Checks, EntersBatch, Exports, Normalises};
 ghost use Rattle.parish.specs.Ends.{AreOf, InitEnds, Told, Untold, society_in, source_in, token_in};
 
 use crate::batches::entered;
 use crate::telling::{refuse, refuse_words, status_of};
-use archive_commands::{OpenFile, apply, entries, init};
+use archive_commands::{OpenFile, apply, entries, export, init};
 use command_line::{Asked, Refused, read_words};
 use gedcom_tree::{
     Device, TransferError, TreeFault, TreeKind, normalise, read_forest, write_bytes,
@@ -81,6 +81,9 @@ pub fn command<S: Start, R: Read + Device, W: Write + Device, F: Write + Device>
         → EntersBatch R.Read R.Device W.Write W.Device (image_at S.Start) (token_in (map string_bytes words.now))
         (source_in (map string_bytes words.now))
         result.0 input.old input.new output.old output.new result.1 }
+    ensures export { AreOf (map string_bytes words.now) (codes "export")
+        → Exports R.Read R.Device W.Write W.Device (image_at S.Start) result.0 output.old output.new result.1
+        × (input.new ≡ input.old) }
     ensures others { ¬ (IsTaken (map string_bytes words.now)) → (input.new ≡ input.old) × (result.1 ≡ None) }
     ensures norm_alone { AreOf (map string_bytes words.now) (codes "norm") → result.1 ≡ None }
     ensures check_alone { AreOf (map string_bytes words.now) (codes "check") → result.1 ≡ None }
@@ -118,6 +121,9 @@ fn work<S: Start, R: Read + Device, W: Write + Device, F: Write + Device>(
         → EntersBatch R.Read R.Device W.Write W.Device (image_at S.Start) (word_in found (codes "token"))
         (number_of (word_in found (codes "source")))
         result.0 input.old input.new output.old output.new result.1 }
+    ensures export { name_of asked.entry ≡ Some (codes "export")
+        → Exports R.Read R.Device W.Write W.Device (image_at S.Start) result.0 output.old output.new result.1
+        × (input.new ≡ input.old) }
     ensures text { name_of asked.entry ≡ None → (input.new ≡ input.old) × (result.1 ≡ None) }
     ensures norm_alone { name_of asked.entry ≡ Some (codes "norm") → result.1 ≡ None }
     ensures check_alone { name_of asked.entry ≡ Some (codes "check") → result.1 ≡ None }
@@ -126,6 +132,7 @@ fn work<S: Start, R: Read + Device, W: Write + Device, F: Write + Device>(
         Asked::Norm => (norm(rt.alloc(), input, output, faults), None),
         Asked::Check => (check(rt.alloc(), input, output, faults), None),
         Asked::Init { file, society } => finished(init(rt, file, society, start), faults),
+        Asked::Export { file } => finished(export(rt, file, start, output), faults),
         Asked::Apply { file } => {
             let done = apply(rt, file, start, input, output, faults);
             finished(done, faults)

@@ -13,3 +13,6 @@ returns-in-entries-clause-words c = (
   rw (c.number_of.ensures, c.word_of-in-entries-2.ensures) refl,
   c.word_of-in-entries-3.ensures,
 )
+
+pub returns-in-export-clause-words : goal.returns-in-export-clause-words
+returns-in-export-clause-words c = c.word_of-in-export.ensures

@@ -25,7 +25,8 @@ pub returns-in-Source : goal.returns-in-Source
 returns-in-Source g c =
     let l : Line = record { tag = c.node.inside.tag; value = c.node.inside.value } in
     ok_as c.source_draft.result
-    (draft_of (g.E.Known.known c.args.earlier.now) (g.K.Known.known c.args.known.now) c.args.node) c.source_draft.ensures
+    (draft_of (g.E.Known.known c.args.earlier.now) (g.K.Known.known c.args.known.now) c.args.node)
+    c.source_draft.ensures
     (draft_is (g.E.Known.known c.args.earlier.now) (g.K.Known.known c.args.known.now) c.args.node l
     c.node.inside.children.items node_kind.Source c.node.view_is (sym c.in-Source.is ∙ c.kind_of.ensures))
 
@@ -33,7 +34,8 @@ pub returns-in-Person : goal.returns-in-Person
 returns-in-Person g c =
     let l : Line = record { tag = c.node.inside.tag; value = c.node.inside.value } in
     ok_as c.person_draft.result
-    (draft_of (g.E.Known.known c.args.earlier.now) (g.K.Known.known c.args.known.now) c.args.node) c.person_draft.ensures
+    (draft_of (g.E.Known.known c.args.earlier.now) (g.K.Known.known c.args.known.now) c.args.node)
+    c.person_draft.ensures
     (draft_is (g.E.Known.known c.args.earlier.now) (g.K.Known.known c.args.known.now) c.args.node l
     c.node.inside.children.items node_kind.Person c.node.view_is (sym c.in-Person.is ∙ c.kind_of.ensures))
 
@@ -41,7 +43,8 @@ pub returns-in-Family : goal.returns-in-Family
 returns-in-Family g c =
     let l : Line = record { tag = c.node.inside.tag; value = c.node.inside.value } in
     ok_as c.family_draft.result
-    (draft_of (g.E.Known.known c.args.earlier.now) (g.K.Known.known c.args.known.now) c.args.node) c.family_draft.ensures
+    (draft_of (g.E.Known.known c.args.earlier.now) (g.K.Known.known c.args.known.now) c.args.node)
+    c.family_draft.ensures
     (draft_is (g.E.Known.known c.args.earlier.now) (g.K.Known.known c.args.known.now) c.args.node l
     c.node.inside.children.items node_kind.Family c.node.view_is (sym c.in-Family.is ∙ c.kind_of.ensures))
 

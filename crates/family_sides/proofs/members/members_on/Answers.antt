@@ -7,7 +7,8 @@ use Rattle.family_sides.proofs.members.members_on.Goals as goal
 
 pub loop-line-preserved : goal.loop-line-preserved
 loop-line-preserved c =
-    let front = front_of c.args.lines.now c.loop-line.line-index c.line-item.result c.loop-line-test.true c.line-item.is in
+    let front = front_of c.args.lines.now c.loop-line.line-index c.line-item.result c.loop-line-test.true
+    c.line-item.is in
     record {
       members = named_step c.args.roots.now (tree_of c.line-item.result)
           (trees_of (drop (c.loop-line.line-index + 1) c.args.lines.now))

@@ -52,7 +52,8 @@ returns-in_err-write_records-clause-written g c = λ honest.
           let whole : List ℕ = head ++ (all ++ last) in
           let first = one_further a a b x x y whole whole head (all ++ last) (at_start a x whole) refl
           c.in_ok-begin.ensures.written in
-          let same : c.from_residual-in_err-write_records.result ≡ Err c.in_err-write_records.field-0.0 = search rules in
+          let same : c.from_residual-in_err-write_records.result
+          ≡ Err c.in_err-write_records.field-0.0 = search rules in
           (now.0, rw same (ends_between a b d x y whole (all ++ last) all last _ first refl now.1)),
     )
 
@@ -63,7 +64,8 @@ returns-in_err-begin-clause-written g c =
       honest,
       λ held shown. (
         shown,
-        rw same (halts_early (g.W.Write.contents c.args.writer.now) (g.W.Write.contents c.begin.new.writer) c.args.out.now
+        rw same (halts_early (g.W.Write.contents c.args.writer.now) (g.W.Write.contents c.begin.new.writer)
+            c.args.out.now
             (nodes_text 0 (header c.args.society.now))
             (kinds_text (g.V.View.content held).records c.args.index.now ranks ++ line_text trailer) _
             c.in_err-begin.ensures.written),

@@ -29,7 +29,8 @@ returns-in-Some-clause-settles g t c = λ h.
                 let is : find w c.args.spot.before d.made (normal c.args.text.now) ≡ Some (found_said c.in-Some.found) =
                 sym (find_same w c.args.spot.before d.made c.made-made.result c.as_str-2.result.now
                 (normal c.args.text.now) (c.as_str-2.ensures.value ∙ c.in_ok-path.ensures)
-                (c.made-made.ensures ∙ ap (under c.args.drawing.now.made) (c.as_str.ensures.value ∙ c.in_ok-path.ensures)))
+                (c.made-made.ensures ∙ ap (under c.args.drawing.now.made)
+                (c.as_str.ensures.value ∙ c.in_ok-path.ensures)))
                 ∙ sym l.1 ∙ ap (option_map found_said) c.in-Some.is in (
                   is_found w c.args.spot.before c.args.spot.position c.args.text.now d (found_said c.in-Some.found) is,
                   l.0,
@@ -60,13 +61,15 @@ returns-in_default-cut-clause-settles g t c = λ h.
                 let none : find w before d.made (normal text) ≡ None =
                 sym (find_same w before d.made c.made-made.result c.as_str-2.result.now (normal text)
                 (c.as_str-2.ensures.value ∙ c.in_ok-path.ensures)
-                (c.made-made.ensures ∙ ap (under c.args.drawing.now.made) (c.as_str.ensures.value ∙ c.in_ok-path.ensures)))
+                (c.made-made.ensures ∙ ap (under c.args.drawing.now.made)
+                (c.as_str.ensures.value ∙ c.in_ok-path.ensures)))
                 ∙ sym l.1 ∙ ap (option_map found_said) c.in_default.is in
                 let p : normal text ≡ c.as_str-in_default-cut.result.now =
                 sym (c.as_str-in_default-cut.ensures.value ∙ c.in_ok-path.ensures) in
                 let q : normal text ≡ c.as_str-in_default-cut-2.result.now =
                 sym (c.as_str-in_default-cut-2.ensures.value ∙ c.in_ok-path.ensures) in
-                let e = alone w before k text d none c.in_default-cut.ensures ∙ (λ i. made_within (p i) (q i) (d, None)) in (
+                let e = alone w before k text d none c.in_default-cut.ensures
+                ∙ (λ i. made_within (p i) (q i) (d, None)) in (
                   makes (settle w before k (names_of text) d) c.as_str-in_default-cut.result.now
                       c.as_str-in_default-cut-2.result.now (d, None) e c.make.new.self c.make.result
                       c.make.ensures.made c.make.ensures.number,
@@ -112,7 +115,8 @@ returns-in_err-above-clause-settles g t c = λ h.
                 let none : find w before d.made (normal text) ≡ None =
                 sym (find_same w before d.made c.made-made.result c.as_str-2.result.now (normal text)
                 (c.as_str-2.ensures.value ∙ c.in_ok-path.ensures)
-                (c.made-made.ensures ∙ ap (under c.args.drawing.now.made) (c.as_str.ensures.value ∙ c.in_ok-path.ensures)))
+                (c.made-made.ensures ∙ ap (under c.args.drawing.now.made)
+                (c.as_str.ensures.value ∙ c.in_ok-path.ensures)))
                 ∙ sym l.1 ∙ ap (option_map found_said) c.in_default.is in
                 let b : Some k ≡ c.above.result.before = sym c.above.ensures.1 in
                 let j : k ≡ c.above.result.position = sym c.above.ensures.0 in
@@ -155,7 +159,8 @@ returns-clause-settles g t c = λ h.
                 let none : find w before d.made (normal text) ≡ None =
                 sym (find_same w before d.made c.made-made.result c.as_str-2.result.now (normal text)
                 (c.as_str-2.ensures.value ∙ c.in_ok-path.ensures)
-                (c.made-made.ensures ∙ ap (under c.args.drawing.now.made) (c.as_str.ensures.value ∙ c.in_ok-path.ensures)))
+                (c.made-made.ensures ∙ ap (under c.args.drawing.now.made)
+                (c.as_str.ensures.value ∙ c.in_ok-path.ensures)))
                 ∙ sym l.1 ∙ ap (option_map found_said) c.in_default.is in
                 let b : Some k ≡ c.above.result.before = sym c.above.ensures.1 in
                 let j : k ≡ c.above.result.position = sym c.above.ensures.0 in

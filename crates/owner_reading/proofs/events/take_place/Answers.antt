@@ -18,5 +18,6 @@ returns-in_ok-push-in-None g c = λ ts is said.
     is said
     (c.in_ok-located.ensures.number ∙ (λ i. option_map number_of
     (first (filter (is_loc known (c.as_str.ensures.value i)) (c.into_below.ensures i)))))
-    (c.in_ok-located.ensures.carried ∙ (λ i. without (is_loc known (c.as_str.ensures.value i)) (c.into_below.ensures i)))
+    (c.in_ok-located.ensures.carried ∙ (λ i. without (is_loc known (c.as_str.ensures.value i))
+    (c.into_below.ensures i)))
     c.in-None.is

@@ -19,7 +19,8 @@ lines-init g c =
         partners = c.new.ensures.items i;
         children = c.new-2.ensures.items i;
         carried = c.new-3.ensures.items i;
-      }) (lines i)) ∙ family_begun known seen c.args.lines.items (λ n. ap (λ ks. contains nat_cmp (record { keys = ks }) n) c.new-seen.ensures.empty);
+      }) (lines i)) ∙ family_begun known seen c.args.lines.items
+          (λ n. ap (λ ks. contains nat_cmp (record { keys = ks }) n) c.new-seen.ensures.empty);
       owned = ap (λ os. map owned_tree os ++ owned_on known (family_field known)
           (into_iter_items c.into_iter-line-iterator.result)) c.new-4.ensures.items
           ∙ ap (λ ts. owned_on known (family_field known) ts) lines;

@@ -34,4 +34,5 @@ returns c = ok_then c.take_member.result c.take_member.ensures (λ made known ts
     ap (λ (f : model.Family). family_with known after f ts) made
     ∙ family_joined known before c.args.family.now c.args.line after
     (λ n. c.in_ok-is_new.ensures.seen n ∙ ap (λ k. k == n || before n) named)
-    member (ap before (sym named) ∙ not_seen (before c.number_of.result) (sym c.in_ok-is_new.ensures.new ∙ c.if-not-branch.false)) ts)
+    member (ap before (sym named) ∙ not_seen (before c.number_of.result)
+    (sym c.in_ok-is_new.ensures.new ∙ c.if-not-branch.false)) ts)

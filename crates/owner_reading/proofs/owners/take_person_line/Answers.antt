@@ -15,7 +15,8 @@ returns-then-is_first c = λ known ts e owned.
     } in
     let here : is_first (person_field known c.args.line) a_sex old.sex ≡ true =
     ap (λ y. is_first y a_sex old.sex) (sym e) ∙ sym c.is_first.ensures ∙ c.if-is_first.true in
-    ap (λ o. person_with known (record { names = old.names; sex = o; carried = old.carried }) ts) c.sex_of-person-inside.ensures
+    ap (λ o. person_with known (record { names = old.names; sex = o; carried = old.carried }) ts)
+    c.sex_of-person-inside.ensures
     ∙ person_sex known old c.args.line here ts
     ∙ ap (λ (x : model.Person). person_with known x (c.args.line ∷ ts)) c.person.view_is
 
@@ -32,7 +33,8 @@ returns c = λ known ts e owned.
     ap (λ y. is_first y a_sex old.sex) (sym e) ∙ sym c.is_first.ensures ∙ c.if-is_first.false in
     let side : is_same (person_field known c.args.line) a_side ≡ false =
     ap (λ y. is_same y a_side) (sym e) ∙ sym c.is_same-2.ensures ∙ c.if-is_same-2.false in
-    ap (λ l. person_with known (record { names = old.names; sex = old.sex; carried = l }) ts) c.in_ok-push-2.ensures.items
+    ap (λ l. person_with known (record { names = old.names; sex = old.sex; carried = l }) ts)
+    c.in_ok-push-2.ensures.items
     ∙ person_carried known old c.args.line
     (ap (λ y. is_same y an_event || is_same y a_citation) (sym e) ∙ owned) name sex side ts
     ∙ ap (λ (x : model.Person). person_with known x (c.args.line ∷ ts)) c.person.view_is

@@ -2,7 +2,7 @@ use Rattle.std.proofs.Common.{ap, refl, subst}
 use Rattle.sqlite_wal.specs.Files.{image_at}
 use Rattle.command_line.specs.Commands.{HasWords, name_of}
 use Rattle.parish.proofs.Entered.{entries_ends}
-use Rattle.parish.proofs.Ending.{apply_ends, init_ends}
+use Rattle.parish.proofs.Ending.{apply_ends, export_ends, init_ends}
 use Rattle.parish.proofs.command.work.Goals as goal
 
 pub returns-in-Init-clause-init : goal.returns-in-Init-clause-init
@@ -35,3 +35,12 @@ returns-in-Entries-clause-entries g c = λ found has _.
     entries_ends (image_at g.S.Start) c.entries.result.0 _ _ _ _ c.entered.result.0 _ _ _ _ _ c.entries.result.1
     c.entered.result.1 words.2 words.1 ended.left ended.status
     did.entered did.refused ended.told ended.untold
+
+pub returns-in-Export-clause-export : goal.returns-in-Export-clause-export
+returns-in-Export-clause-export g c = λ _.
+    let did = c.export.ensures in
+    let ended = c.finished-in-Export.ensures in (
+      export_ends (image_at g.S.Start) c.export.result.0 c.finished-in-Export.result.0 _ _ _ c.export.result.1
+          c.finished-in-Export.result.1 ended.left ended.status did.exported did.stopped,
+      refl,
+    )

@@ -26,7 +26,8 @@ invariant_of-result t c =
     let none : into_iter_items c.children.child-iterator ≡ [] = grind (arith, common_steps) in
     let below : c.children.made.items ≡ map (relabel f) c.line.inside.children.items = ended f c.args.line
     (record { tag = c.line.inside.tag; value = c.line.inside.value }) c.line.inside.children.items
-    c.children.made.items (into_iter_items c.children.child-iterator) (sym c.line.view_is) none c.children.invariant.made in
+    c.children.made.items (into_iter_items c.children.child-iterator) (sym c.line.view_is) none
+    c.children.invariant.made in
     let few : forest_levels (forest_of c.line.inside.children.items) < 99 = c.line.invariant in
     omega (arith, few, levels-map f c.line.inside.children.items, ap (λ vs. forest_levels (forest_of vs)) below)
 
