@@ -209,8 +209,8 @@ module _ (A : Records) (w : Places) (next : ℕ) (rs : Lines)
               let stands : get A (f k) ≡ Some (kind.Place (place_with f p)) = root.stands
               ∙ ap (λ x. Some (owned_by 0 (record_with f x))) (root.root.fits.loc is) in
               let above : IfSome (parent_line before ts) (λ t. is_above p.name (before.path (number_of t)) ≡ true) =
-              met k (place_name ts) (parent_line before ts)
-              (first_is (parent_field before (place_name ts)) a_parent ts) in
+              met k (place_name ts) (parent_line before ts) (first_is (parent_field before
+              (place_name ts)) a_parent ts) in
               loc_path k p (parent_line before ts) stands refl above root.later
               (λ j path low is_path. filed_by steps j path (omega arith) is_path)
               ∙ sym (path_of_place rs k r at is) ∙ e

@@ -175,8 +175,8 @@ module _ (A : Records) (w : Places) (D : Drawing) (all : EachOf (There A w D) D.
       let s = some_names q in
       let Claim : List (List ℕ) → Type 0 = λ ns. AreNames ns → GoesOn (settle w None k ns d).0 D
       → Good (settle w None k ns d).0 in
-      subst Claim (sym s.2) (λ fit on. (settled A w D all first arch filed IsFileDrawn k s.0 s.1 d fit on behind
-      good).0)
+      subst Claim (sym s.2) (λ fit on.
+      (settled A w D all first arch filed IsFileDrawn k s.0 s.1 d fit on behind good).0)
       (are_path_names q h) goes
 
   sought_found : (k : ℕ) (d : Drawing) (q : List ℕ) → IsPath q

@@ -56,8 +56,8 @@ use Rattle.import_soundness.proofs.Targets.{family_once, link_stands, links_stan
 use Rattle.import_soundness.proofs.Said.{is_no_place, path_stands, said_at, sound_mentions}
 
 module _ (A : Records) (w : Places) (next : ℕ) (rs : Lines)
-    (all : EachOf (There A w (drawing next w rs)) (drawing next w rs).drawn) (zero_none : get A 0 ≡ None)
-    (last : ℕ) where
+    (all : EachOf (There A w (drawing next w rs)) (drawing next w rs).drawn) (zero_none : get A 0
+    ≡ None) (last : ℕ) where
   abbrev pub g : ℕ → ℕ
   g k = f A w next rs all zero_none k
 
@@ -278,8 +278,8 @@ module _ (A : Records) (w : Places) (next : ℕ) (rs : Lines)
   pub judge_citation : (k n owner : ℕ) (o : Record) (c : model.Citation) → IsOwner owner o → IsNumber last n
       → (path : Option (List ℕ)) → IsRead (known_before rs k) (known rs) (Some o) (kind.Citation c)
       → NamesAll (known rs) (length rs) (Some o) path (kind.Citation c)
-      → KeepsRules last A n (kind.Citation (record c
-      { owner = owner; source = g c.source; carried = lines_with g c.carried }))
+      → KeepsRules last A n (kind.Citation
+      (record c { owner = owner; source = g c.source; carried = lines_with g c.carried }))
   judge_citation k n owner o c (s, at, like) number path h named = record {
     number = number;
     named = (

@@ -89,8 +89,8 @@ all_apart rs k before (x ∷ behind) e zero (suc i) q r less at there =
     (subst (λ n. same_key (label (draft_at rs n q)) (label (draft_at rs ((k + 1) + i) r)) ≡ false) first
     (subst (λ y. same_key (label (draft_at rs k y)) (label (draft_at rs ((k + 1) + i) r)) ≡ false) same rest.0))
 all_apart rs k before (x ∷ behind) e (suc j) (suc i) q r less at there =
-    let rest = all_apart rs (k + 1) (label (draft_at rs k x) ∷ before) behind (second_none rs k before x behind e).1 j i
-    q r
+    let rest = all_apart rs (k + 1) (label (draft_at rs k x) ∷ before) behind
+    (second_none rs k before x behind e).1 j i q r
     (omega arith) at there in
     let one : (k + 1) + j ≡ k + suc j = omega arith in
     let two : (k + 1) + i ≡ k + suc i = omega arith in

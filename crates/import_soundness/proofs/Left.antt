@@ -55,8 +55,8 @@ module _ (field : Tree Line → Field) where
 
   -- the first line of a field is of it
   pub first_is : (x : Field) (ts : Lines) → IfSome (first (all_of field x ts)) (λ t. is_same (field t) x ≡ true)
-  first_is x ts = if_first (λ t. is_same (field t) x ≡ true) (all_of field x ts)
-      (filter_holds (λ t. is_same (field t) x) ts)
+  first_is x ts = if_first (λ t. is_same (field t) x ≡ true) (all_of field x ts) (filter_holds (λ t. is_same
+      (field t) x) ts)
 
   -- what is left is untaken, where each line that is to be left is one that leaves
   pub left_untaken : (once : List Field) (leaves : Field → Bool) (ts from : Lines)

@@ -40,3 +40,4 @@ mod LinksMet
 mod Said
 mod Within
 mod New
+mod MadePlaces

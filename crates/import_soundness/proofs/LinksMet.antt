@@ -61,8 +61,8 @@ abbrev pub IsFit98 : ℕ → Tree Line → Type 0
 IsFit98 count t = IsLine 98 t × PointsWithin count t
 
 -- ---- what is owned
-module _ (known : Known) (count : ℕ) (o : Record) (holder : OwnerIs a_holder (Some o))
-    (cited : OwnerIs a_cited (Some o))
+module _ (known : Known) (count : ℕ) (o : Record) (holder : OwnerIs a_holder (Some o)) (cited : OwnerIs a_cited
+    (Some o))
     (field : Tree Line → Field)
     (tells : (t : Tree Line) → is_same (field t) a_citation ≡ true → is_citation known t ≡ true) where
   one_named : (x : Field) (t : Tree Line) → (is_same x a_citation ≡ true → is_citation known t ≡ true)

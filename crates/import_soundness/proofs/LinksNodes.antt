@@ -190,8 +190,8 @@ module _ (rs : Lines) (count : ℕ) (nodes : EachOf (λ t. IsNode t × PointsWit
   abbrev IsMember : Tree Line → Type 0
   IsMember t = L t × (is_same (family_field kn t) a_member ≡ true)
 
-  partner_named : (k : ℕ) (t : Tree Line) → IsMember t
-      → EachOf N (partner_links (partner_with_side rs k (partner_from t)))
+  partner_named : (k : ℕ) (t : Tree Line) → IsMember t → EachOf N (partner_links (partner_with_side rs k
+      (partner_from t)))
   partner_named k t h = (
     member_met kn t h.1,
     each_both N (carried_links (below t)) (carried_links (side_of rs (codes "FAMS") k (number_of t)))

@@ -201,8 +201,8 @@ module _ (known : Known) (count : ℕ) where
       → IfSome (option_map (event_place_from known) o) (IsPlaced (sought_on known o))
   place_named_is None h = tt
   place_named_is (Some t) h = with_named t (place_named known t) h.0 (below_low known count t h.1) (place_met t h.2)
-      (if_first (λ loc. is_loc known (normal (text_of t)) loc ≡ true)
-      (filter (is_loc known (normal (text_of t))) (below t))
+      (if_first (λ loc. is_loc known (normal (text_of t)) loc
+      ≡ true) (filter (is_loc known (normal (text_of t))) (below t))
       (filter_holds (is_loc known (normal (text_of t))) (below t)))
 
   -- ---- what is below an event
@@ -279,8 +279,8 @@ module _ (known : Known) (count : ℕ) where
             (cond b (sought_drafts (sought_on known (Some t)) ++ below_event known true ts)
             (below_event known done ts)))) [
               | true ↦ λ f. named_both known count o (sought_drafts (sought_on known (Some t)))
-                  (below_event known true ts) (sought_named o t h.0
-                  (and_parts (not done) (is_same (field t) a_place) f).1)
+                  (below_event known true ts) (sought_named o t h.0 (and_parts (not done) (is_same
+                  (field t) a_place) f).1)
                   (below_named o owner true ts h.1)
               | false ↦ λ f. below_named o owner done ts h.1
             ] refl
@@ -296,8 +296,8 @@ module _ (known : Known) (count : ℕ) where
       let Q : Tree Line → Type 0 = λ u. IsLine 97 u × Low known count u × (is_same (field u) a_place ≡ true) in
       let places : IfSome (first (all_of field a_place ts)) Q = if_first Q (all_of field a_place ts)
       (each_zip IsFit (λ u. is_same (field u) a_place ≡ true) Q (λ u a b. (a.0, a.1, b)) (all_of field a_place ts)
-      (each_filter IsFit (λ u. is_same (field u) a_place) ts fit)
-      (filter_holds (λ u. is_same (field u) a_place) ts)) in (
+      (each_filter IsFit (λ u. is_same (field u) a_place) ts fit) (filter_holds (λ u. is_same
+      (field u) a_place) ts)) in (
         (
           owner,
           place_named_is (first (all_of field a_place ts)) places,

@@ -1,23 +1,5 @@
 -- What an import adds: each new record keeps the rules on one record, and no two entries have one key.
-use Rattle.std.proofs.Common.{
-  ◌≡◌,
-  ℕ,
-  ◌+◌,
-  ◌<◌,
-  ◌≤◌,
-  true,
-  false,
-  List,
-  [],
-  ◌++◌,
-  length,
-  refl,
-  sym,
-  ap,
-  ◌∙◌,
-  subst,
-  arith,
-}
+use Rattle.std.proofs.Common.{◌≡◌, ℕ, ◌+◌, ◌<◌, ◌≤◌, true, false, List, [], length, refl, sym, ap, ◌∙◌, subst, arith}
 use Rattle.std.specs.Prelude.{Option, Some, None, IfSome, map, option_map, bytes_eq, codes}
 use Rattle.std.specs.FinMap.{get}
 use Rattle.std.specs.List.{slice_get}
@@ -26,7 +8,7 @@ use Rattle.stored_lines.specs.Tree.{Tree, label}
 use Rattle.record_kinds.specs.Model as model
 use Rattle.record_kinds.specs.declared.record.Record.{Record}
 use Rattle.record_kinds.specs.declared.record.Record.TheVariants as kind
-use Rattle.record_links.specs.Links.{a_place, a_source, field_links, is_wanted}
+use Rattle.record_links.specs.Links.{a_place, a_source, is_wanted}
 use Rattle.record_shapes.specs.Forms.{is_some}
 use Rattle.record_shapes.specs.Lists.{EachOf}
 use Rattle.record_shapes.specs.Paths.{IsWithinLimits, has_part}
@@ -52,14 +34,12 @@ use Rattle.import_forest.specs.Numbers.{
   of_file,
   of_path,
   owned_by,
-  place_made,
   placed,
 }
 use Rattle.import_forest.specs.Positions.{known, known_before, paths, position_of}
 use Rattle.import_forest.specs.Sides.{draft_at}
 use Rattle.import_soundness.specs.Read.{IsNode, IsRead, PointsWithin}
 use Rattle.import_soundness.proofs.Agreeing.{at_node, f, filed, path_known_too}
-use Rattle.import_soundness.proofs.Clean.{clean_text}
 use Rattle.import_soundness.proofs.Drawn.{all_up, number_drawn}
 use Rattle.import_soundness.proofs.DrawnWell.{Good, IsFileDrawn, IsOwnedAt, roots_good}
 use Rattle.import_soundness.proofs.Finding.{first_position_has}
@@ -75,7 +55,8 @@ use Rattle.import_soundness.proofs.Judging.{
 use Rattle.import_soundness.proofs.Said.{path_stands}
 use Rattle.import_soundness.proofs.Keys.{one_node}
 use Rattle.import_soundness.proofs.Links.{NamesAll}
-use Rattle.import_soundness.proofs.Normal.{are_limits, name_normal}
+use Rattle.import_soundness.proofs.MadePlaces.{judge_made}
+use Rattle.import_soundness.proofs.Normal.{are_limits}
 use Rattle.import_soundness.proofs.Rooted.{F, There, all_rooted}
 use Rattle.import_soundness.proofs.Settling.{IsDrawnWell, IsPlaceDrawn, found_path}
 use Rattle.import_soundness.proofs.Standing.{count_range}
@@ -193,8 +174,8 @@ module _ (c : Content) (sound : IsSound c) (A : Records) (w : Places) (rs : Line
         named.1.0.2,
       )
   judge_event n owner k o e (Some p) (Some q) number is named found owned =
-      judge_event_some A w c.next rs all zero_none last k n owner o e p (number_found D.roots (find w None D.made q))
-      owned
+      judge_event_some A w c.next rs all zero_none last k n owner o e p (number_found D.roots
+      (find w None D.made q)) owned
       number (Some q) is named (sought_place q (find w None D.made q) refl found named.1.0.said)
 
   judge_some : (n owner k : ℕ) (o : Record) (r : Record) (path : Option (List ℕ)) → IsNumber last n
@@ -232,49 +213,6 @@ module _ (c : Content) (sound : IsSound c) (A : Records) (w : Places) (rs : Line
   judge_file n owner k (Some o) r path number is named found owned =
       judge_some n owner k o r path number is named found owned
 
-  -- ---- places that are made
-  num : Found → ℕ
-  num x = number_found D.roots (Some x)
-
-  judge_made : (n : ℕ) (name : List ℕ) (parent : Option Found) → IsNumber last n
-      → IsPlaceDrawn A w D all c.next arch in_file n name parent → Keeps n (kind.Place (place_made D.roots name parent))
-  judge_made n name parent number d = record {
-    number = number;
-    named = named parent d.above;
-    parents = smaller parent d.above;
-    normal = name_normal name d.name_is;
-    once = tt;
-    tags = tt;
-    trailers = tt;
-    texts = (clean_text name d.clean (longer d.short), tt);
-    places = tt;
-    events = tt;
-    mentions = tt;
-    untaken = refl;
-    shapes = tt;
-    levels = none_deep;
-  }
-    where
-      longer : length name ≤ 4096 → length name ≤ 1048576
-      longer short = omega arith
-
-      none_deep : 0 ≤ 98
-      none_deep = omega arith
-
-      named : (parent : Option Found) → IfSome parent
-          (λ x. (number_found D.roots (Some x) < n)
-          × ((q : List ℕ) × (path_of A (number_found D.roots (Some x)) ≡ Some q)))
-          → EachOf (Stands A) (field_links a_place (option_map (λ x. number_found D.roots (Some x)) parent) ++ [])
-      named None e = tt
-      named (Some x) e = (path_stands A (number_found D.roots (Some x)) e.1.0 e.1.1, tt)
-
-      smaller : (parent : Option Found) → IfSome parent
-          (λ x. (number_found D.roots (Some x) < n)
-          × ((q : List ℕ) × (path_of A (number_found D.roots (Some x)) ≡ Some q)))
-          → IfSome (option_map (λ x. number_found D.roots (Some x)) parent) (λ q. q < n)
-      smaller None e = tt
-      smaller (Some x) e = e.0
-
   -- ---- all that is new
   abbrev IsPosition : ℕ → Type 0
   IsPosition n = IsThere A w c.next rs all zero_none n
@@ -303,7 +241,7 @@ module _ (c : Content) (sound : IsSound c) (A : Records) (w : Places) (rs : Line
   made_new : (n : ℕ) (name : List ℕ) (parent : Option Found) → IsNumber last n → c.next ≤ n
       → IsPlaceDrawn A w D all c.next arch in_file n name parent → IsNew (finished w D (of_path n name parent))
   made_new n name parent number low d = record {
-    keeps = judge_made n name parent number d;
+    keeps = judge_made A w D all c.next arch in_file last n name parent number d;
     low = low;
     limits = λ path e. subst IsWithinLimits (same_path n d.path.0 path d.path.1 e) d.path.2;
     entry = λ e is. absurd cc;
@@ -342,14 +280,14 @@ module _ (c : Content) (sound : IsSound c) (A : Records) (w : Places) (rs : Line
       limits k None r path named owned stands q e =
           are_limits q (file_within rs k q (path_known_too A w c.next rs all zero_none k
           ∙ ap (path_of A) (sym owned.0) ∙ e))
-      limits k (Some o) (kind.Event x) None named owned stands q e = absurd
-          (no_place n _ stands refl (path_stands A n q e))
-      limits k (Some o) (kind.Event x) (Some p) named owned stands q e = absurd
-          (no_place n _ stands refl (path_stands A n q e))
-      limits k (Some o) (kind.Citation x) None named owned stands q e = absurd
-          (no_place n _ stands refl (path_stands A n q e))
-      limits k (Some o) (kind.Citation x) (Some p) named owned stands q e = absurd
-          (no_place n _ stands refl (path_stands A n q e))
+      limits k (Some o) (kind.Event x) None named owned stands q e = absurd (no_place n _ stands refl
+          (path_stands A n q e))
+      limits k (Some o) (kind.Event x) (Some p) named owned stands q e = absurd (no_place n _ stands refl
+          (path_stands A n q e))
+      limits k (Some o) (kind.Citation x) None named owned stands q e = absurd (no_place n _ stands refl
+          (path_stands A n q e))
+      limits k (Some o) (kind.Citation x) (Some p) named owned stands q e = absurd (no_place n _ stands refl
+          (path_stands A n q e))
       limits k (Some o) (kind.Place x) path named owned stands q e = absurd
           (let some_is : Some o ≡ None = named.0 in cc)
       limits k (Some o) (kind.Repo x) path named owned stands q e = absurd
@@ -431,7 +369,7 @@ module _ (c : Content) (sound : IsSound c) (A : Records) (w : Places) (rs : Line
     old_and_new n k e d a at source =
         let there = stands_as a_source (get c.records d.source) (sound.named k (kind.Entry d) at).0 in
         let low : d.source < c.next = (sound.rules.numbered d.source there.0 there.1).1 in
-        let from : c.next ≤ h a.old.source = (at_node A w c.next rs all zero_none a.old.source a.source.0
-        a.source.1).from in
+        let from : c.next ≤ h a.old.source =
+        (at_node A w c.next rs all zero_none a.old.source a.source.0 a.source.1).from in
         let is : h a.old.source ≡ e.source = ap (λ (x : model.Entry). x.source) a.is in
         omega arith

@@ -233,8 +233,8 @@ joined_clean [] h = record { utf8 = IsUtf8-nil; no_nul = refl; no_cr = refl }
 joined_clean (n ∷ []) h = h.0
 joined_clean (n ∷ (m ∷ ns)) h =
     clean_both n (codes ", " ++ joined (m ∷ ns)) h.0
-    (clean_both (codes ", ") (joined (m ∷ ns))
-    (clean_short 2 (codes ", ") (record { bytes = refl; short = omega arith }))
+    (clean_both (codes ", ") (joined (m ∷ ns)) (clean_short 2 (codes ", ")
+    (record { bytes = refl; short = omega arith }))
     (joined_clean (m ∷ ns) h.1))
 
 pub normal_clean : (t : List ℕ) → IsClean t → IsClean (normal t)

@@ -74,8 +74,8 @@ abbrev SameRoots : List ℕ → Drawing → Type 0
 SameRoots roots d = d.roots ≡ roots
 
 pub draw_roots_same : (w : Places) (k owner : ℕ) (d : Drawing) (t : Tree Draft) → (draw w k owner d t).roots ≡ d.roots
-draw_roots_same w k owner d t = draw_keeps (SameRoots d.roots) (λ e o r p h. h) (λ e path name parent h. h) w k owner d
-    t
+draw_roots_same w k owner d t = draw_keeps (SameRoots d.roots) (λ e o r p h. h)
+    (λ e path name parent h. h) w k owner d t
     refl
 
 roots_count : (rs : Lines) (w : Places) (k : ℕ) (d : Drawing) (behind : Lines)
@@ -164,8 +164,8 @@ module _ (A : Records) (w : Places) (D : Drawing) where
         (each_both (λ n. n < e.next) d.roots (d.next ∷ [])
         (each_more (λ n. n < d.next) (λ n. n < e.next) (λ n h. let l : n < d.next = h in omega arith) d.roots low)
         (drawn_once, tt)) in
-        let rest : IsRootAt rs first ((k + 1) + i) r = roots_at (k + 1) e behind (omega arith) lower (omega arith) goes
-        i r
+        let rest : IsRootAt rs first ((k + 1) + i) r = roots_at (k + 1) e behind (omega arith) lower
+        (omega arith) goes i r
         at in
         let number : (k + 1) + i ≡ k + suc i = omega arith in
         subst (λ n. IsRootAt rs first n r) number rest

@@ -189,8 +189,8 @@ extent_short c (Month m y) h = short_both 3 8 16 (omega arith) (month_name c m) 
 extent_short c (Day d m y) h =
     let day : d ≤ 31 = omega (arith, h.1.1.1, month_days_bounds c (counted y) m) in
     let front : IsShortText 8 (decimal d ++ 32 ∷ month_name c m) = short_both 4 4 8 (omega arith) (decimal d)
-    (32 ∷ month_name c m) (four_short d (omega arith))
-    (short_space 3 4 (omega arith) (month_name c m) (month_short c m)) in
+    (32 ∷ month_name c m) (four_short d (omega arith)) (short_space 3 4 (omega arith) (month_name c m)
+    (month_short c m)) in
     short_both 8 8 16 (omega arith) (decimal d ++ 32 ∷ month_name c m) (32 ∷ year_text y) front
     (short_space 7 8 (omega arith) (year_text y) (year_short y h.0))
 

@@ -78,8 +78,8 @@ new_holds P (p ∷ ps) m first end n r h each gone at =
           let stays : get (with_puts (insert m p.number p.«record») ps) p.number ≡ Some p.«record» =
           below_stays ps (insert m p.number p.«record») (first + 1) end p.number h.1 (omega arith)
           ∙ put_here m p.number p.«record» in
-          let both : Some p.«record» ≡ Some r = sym stays
-          ∙ ap (get (with_puts (insert m p.number p.«record») ps)) (sym same)
+          let both : Some p.«record» ≡ Some r = sym stays ∙ ap (get (with_puts (insert m p.number p.«record») ps))
+          (sym same)
           ∙ at in
           let record_is : p.«record» ≡ r = cc in
           subst P (λ i. record { number = sym same i; «record» = record_is i }) each.0

@@ -227,8 +227,8 @@ module _ (A : Records) (w : Places) (next : ℕ) (rs : Lines)
       (flat_map child_links x.children ++ carried_links x.carried) h))
       (children_there x.children (each_front N (flat_map child_links x.children) (carried_links x.carried) rest)) in
       let by_partner : map (λ (p : model.Partner). p.person) (map (partner_with g) x.partners) ≡ map g ps =
-      map_by (λ (p : model.Partner). p.person) (partner_with g) (λ (p : model.Partner). g p.person) (λ p. refl)
-      x.partners
+      map_by (λ (p : model.Partner). p.person) (partner_with g) (λ (p : model.Partner). g p.person)
+      (λ p. refl) x.partners
       ∙ sym (map_by g (λ (p : model.Partner). p.person) (λ (p : model.Partner). g p.person) (λ p. refl) x.partners) in
       let by_child : map (λ (c : model.Child). c.person) (map (child_with g) x.children) ≡ map g cs =
       map_by (λ (c : model.Child). c.person) (child_with g) (λ (c : model.Child). g c.person) (λ c. refl) x.children

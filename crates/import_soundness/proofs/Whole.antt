@@ -60,9 +60,8 @@ whole c file sound forest e =
     let news : EachOf New b.records = each_mapped New (finished w d) d.drawn
     (all_new c sound A w rs stands.still (λ q n x. x) (λ q k x. x) all zero_none nodes) in
     let new_is : (n : ℕ) (r : Record) → get c.records n ≡ None → get A n ≡ Some r
-    → New (record { number = n; «record» = r }) = λ n r gone at. new_holds New b.records c.records c.next b.next n r
-    count.0
-    news gone at in
+    → New (record { number = n; «record» = r }) = λ n r gone at.
+    new_holds New b.records c.records c.next b.next n r count.0 news gone at in
     more_keeps c after sound (record {
       later = ends (numbers b) c.next b.next count.0;
       bounded = count.1;
@@ -77,11 +76,11 @@ whole c file sound forest e =
           elim (cases_of c.records k) as (λ _. n ≡ k) [
             | inl (q, was) ↦
                 let both : Some q ≡ Some (kind.Entry y) = sym (stands.still k q was) ∙ there in
-                absurd (old_and_new c sound A w rs stands.still (λ q n x. x) (λ q k x. x) all zero_none nodes is.0 n k x
-                y one
+                absurd (old_and_new c sound A w rs stands.still (λ q n x. x)
+                (λ q k x. x) all zero_none nodes is.0 n k x y one
                 (was ∙ both) source)
-            | inr none_was ↦ two_new c sound A w rs stands.still (λ q n x. x) (λ q k x. x) all zero_none nodes is.0 n k
-                x y one
+            | inr none_was ↦ two_new c sound A w rs stands.still (λ q n x. x)
+                (λ q k x. x) all zero_none nodes is.0 n k x y one
                 ((new_is k (kind.Entry y) none_was there).entry y refl) source kinds page item
           ];
     })

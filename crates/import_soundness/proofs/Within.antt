@@ -65,6 +65,6 @@ file_within rs k q e = by (slice_get rs k) refl
               let both : Some (path_from before ts) ≡ Some q = sym (path_of_place rs k r at is) ∙ e in
               let same : path_from before ts ≡ q = cc in
               subst (λ p. is_within_limits p ≡ true) same
-              (above_within rs k ts (parent_line before ts)
-              (first_is (parent_field before (place_name ts)) a_parent ts))
+              (above_within rs k ts (parent_line before ts) (first_is (parent_field before
+              (place_name ts)) a_parent ts))
         ] refl
