@@ -1,5 +1,28 @@
 -- Paths of nodes, one behind the other.
-use Rattle.std.proofs.Common.{◌≡◌, ℕ, suc, ◌+◌, ◌≤◌, ◌<◌, true, List, [], ◌∷◌, ◌++◌, length, drop, get_or, refl, sym, ap, ◌∙◌, subst, cond, arith, map}
+use Rattle.std.proofs.Common.{
+  ◌≡◌,
+  ℕ,
+  suc,
+  ◌+◌,
+  ◌≤◌,
+  ◌<◌,
+  true,
+  List,
+  [],
+  ◌∷◌,
+  ◌++◌,
+  length,
+  drop,
+  get_or,
+  refl,
+  sym,
+  ap,
+  ◌∙◌,
+  subst,
+  cond,
+  arith,
+  map,
+}
 use Rattle.std.specs.Prelude.{Option, Some, None, bytes_eq, codes}
 use Rattle.std.specs.Borrow.{Bor}
 use Rattle.std.specs.declared.string.String.{String}
@@ -45,13 +68,15 @@ below_lines place n ns e = ap (λ ms. lines_below place (forest_of (trees_of ms)
 -- ---- the path of a node
 pub place_is : (rs : Lines) (ps : List (Option (List ℕ))) (place : List ℕ → Option ℕ) (t : FileNode) (path : List ℕ)
     → bytes_eq (label t).tag (codes "_LOC") ≡ true
-    → path ≡ path_from (known_by rs ps) (lines_below place (children t)) → Some path ≡ path_behind rs ps (as_line place t)
+    → path ≡ path_from (known_by rs ps) (lines_below place (children t)) → Some path
+    ≡ path_behind rs ps (as_line place t)
 place_is rs ps place (node l f) path is e =
     ap Some e ∙ ap (λ b. cond b (Some (path_from (known_by rs ps) (lines_below place f))) None) (sym is)
 
 -- ---- all nodes
 module _ (ks : List FileNode) where
-  pub step : (t : FileNode) (rest ts : List FileNode) (ps new : List (Option (String Global))) (p : Option (String Global))
+  pub step : (t : FileNode) (rest ts : List FileNode) (ps new : List (Option (String Global)))
+      (p : Option (String Global))
       (all : List (Option (List ℕ))) → ts ≡ t ∷ rest → new ≡ ps ++ p ∷ []
       → path_said p ≡ path_behind (roots ks) (map path_said ps) (as_line (place_in ks) t)
       → paths_behind (roots ks) (map path_said ps) (as_lines (place_in ks) ts) ≡ all
