@@ -3,6 +3,7 @@
 from __future__ import annotations
 
 import os
+import select
 import socket
 import subprocess
 import tempfile
@@ -60,9 +61,17 @@ def reader_that_leaves(tools):
     expect(Outcome(first, err, status), Outcome(HEAD, refused(95).err, 1))
 
 
+def wait_for_no_reader(writing):
+    """A process that another test is just starting has the reader's end until it runs its own program."""
+    poll = select.poll()
+    poll.register(writing, 0)
+    demand(bool(poll.poll(30_000)), "the pipe still has a reader after 30 s")
+
+
 def reader_that_never_came(tools):
     reading, writing = os.pipe()
     os.close(reading)
+    wait_for_no_reader(writing)
     try:
         for word in COMMANDS:
             expect(run(tools.parish, (word,), SMALL, stdout=writing), refused(95))
