@@ -12,7 +12,9 @@ import subprocess
 import tempfile
 import time
 
-from harness import ROOT, Case, Outcome, Tools, demand, difference, expect, refused, refused_row, run, shown, written
+from harness import (
+    ROOT, Case, Outcome, Tools, demand, difference, expect, pipe_without_reader, refused, refused_row, run, shown, written,
+)
 
 NAME = "Ashby Family History Society"
 
@@ -440,12 +442,8 @@ def an_output_that_is_full(tools):
 def a_reader_that_left(tools):
     with Folder(tools) as at:
         at.made()
-        reading, writing = os.pipe()
-        os.close(reading)
-        try:
+        with pipe_without_reader() as writing:
             expect(at.apply(stdout=writing), refused(95))
-        finally:
-            os.close(writing)
         answered(at.apply(), ANSWERS)
 
 

@@ -7,7 +7,7 @@ import sqlite3
 import subprocess
 
 from archives import Folder, generated, lines
-from harness import Case, Tools, demand, expect, refused, run, written
+from harness import Case, Tools, demand, expect, pipe_without_reader, refused, run, written
 from memory import apart, built, refusing
 
 SOCIETY = "Ashby Society"
@@ -351,12 +351,8 @@ def an_output_that_is_full(tools):
 def a_reader_that_left(tools):
     with Exported(tools) as at:
         at.made().apply(generated(3, 400))
-        reading, writing = os.pipe()
-        os.close(reading)
-        try:
+        with pipe_without_reader() as writing:
             expect(at.export(stdout=writing), refused(95))
-        finally:
-            os.close(writing)
 
 
 def a_reader_that_leaves(tools):

@@ -2,7 +2,9 @@
 
 from __future__ import annotations
 
+import contextlib
 import os
+import select
 import subprocess
 import threading
 from collections.abc import Callable, Iterable
@@ -181,3 +183,18 @@ def expect(got: Outcome, wanted: Outcome) -> None:
 def demand(holds: bool, message: str) -> None:
     if not holds:
         raise Failed(message)
+
+
+@contextlib.contextmanager
+def pipe_without_reader():
+    """The writing end of a pipe that no process reads. A process that another test is just starting has the reading end
+    too, until it runs its own program; so that is waited for."""
+    reading, writing = os.pipe()
+    os.close(reading)
+    try:
+        poll = select.poll()
+        poll.register(writing, 0)
+        demand(bool(poll.poll(30_000)), "the pipe still has a reader after 30 s")
+        yield writing
+    finally:
+        os.close(writing)

@@ -3,12 +3,11 @@
 from __future__ import annotations
 
 import os
-import select
 import socket
 import subprocess
 import tempfile
 
-from harness import Case, Outcome, Tools, demand, expect, refused, run, shown, written
+from harness import Case, Outcome, Tools, demand, expect, pipe_without_reader, refused, run, shown, written
 from table.making import HEAD, TRLR, between
 
 COMMANDS = ("norm", "check")
@@ -61,22 +60,10 @@ def reader_that_leaves(tools):
     expect(Outcome(first, err, status), Outcome(HEAD, refused(95).err, 1))
 
 
-def wait_for_no_reader(writing):
-    """A process that another test is just starting has the reader's end until it runs its own program."""
-    poll = select.poll()
-    poll.register(writing, 0)
-    demand(bool(poll.poll(30_000)), "the pipe still has a reader after 30 s")
-
-
 def reader_that_never_came(tools):
-    reading, writing = os.pipe()
-    os.close(reading)
-    wait_for_no_reader(writing)
-    try:
+    with pipe_without_reader() as writing:
         for word in COMMANDS:
             expect(run(tools.parish, (word,), SMALL, stdout=writing), refused(95))
-    finally:
-        os.close(writing)
 
 
 def folder_as_input(tools):
