@@ -13,7 +13,8 @@ import tempfile
 import time
 
 from harness import (
-    ROOT, Case, Outcome, Tools, demand, difference, expect, pipe_without_reader, refused, refused_row, run, shown, written,
+    ROOT, Case, Outcome, Tools, demand, difference, expect, pipe_without_reader, refused, refused_row, run, shown,
+    written,
 )
 
 NAME = "Ashby Family History Society"
