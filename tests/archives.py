@@ -13,8 +13,8 @@ import tempfile
 import time
 
 from harness import (
-    ROOT, Case, Outcome, Tools, demand, difference, expect, pipe_without_reader, refused, refused_row, run, shown,
-    written,
+    ROOT, Case, Outcome, Tools, close_output_of, demand, difference, expect, pipe_without_reader, refused, refused_row,
+    run, shown, written,
 )
 
 NAME = "Ashby Family History Society"
@@ -470,7 +470,7 @@ def an_output_that_fails(tools):
             process.stdin.flush()
             got = process.stdout.readline() + process.stdout.readline()
             demand(got == lines(answers[:2]), f"the first rows were answered {got!r}")
-            process.stdout.close()
+            close_output_of(process)
             process.stdin.write(lines(rows[2:]))
             process.stdin.close()
             told = process.stderr.read()

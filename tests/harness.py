@@ -7,7 +7,8 @@ import os
 import select
 import subprocess
 import threading
-from collections.abc import Callable, Iterable
+import time
+from collections.abc import Callable, Iterable, Iterator
 from dataclasses import dataclass
 
 ROOT = os.path.dirname(os.path.dirname(os.path.abspath(__file__)))
@@ -183,6 +184,29 @@ def expect(got: Outcome, wanted: Outcome) -> None:
 def demand(holds: bool, message: str) -> None:
     if not holds:
         raise Failed(message)
+
+
+def open_files_of(process: str) -> Iterator[str]:
+    """What a process has open, by the names under /proc; of one that has ended meanwhile nothing."""
+    with contextlib.suppress(OSError):
+        for end in os.listdir(f"/proc/{process}/fd"):
+            with contextlib.suppress(OSError):
+                yield os.readlink(f"/proc/{process}/fd/{end}")
+
+
+def holders_of(pipe: str) -> set[int]:
+    """The processes that have an end of a pipe open."""
+    return {int(name) for name in filter(str.isdigit, os.listdir("/proc")) if pipe in open_files_of(name)}
+
+
+def close_output_of(process: subprocess.Popen) -> None:
+    """Leaves a process without a reader of its output. A process that another test is just starting has the reading end
+    too, until it runs its own program; so that is waited for."""
+    pipe = os.readlink(f"/proc/self/fd/{process.stdout.fileno()}")
+    process.stdout.close()
+    begun = time.monotonic()
+    while holders_of(pipe) - {process.pid}:
+        demand(time.monotonic() - begun < 30, "the output still has a reader after 30 s")
 
 
 @contextlib.contextmanager
