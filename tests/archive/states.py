@@ -1,5 +1,4 @@
-"""States that are filled, asked and changed. Each question is put to the state itself, to a view of it, and to a
-view of what is shown."""
+"""States that are filled, asked and changed. Each question is put to the state itself and to a view of it."""
 
 from __future__ import annotations
 
@@ -293,22 +292,13 @@ def through(how: str, asks: tuple[Ask, ...]) -> list[Ask]:
     return [Ask(f"{how}\t{asked.row}", asked.wanted) for asked in asks]
 
 
-def as_shown(asks: tuple[Ask, ...]) -> tuple[Ask, ...]:
-    """The same questions to what is shown, which has no receipts and no slips."""
-    return tuple(
-        Ask(asked.row, "none\n") if asked.row.startswith(("receipt\t", "slip\t")) else asked
-        for asked in asks
-    )
-
-
 def cases(scene: Scene):
-    """The rows of one run: each change, the questions, and the same of what is shown."""
+    """The rows of one run: each change, the questions, and those of an empty state."""
     yield from (Case(f"{scene.name}: {asked.row!r}", (asked,)) for asked in scene.changes)
     looks = (*scene.asks, FAILURES)
     for how, asks in (("state", scene.asks), ("view", looks)):
         yield from named(scene, through(how, asks))
-    yield Case(f"{scene.name}: shown", (change("", "show"),))
-    yield from named(scene, through("shown", as_shown(looks)))
+    yield Case(f"{scene.name}: new", (change("", "new"),))
     yield from named(scene, through("state", NEW.asks))
 
 

@@ -2,7 +2,8 @@
 
 ghost use Rattle.std.specs.Prelude.{◌≡◌, Some, IfOk, IfErr, None, false};
 ghost use Rattle.std.specs.FinMap as map;
-ghost use Rattle.archive_view.specs.Looks.{CountsFailures, CountsStops, OnView, is_failure};
+ghost use Rattle.archive_view.specs.Looks.{CountsFailures, CountsStops, is_failure};
+ghost use Rattle.archive_view.specs.Views.{On};
 ghost use Rattle.archive_core.specs.Applied.{Decides};
 ghost use Rattle.archive_core.specs.Exact.{IsExactFor};
 ghost use Rattle.archive_core.specs.Machine.{Does, answered_again, kept_under, outcome, served};
@@ -48,10 +49,8 @@ fn decide_over(alloc: Global, state: &State, request: &Request) -> Result<Change
 /// none. The stops may come in place of any answer: `OutOfMemory`, and where a look of the view fails `BadStored` and
 /// `Storage`. Whatever it answers, the words of the request are UTF-8, by the type of the request.
 pub fn decide<V: View>(alloc: Global, view: &mut V, request: &Request) -> Result<Changes, Refusal>
-    ensures decides { OnView V.is_honest V.shows V.content view.old view.new
-        (λ c. Decides c result (outcome c request.now)) }
-    ensures exact { OnView V.is_honest V.shows V.content view.old view.new
-        (λ c. IfOk result (IsExactFor c request.now)) }
+    ensures decides { On V.View view.old view.new (λ c. Decides c result (outcome c request.now)) }
+    ensures exact { On V.View view.old view.new (λ c. IfOk result (IsExactFor c request.now)) }
     ensures counts { CountsStops (V.failed view.old) (V.failed view.new) result }
     ensures words { HasUtf8Words request.now.command }
 {
@@ -70,10 +69,8 @@ fn answer_again<V: View>(
     receipt: &Receipt,
     digest: &[u8; 32],
 ) -> Result<Changes, Refusal>
-    ensures decides { OnView V.is_honest V.shows V.content view.old view.new
-        (λ c. Decides c result (answered_again c digest.now receipt.now)) }
-    ensures exact { OnView V.is_honest V.shows V.content view.old view.new
-        (λ c. IfOk result (ChangesNothing c)) }
+    ensures decides { On V.View view.old view.new (λ c. Decides c result (answered_again c digest.now receipt.now)) }
+    ensures exact { On V.View view.old view.new (λ c. IfOk result (ChangesNothing c)) }
     ensures counts { CountsStops (V.failed view.old) (V.failed view.new) result }
 {
     if receipt.digest.as_slice() != digest.as_slice() {
@@ -96,10 +93,9 @@ fn decide_anew<V: View>(
     request: &Request,
     digest: [u8; 32],
 ) -> Result<Changes, Refusal>
-    ensures decides { OnView V.is_honest V.shows V.content view.old view.new
+    ensures decides { On V.View view.old view.new
         (λ c. Decides c result (kept_under «request».now.token digest (step c «request».now.command))) }
-    ensures exact { OnView V.is_honest V.shows V.content view.old view.new
-        (λ c. IfOk result (IsExact c)) }
+    ensures exact { On V.View view.old view.new (λ c. IfOk result (IsExact c)) }
     ensures keeps { IfOk result (λ changes. changes.kept ≡ Some (record {
       token = «request».now.token;
       receipt = record { digest = digest; answer = changes.answer };
@@ -117,10 +113,8 @@ fn decide_command<V: View>(
     view: &mut V,
     command: &Command,
 ) -> Result<Changes, Refusal>
-    ensures decides { OnView V.is_honest V.shows V.content view.old view.new
-        (λ c. PlansAt c result (step c command.now)) }
-    ensures exact { OnView V.is_honest V.shows V.content view.old view.new
-        (λ c. IfOk result (IsExact c)) }
+    ensures decides { On V.View view.old view.new (λ c. PlansAt c result (step c command.now)) }
+    ensures exact { On V.View view.old view.new (λ c. IfOk result (IsExact c)) }
     ensures counts { CountsStops (V.failed view.old) (V.failed view.new) result }
 {
     match command {

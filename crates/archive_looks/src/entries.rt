@@ -3,7 +3,8 @@
 ghost use Rattle.std.specs.Prelude.{◌≡◌, ◌++◌, ◌∷◌, [], IfErr, IfOk, List, Ok, false};
 ghost use Rattle.record_kinds.specs.Model as model;
 ghost use Rattle.record_shapes.specs.Roles.{is_role_of};
-ghost use Rattle.archive_view.specs.Looks.{Agrees, CountsFailures, OnView, is_failure, is_stop};
+ghost use Rattle.archive_view.specs.Looks.{Agrees, CountsFailures, is_failure, is_stop};
+ghost use Rattle.archive_view.specs.Views.{On};
 ghost use Rattle.archive_looks.specs.Checks.{passed, text_in as text_of_words};
 ghost use Rattle.archive_looks.specs.Entries as entries;
 
@@ -128,7 +129,7 @@ pub fn check_key<V: View>(
     page: &Text,
     item: Item,
 ) -> Result<(), RefusalKind>
-    ensures decides { OnView V.is_honest V.shows V.content view.old view.new
+    ensures decides { On V.View view.old view.new
         (λ c. Agrees is_stop result (entries.key_is_free c.records source kind page.now item)) }
     ensures counts { CountsFailures (V.failed view.old) (V.failed view.new) result }
 {
@@ -140,8 +141,7 @@ pub fn check_key<V: View>(
 
 /// The entry of a number.
 pub fn entry_at<V: View>(alloc: Global, view: &mut V, number: u32) -> Result<Entry, RefusalKind>
-    ensures decides { OnView V.is_honest V.shows V.content view.old view.new
-        (λ c. Agrees is_stop result (entries.entry_at c number)) }
+    ensures decides { On V.View view.old view.new (λ c. Agrees is_stop result (entries.entry_at c number)) }
     ensures counts { CountsFailures (V.failed view.old) (V.failed view.new) result }
 {
     entry_in(view.record_at(alloc, number)?)

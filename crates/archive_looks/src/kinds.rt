@@ -2,7 +2,8 @@
 
 ghost use Rattle.std.specs.Prelude.{◌≡◌};
 ghost use Rattle.record_links.specs.Links.{is_wanted};
-ghost use Rattle.archive_view.specs.Looks.{Agrees, CountsFailures, OnView, is_stop};
+ghost use Rattle.archive_view.specs.Looks.{Agrees, CountsFailures, is_stop};
+ghost use Rattle.archive_view.specs.Views.{On};
 ghost use Rattle.archive_looks.specs.Checks as checks;
 ghost use Rattle.archive_looks.specs.declared.kinds.Demand.TheVariants as demand;
 
@@ -27,8 +28,7 @@ pub fn check_demand<V: View>(
     demand: Demand,
     number: u32,
 ) -> Result<(), RefusalKind>
-    ensures decides { OnView V.is_honest V.shows V.content view.old view.new
-        (λ c. Agrees is_stop result (checks.demanded_at c demand number)) }
+    ensures decides { On V.View view.old view.new (λ c. Agrees is_stop result (checks.demanded_at c demand number)) }
     ensures counts { CountsFailures (V.failed view.old) (V.failed view.new) result }
 {
     demanded_in(demand, view.record_at(alloc, number)?)
@@ -41,7 +41,7 @@ pub fn check_optional<V: View>(
     demand: Demand,
     number: Option<u32>,
 ) -> Result<(), RefusalKind>
-    ensures decides { OnView V.is_honest V.shows V.content view.old view.new
+    ensures decides { On V.View view.old view.new
         (λ c. Agrees is_stop result (checks.passed (checks.each (checks.demanded_at c demand) number))) }
     ensures counts { CountsFailures (V.failed view.old) (V.failed view.new) result }
 {

@@ -1,7 +1,8 @@
 //! Looks at what a command names, over a view.
 
 ghost use Rattle.std.specs.Prelude.{◌≡◌, IfErr, Err, Some, false};
-ghost use Rattle.archive_view.specs.Looks.{Agrees, CountsFailures, OnView, is_failure, is_stop};
+ghost use Rattle.archive_view.specs.Looks.{Agrees, CountsFailures, is_failure, is_stop};
+ghost use Rattle.archive_view.specs.Views.{On};
 ghost use Rattle.archive_looks.specs.Checks as checks;
 
 use archive_view::View;
@@ -61,8 +62,7 @@ pub fn date_in(alloc: Global, given: &Option<GivenDate>) -> Result<Option<Date>,
 
 /// The person of a number.
 pub fn person_at<V: View>(alloc: Global, view: &mut V, number: u32) -> Result<Person, RefusalKind>
-    ensures decides { OnView V.is_honest V.shows V.content view.old view.new
-        (λ c. Agrees is_stop result (checks.person_at c number)) }
+    ensures decides { On V.View view.old view.new (λ c. Agrees is_stop result (checks.person_at c number)) }
     ensures counts { CountsFailures (V.failed view.old) (V.failed view.new) result }
 {
     person_in(view.record_at(alloc, number)?)
@@ -80,8 +80,7 @@ fn person_in(found: Option<Record>) -> Result<Person, RefusalKind>
 
 /// The family of a number.
 pub fn family_at<V: View>(alloc: Global, view: &mut V, number: u32) -> Result<Family, RefusalKind>
-    ensures decides { OnView V.is_honest V.shows V.content view.old view.new
-        (λ c. Agrees is_stop result (checks.family_at c number)) }
+    ensures decides { On V.View view.old view.new (λ c. Agrees is_stop result (checks.family_at c number)) }
     ensures counts { CountsFailures (V.failed view.old) (V.failed view.new) result }
 {
     family_in(view.record_at(alloc, number)?)
@@ -99,8 +98,7 @@ fn family_in(found: Option<Record>) -> Result<Family, RefusalKind>
 
 /// The event of a number.
 pub fn event_at<V: View>(alloc: Global, view: &mut V, number: u32) -> Result<Event, RefusalKind>
-    ensures decides { OnView V.is_honest V.shows V.content view.old view.new
-        (λ c. Agrees is_stop result (checks.event_at c number)) }
+    ensures decides { On V.View view.old view.new (λ c. Agrees is_stop result (checks.event_at c number)) }
     ensures counts { CountsFailures (V.failed view.old) (V.failed view.new) result }
 {
     event_in(view.record_at(alloc, number)?)
@@ -118,8 +116,7 @@ fn event_in(found: Option<Record>) -> Result<Event, RefusalKind>
 
 /// What the record of a number is, where an event may be of it.
 pub fn owner_at<V: View>(alloc: Global, view: &mut V, number: u32) -> Result<Owner, RefusalKind>
-    ensures decides { OnView V.is_honest V.shows V.content view.old view.new
-        (λ c. Agrees is_stop result (checks.owner_at c number)) }
+    ensures decides { On V.View view.old view.new (λ c. Agrees is_stop result (checks.owner_at c number)) }
     ensures counts { CountsFailures (V.failed view.old) (V.failed view.new) result }
 {
     owner_in(view.record_at(alloc, number)?)

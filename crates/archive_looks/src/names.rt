@@ -1,7 +1,8 @@
 //! The name of a new place, and its path.
 
 ghost use Rattle.std.specs.Prelude.{◌≡◌, IfErr, false};
-ghost use Rattle.archive_view.specs.Looks.{Agrees, CountsFailures, OnView, is_failure, is_stop};
+ghost use Rattle.archive_view.specs.Looks.{Agrees, CountsFailures, is_failure, is_stop};
+ghost use Rattle.archive_view.specs.Views.{On};
 ghost use Rattle.archive_looks.specs.Checks as checks;
 
 use crate::looks::text_in;
@@ -40,8 +41,7 @@ pub fn check_path<V: View>(
     name: &str,
     parent: Option<u32>,
 ) -> Result<(), RefusalKind>
-    ensures decides { OnView V.is_honest V.shows V.content view.old view.new
-        (λ c. Agrees is_stop result (checks.path_fits c name.now parent)) }
+    ensures decides { On V.View view.old view.new (λ c. Agrees is_stop result (checks.path_fits c name.now parent)) }
     ensures counts { CountsFailures (V.failed view.old) (V.failed view.new) result }
 {
     if is_path_fit(alloc, view, name, parent)? {

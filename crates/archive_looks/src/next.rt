@@ -1,6 +1,7 @@
 //! Looks at the next number.
 
-ghost use Rattle.archive_view.specs.Looks.{Agrees, CountsFailures, OnView, is_stop};
+ghost use Rattle.archive_view.specs.Looks.{Agrees, CountsFailures, is_stop};
+ghost use Rattle.archive_view.specs.Views.{On};
 ghost use Rattle.archive_looks.specs.Checks as checks;
 
 use archive_view::View;
@@ -9,8 +10,7 @@ use std::alloc::Global;
 
 /// The next number, where one is left.
 pub fn next_free<V: View>(alloc: Global, view: &mut V) -> Result<u32, RefusalKind>
-    ensures decides { OnView V.is_honest V.shows V.content view.old view.new
-        (λ c. Agrees is_stop result (checks.next_free c)) }
+    ensures decides { On V.View view.old view.new (λ c. Agrees is_stop result (checks.next_free c)) }
     ensures counts { CountsFailures (V.failed view.old) (V.failed view.new) result }
 {
     let next = view.next(alloc)?;

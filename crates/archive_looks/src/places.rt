@@ -1,7 +1,8 @@
 //! Places that an event may have.
 
 ghost use Rattle.std.specs.Prelude.{◌≡◌, not, ◌||◌, ◌==◌, true};
-ghost use Rattle.archive_view.specs.Looks.{Agrees, CountsFailures, Looked, OnView, is_stop};
+ghost use Rattle.archive_view.specs.Looks.{Agrees, CountsFailures, Looked, is_stop};
+ghost use Rattle.archive_view.specs.Views.{On};
 ghost use Rattle.archive_looks.specs.Checks as checks;
 
 use crate::looks::wrong_kind;
@@ -15,7 +16,7 @@ pub fn check_place<V: View>(
     view: &mut V,
     number: Option<u32>,
 ) -> Result<(), RefusalKind>
-    ensures decides { OnView V.is_honest V.shows V.content view.old view.new
+    ensures decides { On V.View view.old view.new
         (λ c. Agrees is_stop result (checks.passed (checks.each (checks.said_place_at c) number))) }
     ensures counts { CountsFailures (V.failed view.old) (V.failed view.new) result }
 {
@@ -48,7 +49,7 @@ fn is_said<V: View>(
     number: u32,
     place: &Place,
 ) -> Result<bool, RefusalKind>
-    ensures decides { OnView V.is_honest V.shows V.content view.old view.new
+    ensures decides { On V.View view.old view.new
         (λ c. Looked result (λ said. said ≡ checks.is_said number c.records number place.now)) }
     ensures counts { CountsFailures (V.failed view.old) (V.failed view.new) result }
 {

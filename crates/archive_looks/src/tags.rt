@@ -4,7 +4,8 @@ ghost use Rattle.std.specs.Prelude.{◌≡◌, IfErr, false};
 ghost use Rattle.std.specs.List.{list_any};
 ghost use Rattle.std.specs.Str.{bytes_eq};
 ghost use Rattle.record_shapes.specs.Tags.{person_tags, family_tags};
-ghost use Rattle.archive_view.specs.Looks.{Agrees, CountsFailures, OnView, is_failure, is_stop};
+ghost use Rattle.archive_view.specs.Looks.{Agrees, CountsFailures, is_failure, is_stop};
+ghost use Rattle.archive_view.specs.Views.{On};
 ghost use Rattle.archive_looks.specs.Checks as checks;
 
 use crate::looks::{Owner, owner_at};
@@ -34,7 +35,7 @@ pub fn tag_of<V: View>(
     place: Option<u32>,
     tag: &str,
 ) -> Result<Tag, RefusalKind>
-    ensures decides { OnView V.is_honest V.shows V.content view.old view.new
+    ensures decides { On V.View view.old view.new
         (λ c. Agrees is_stop result (checks.event_tag c owner place tag.now)) }
     ensures counts { CountsFailures (V.failed view.old) (V.failed view.new) result }
 {

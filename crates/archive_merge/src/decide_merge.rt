@@ -9,7 +9,8 @@ ghost use Rattle.record_kinds.specs.declared.record.Record.TheVariants as kind;
 ghost use Rattle.record_text.specs.declared.refusal.RefusalKind.TheVariants.{MergeWithinFamily};
 ghost use Rattle.archive_state.specs.Merging as merging;
 ghost use Rattle.archive_state.specs.declared.changes.SlipChange.TheVariants as change;
-ghost use Rattle.archive_view.specs.Looks.{Agrees, CountsFailures, Looked, OnView, is_stop};
+ghost use Rattle.archive_view.specs.Looks.{Agrees, CountsFailures, Looked, is_stop};
+ghost use Rattle.archive_view.specs.Views.{On};
 ghost use Rattle.archive_looks.specs.Applied.{Plans};
 ghost use Rattle.archive_looks.specs.Checks.{need};
 ghost use Rattle.archive_looks.specs.Exact.{IsExact};
@@ -32,10 +33,8 @@ pub fn merge<V: View>(
     keep: u32,
     gone: u32,
 ) -> Result<Changes, RefusalKind>
-    ensures decides { OnView V.is_honest V.shows V.content view.old view.new
-        (λ c. Plans c result (merge_step c keep gone)) }
-    ensures exact { OnView V.is_honest V.shows V.content view.old view.new
-        (λ c. IfOk result (IsExact c)) }
+    ensures decides { On V.View view.old view.new (λ c. Plans c result (merge_step c keep gone)) }
+    ensures exact { On V.View view.old view.new (λ c. IfOk result (IsExact c)) }
     ensures counts { CountsFailures (V.failed view.old) (V.failed view.new) result }
 {
     drop(person_at(alloc, view, keep)?);
@@ -63,7 +62,7 @@ fn check_families<V: View>(
     keep: u32,
     gone: u32,
 ) -> Result<(), RefusalKind>
-    ensures decides { OnView V.is_honest V.shows V.content view.old view.new
+    ensures decides { On V.View view.old view.new
         (λ c. Agrees is_stop result (need (not (specs.is_clash keep gone c.records)) MergeWithinFamily)) }
     ensures counts { CountsFailures (V.failed view.old) (V.failed view.new) result }
 {
@@ -83,7 +82,7 @@ fn clash_among<V: View>(
     gone: u32,
     numbers: &[u32],
 ) -> Result<bool, RefusalKind>
-    ensures shows { OnView V.is_honest V.shows V.content view.old view.new
+    ensures shows { On V.View view.old view.new
         (λ c. Looked result (λ is. is ≡ looks.clashes_among keep gone c.records numbers.now)) }
     ensures counts { CountsFailures (V.failed view.old) (V.failed view.new) result }
 {
@@ -102,7 +101,7 @@ fn clashes_at<V: View>(
     gone: u32,
     number: u32,
 ) -> Result<bool, RefusalKind>
-    ensures shows { OnView V.is_honest V.shows V.content view.old view.new
+    ensures shows { On V.View view.old view.new
         (λ c. Looked result (λ is. is ≡ looks.clashes_in keep gone (map.get c.records number))) }
     ensures counts { CountsFailures (V.failed view.old) (V.failed view.new) result }
 {
@@ -153,7 +152,7 @@ fn made_changes<V: View>(
     number: u32,
     adds_nothing: bool,
 ) -> Result<Changes, RefusalKind>
-    ensures shows { OnView V.is_honest V.shows V.content view.old view.new
+    ensures shows { On V.View view.old view.new
         (λ c. Looked result (λ made. (k g : Rec) → map.get c.records keep ≡ Some k → map.get c.records gone ≡ Some g
         → adds_nothing ≡ specs.adds_nothing (Some g) → made ≡ looks.made_changes keep gone c number)) }
     ensures counts { CountsFailures (V.failed view.old) (V.failed view.new) result }
@@ -171,7 +170,7 @@ fn changes_at<V: View>(
     gone: u32,
     numbers: &[u32],
 ) -> Result<Vec<Change>, RefusalKind>
-    ensures shows { OnView V.is_honest V.shows V.content view.old view.new
+    ensures shows { On V.View view.old view.new
         (λ c. Looked result (λ changes. changes.items ≡ looks.changes_of keep gone c.records numbers.now)) }
     ensures counts { CountsFailures (V.failed view.old) (V.failed view.new) result }
 {
@@ -191,8 +190,7 @@ fn push_change<V: View>(
     number: u32,
     changes: &mut Vec<Change>,
 ) -> Result<(), RefusalKind>
-    ensures shows { OnView V.is_honest V.shows V.content view.old view.new
-        (λ c. Looked result (λ _. changes.new.items ≡ changes.old.items
+    ensures shows { On V.View view.old view.new (λ c. Looked result (λ _. changes.new.items ≡ changes.old.items
         ++ looks.change_of keep gone c.records number (map.get c.records number))) }
     ensures counts { CountsFailures (V.failed view.old) (V.failed view.new) result }
 {
@@ -217,7 +215,7 @@ fn new_at<V: View>(
     number: u32,
     old: &Record,
 ) -> Result<Option<Record>, RefusalKind>
-    ensures shows { OnView V.is_honest V.shows V.content view.old view.new
+    ensures shows { On V.View view.old view.new
         (λ c. Looked result (λ new. map.get c.records number ≡ Some old.now → new ≡ merging.merged keep gone
         (map.get c.records) number)) }
     ensures counts { CountsFailures (V.failed view.old) (V.failed view.new) result }

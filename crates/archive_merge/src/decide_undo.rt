@@ -4,7 +4,8 @@ ghost use Rattle.std.specs.Prelude.{◌≡◌, ◌++◌, [], Err, IfErr, IfOk, N
 ghost use Rattle.std.specs.FinMap as map;
 ghost use Rattle.std.specs.List.{flat_map};
 ghost use Rattle.archive_state.specs.declared.changes.SlipChange.TheVariants as change;
-ghost use Rattle.archive_view.specs.Looks.{Agrees, CountsFailures, Looked, OnView, is_stop};
+ghost use Rattle.archive_view.specs.Looks.{Agrees, CountsFailures, Looked, is_stop};
+ghost use Rattle.archive_view.specs.Views.{On};
 ghost use Rattle.archive_looks.specs.Applied.{Plans};
 ghost use Rattle.archive_looks.specs.Exact.{IsExact};
 ghost use Rattle.archive_merge.specs.Comparing.{is_now, is_same_record};
@@ -20,10 +21,8 @@ use stored_lines::are_same;
 
 /// The changes that put back what a merge changed; or its refusal.
 pub fn undo<V: View>(alloc: Global, view: &mut V, number: u32) -> Result<Changes, RefusalKind>
-    ensures decides { OnView V.is_honest V.shows V.content view.old view.new
-        (λ c. Plans c result (undo_step c number)) }
-    ensures exact { OnView V.is_honest V.shows V.content view.old view.new
-        (λ c. IfOk result (IsExact c)) }
+    ensures decides { On V.View view.old view.new (λ c. Plans c result (undo_step c number)) }
+    ensures exact { On V.View view.old view.new (λ c. IfOk result (IsExact c)) }
     ensures counts { CountsFailures (V.failed view.old) (V.failed view.new) result }
 {
     let slip = slip_at(alloc, view, number)?;
@@ -40,8 +39,7 @@ pub fn undo<V: View>(alloc: Global, view: &mut V, number: u32) -> Result<Changes
 
 /// The slip of a number.
 fn slip_at<V: View>(alloc: Global, view: &mut V, number: u32) -> Result<Slip, RefusalKind>
-    ensures decides { OnView V.is_honest V.shows V.content view.old view.new
-        (λ c. Agrees is_stop result (found_slip c number)) }
+    ensures decides { On V.View view.old view.new (λ c. Agrees is_stop result (found_slip c number)) }
     ensures counts { CountsFailures (V.failed view.old) (V.failed view.new) result }
 {
     match view.slip(alloc, number)? {
@@ -65,8 +63,7 @@ fn no_slip(found: Option<Record>) -> Result<Slip, RefusalKind>
 
 /// That the slip was not undone, and that each of its numbers has its new record.
 fn check_slip<V: View>(alloc: Global, view: &mut V, slip: &Slip) -> Result<(), RefusalKind>
-    ensures decides { OnView V.is_honest V.shows V.content view.old view.new
-        (λ c. Agrees is_stop result (looks.may_undo c.records slip.now)) }
+    ensures decides { On V.View view.old view.new (λ c. Agrees is_stop result (looks.may_undo c.records slip.now)) }
     ensures counts { CountsFailures (V.failed view.old) (V.failed view.new) result }
 {
     if slip.is_undone {
@@ -81,8 +78,7 @@ fn check_slip<V: View>(alloc: Global, view: &mut V, slip: &Slip) -> Result<(), R
 
 /// Whether each number has its new record.
 fn are_now<V: View>(alloc: Global, view: &mut V, changes: &[Change]) -> Result<bool, RefusalKind>
-    ensures shows { OnView V.is_honest V.shows V.content view.old view.new
-        (λ c. Looked result (λ is. is ≡ is_now c.records changes.now)) }
+    ensures shows { On V.View view.old view.new (λ c. Looked result (λ is. is ≡ is_now c.records changes.now)) }
     ensures counts { CountsFailures (V.failed view.old) (V.failed view.new) result }
 {
     'changes: for change in changes {
@@ -94,7 +90,7 @@ fn are_now<V: View>(alloc: Global, view: &mut V, changes: &[Change]) -> Result<b
 }
 
 fn is_now_at<V: View>(alloc: Global, view: &mut V, change: &Change) -> Result<bool, RefusalKind>
-    ensures shows { OnView V.is_honest V.shows V.content view.old view.new
+    ensures shows { On V.View view.old view.new
         (λ c. Looked result (λ is. is ≡ is_same_record (map.get c.records change.now.number) change.now.new)) }
     ensures counts { CountsFailures (V.failed view.old) (V.failed view.new) result }
 {

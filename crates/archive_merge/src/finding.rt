@@ -2,7 +2,8 @@
 
 ghost use Rattle.std.specs.Prelude.{◌≡◌, IfOk, if◌then◌else◌};
 ghost use Rattle.archive_state.specs.Referrers.{referrers};
-ghost use Rattle.archive_view.specs.Looks.{CountsFailures, Looked, OnView};
+ghost use Rattle.archive_view.specs.Looks.{CountsFailures, Looked};
+ghost use Rattle.archive_view.specs.Views.{On};
 ghost use Rattle.archive_merge.specs.Merges as specs;
 
 use archive_view::View;
@@ -39,8 +40,7 @@ pub fn changed_numbers<V: View>(
     gone: u32,
     adds_nothing: bool,
 ) -> Result<Vec<u32>, RefusalKind>
-    ensures shows { OnView V.is_honest V.shows V.content view.old view.new
-        (λ c. Looked result (λ found. found.items ≡ specs.with_number gone
+    ensures shows { On V.View view.old view.new (λ c. Looked result (λ found. found.items ≡ specs.with_number gone
         (if adds_nothing then referrers c gone else specs.with_number keep (referrers c gone)))) }
     ensures counts { CountsFailures (V.failed view.old) (V.failed view.new) result }
 {

@@ -58,7 +58,7 @@ fn answer_asked(
     out: &mut Answer,
 ) -> Result<(), RefusalKind> {
     match word(words, 0) {
-        "state" | "view" | "shown" | "tables" => answer_question(alloc, session, words, out),
+        "state" | "view" | "tables" => answer_question(alloc, session, words, out),
         "change" => change(alloc, session, words, out),
         "read" => say_read(alloc, &session.lines, word(words, 1), out),
         "plan" => plan(alloc, session, words),
@@ -68,7 +68,7 @@ fn answer_asked(
     }
 }
 
-/// Answers a question to the state, to a view of it, to a view of what is shown, or to the tables.
+/// Answers a question to the state, to a view of it, or to the tables.
 fn answer_question(
     alloc: Global,
     session: &mut Session,
@@ -78,9 +78,8 @@ fn answer_question(
     let question = question_of(alloc, words)?;
     match word(words, 0) {
         "state" => ask_state(alloc, &session.state, &question, out),
-        "view" => ask(alloc, &mut &session.state, &question, out),
         "tables" => ask_tables(alloc, &mut session.conn, &question, out),
-        _ => ask(alloc, &mut &session.shown, &question, out),
+        _ => ask(alloc, &mut &session.state, &question, out),
     }
 }
 

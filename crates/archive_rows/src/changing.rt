@@ -22,8 +22,8 @@ pub(crate) fn change(
         "put-slip" => put_slip(alloc, session, words, out),
         "take-slip" => Ok(say_gone_slip(alloc, session.state.remove_slip(at), out)?),
         "put-receipt" => put_receipt(alloc, &mut session.state, words, out),
-        "show" => {
-            session.show(alloc);
+        "new" => {
+            session.state = State::new(alloc);
             Ok(())
         }
         _ => {

@@ -1,11 +1,9 @@
 //! What the rows before have left.
 
 use archive_state::{Answer, Changes, State};
-use archive_view::Shown;
 use records::StoredLine;
 use sqlite::{Connection, MemStore};
 use std::alloc::{AllocError, Global};
-use std::mem;
 
 /// What rows change.
 #[derive(Drop)]
@@ -16,8 +14,6 @@ pub(crate) struct Session {
     pub(crate) lines: Vec<StoredLine>,
     /// What rows change one by one, or what was read last of the tables.
     pub(crate) state: State,
-    /// The state that was shown last.
-    pub(crate) shown: Shown,
     /// What the next row `write` writes to the tables.
     pub(crate) planned: Changes,
 }
@@ -28,15 +24,8 @@ impl Session {
             conn: Connection::open_in_memory(alloc)?,
             lines: Vec::new(alloc),
             state: State::new(alloc),
-            shown: Shown::of_masked(alloc, State::new(alloc)),
             planned: nothing(alloc),
         })
-    }
-
-    /// Shows the state; a new one takes its place.
-    pub(crate) fn show(&mut self, alloc: Global) {
-        let state = mem::replace(&mut self.state, State::new(alloc));
-        self.shown = Shown::of_masked(alloc, state);
     }
 }
 

@@ -3,7 +3,8 @@
 ghost use Rattle.std.specs.Prelude.{◌≡◌, ◌↔◌, ◌-◌, ◌++◌, IfErr, IfOk, IsTrue, Some, drop, false, take};
 ghost use Rattle.std.specs.FinMap as map;
 ghost use Rattle.record_kinds.specs.declared.record.Record.TheVariants as kind;
-ghost use Rattle.archive_view.specs.Looks.{Agrees, CountsFailures, OnView, is_failure, is_stop};
+ghost use Rattle.archive_view.specs.Looks.{Agrees, CountsFailures, is_failure, is_stop};
+ghost use Rattle.archive_view.specs.Views.{On};
 ghost use Rattle.archive_looks.specs.Applied.{Plans};
 ghost use Rattle.archive_looks.specs.Exact.{IsExact};
 ghost use Rattle.archive_steps.specs.Steps as steps;
@@ -27,10 +28,8 @@ pub(crate) fn new_entry<V: View>(
     source: u32,
     row: &EntryRow,
 ) -> Result<Changes, RefusalKind>
-    ensures decides { OnView V.is_honest V.shows V.content view.old view.new
-        (λ c. Plans c result (steps.new_entry c source row.now)) }
-    ensures exact { OnView V.is_honest V.shows V.content view.old view.new
-        (λ c. IfOk result (IsExact c)) }
+    ensures decides { On V.View view.old view.new (λ c. Plans c result (steps.new_entry c source row.now)) }
+    ensures exact { On V.View view.old view.new (λ c. IfOk result (IsExact c)) }
     ensures counts { CountsFailures (V.failed view.old) (V.failed view.new) result }
 {
     check_texts(alloc, row)?;
@@ -73,10 +72,9 @@ pub(crate) fn link_mention<V: View>(
     person: u32,
     reason: &Field,
 ) -> Result<Changes, RefusalKind>
-    ensures decides { OnView V.is_honest V.shows V.content view.old view.new
+    ensures decides { On V.View view.old view.new
         (λ c. Plans c result (steps.link_mention c number mention person reason.now)) }
-    ensures exact { OnView V.is_honest V.shows V.content view.old view.new
-        (λ c. IfOk result (IsExact c)) }
+    ensures exact { On V.View view.old view.new (λ c. IfOk result (IsExact c)) }
     ensures counts { CountsFailures (V.failed view.old) (V.failed view.new) result }
 {
     let reason = reason_in(alloc, reason)?;
@@ -99,10 +97,8 @@ pub(crate) fn unlink_mention<V: View>(
     number: u32,
     mention: u32,
 ) -> Result<Changes, RefusalKind>
-    ensures decides { OnView V.is_honest V.shows V.content view.old view.new
-        (λ c. Plans c result (steps.unlink_mention c number mention)) }
-    ensures exact { OnView V.is_honest V.shows V.content view.old view.new
-        (λ c. IfOk result (IsExact c)) }
+    ensures decides { On V.View view.old view.new (λ c. Plans c result (steps.unlink_mention c number mention)) }
+    ensures exact { On V.View view.old view.new (λ c. IfOk result (IsExact c)) }
     ensures counts { CountsFailures (V.failed view.old) (V.failed view.new) result }
 {
     let entry = entry_at(alloc, view, number)?;
@@ -118,10 +114,9 @@ fn relinked<V: View>(
     mention: u32,
     link: Option<Link>,
 ) -> Result<Changes, RefusalKind>
-    ensures decides { OnView V.is_honest V.shows V.content view.old view.new
-        (λ c. map.get c.records number ≡ Some (kind.Entry entry)
+    ensures decides { On V.View view.old view.new (λ c. map.get c.records number ≡ Some (kind.Entry entry)
         → Plans c result (steps.relinked c number entry mention link)) }
-    ensures exact { OnView V.is_honest V.shows V.content view.old view.new
+    ensures exact { On V.View view.old view.new
         (λ c. map.get c.records number ≡ Some (kind.Entry entry) → IfOk result (IsExact c)) }
     ensures counts { CountsFailures (V.failed view.old) (V.failed view.new) result }
 {

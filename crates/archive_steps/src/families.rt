@@ -1,7 +1,8 @@
 //! The commands on families.
 
 ghost use Rattle.std.specs.Prelude.{◌≡◌, ◌==◌, ◌||◌, [], IfOk};
-ghost use Rattle.archive_view.specs.Looks.{Agrees, CountsFailures, OnView, is_stop};
+ghost use Rattle.archive_view.specs.Looks.{Agrees, CountsFailures, is_stop};
+ghost use Rattle.archive_view.specs.Views.{On};
 ghost use Rattle.record_kinds.specs.Model as model;
 ghost use Rattle.archive_looks.specs.Applied.{Plans};
 ghost use Rattle.archive_looks.specs.Checks as checks;
@@ -22,10 +23,8 @@ pub(crate) fn new_family<V: View>(
     husband: Option<u32>,
     wife: Option<u32>,
 ) -> Result<Changes, RefusalKind>
-    ensures decides { OnView V.is_honest V.shows V.content view.old view.new
-        (λ c. Plans c result (steps.new_family c husband wife)) }
-    ensures exact { OnView V.is_honest V.shows V.content view.old view.new
-        (λ c. IfOk result (IsExact c)) }
+    ensures decides { On V.View view.old view.new (λ c. Plans c result (steps.new_family c husband wife)) }
+    ensures exact { On V.View view.old view.new (λ c. IfOk result (IsExact c)) }
     ensures counts { CountsFailures (V.failed view.old) (V.failed view.new) result }
 {
     check_partner(alloc, view, husband)?;
@@ -45,10 +44,8 @@ pub(crate) fn add_child<V: View>(
     number: u32,
     person: u32,
 ) -> Result<Changes, RefusalKind>
-    ensures decides { OnView V.is_honest V.shows V.content view.old view.new
-        (λ c. Plans c result (steps.add_child c number person)) }
-    ensures exact { OnView V.is_honest V.shows V.content view.old view.new
-        (λ c. IfOk result (IsExact c)) }
+    ensures decides { On V.View view.old view.new (λ c. Plans c result (steps.add_child c number person)) }
+    ensures exact { On V.View view.old view.new (λ c. IfOk result (IsExact c)) }
     ensures counts { CountsFailures (V.failed view.old) (V.failed view.new) result }
 {
     let family = family_at(alloc, view, number)?;
@@ -66,7 +63,7 @@ pub(crate) fn check_person<V: View>(
     view: &mut V,
     number: u32,
 ) -> Result<(), RefusalKind>
-    ensures decides { OnView V.is_honest V.shows V.content view.old view.new
+    ensures decides { On V.View view.old view.new
         (λ c. Agrees is_stop result (checks.passed (checks.person_at c number))) }
     ensures counts { CountsFailures (V.failed view.old) (V.failed view.new) result }
 {
@@ -80,7 +77,7 @@ fn check_partner<V: View>(
     view: &mut V,
     number: Option<u32>,
 ) -> Result<(), RefusalKind>
-    ensures decides { OnView V.is_honest V.shows V.content view.old view.new
+    ensures decides { On V.View view.old view.new
         (λ c. Agrees is_stop result (checks.passed (checks.each (checks.person_at c) number))) }
     ensures counts { CountsFailures (V.failed view.old) (V.failed view.new) result }
 {

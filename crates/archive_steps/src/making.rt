@@ -2,7 +2,8 @@
 
 ghost use Rattle.std.specs.Prelude.{◌≡◌, ◌≢◌, ◌+◌, ◌∷◌, [], IfErr, IfOk, None, Some, Err, Ok};
 ghost use Rattle.std.specs.FinMap as map;
-ghost use Rattle.archive_view.specs.Looks.{CountsFailures, OnView};
+ghost use Rattle.archive_view.specs.Looks.{CountsFailures};
+ghost use Rattle.archive_view.specs.Views.{On};
 ghost use Rattle.archive_looks.specs.Applied.{Plans};
 ghost use Rattle.archive_looks.specs.Exact.{IsExact};
 ghost use Rattle.archive_steps.specs.Steps as steps;
@@ -23,10 +24,8 @@ pub(crate) fn creates<V: View>(
     view: &mut V,
     value: Record,
 ) -> Result<Changes, RefusalKind>
-    ensures decides { OnView V.is_honest V.shows V.content view.old view.new
-        (λ c. Plans c result (steps.creates c value)) }
-    ensures exact { OnView V.is_honest V.shows V.content view.old view.new
-        (λ c. IfOk result (IsExact c)) }
+    ensures decides { On V.View view.old view.new (λ c. Plans c result (steps.creates c value)) }
+    ensures exact { On V.View view.old view.new (λ c. IfOk result (IsExact c)) }
     ensures counts { CountsFailures (V.failed view.old) (V.failed view.new) result }
 {
     match next_free(alloc, view) {
@@ -63,9 +62,8 @@ pub(crate) fn replaces<V: View>(
     number: u32,
     value: Record,
 ) -> Result<Changes, RefusalKind>
-    ensures decides { OnView V.is_honest V.shows V.content view.old view.new
-        (λ c. Plans c result (steps.replaces c number value)) }
-    ensures exact { OnView V.is_honest V.shows V.content view.old view.new
+    ensures decides { On V.View view.old view.new (λ c. Plans c result (steps.replaces c number value)) }
+    ensures exact { On V.View view.old view.new
         (λ c. IfOk result (λ changes. map.get c.records number ≢ Some value → IsExact c changes)) }
     ensures counts { CountsFailures (V.failed view.old) (V.failed view.new) result }
 {
@@ -85,9 +83,8 @@ pub(crate) fn removes<V: View>(
     view: &mut V,
     number: u32,
 ) -> Result<Changes, RefusalKind>
-    ensures decides { OnView V.is_honest V.shows V.content view.old view.new
-        (λ c. Plans c result (steps.removes c number)) }
-    ensures exact { OnView V.is_honest V.shows V.content view.old view.new
+    ensures decides { On V.View view.old view.new (λ c. Plans c result (steps.removes c number)) }
+    ensures exact { On V.View view.old view.new
         (λ c. IfOk result (λ changes. map.get c.records number ≢ None → IsExact c changes)) }
     ensures counts { CountsFailures (V.failed view.old) (V.failed view.new) result }
 {
@@ -98,10 +95,8 @@ pub(crate) fn removes<V: View>(
 /// Nothing, where what is asked for is there already.
 #[tactic(auto, using(crate::proofs::Exactness::none_is_exact))]
 pub(crate) fn unchanged<V: View>(alloc: Global, view: &mut V) -> Result<Changes, RefusalKind>
-    ensures decides { OnView V.is_honest V.shows V.content view.old view.new
-        (λ c. Plans c result (Ok (c, record { first = 0; count = 0 }))) }
-    ensures exact { OnView V.is_honest V.shows V.content view.old view.new
-        (λ c. IfOk result (IsExact c)) }
+    ensures decides { On V.View view.old view.new (λ c. Plans c result (Ok (c, record { first = 0; count = 0 }))) }
+    ensures exact { On V.View view.old view.new (λ c. IfOk result (IsExact c)) }
     ensures counts { CountsFailures (V.failed view.old) (V.failed view.new) result }
 {
     let next = view.next(alloc)?;

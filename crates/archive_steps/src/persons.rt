@@ -1,7 +1,8 @@
 //! The commands on persons.
 
 ghost use Rattle.std.specs.Prelude.{◌≡◌, ◌↔◌, IfOk, IsTrue, Some};
-ghost use Rattle.archive_view.specs.Looks.{CountsFailures, OnView};
+ghost use Rattle.archive_view.specs.Looks.{CountsFailures};
+ghost use Rattle.archive_view.specs.Views.{On};
 ghost use Rattle.archive_looks.specs.Applied.{Plans};
 ghost use Rattle.archive_looks.specs.Exact.{IsExact};
 ghost use Rattle.archive_steps.specs.Steps as steps;
@@ -21,10 +22,8 @@ pub(crate) fn new_person<V: View>(
     name: &Field,
     sex: Option<Sex>,
 ) -> Result<Changes, RefusalKind>
-    ensures decides { OnView V.is_honest V.shows V.content view.old view.new
-        (λ c. Plans c result (steps.new_person c name.now sex)) }
-    ensures exact { OnView V.is_honest V.shows V.content view.old view.new
-        (λ c. IfOk result (IsExact c)) }
+    ensures decides { On V.View view.old view.new (λ c. Plans c result (steps.new_person c name.now sex)) }
+    ensures exact { On V.View view.old view.new (λ c. IfOk result (IsExact c)) }
     ensures counts { CountsFailures (V.failed view.old) (V.failed view.new) result }
 {
     let name = text_in(alloc, name)?;
@@ -40,10 +39,8 @@ pub(crate) fn add_name<V: View>(
     number: u32,
     name: &Field,
 ) -> Result<Changes, RefusalKind>
-    ensures decides { OnView V.is_honest V.shows V.content view.old view.new
-        (λ c. Plans c result (steps.add_name c number name.now)) }
-    ensures exact { OnView V.is_honest V.shows V.content view.old view.new
-        (λ c. IfOk result (IsExact c)) }
+    ensures decides { On V.View view.old view.new (λ c. Plans c result (steps.add_name c number name.now)) }
+    ensures exact { On V.View view.old view.new (λ c. IfOk result (IsExact c)) }
     ensures counts { CountsFailures (V.failed view.old) (V.failed view.new) result }
 {
     let name = text_in(alloc, name)?;
@@ -60,10 +57,8 @@ pub(crate) fn set_sex<V: View>(
     number: u32,
     sex: Sex,
 ) -> Result<Changes, RefusalKind>
-    ensures decides { OnView V.is_honest V.shows V.content view.old view.new
-        (λ c. Plans c result (steps.set_sex c number sex)) }
-    ensures exact { OnView V.is_honest V.shows V.content view.old view.new
-        (λ c. IfOk result (IsExact c)) }
+    ensures decides { On V.View view.old view.new (λ c. Plans c result (steps.set_sex c number sex)) }
+    ensures exact { On V.View view.old view.new (λ c. IfOk result (IsExact c)) }
     ensures counts { CountsFailures (V.failed view.old) (V.failed view.new) result }
 {
     let mut person = person_at(alloc, view, number)?;

@@ -1,7 +1,8 @@
 //! The command that makes a place.
 
 ghost use Rattle.std.specs.Prelude.{◌≡◌, IfOk};
-ghost use Rattle.archive_view.specs.Looks.{CountsFailures, OnView};
+ghost use Rattle.archive_view.specs.Looks.{CountsFailures};
+ghost use Rattle.archive_view.specs.Views.{On};
 ghost use Rattle.archive_looks.specs.Applied.{Plans};
 ghost use Rattle.archive_looks.specs.Exact.{IsExact};
 ghost use Rattle.archive_steps.specs.Steps as steps;
@@ -21,10 +22,8 @@ pub(crate) fn new_place<V: View>(
     name: &Field,
     parent: Option<u32>,
 ) -> Result<Changes, RefusalKind>
-    ensures decides { OnView V.is_honest V.shows V.content view.old view.new
-        (λ c. Plans c result (steps.new_place c name.now parent)) }
-    ensures exact { OnView V.is_honest V.shows V.content view.old view.new
-        (λ c. IfOk result (IsExact c)) }
+    ensures decides { On V.View view.old view.new (λ c. Plans c result (steps.new_place c name.now parent)) }
+    ensures exact { On V.View view.old view.new (λ c. IfOk result (IsExact c)) }
     ensures counts { CountsFailures (V.failed view.old) (V.failed view.new) result }
 {
     let name = place_name_in(alloc, name)?;

@@ -3,7 +3,8 @@
 ghost use Rattle.std.specs.Prelude.{◌≡◌, ◌==◌, not, IfOk};
 ghost use Rattle.std.specs.List.{list_any};
 ghost use Rattle.record_text.specs.declared.refusal.RefusalKind.TheVariants.{StillNamed};
-ghost use Rattle.archive_view.specs.Looks.{Agrees, CountsFailures, OnView, is_stop};
+ghost use Rattle.archive_view.specs.Looks.{Agrees, CountsFailures, is_stop};
+ghost use Rattle.archive_view.specs.Views.{On};
 ghost use Rattle.archive_looks.specs.Applied.{Plans};
 ghost use Rattle.archive_looks.specs.Checks as checks;
 ghost use Rattle.archive_looks.specs.Exact.{IsExact};
@@ -21,10 +22,8 @@ pub(crate) fn remove_record<V: View>(
     view: &mut V,
     number: u32,
 ) -> Result<Changes, RefusalKind>
-    ensures decides { OnView V.is_honest V.shows V.content view.old view.new
-        (λ c. Plans c result (steps.remove_record c number)) }
-    ensures exact { OnView V.is_honest V.shows V.content view.old view.new
-        (λ c. IfOk result (IsExact c)) }
+    ensures decides { On V.View view.old view.new (λ c. Plans c result (steps.remove_record c number)) }
+    ensures exact { On V.View view.old view.new (λ c. IfOk result (IsExact c)) }
     ensures counts { CountsFailures (V.failed view.old) (V.failed view.new) result }
 {
     check_record(alloc, view, number)?;
@@ -34,8 +33,7 @@ pub(crate) fn remove_record<V: View>(
 
 /// That a record stands at the number.
 fn check_record<V: View>(alloc: Global, view: &mut V, number: u32) -> Result<(), RefusalKind>
-    ensures decides { OnView V.is_honest V.shows V.content view.old view.new
-        (λ c. Agrees is_stop result (checks.record_at c number)) }
+    ensures decides { On V.View view.old view.new (λ c. Agrees is_stop result (checks.record_at c number)) }
     ensures counts { CountsFailures (V.failed view.old) (V.failed view.new) result }
 {
     record_in(view.record_at(alloc, number)?)
@@ -53,7 +51,7 @@ fn record_in(found: Option<Record>) -> Result<(), RefusalKind>
 
 /// That no other record names the number.
 fn check_unnamed<V: View>(alloc: Global, view: &mut V, number: u32) -> Result<(), RefusalKind>
-    ensures decides { OnView V.is_honest V.shows V.content view.old view.new
+    ensures decides { On V.View view.old view.new
         (λ c. Agrees is_stop result (checks.need (not (checks.is_named c number)) StillNamed)) }
     ensures counts { CountsFailures (V.failed view.old) (V.failed view.new) result }
 {

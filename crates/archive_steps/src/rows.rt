@@ -1,7 +1,8 @@
 //! What a command of one row changes.
 
 ghost use Rattle.std.specs.Prelude.{IfOk};
-ghost use Rattle.archive_view.specs.Looks.{CountsFailures, OnView};
+ghost use Rattle.archive_view.specs.Looks.{CountsFailures};
+ghost use Rattle.archive_view.specs.Views.{On};
 ghost use Rattle.archive_looks.specs.Applied.{Plans};
 ghost use Rattle.archive_looks.specs.Exact.{IsExact};
 ghost use Rattle.archive_steps.specs.Steps.{row_step};
@@ -27,10 +28,8 @@ pub fn decide_row<V: View>(
     view: &mut V,
     row: &RowCommand,
 ) -> Result<Changes, RefusalKind>
-    ensures decides { OnView V.is_honest V.shows V.content view.old view.new
-        (λ c. Plans c result (row_step c row.now)) }
-    ensures exact { OnView V.is_honest V.shows V.content view.old view.new
-        (λ c. IfOk result (IsExact c)) }
+    ensures decides { On V.View view.old view.new (λ c. Plans c result (row_step c row.now)) }
+    ensures exact { On V.View view.old view.new (λ c. IfOk result (IsExact c)) }
     ensures counts { CountsFailures (V.failed view.old) (V.failed view.new) result }
 {
     match row {

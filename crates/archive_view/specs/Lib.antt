@@ -1,2 +1,2 @@
 pub mod Looks
-pub mod Shown
+pub mod Views

@@ -7,9 +7,7 @@ ghost use Rattle.archive_state.specs.Entries.{IsEntryAt};
 ghost use Rattle.archive_state.specs.Referrers.{referrers};
 ghost use Rattle.archive_view.specs.Looks.{CountsOne, Looked, OnView};
 ghost use Rattle.archive_state.specs.Paths.{HasPath, IsLowest};
-ghost use Rattle.archive_view.specs.Shown.{content_of};
 
-use crate::shown::Shown;
 use archive_state::{Receipt, Slip, State, Token};
 use records::{EntryKind, Item, Record, RefusalKind, Text, copy_record};
 use std::alloc::Global;
@@ -150,62 +148,5 @@ impl View for &State {
     ) -> Result<Option<u32>, RefusalKind> {
         let state: &State = *self;
         Ok(state.entry_at(source, kind, page, item))
-    }
-}
-
-impl View for &Shown {
-    ghost Held = { Content };
-
-    ghost content = { λ c. c };
-
-    ghost shows = { λ s held. held ≡ content_of s.now };
-
-    ghost is_honest = { λ s. ⊤ };
-
-    ghost failed = { λ s. 0 };
-
-    fn failures(&self) -> u64 {
-        NO_FAILURES
-    }
-
-    fn record_at(&mut self, alloc: Global, number: u32) -> Result<Option<Record>, RefusalKind> {
-        let shown: &Shown = *self;
-        let mut state = shown.as_state();
-        state.record_at(alloc, number)
-    }
-
-    fn referrers(&mut self, alloc: Global, number: u32) -> Result<Vec<u32>, RefusalKind> {
-        let shown: &Shown = *self;
-        Ok(shown.as_state().referrers(alloc, number)?)
-    }
-
-    fn receipt(&mut self, _alloc: Global, _token: &Token) -> Result<Option<Receipt>, RefusalKind> {
-        Ok(None)
-    }
-
-    fn slip(&mut self, _alloc: Global, _number: u32) -> Result<Option<Slip>, RefusalKind> {
-        Ok(None)
-    }
-
-    fn next(&mut self, _alloc: Global) -> Result<u64, RefusalKind> {
-        let shown: &Shown = *self;
-        Ok(shown.as_state().next())
-    }
-
-    fn place_at(&mut self, _alloc: Global, path: &Text) -> Result<Option<u32>, RefusalKind> {
-        let shown: &Shown = *self;
-        Ok(shown.as_state().place_at(path))
-    }
-
-    fn entry_at(
-        &mut self,
-        _alloc: Global,
-        source: u32,
-        kind: EntryKind,
-        page: &Text,
-        item: Item,
-    ) -> Result<Option<u32>, RefusalKind> {
-        let shown: &Shown = *self;
-        Ok(shown.as_state().entry_at(source, kind, page, item))
     }
 }

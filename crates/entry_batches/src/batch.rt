@@ -2,7 +2,8 @@
 
 ghost use Rattle.std.specs.Prelude.{◌≡◌, [], IfOk, Ok};
 ghost use Rattle.record_text.specs.declared.refusal.Refusal.{Refusal};
-ghost use Rattle.archive_view.specs.Looks.{Agrees, CountsFailures, CountsStops, OnView, is_stop};
+ghost use Rattle.archive_view.specs.Looks.{Agrees, CountsFailures, CountsStops, is_stop};
+ghost use Rattle.archive_view.specs.Views.{On};
 ghost use Rattle.archive_looks.specs.Checks.{demanded_at};
 ghost use Rattle.archive_looks.specs.declared.kinds.Demand.TheVariants as demand;
 ghost use Rattle.archive_looks.specs.Exact.{IsExact};
@@ -32,10 +33,8 @@ pub fn decide_entries<V: View>(
     source: u32,
     rows: &[EntryRow],
 ) -> Result<Changes, Refusal>
-    ensures decides { OnView V.is_honest V.shows V.content view.old view.new
-        (λ c. PlansAt c result (batches.batch_step c source rows.now)) }
-    ensures exact { OnView V.is_honest V.shows V.content view.old view.new
-        (λ c. IfOk result (IsExact c)) }
+    ensures decides { On V.View view.old view.new (λ c. PlansAt c result (batches.batch_step c source rows.now)) }
+    ensures exact { On V.View view.old view.new (λ c. IfOk result (IsExact c)) }
     ensures counts { CountsStops (V.failed view.old) (V.failed view.new) result }
 {
     let next = next_behind(alloc, view, source)?;
@@ -45,7 +44,7 @@ pub fn decide_entries<V: View>(
 
 /// The next number, behind a look at the source.
 fn next_behind<V: View>(alloc: Global, view: &mut V, source: u32) -> Result<u64, RefusalKind>
-    ensures decides { OnView V.is_honest V.shows V.content view.old view.new
+    ensures decides { On V.View view.old view.new
         (λ c. Agrees is_stop result (and_then (demanded_at c demand.Source source) (λ _. Ok c.next))) }
     ensures counts { CountsFailures (V.failed view.old) (V.failed view.new) result }
 {
@@ -61,8 +60,7 @@ fn with_rows<V: View>(
     next: u64,
     rows: &[EntryRow],
 ) -> Result<Made, Refusal>
-    ensures decides { OnView V.is_honest V.shows V.content view.old view.new
-        (λ c. c.next ≡ next → Agrees (λ (e : Refusal). is_stop e.kind) result
+    ensures decides { On V.View view.old view.new (λ c. c.next ≡ next → Agrees (λ (e : Refusal). is_stop e.kind) result
         (batches.with_rows c source [] rows.now)) }
     ensures counts { CountsStops (V.failed view.old) (V.failed view.new) result }
 {

@@ -5,7 +5,8 @@ ghost use Rattle.std.specs.Option.{option_map_or};
 ghost use Rattle.record_text.specs.declared.refusal.Refusal.{Refusal};
 ghost use Rattle.record_text.specs.declared.refusal.RefusalKind.{RefusalKind};
 ghost use Rattle.record_kinds.specs.Model as model;
-ghost use Rattle.archive_view.specs.Looks.{Agrees, CountsFailures, CountsStops, OnView, is_failure, is_stop};
+ghost use Rattle.archive_view.specs.Looks.{Agrees, CountsFailures, CountsStops, is_failure, is_stop};
+ghost use Rattle.archive_view.specs.Views.{On};
 ghost use Rattle.archive_looks.specs.Checks.{each, passed};
 ghost use Rattle.commands.specs.Rows.{and_then};
 ghost use Rattle.entry_batches.specs.Batches as batches;
@@ -28,8 +29,7 @@ pub(crate) fn with_row<V: View>(
     made: Made,
     row: &EntryRow,
 ) -> Result<Made, Refusal>
-    ensures decides { OnView V.is_honest V.shows V.content view.old view.new
-        (λ c. c.next ≡ next → Agrees (λ (e : Refusal). is_stop e.kind) result
+    ensures decides { On V.View view.old view.new (λ c. c.next ≡ next → Agrees (λ (e : Refusal). is_stop e.kind) result
         (batches.with_row c source made row.now)) }
     ensures counts { CountsStops (V.failed view.old) (V.failed view.new) result }
 {
@@ -92,7 +92,7 @@ fn row_entry<V: View>(
     made: &Made,
     row: &EntryRow,
 ) -> Result<Entry, RefusalKind>
-    ensures decides { OnView V.is_honest V.shows V.content view.old view.new
+    ensures decides { On V.View view.old view.new
         (λ c. c.next ≡ next → Agrees is_stop result (batches.row_entry c source made.now row.now)) }
     ensures counts { CountsFailures (V.failed view.old) (V.failed view.new) result }
 {
@@ -114,7 +114,7 @@ fn check_place_behind<V: View>(
     count: u32,
     place: Option<u32>,
 ) -> Result<(), RefusalKind>
-    ensures decides { OnView V.is_honest V.shows V.content view.old view.new
+    ensures decides { On V.View view.old view.new
         (λ c. c.next ≡ next → Agrees is_stop result (passed (each (batches.place_behind c count) place))) }
     ensures counts { CountsFailures (V.failed view.old) (V.failed view.new) result }
 {

@@ -3,7 +3,8 @@
 ghost use Rattle.std.specs.Prelude.{◌≡◌, ◌≤◌, ◌-◌, IfOk, OnOk};
 ghost use Rattle.std.specs.FinMap as map;
 ghost use Rattle.archive_state.specs.Sound.{IsSound};
-ghost use Rattle.archive_view.specs.Looks.{CountsFailures, Looked, OnView};
+ghost use Rattle.archive_view.specs.Looks.{CountsFailures, Looked};
+ghost use Rattle.archive_view.specs.Views.{On};
 ghost use Rattle.export_index.specs.Adding as adding;
 ghost use Rattle.export_index.specs.Index.{IsArranged, IsIndexOf};
 
@@ -18,7 +19,7 @@ const NUMBERS: u64 = 4_294_967_296;
 /// The index of all records, each of which is read once. Every number below the next one is asked for, since a view
 /// does not say which numbers have a record: so many calls are made, also where few records are left.
 pub fn gathered<V: View>(alloc: Global, view: &mut V) -> Result<Index, RefusalKind>
-    ensures shows { OnView V.is_honest V.shows V.content view.old view.new
+    ensures shows { On V.View view.old view.new
         (λ c. Looked result (λ index. IsSound c → IsIndexOf (map.entries c.records) index)) }
     ensures arranged { IfOk result (λ index. IsArranged index) }
     ensures counts { CountsFailures (V.failed view.old) (V.failed view.new) result }
@@ -44,7 +45,7 @@ fn last_number(next: u64) -> u32
 /// What is shown by the records of the numbers from 1 to the last.
 #[tactic(auto, using(crate::proofs::Upto::one_more))]
 fn read_all<V: View>(alloc: Global, view: &mut V, last: u32) -> Result<Index, RefusalKind>
-    ensures shows { OnView V.is_honest V.shows V.content view.old view.new
+    ensures shows { On V.View view.old view.new
         (λ c. Looked result (λ index. index ≡ adding.gathered_from (map.get c.records) last)) }
     ensures counts { CountsFailures (V.failed view.old) (V.failed view.new) result }
 {
@@ -62,7 +63,7 @@ fn read_at<V: View>(
     number: u32,
     index: &mut Index,
 ) -> Result<(), RefusalKind>
-    ensures shows { OnView V.is_honest V.shows V.content view.old view.new
+    ensures shows { On V.View view.old view.new
         (λ c. Looked result (λ _. index.new ≡ adding.with_found number (map.get c.records number) index.old)) }
     ensures counts { CountsFailures (V.failed view.old) (V.failed view.new) result }
 {

@@ -3,7 +3,8 @@
 ghost use Rattle.std.specs.Prelude.{◌≡◌, ◌==◌, length};
 ghost use Rattle.std.specs.List.{count_by};
 ghost use Rattle.archive_state.specs.Known.{path_of};
-ghost use Rattle.archive_view.specs.Looks.{CountsFailures, Looked, OnView};
+ghost use Rattle.archive_view.specs.Looks.{CountsFailures, Looked};
+ghost use Rattle.archive_view.specs.Views.{On};
 ghost use Rattle.record_shapes.specs.Paths.{parts};
 ghost use Rattle.place_paths.specs.Fits as fits;
 
@@ -36,7 +37,7 @@ pub fn is_path_fit<V: View>(
     name: &str,
     parent: Option<u32>,
 ) -> Result<bool, RefusalKind>
-    ensures decides { OnView V.is_honest V.shows V.content view.old view.new
+    ensures decides { On V.View view.old view.new
         (λ c. Looked result (λ is. is ≡ fits.is_fit (fits.new_path c.records name.now parent))) }
     ensures counts { CountsFailures (V.failed view.old) (V.failed view.new) result }
 {
@@ -72,7 +73,7 @@ fn is_within<V: View>(
     parts: usize,
     bytes: usize,
 ) -> Result<bool, RefusalKind>
-    ensures decides { OnView V.is_honest V.shows V.content view.old view.new
+    ensures decides { On V.View view.old view.new
         (λ c. Looked result (λ is. is ≡ fits.is_within parts bytes (path_of c.records number))) }
     ensures counts { CountsFailures (V.failed view.old) (V.failed view.new) result }
 {
