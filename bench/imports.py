@@ -71,7 +71,7 @@ HARD = (
     ("200,000 PLAC of one path", lambda n: places(2 * n, lambda k: "Ashby, Kent, England")),
     ("200,000 PLAC with a common end", lambda n: places(2 * n, lambda k: f"Farm {k}, Kent, England")),
     ("50,000 PLAC of 32 parts", lambda n: places(n // 2, lambda k: f"Farm {k}, " + ", ".join(map(str, range(31))))),
-    ("100,000 lines of levels up to 98", lambda n: (b"".join(b"%d A\n" % k for k in range(99)) for _ in range(n // 99))),
+    ("100,000 lines of levels up to 98", lambda n: (b"%d A\n" % (k % 99) for k in range(n))),
 )
 
 
