@@ -1,0 +1,89 @@
+"""An archive of all that is awkward, exported, imported into an empty one, and compared with it record by record."""
+
+from __future__ import annotations
+
+from harness import Case, Tools, demand, expect, run, written
+from imports import Imported
+from table.making import between
+
+LINES = "SELECT no, kind, depth, tag, text, dst FROM record JOIN line USING (no) ORDER BY no, pos"
+
+# two places of one name, an unused one, lines carried at level 98, and others that name each other
+GIVEN = between(
+    "0 @L1@ _LOC", "1 NAME Ashby", "0 @L2@ _LOC", "1 NAME Ashby", "0 @L3@ _LOC", "1 NAME Nowhere",
+    "0 @S1@ SOUR", "1 TITL Register",
+    "0 @I1@ INDI", "1 NAME Ann /Lee/", "1 BIRT", "2 DATE ABT 1700", "2 PLAC Ashby", "3 _LOC @L2@",
+    *(f"{level} _DEEP" for level in range(1, 98)), "98 NOTE at the bottom", "99 CONT of all levels",
+    "0 @X1@ OBJE @X2@", "1 FILE a.png", "0 @X2@ OBJE @X1@",
+)
+
+# a number that is missing, events that are not in the order of their dates, a family, entries linked and not
+ROWS = b"""g1,person,Nobody,
+g2,remove,9
+e1,event,5,OCCU,Smith,1750,1
+e2,event,5,BAPM,,1 JAN 1701,2
+c1,citation,11,4,f. 3,2
+p1,person,Tom /Ray/,M
+f1,family,13,5
+e3,event,14,MARR,,,
+b1,entry,4,BAPTISM,f. 3,1,1701,2,Ann,child,Ann Lee,father,Tom
+b2,entry,4,BURIAL,f. 3,2,,,Ann,buried,Ann Ray
+l1,link,16,1,5,same farm
+"""
+
+
+def records(at):
+    """Each record by its number: its kind and its lines."""
+    found: dict = {}
+    for number, kind, depth, tag, text, named in at.rows_of(LINES):
+        found.setdefault(number, (kind, []))[1].append((depth, tag, text, named))
+    return found
+
+
+def owned(found, owner, kind):
+    return [n for n, (own, lines) in sorted(found.items()) if own == kind and lines[0][3] == owner]
+
+
+def numbers(one, other):
+    """The numbers of one archive with those of another: records of one kind by their order, events and citations by
+    their order within their owner."""
+    kinds = {kind for kind, _ in [*one.values(), *other.values()]} - {"event", "citation"}
+    ordered = ([[n for n in sorted(found) if found[n][0] == kind] for found in (one, other)] for kind in kinds)
+    same = {}
+    for here, there in ordered:
+        demand(len(here) == len(there), f"{len(here)} and {len(there)} of a kind")
+        same.update(zip(here, there))
+    for kind in ("event", "citation"):
+        for owner, like in list(same.items()):
+            here, there = owned(one, owner, kind), owned(other, like, kind)
+            demand(len(here) == len(there), f"{owner} owns {len(here)} and {len(there)}")
+            same.update(zip(here, there))
+    return same
+
+
+def like(found, same):
+    """The records under other numbers."""
+    return {
+        same[number]: (kind, [(depth, tag, text, same.get(named)) for depth, tag, text, named in lines])
+        for number, (kind, lines) in found.items()
+    }
+
+
+def it_comes_back(tools):
+    with Imported(tools) as first, Imported(tools) as second:
+        first.made().import_(GIVEN)
+        answers = first.apply(ROWS).out.decode().splitlines()
+        demand(len(answers) == 11 and all(",ok," in answer for answer in answers), f"{answers}")
+        text = first.export().out
+        expect(second.made().import_(text), written(b"imported 16 records, first 1\n"))
+        here, there = records(first), records(second)
+        demand(9 not in here and max(here) == 17 and max(there) == 16, f"{sorted(here)} {sorted(there)}")
+        demand(any(depth > 90 for _, lines in there.values() for depth, *_ in lines), "nothing is deep")
+        same = numbers(here, there)
+        demand(len(set(same.values())) == len(here) == len(there), "the numbers are not one to one")
+        demand(like(here, same) == there, f"{like(here, same)} {there}")
+        expect(run(tools.parish, ("norm",), text), written(text))
+
+
+def cases(tools: Tools):
+    yield Case("exchanges: an awkward archive comes back", lambda: it_comes_back(tools))
