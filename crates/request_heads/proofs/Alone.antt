@@ -1,5 +1,24 @@
 -- The bytes alone decide what they begin with.
-use Rattle.std.proofs.Common.{◌≡◌, ◌≤◌, ◌<◌, ℕ, List, [], ◌∷◌, length, take, drop, sym, ap, ◌∙◌, arith, inl, inr, refl, ◌⊎◌}
+use Rattle.std.proofs.Common.{
+  ◌≡◌,
+  ◌≤◌,
+  ◌<◌,
+  ℕ,
+  List,
+  [],
+  ◌∷◌,
+  length,
+  take,
+  drop,
+  sym,
+  ap,
+  ◌∙◌,
+  arith,
+  inl,
+  inr,
+  refl,
+  ◌⊎◌,
+}
 use Rattle.std.proofs.lemmas.List.{length-append, length-take-le, take-append-drop}
 use Rattle.httparse.proofs.GrammarLemmas.{request_unique}
 use Rattle.httparse.specs.Grammar.{RequestHead, print_request}
@@ -24,7 +43,9 @@ empty_has_few many =
     let (front, rest, none, h, reads, lines) = many.exceeds in
     let size = ap length none in
     let other = ap length reads.1 in
-    omega (arith, longer h, size, other, length-append front rest, length-append front (10 ∷ []), length-append (print_request h) [])
+    let one = length-append front (10 ∷ []) in
+    let whole = length-append (print_request h) [] in
+    omega (arith, longer h, size, other, length-append front rest, one, whole)
 
 long_has_none : (input : List ℕ) → IsLong input → (h : RequestHead) → ¬ (BeginsWith input h)
 long_has_none input long h begins =

@@ -3,7 +3,14 @@ use Rattle.std.specs.Prelude.{ℕ, ◌≡◌, ◌<◌, ◌≤◌, ◌⊎◌, Boo
 use Rattle.std.specs.Str.{str_eq_ignore_ascii_case}
 use Rattle.std.specs.Io.KnownBytes.{Consumes, IsAtEnd}
 use Rattle.httparse.specs.Grammar.{RequestHead, HasNoRequest, NeverHasRequest}
-use Rattle.httparse.specs.Spans.{span_bytes, IsRequestWithin, IsRequestAt, IsRequestOf, RequestExceeds, RequestOverflows}
+use Rattle.httparse.specs.Spans.{
+  span_bytes,
+  IsRequestWithin,
+  IsRequestAt,
+  IsRequestOf,
+  RequestExceeds,
+  RequestOverflows,
+}
 use Rattle.httparse.specs.declared.spans.HeaderSpan.{HeaderSpan}
 use Rattle.httparse.specs.declared.spans.RequestSpans.{RequestSpans}
 use Rattle.request_heads.specs.Heads.{head_limit, line_limit, head_of}
