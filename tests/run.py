@@ -32,11 +32,27 @@ import refusals  # noqa: E402
 import scripts  # noqa: E402
 import sizes  # noqa: E402
 import streams  # noqa: E402
+import visits  # noqa: E402
 from harness import ROOT, Case, Failed, Tools  # noqa: E402
 
 # The longest ones first, since they run side by side.
-PARTS = (sizes, archives, merges, exports, memory, properties, streams, scripts, documents, refusals, files, layout)
+PARTS = (
+    sizes,
+    archives,
+    merges,
+    exports,
+    memory,
+    properties,
+    streams,
+    visits,
+    scripts,
+    documents,
+    refusals,
+    files,
+    layout,
+)
 PIECES = "tree_pieces"
+VISITS = "visit_rows"
 
 
 def executable(crate):
@@ -46,6 +62,11 @@ def executable(crate):
 def is_listed(crate):
     with open(os.path.join(ROOT, "crates.txt"), encoding="utf-8") as lines:
         return any(re.match(rf"{crate}[\s:]", line) for line in lines)
+
+
+def built(crate, given):
+    """The program of a crate as it was built here, or None where another program is under test."""
+    return (executable(crate),) if is_listed(crate) and not given.parish else None
 
 
 def command(text):
@@ -58,8 +79,7 @@ def tools_of(given):
     parish = command(given.parish) if given.parish else (executable("parish"),)
     if given.pieces:
         return Tools(parish, command(given.pieces))
-    has_pieces = is_listed(PIECES) and not given.parish
-    return Tools(parish, (executable(PIECES),) if has_pieces else None)
+    return Tools(parish, built(PIECES, given), built(VISITS, given))
 
 
 def outcome_of(case: Case):

@@ -1,0 +1,4 @@
+pub mod Alone
+pub mod Counts
+pub mod Decided
+pub mod Filled

@@ -1,0 +1,56 @@
+-- What the bytes that were read so far show, and what is left of the input behind them.
+use Rattle.std.specs.Prelude.{ℕ, ◌≡◌, ◌<◌, ◌≤◌, ◌⊎◌, Bool, List, [], length, codes, Option}
+use Rattle.std.specs.Str.{str_eq_ignore_ascii_case}
+use Rattle.std.specs.Io.KnownBytes.{Consumes, IsAtEnd}
+use Rattle.httparse.specs.Grammar.{RequestHead, HasNoRequest, NeverHasRequest}
+use Rattle.httparse.specs.Spans.{
+  span_bytes,
+  IsRequestWithin,
+  IsRequestAt,
+  IsRequestOf,
+  RequestExceeds,
+  RequestOverflows,
+}
+use Rattle.httparse.specs.declared.spans.HeaderSpan.{HeaderSpan}
+use Rattle.httparse.specs.declared.spans.RequestSpans.{RequestSpans}
+use Rattle.request_heads.specs.Heads.{head_limit, line_limit, head_of}
+use Rattle.request_heads.specs.Parts.{Head}
+use Rattle.request_heads.specs.declared.reading.Found.{Found}
+use Rattle.request_heads.specs.declared.reading.Found.TheVariants as found
+
+-- at most 8,192 bytes were taken of an input
+abbrev pub TakesHead : Option (List ℕ) → Option (List ℕ) → Type 0
+TakesHead old new = (front : List ℕ) × (length front ≤ head_limit) × Consumes old new front
+
+-- no bytes that follow make it a head, or it ends within one
+abbrev pub IsRuledOut : List ℕ → Option (List ℕ) → Type 0
+IsRuledOut front left = NeverHasRequest front ⊎ (HasNoRequest front × IsAtEnd left)
+
+-- it has too many header lines, or no head in the bytes that one may take
+abbrev pub IsOverfull : List ℕ → Type 0
+IsOverfull front =
+    (RequestExceeds line_limit front × RequestOverflows line_limit front)
+    ⊎ ((length front ≡ head_limit) × HasNoRequest front)
+
+-- what the bytes in front show, whatever follows
+abbrev pub IsJudged : List ℕ → List HeaderSpan → Found → Type 0
+IsJudged front lines found.Nothing = ⊥
+IsJudged front lines found.Malformed = NeverHasRequest front
+IsJudged front lines found.TooLarge = RequestExceeds line_limit front × RequestOverflows line_limit front
+IsJudged front lines (found.Whole spans) = IsRequestWithin front lines spans × IsRequestOf front lines spans
+
+-- what the bytes in front show, with these bytes left
+abbrev pub Shows : List ℕ → Option (List ℕ) → List HeaderSpan → Found → Type 0
+Shows front left lines found.Nothing = (front ≡ []) × IsAtEnd left
+Shows front left lines found.Malformed = (0 < length front) × IsRuledOut front left
+Shows front left lines found.TooLarge = IsOverfull front
+Shows front left lines (found.Whole spans) =
+    (length front ≤ head_limit) × IsRequestWithin front lines spans × IsRequestOf front lines spans
+
+-- the name that the spans cover is Host
+abbrev pub is_host_at : List ℕ → HeaderSpan → Bool
+is_host_at front line = str_eq_ignore_ascii_case (span_bytes front line.name) (codes "host")
+
+-- what is looked at of the head that the spans cover
+abbrev pub IsCopied : List ℕ → List HeaderSpan → RequestSpans → Head → Type 0
+IsCopied front lines spans head = (h : RequestHead) × IsRequestAt front lines spans h × (head ≡ head_of h)
