@@ -1,0 +1,6 @@
+mod Counting
+mod Least
+mod Normal
+mod Positions
+mod Seeking
+mod Ways
