@@ -1,7 +1,8 @@
 -- Drawing never lowers the next number.
-use Rattle.std.proofs.Common.{◌≡◌, ℕ, ◌+◌, ◌≤◌, List, [], ◌∷◌, arith}
+use Rattle.std.proofs.Common.{◌≡◌, ℕ, ◌+◌, ◌≤◌, List, [], ◌∷◌, map, sym, subst, arith}
 use Rattle.std.specs.Prelude.{Option, Some, None}
-use Rattle.stored_lines.specs.Tree.{Tree, Forest, node, none, more}
+use Rattle.stored_lines.specs.Tree.{Tree, Forest, forest_of, node, none, more}
+use Rattle.record_kinds.specs.declared.record.Record.{Record}
 use Rattle.record_shapes.specs.Paths.{joined}
 use Rattle.record_shapes.specs.Reading.{Draft, read, sought}
 use Rattle.import_forest.specs.Numbers.{
@@ -47,3 +48,19 @@ module _ (least : ℕ) (w : Places) where
   pub each_above : (k : ℕ) (d : Drawing) (ts : List (Tree Draft)) → least ≤ d.next → least ≤ (draw_each w k d ts).next
   each_above k d [] h = h
   each_above k d (t ∷ ts) h = each_above (k + 1) (draw w k 0 (root_drawn d) t) ts (drawn_above k 0 (root_drawn d) t h)
+
+-- one after the other
+pub one_above : {X : Type 0} (w : Places) (k owner : ℕ) (d : Drawing) (tree : X → Tree Draft) (x : X) (behind all : List X)
+    → all ≡ x ∷ behind → (draw w k owner d (tree x)).next ≤ (draw_all w k owner d (forest_of (map tree all))).next
+one_above w k owner d tree x behind all e =
+    let first : Drawing = draw w k owner d (tree x) in
+    let self : first.next ≤ first.next = omega arith in
+    subst (λ xs. first.next ≤ (draw_all w k owner d (forest_of (map tree xs))).next) (sym e)
+    (all_above first.next w k owner first (forest_of (map tree behind)) self)
+
+-- a record draws a number
+pub read_above : (w : Places) (k owner : ℕ) (d : Drawing) (r : Record) (path : Option (List ℕ)) (f : Forest Draft)
+    → d.next + 1 ≤ (draw w k owner d (node (read r path) f)).next
+read_above w k owner d r path f =
+    let self : d.next + 1 ≤ d.next + 1 = omega arith in
+    all_above (d.next + 1) w k d.next (drawn_more d (of_file d.next owner r path)) f self

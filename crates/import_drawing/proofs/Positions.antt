@@ -25,6 +25,7 @@ use Rattle.std.proofs.Common.{
   Some,
   None,
 }
+use Rattle.std.specs.Prelude.{Result, Ok, Err, OnOk}
 use Rattle.std.proofs.lemmas.List.{length-map, length-take-le, map-append, take_more}
 use Rattle.record_shapes.specs.Reading.{has_path}
 use Rattle.file_roots.specs.Views.{first_of, with_first}
@@ -75,3 +76,11 @@ path_step said ps i at p old new h e same was is q =
     ∙ ap (λ k. first_of (position_of q 0 (map said (take i ps))) (cond (has_path q (said p)) (Some k) None)) long
     ∙ sym (position_push q 0 (map said (take i ps)) (said p))
     ∙ ap (position_of q 0) (sym more)
+
+-- a path that was put
+pub put_on : {E : Type 0} (old new : List ℕ → Option ℕ) (name key : List ℕ) (path : Option (List ℕ)) (k : ℕ)
+    (r : Result Unit E) → key ≡ name → path ≡ Some name → OnOk r ((q : List ℕ) → new q ≡ with_first old key k q)
+    → OnOk r ((q : List ℕ) → new q ≡ with_path old path k q)
+put_on old new name key path k (Ok u) same is h = λ q.
+    h q ∙ ap (λ x. with_first old x k q) same ∙ path_put old name k q ∙ ap (λ p. with_path old p k q) (sym is)
+put_on old new name key path k (Err e) same is h = tt

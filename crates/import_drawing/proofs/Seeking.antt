@@ -58,6 +58,7 @@ use Rattle.field_rows.proofs.Plain.{name_is_plain}
 use Rattle.file_roots.specs.Nodes.{FileLine, FileNode, HaveLines, IsSaid}
 use Rattle.file_roots.specs.Lines.{Lined, lined_root, put, resolve, resolved, roots, unlined, place_in}
 use Rattle.file_roots.specs.Views.{AreInFile}
+use Rattle.import_forest.specs.Positions.{known, known_before}
 use Rattle.import_forest.specs.Sides.{draft_at, root_with_sides, with_sides}
 use Rattle.import_places.specs.Settling.{IsPathText}
 use Rattle.import_drawing.specs.Drafts.{AllSeekByPaths, SeeksByPaths, drafts_from}
@@ -100,27 +101,27 @@ put_plain : (l : FileLine) (v : Option Value) (low behind : Forest Lined) → If
 put_plain l None low behind h b c = c
 put_plain l (Some v) low behind h b c = ((h, b), c)
 
-value_plain : (place : List ℕ → Option ℕ) (m : Meaning) → IsSaid m → IfSome (resolve place m) IsPlainValue
-value_plain place (Text t) h = h
-value_plain place (Pointer name) h = by (place name)
+value_plain : (at : List ℕ → Option ℕ) (m : Meaning) → IsSaid m → IfSome (resolve at m) IsPlainValue
+value_plain at (Text t) h = h
+value_plain at (Pointer name) h = by (at name)
   where
     by : (o : Option ℕ) → IfSome (option_map value.Ref o) IsPlainValue
     by None = tt
     by (Some k) = tt
 
-resolved_plain : (place : List ℕ → Option ℕ) (f : Forest FileLine) → HaveLines f → AllPlain (bare (resolved place f))
-resolved_plain place none h = tt
-resolved_plain place (more (node l f) ts) h =
-    put_plain l (resolve place l.value) (resolved place f) (resolved place ts) (value_plain place l.value h.0.0.value)
-    (resolved_plain place f h.0.1) (resolved_plain place ts h.1)
+resolved_plain : (at : List ℕ → Option ℕ) (f : Forest FileLine) → HaveLines f → AllPlain (bare (resolved at f))
+resolved_plain at none h = tt
+resolved_plain at (more (node l f) ts) h =
+    put_plain l (resolve at l.value) (resolved at f) (resolved at ts) (value_plain at l.value h.0.0.value)
+    (resolved_plain at f h.0.1) (resolved_plain at ts h.1)
 
 abbrev HasPlain : Tree Line → Type 0
 HasPlain t = AllPlain (children t)
 
-roots_plain : (place : List ℕ → Option ℕ) (ts : List FileNode) → AreInFile ts
-    → EachOf HasPlain (map unlined (map (lined_root place) ts))
-roots_plain place [] h = tt
-roots_plain place (node l f ∷ ts) h = (resolved_plain place f h.0.lines.1, roots_plain place ts h.1)
+roots_plain : (at : List ℕ → Option ℕ) (ts : List FileNode) → AreInFile ts
+    → EachOf HasPlain (map unlined (map (lined_root at) ts))
+roots_plain at [] h = tt
+roots_plain at (node l f ∷ ts) h = (resolved_plain at f h.0.lines.1, roots_plain at ts h.1)
 
 -- ---- events
 module _ (known : Known) where
@@ -218,11 +219,15 @@ root_seeks rs k (node d f) h = sides_seek rs k d f h
 
 nodes_seek : (rs : Lines) (k : ℕ) (ts : Lines) → EachOf HasPlain ts → EachOf SeeksByPaths (drafts_from rs k ts)
 nodes_seek rs k [] h = tt
-nodes_seek rs k (node l f ∷ ts) h = (root_seeks rs k _ (draft_seeks _ _ l f h.0), nodes_seek rs (k + 1) ts h.1)
+nodes_seek rs k (node l f ∷ ts) h = (
+  root_seeks rs k (draft_of (known_before rs k) (known rs) (node l f))
+      (draft_seeks (known_before rs k) (known rs) l f h.0),
+  nodes_seek rs (k + 1) ts h.1,
+)
+
+lines_plain : (ts : List FileNode) → AreInFile ts → EachOf HasPlain (roots ts)
+unfolding roots
+lines_plain ts h = roots_plain (place_in ts) ts h
 
 pub drafts_seek : (ks : List FileNode) → AreInFile ks → EachOf SeeksByPaths (drafts_from (roots ks) 0 (roots ks))
-drafts_seek ks h = nodes_seek (roots ks) 0 (roots ks) (plain ks h)
-  where
-    plain : (ts : List FileNode) → AreInFile ts → EachOf HasPlain (roots ts)
-    unfolding roots
-    plain ts k = roots_plain (place_in ts) ts k
+drafts_seek ks h = nodes_seek (roots ks) 0 (roots ks) (lines_plain ks h)
