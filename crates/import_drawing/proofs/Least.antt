@@ -64,3 +64,12 @@ pub read_above : (w : Places) (k owner : ℕ) (d : Drawing) (r : Record) (path :
 read_above w k owner d r path f =
     let self : d.next + 1 ≤ d.next + 1 = omega arith in
     all_above (d.next + 1) w k d.next (drawn_more d (of_file d.next owner r path)) f self
+
+-- one node after the other
+pub root_above : {X : Type 0} (w : Places) (k : ℕ) (d : Drawing) (tree : X → Tree Draft) (x : X) (behind all : List X)
+    → all ≡ x ∷ behind → (draw w k 0 (root_drawn d) (tree x)).next ≤ (draw_each w k d (map tree all)).next
+root_above w k d tree x behind all e =
+    let first : Drawing = draw w k 0 (root_drawn d) (tree x) in
+    let self : first.next ≤ first.next = omega arith in
+    subst (λ xs. first.next ≤ (draw_each w k d (map tree xs)).next) (sym e)
+    (each_above first.next w (k + 1) first (map tree behind) self)

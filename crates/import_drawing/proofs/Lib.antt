@@ -1,3 +1,4 @@
+mod Batches
 mod Counting
 mod Least
 mod Normal

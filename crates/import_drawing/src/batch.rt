@@ -86,10 +86,33 @@ fn finished_records<V: View>(
 {
     let mut records = Vec::new(alloc);
     'drawn: for one in drawn {
-        let place = place_of(alloc, view, looks, file, drawing, &one)?;
-        add_finished(alloc, &drawing.roots, &mut records, one, place)?;
+        add_finished(alloc, view, looks, file, drawing, one, &mut records)?;
     }
     Ok(records)
+}
+
+/// Adds the record of what a number was drawn for. After a refusal it is given back here.
+fn add_finished<V: View>(
+    alloc: Global,
+    view: &mut V,
+    looks: &mut Looks,
+    file: &FilePlaces,
+    drawing: &Drawing,
+    one: Drawn,
+    records: &mut Vec<Numbered>,
+) -> Result<(), RefusalKind>
+    ensures adds { OnView V.is_honest V.shows V.content view.old view.new (λ c. Knows looks.old.found c
+        → Looked result (λ _. Knows looks.new.found c × (records.new.items ≡ records.old.items
+        ++ numbers.finished (places_of c file.now) (drawing_said drawing.now) (drawn_said one) ∷ []))) }
+    ensures counts { CountsFailures (V.failed view.old) (V.failed view.new) result }
+{
+    match place_of(alloc, view, looks, file, drawing, &one) {
+        Ok(place) => Ok(push_finished(alloc, &drawing.roots, records, one, place)?),
+        Err(refusal) => {
+            drop(one);
+            Err(refusal)
+        }
+    }
 }
 
 /// The place that is found for the path by which that of an event was sought, where it was.
@@ -107,10 +130,11 @@ fn place_of<V: View>(
     ensures counts { CountsFailures (V.failed view.old) (V.failed view.new) result }
 {
     match one {
-        Drawn::Record(_, _, _, Some(path)) => {
-            find_drawn(alloc, view, looks, file, drawing, path.as_str())
-        }
-        _ => Ok(None),
+        Drawn::Record(_, _, _, path) => match path {
+            Some(path) => find_drawn(alloc, view, looks, file, drawing, path.as_str()),
+            None => Ok(None),
+        },
+        Drawn::Place(..) => Ok(None),
     }
 }
 
@@ -133,8 +157,8 @@ fn find_drawn<V: View>(
     looks.find(alloc, view, file, None, made, path)
 }
 
-/// Adds the record of what a number was drawn for.
-fn add_finished(
+/// Adds the record of what a number was drawn for, where its place is known.
+fn push_finished(
     alloc: Global,
     roots: &[u32],
     records: &mut Vec<Numbered>,
@@ -150,7 +174,6 @@ fn add_finished(
     Ok(())
 }
 
-/// The record of what a number was drawn for, where its place is known.
 fn finished(
     alloc: Global,
     roots: &[u32],
