@@ -1,17 +1,19 @@
 -- The batch of what numbers were drawn for, over a view.
-use Rattle.std.proofs.Common.{◌≡◌, ℕ, ◌≤◌, ◌<◌, Bool, true, false, cond, List, refl, sym, ap, ◌∙◌, subst, arith}
+use Rattle.std.proofs.Common.{◌≡◌, ◌≤◌, ◌<◌, Bool, true, false, cond, List, [], ◌∷◌, ◌++◌, map, refl, sym, ap, ◌∙◌, subst, append_assoc, arith}
 use Rattle.std.specs.Prelude.{Result, Ok, Err, nat_lt}
 use Rattle.std.proofs.lemmas.Bool.Decides.{nat_tests}
 use Rattle.archive_state.specs.Changes.{Batch}
 use Rattle.archive_state.specs.Content.{Content}
+use Rattle.archive_state.specs.declared.changes.Numbered.{Numbered}
 use Rattle.archive_view.specs.Looks.{Agrees, Looked, OnView, is_stop}
 use Rattle.record_text.specs.declared.refusal.RefusalKind.{RefusalKind}
 use Rattle.record_text.specs.declared.refusal.RefusalKind.TheVariants.{Full}
 use Rattle.import_forest.specs.Made.{batch}
 use Rattle.import_forest.specs.Numbers as numbers
 use Rattle.import_places.specs.Settling.{Knows}
-use Rattle.import_places.specs.Views.{drawing_said}
+use Rattle.import_places.specs.Views.{drawing_said, drawn_said}
 use Rattle.import_places.specs.declared.drawing.Drawing.{Drawing}
+use Rattle.import_places.specs.declared.drawing.Drawn.{Drawn}
 use Rattle.import_drawing.specs.Drawing.{batch_or_full}
 use Rattle.import_drawing.proofs.Ways.{Kept, Right}
 
@@ -92,7 +94,35 @@ module _ {S Held : Type 0} (honest : S → Type 0) (shows : S → Held → Type 
             let z = b.1 held y.0 in (
               z.0,
               let p = y.1 (knows c) in
-              looked_agrees r (batch_or_full (w c) (other c)) (batch (w c) (drawing_said d))
-              (ap (batch_or_full (w c)) (sym (p.0 ∙ same c)) ∙ not_full (w c) (drawing_said d) less) (z.1 p.1),
+                  looked_agrees r (batch_or_full (w c) (other c)) (batch (w c) (drawing_said d))
+                  (ap (batch_or_full (w c)) (sym (p.0 ∙ same c)) ∙ not_full (w c) (drawing_said d) less) (z.1 p.1),
+            ),
+      )
+
+  -- the record of one more
+  pub records_on : (finish : Content → numbers.Drawn → Numbered) (v u t : S) (k m n : Kept) (old new : List Numbered)
+      (x : Drawn) (behind left : List Drawn) (all : Content → List Numbered) → left ≡ x ∷ behind
+      → OnView honest shows content v u
+      (λ c. Knows k c → Knows m c × (old ++ map (finish c) (map drawn_said left) ≡ all c))
+      → OnView honest shows content u t (λ c. Knows m c → Knows n c × (new ≡ old ++ finish c (drawn_said x) ∷ []))
+      → OnView honest shows content v t
+      (λ c. Knows k c → Knows n c × (new ++ map (finish c) (map drawn_said behind) ≡ all c))
+  records_on finish v u t k m n old new x behind left all items way call h =
+      let b = call h in
+      let a = way b.0 in (
+        a.0,
+        λ held sh.
+            let c = content held in
+            let y = a.1 held sh in
+            let z = b.1 held y.0 in (
+              z.0,
+              λ knows.
+                  let p = y.1 knows in
+                  let q = z.1 p.0 in (
+                    q.0,
+                    ap (λ xs. xs ++ map (finish c) (map drawn_said behind)) q.1
+                        ∙ append_assoc old (finish c (drawn_said x) ∷ []) (map (finish c) (map drawn_said behind))
+                        ∙ ap (λ xs. old ++ map (finish c) (map drawn_said xs)) (sym items) ∙ p.1,
+                  ),
             ),
       )

@@ -1,9 +1,7 @@
 -- The nodes of a file are no more than its lines.
-use Rattle.std.proofs.Common.{◌≡◌, ℕ, ◌+◌, ◌≤◌, ◌==◌, Bool, true, false, cond, List, [], ◌∷◌, length, map, ap, arith}
+use Rattle.std.proofs.Common.{ℕ, ◌+◌, ◌≤◌, ◌==◌, Bool, true, false, cond, List, [], ◌∷◌, length, map, arith}
 use Rattle.std.specs.Prelude.{not}
-use Rattle.std.specs.List.{filter}
 use Rattle.std.proofs.lemmas.List.{length-map}
-use Rattle.stored_lines.specs.Tree.{Tree}
 use Rattle.stored_lines.specs.Growing.{backs, grown}
 use Rattle.gedcom_tree.specs.Forest.{Item}
 use Rattle.file_roots.specs.Nodes.{FileLine, FileNode, leveled, nodes_of}

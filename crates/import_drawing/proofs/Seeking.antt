@@ -8,7 +8,6 @@ use Rattle.stored_lines.specs.Line.{Line, Lines}
 use Rattle.stored_lines.specs.declared.carried.Value.{Value}
 use Rattle.stored_lines.specs.declared.carried.Value.TheVariants as value
 use Rattle.record_text.specs.Text.{IsPlain}
-use Rattle.record_kinds.specs.declared.record.Record.{Record}
 use Rattle.record_kinds.specs.declared.record.Record.TheVariants as kind
 use Rattle.record_shapes.specs.declared.field.Field.{Field}
 use Rattle.record_shapes.specs.Fields.{
@@ -39,27 +38,14 @@ use Rattle.record_shapes.specs.Forms.{
 }
 use Rattle.record_shapes.specs.Lists.{EachOf}
 use Rattle.record_shapes.specs.Paths.{has_part, is_within_limits, normal}
-use Rattle.record_shapes.specs.Reading.{
-  Draft,
-  below_event,
-  citation_draft,
-  draft_if,
-  draft_of,
-  event_draft,
-  place_named,
-  read,
-  sought,
-  sought_drafts,
-  sought_on,
-  unless_named,
-}
+use Rattle.record_shapes.specs.Reading.{Draft, below_event, citation_draft, draft_if, draft_of, place_named, read, sought, sought_drafts, sought_on, unless_named}
 use Rattle.gedcom_line.specs.Value.{Meaning, Text, Pointer}
 use Rattle.field_rows.proofs.Plain.{name_is_plain}
 use Rattle.file_roots.specs.Nodes.{FileLine, FileNode, HaveLines, IsSaid}
 use Rattle.file_roots.specs.Lines.{Lined, lined_root, put, resolve, resolved, roots, unlined, place_in}
 use Rattle.file_roots.specs.Views.{AreInFile}
 use Rattle.import_forest.specs.Positions.{known, known_before}
-use Rattle.import_forest.specs.Sides.{draft_at, root_with_sides, with_sides}
+use Rattle.import_forest.specs.Sides.{root_with_sides, with_sides}
 use Rattle.import_places.specs.Settling.{IsPathText}
 use Rattle.import_drawing.specs.Drafts.{AllSeekByPaths, SeeksByPaths, drafts_from}
 use Rattle.import_drawing.proofs.Normal.{normal_twice}

@@ -114,7 +114,15 @@ fn draw_event<V: View>(
     let EventDraft { event, parts } = draft;
     let path = path_sought(alloc, &parts)?;
     let number = drawing.draw(below.owner, Record::Event(event), path)?;
-    draw_parts(alloc, view, looks, file, drawing, below.owned_by(number), parts)
+    draw_parts(
+        alloc,
+        view,
+        looks,
+        file,
+        drawing,
+        below.owned_by(number),
+        parts,
+    )
 }
 
 /// The path by which the place of an event is sought, where it is.

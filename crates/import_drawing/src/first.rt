@@ -43,12 +43,7 @@ fn add_path(
 }
 
 /// Keeps the position of a path, where none is kept yet.
-fn add_place(
-    alloc: Global,
-    places: &mut FilePlaces,
-    path: &str,
-    at: u32,
-) -> Result<(), AllocError>
+fn add_place(alloc: Global, places: &mut FilePlaces, path: &str, at: u32) -> Result<(), AllocError>
     ensures { OnOk result ((q : List ℕ) → under places.new q ≡ with_first (under places.old) path.now at q) }
 {
     if !places.contains_key(path) {

@@ -1,10 +1,9 @@
-use Rattle.std.proofs.Common.{◌≡◌, rules, ap, map, arith}
-use Rattle.archive_state.specs.Content.{Content}
+use Rattle.std.proofs.Common.{rules, ap, map, arith}
 use Rattle.import_forest.specs.Numbers.{begun}
 use Rattle.import_places.specs.Views.{drawing_said, places_of}
 use Rattle.draft_reading.specs.Trees.{draft_tree}
 use Rattle.import_drawing.specs.Drafts.{draw_each}
-use Rattle.import_drawing.proofs.Batches.{drawing_full, drawing_over, drawing_refused}
+use Rattle.import_drawing.proofs.Batches.{drawing_over, drawing_refused}
 use Rattle.import_drawing.proofs.batch.batch_of_drafts.Goals as goal
 
 pub returns-in_err-draw_drafts-clause-makes : goal.returns-in_err-draw_drafts-clause-makes

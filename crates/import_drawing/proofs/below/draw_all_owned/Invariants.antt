@@ -1,4 +1,4 @@
-use Rattle.std.proofs.Common.{◌≡◌, ◌≤◌, map}
+use Rattle.std.proofs.Common.{◌≤◌, map}
 use Rattle.std.specs.Vec.Iter.{into_iter_items}
 use Rattle.stored_lines.specs.Tree.{forest_of}
 use Rattle.import_forest.specs.Numbers.{draw_all}

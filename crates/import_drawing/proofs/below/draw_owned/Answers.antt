@@ -1,4 +1,4 @@
-use Rattle.std.proofs.Common.{◌≡◌, sym, ap, subst}
+use Rattle.std.proofs.Common.{sym, subst}
 use Rattle.import_forest.specs.Numbers.{draw}
 use Rattle.import_places.specs.Views.{drawing_said, places_of}
 use Rattle.owner_reading.specs.Owners.{owned_tree}

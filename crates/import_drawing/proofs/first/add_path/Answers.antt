@@ -1,10 +1,8 @@
-use Rattle.std.proofs.Common.{◌≡◌, ℕ, List, sym, ap, ◌∙◌, subst}
-use Rattle.std.specs.Prelude.{None, Option, OnOk, Result, option_map, string_bytes}
-use Rattle.std.specs.declared.alloc.AllocError.{AllocError}
-use Rattle.file_roots.specs.Views.{with_first}
+use Rattle.std.proofs.Common.{sym, ap, ◌∙◌}
+use Rattle.std.specs.Prelude.{option_map, string_bytes}
 use Rattle.import_places.specs.Views.{under}
 use Rattle.import_drawing.specs.Firsts.{with_path}
-use Rattle.import_drawing.proofs.Positions.{path_none, path_put, put_on}
+use Rattle.import_drawing.proofs.Positions.{path_none, put_on}
 use Rattle.import_drawing.proofs.first.add_path.Goals as goal
 
 pub returns-in-Some : goal.returns-in-Some

@@ -1,6 +1,5 @@
-use Rattle.std.proofs.Common.{◌≡◌, ◌+◌, ◌≤◌, rules, sym, subst, ap, ◌∙◌, map}
-use Rattle.stored_lines.specs.Tree.{forest_of, node}
-use Rattle.record_shapes.specs.Reading.{read}
+use Rattle.std.proofs.Common.{◌+◌, ◌≤◌, rules, sym, subst, ap, ◌∙◌, map}
+use Rattle.stored_lines.specs.Tree.{forest_of}
 use Rattle.std.specs.Prelude.{None}
 use Rattle.import_forest.specs.Numbers.{draw, draw_all, root_drawn}
 use Rattle.import_places.specs.Views.{drawing_said, places_of}
