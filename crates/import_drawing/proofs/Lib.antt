@@ -1,6 +1,7 @@
 mod Batches
 mod Counting
 mod Least
+mod Nodes
 mod Normal
 mod Positions
 mod Seeking
