@@ -85,12 +85,21 @@ impl Drawing {
             (λ e. is_stop e ≡ false → (e ≡ RefusalKind.Full) × (4294967295 < self.old.next)) }
         ensures own { IfErr result (λ e. is_failure e ≡ false) }
     {
+        let number = self.number()?;
+        self.add_record(number, owner, found, path)?;
+        Ok(number)
+    }
+
+    /// The number that is drawn next. 63: there is none left.
+    fn number(&self) -> Result<u32, RefusalKind>
+        ensures { MatchResult result
+            (λ n. (n ≡ self.now.next) × (n < 4294967296))
+            (λ e. (e ≡ RefusalKind.Full) × (4294967295 < self.now.next)) }
+    {
         if self.next > LAST {
             return Err(RefusalKind::Full);
         }
-        let number = self.next as u32;
-        self.add_record(number, owner, found, path)?;
-        Ok(number)
+        Ok(self.next as u32)
     }
 
     fn add_record(
@@ -125,10 +134,7 @@ impl Drawing {
             (λ e. is_stop e ≡ false → (e ≡ RefusalKind.Full) × (4294967295 < self.old.next)) }
         ensures own { IfErr result (λ e. is_failure e ≡ false) }
     {
-        if self.next > LAST {
-            return Err(RefusalKind::Full);
-        }
-        let number = self.next as u32;
+        let number = self.number()?;
         self.add_place(alloc, path, name, number, parent)?;
         Ok(Found::Number(number))
     }
