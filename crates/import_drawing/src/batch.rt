@@ -84,7 +84,7 @@ fn finished_records<V: View>(
         ≡ map (numbers.finished (places_of c file.now) (drawing_said drawing.now)) (map drawn_said drawn.items))) }
     ensures counts { CountsFailures (V.failed view.old) (V.failed view.new) result }
 {
-    let mut records = Vec::new(alloc);
+    let mut records = Vec::with_capacity(alloc, drawn.len())?;
     'drawn: for one in drawn {
         add_finished(alloc, view, looks, file, drawing, one, &mut records)?;
     }
