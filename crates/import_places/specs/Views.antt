@@ -1,5 +1,5 @@
 -- What contracts see of the code's values: where a place is, what numbers are drawn for, and what was drawn.
-use Rattle.std.specs.Prelude.{ℕ, List, map, Option, option_map, string_bytes}
+use Rattle.std.specs.Prelude.{ℕ, List, map, Option, option_map}
 use Rattle.std.specs.BTreeMap.{BTreeMap, get_by_text}
 use Rattle.std.specs.declared.string.String.{String}
 use Rattle.std.specs.Global.{Global}
@@ -17,7 +17,7 @@ found_said (found.Number n) = numbers.at_number n
 found_said (found.Position k) = numbers.at_position k
 
 abbrev pub drawn_said : Drawn → numbers.Drawn
-drawn_said (drawn.Record n owner r path) = numbers.of_file n owner r (option_map string_bytes path)
+drawn_said (drawn.Record n owner r path) = numbers.of_file n owner r path
 drawn_said (drawn.Place n name parent) = numbers.of_path n name (option_map found_said parent)
 
 -- numbers or positions under paths

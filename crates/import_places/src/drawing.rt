@@ -32,7 +32,7 @@ const LAST: u64 = 4_294_967_295;
 pub enum Drawn {
     /// A record of the file, whose pointers are positions: its number, its owner's, and of an event the path by which
     /// its place is found.
-    Record(u32, u32, Record, Option<String>),
+    Record(u32, u32, Record, Option<Text>),
     /// A place that is made: its number, its name, and the place above it.
     Place(u32, Text, Option<Found>),
 }
@@ -64,10 +64,58 @@ impl Drawing {
     }
 
     /// The number of the place that was made of a path.
-    pub(crate) fn made(&self, path: &str) -> Option<u32>
+    pub fn made(&self, path: &str) -> Option<u32>
         ensures { result ≡ under self.now.made path.now }
     {
         self.made.get(path).copied()
+    }
+
+    /// Draws the number of a record of the file, with its owner, and of an event the path by which its place is found.
+    /// 63: there is no number left.
+    pub fn draw(
+        &mut self,
+        owner: u32,
+        found: Record,
+        path: Option<Text>,
+    ) -> Result<u32, RefusalKind>
+        ensures drawn { OnOk result (drawing_said self.new
+            ≡ numbers.drawn_more (drawing_said self.old) (numbers.of_file self.old.next owner found path)) }
+        ensures number { MatchResult result
+            (λ n. n ≡ self.old.next)
+            (λ e. is_stop e ≡ false → (e ≡ RefusalKind.Full) × (4294967295 < self.old.next)) }
+        ensures own { IfErr result (λ e. is_failure e ≡ false) }
+    {
+        let number = self.number()?;
+        self.add_record(number, owner, found, path)?;
+        Ok(number)
+    }
+
+    /// The number that is drawn next. 63: there is none left.
+    fn number(&self) -> Result<u32, RefusalKind>
+        ensures { MatchResult result
+            (λ n. (n ≡ self.now.next) × (n < 4294967296))
+            (λ e. (e ≡ RefusalKind.Full) × (4294967295 < self.now.next)) }
+    {
+        if self.next > LAST {
+            return Err(RefusalKind::Full);
+        }
+        Ok(self.next as u32)
+    }
+
+    fn add_record(
+        &mut self,
+        number: u32,
+        owner: u32,
+        found: Record,
+        path: Option<Text>,
+    ) -> Result<(), AllocError>
+        requires next { (number ≡ self.old.next) × (number < 4294967296) }
+        ensures { OnOk result (drawing_said self.new
+            ≡ numbers.drawn_more (drawing_said self.old) (numbers.of_file number owner found path)) }
+    {
+        self.drawn.push(Drawn::Record(number, owner, found, path))?;
+        self.next += 1;
+        Ok(())
     }
 
     /// Makes a place of a path and a name. 63: there is no number left.
@@ -86,10 +134,7 @@ impl Drawing {
             (λ e. is_stop e ≡ false → (e ≡ RefusalKind.Full) × (4294967295 < self.old.next)) }
         ensures own { IfErr result (λ e. is_failure e ≡ false) }
     {
-        if self.next > LAST {
-            return Err(RefusalKind::Full);
-        }
-        let number = self.next as u32;
+        let number = self.number()?;
         self.add_place(alloc, path, name, number, parent)?;
         Ok(Found::Number(number))
     }

@@ -34,8 +34,9 @@ impl Looks {
         }
     }
 
-    /// The place of a path, where there is one.
-    pub(crate) fn find<V: View>(
+    /// The place of a path, where there is one: that of the archive, else the first of the file, of those before a
+    /// position or of all, else the one that was made.
+    pub fn find<V: View>(
         &mut self,
         alloc: Global,
         view: &mut V,

@@ -1,6 +1,6 @@
 //! Records finished.
 
-ghost use Rattle.std.specs.Prelude.{◌≡◌, Some, OnOk, option_map, string_bytes};
+ghost use Rattle.std.specs.Prelude.{◌≡◌, Some, OnOk, option_map};
 ghost use Rattle.import_forest.specs.Numbers as numbers;
 ghost use Rattle.import_places.specs.Views.{found_said};
 ghost use Rattle.import_records.specs.Placed.{finished_at, placed_at};
@@ -54,8 +54,8 @@ fn put_owner(found: &mut Record, owner: u32)
 }
 
 /// Puts an event at the place that was found for the path that it was sought by, where it was.
-fn put_place(found: &mut Record, roots: &[u32], path: &Option<String>, place: Option<Found>)
-    ensures { found.new ≡ placed_at roots.now (option_map string_bytes path.now) (option_map found_said place)
+fn put_place(found: &mut Record, roots: &[u32], path: &Option<Text>, place: Option<Found>)
+    ensures { found.new ≡ placed_at roots.now path.now (option_map found_said place)
         found.old }
 {
     if path.is_some() {
@@ -69,10 +69,10 @@ pub fn finish(
     found: &mut Record,
     roots: &[u32],
     owner: u32,
-    path: &Option<String>,
+    path: &Option<Text>,
     place: Option<Found>,
 ) -> Result<(), AllocError>
-    ensures { OnOk result (found.new ≡ finished_at roots.now owner (option_map string_bytes path.now)
+    ensures { OnOk result (found.new ≡ finished_at roots.now owner path.now
         (option_map found_said place) found.old) }
 {
     renumber(alloc, found, roots)?;

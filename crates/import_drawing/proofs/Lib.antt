@@ -1,0 +1,8 @@
+mod Batches
+mod Counting
+mod Least
+mod Nodes
+mod Normal
+mod Positions
+mod Seeking
+mod Ways
