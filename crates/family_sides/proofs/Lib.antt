@@ -9,5 +9,5 @@ pub mod Once
 pub mod Partners
 pub mod SaidMembers
 pub mod SaidSides
-mod Sorted
+pub mod Sorted
 mod Taking
