@@ -1,34 +1,14 @@
 -- A node of the code, by what it is and by the nodes right below it.
-use Rattle.std.proofs.Common.{
-  ◌≡◌,
-  ℕ,
-  ◌≤◌,
-  Bool,
-  true,
-  false,
-  List,
-  [],
-  ◌∷◌,
-  ◌++◌,
-  length,
-  drop,
-  refl,
-  sym,
-  ap,
-  ◌∙◌,
-  cond,
-}
+use Rattle.std.proofs.Common.{◌≡◌, ℕ, ◌≤◌, Bool, true, false, List, [], ◌∷◌, length, drop, refl, sym, ap, ◌∙◌, cond}
 use Rattle.std.specs.Prelude.{Option, None, bytes_eq, codes, Result, Ok, Err, IfOk, OnOk}
 use Rattle.std.proofs.Math.ListN.{drop_of_length-le}
-use Rattle.stored_lines.specs.Tree.{Tree, children, forest_of, label, list_of, node}
-use Rattle.receipts.specs.declared.report.ReportLine.{ReportLine}
+use Rattle.stored_lines.specs.Tree.{Tree, children, forest_of, label, list_of}
 use Rattle.gedcom_tree.specs.declared.node.Node.{Node}
 use Rattle.gedcom_tree.specs.declared.node.Node.TheViews.{out-Node}
-use Rattle.file_roots.specs.Nodes.{FileLine, FileNode, line_said, tree_of, trees_of}
+use Rattle.file_roots.specs.Nodes.{FileNode, tree_of, trees_of}
 use Rattle.file_roots.proofs.Trees.{tree_out}
 use Rattle.family_sides.specs.Members.{doubled, doubled_in, first_as, members_told, membership_of}
 use Rattle.family_sides.specs.Taken.{said_by_members, said_on, sides_by_members, sides_on}
-use Rattle.family_sides.specs.declared.sides.Side.{Side}
 
 list_back : {A : Type 0} (ts : List (Tree A)) → list_of (forest_of ts) ≡ ts
 list_back [] = refl

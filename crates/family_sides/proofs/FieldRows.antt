@@ -1,6 +1,6 @@
 -- What a line that names a membership is in the table of its record.
-use Rattle.std.proofs.Common.{◌≡◌, ℕ, Bool, true, false, refl, sym, ap, ◌∙◌, cond}
-use Rattle.std.specs.Prelude.{◌&&◌, ◌||◌, Option, Some, None}
+use Rattle.std.proofs.Common.{◌≡◌, ℕ, Bool, true, false, refl, ap, ◌∙◌, cond}
+use Rattle.std.specs.Prelude.{◌&&◌, Option, Some, None}
 use Rattle.record_shapes.specs.declared.field.Field.{Field}
 use Rattle.record_shapes.specs.Fields.{
   a_citation,

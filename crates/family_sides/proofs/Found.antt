@@ -32,7 +32,6 @@ use Rattle.stored_lines.specs.declared.carried.Value.TheVariants as value
 use Rattle.gedcom_line.specs.Value.{Meaning, Text, Pointer}
 use Rattle.receipts.specs.declared.report.ReportWord.TheVariants as word
 use Rattle.record_shapes.specs.Entries.{below_on}
-use Rattle.record_shapes.specs.Fields.{a_side, is_same, person_field}
 use Rattle.record_shapes.specs.Forms.{number_of, tag_of}
 use Rattle.record_shapes.specs.Picking.{first}
 use Rattle.file_roots.specs.Nodes.{FileLine, FileNode}
@@ -67,13 +66,13 @@ one_more : {A : Type 0} (pre : List A) (x : A) → length (pre ++ (x ∷ [])) �
 one_more pre x = let e = length-append pre (x ∷ []) in omega arith
 
 module _ (ks : List FileNode) (n k : ℕ) where
-  abbrev member : ℕ → Option Bool
+  abbrev pub member : ℕ → Option Bool
   member q = named_in ks q n
 
-  abbrev ours : List Side → List Side
+  abbrev pub ours : List Side → List Side
   ours ss = filter (λ (s : Side). s.family == k) ss
 
-  abbrev side_among : Lines → Option (Tree Line)
+  abbrev pub side_among : Lines → Option (Tree Line)
   side_among us = first (filter (names_family (known (roots ks)) (fit_tag (member k)) k) us)
 
   -- a side that is taken, where none of the family was
@@ -97,27 +96,27 @@ module _ (ks : List FileNode) (n k : ℕ) where
   untaken_of true false t taken e h = ap (λ b. b || taken k) e ∙ h
 
   module _ (taken : ℕ → Bool) (free : taken k ≡ false) (u : Tree Line) (b : Bool) where
-    abbrev is_ours : Bool → Bool
+    abbrev pub is_ours : Bool → Bool
     is_ours m = m && (fits b (member (number_of u)) && (number_of u == k))
 
-    abbrev here : ℕ → Side
+    abbrev pub here : ℕ → Side
     here i = record { family = number_of u; person = n; line = i; is_late = is_none (member (number_of u)) }
 
-    not_taken : (number_of u == k) ≡ true → taken (number_of u) ≡ false
+    pub not_taken : (number_of u == k) ≡ true → taken (number_of u) ≡ false
     not_taken h = ap taken (eqb-true (number_of u) k h) ∙ free
 
-    sides_one : (m : Bool) (i : ℕ) → ours (side_by n member taken i (told_if m b (number_of u)))
+    pub sides_one : (m : Bool) (i : ℕ) → ours (side_by n member taken i (told_if m b (number_of u)))
         ≡ cond (is_ours m) (here i ∷ []) []
     sides_one true i = ours_of (fits b (member (number_of u))) (taken (number_of u)) i
         (record { other = number_of u; as_partner = b }) (member (number_of u)) not_taken
     sides_one false i = refl
 
-    taken_one : (m : Bool) → is_ours m ≡ false → taken_by member taken (told_if m b (number_of u)) k ≡ false
+    pub taken_one : (m : Bool) → is_ours m ≡ false → taken_by member taken (told_if m b (number_of u)) k ≡ false
     taken_one true e = untaken_of (fits b (member (number_of u))) (taken (number_of u))
         (record { other = number_of u; as_partner = b }) taken e free
     taken_one false e = free
 
-    names_one : (m : Bool) → Sided ks n u m b → names_family (known (roots ks)) (fit_tag (member k)) k u ≡ is_ours m
+    pub names_one : (m : Bool) → Sided ks n u m b → names_family (known (roots ks)) (fit_tag (member k)) k u ≡ is_ours m
     names_one true s = ap (λ f. f && (bytes_eq (tag_of u) (fit_tag (member k)) && (number_of u == k))) s.field_is
         ∙ same_and (number_of u == k) (bytes_eq (tag_of u) (fit_tag (member k))) (fits b (member (number_of u)))
         (λ h. ap (λ q. bytes_eq (tag_of u) (fit_tag (member q))) (sym (eqb-true (number_of u) k h))
@@ -133,7 +132,7 @@ module _ (ks : List FileNode) (n k : ℕ) where
       ≡ below_on (side_among (list_of (relabel_all (λ (x : Lined). x.1)
       (put l v (resolved (place_in ks) g) (resolved (place_in ks) ts)))))
 
-  abbrev behind : Forest FileLine → Lines
+  abbrev pub behind : Forest FileLine → Lines
   behind ts = list_of (relabel_all (λ (x : Lined). x.1) (resolved (place_in ks) ts))
 
   module _ (ts : Forest FileLine)
@@ -210,7 +209,7 @@ module _ (ks : List FileNode) (n k : ℕ) where
   found_on (more (node l g) ts) taken pre free = value_finds ts (found_on ts) taken pre free l g l.value
 
 -- ---- the side of a person at a position
-if_person : (b : Bool) (ss : List Side) → b ≡ true → cond b ss [] ≡ ss
+pub if_person : (b : Bool) (ss : List Side) → b ≡ true → cond b ss [] ≡ ss
 if_person b ss e = ap (λ c. cond c ss []) e
 
 pub side_is : (ks : List FileNode) (n k : ℕ) (t : FileNode) → slice_get ks n ≡ Some t

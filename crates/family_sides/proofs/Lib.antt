@@ -1,11 +1,13 @@
 mod AllSaid
-mod Below
-mod FieldRows
-mod Found
+pub mod Below
+pub mod FieldRows
+pub mod Found
 mod Fronts
 mod Naming
-mod Partners
-mod SaidMembers
-mod SaidSides
-mod Sorted
+pub mod OfNode
+pub mod Once
+pub mod Partners
+pub mod SaidMembers
+pub mod SaidSides
+pub mod Sorted
 mod Taking

@@ -7,7 +7,7 @@ use Rattle.std.proofs.lemmas.List.{map-append}
 use Rattle.std.proofs.lemmas.Option.{slice_get-map}
 use Rattle.stored_lines.specs.Tree.{label}
 use Rattle.receipts.specs.declared.report.ReportLine.{ReportLine}
-use Rattle.file_roots.specs.Nodes.{FileLine, FileNode}
+use Rattle.file_roots.specs.Nodes.{FileNode}
 use Rattle.import_forest.specs.Numbers.{or_else}
 use Rattle.family_sides.specs.Members.{
   doubled,

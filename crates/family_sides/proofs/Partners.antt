@@ -37,7 +37,7 @@ partner_in (Some b) = b
 
 -- ---- the first line that names a person, of lines that are read
 module _ (k : Known) (n : ℕ) where
-  abbrev line_as : Tree Line → Option Bool
+  abbrev pub line_as : Tree Line → Option Bool
   line_as t = cond (is_same (family_field k t) a_member && (number_of t == n)) (Some (not (is_child_line t))) None
 
   abbrev pub line_first : Lines → Option Bool
@@ -153,12 +153,12 @@ module _ (ks : List FileNode) (n : ℕ) where
   if_family : (b : Bool) (o : Option Bool) → b ≡ true → o ≡ cond b o None
   if_family b o e = ap (λ c. cond c o None) (sym e)
 
-  part_at : (o : Option FileNode) → bytes_eq (tag_in o) (codes "FAM") ≡ true
-      → partner_in (line_first (known (roots ks)) n
-      (below_on (option_map unlined (option_map (lined_root (place_in ks)) o)))) ≡ partner_in (membership ks o n)
-  part_at None e = absurd cc
-  part_at (Some (node l f)) e = ap partner_in (sym (first_told f)
-      ∙ if_family (bytes_eq l.tag (codes "FAM")) (first_as n (members_told ks (list_of f))) e)
+  named_at : (o : Option FileNode) → bytes_eq (tag_in o) (codes "FAM") ≡ true
+      → line_first (known (roots ks)) n (below_on (option_map unlined (option_map (lined_root (place_in ks)) o)))
+      ≡ membership ks o n
+  named_at None e = absurd cc
+  named_at (Some (node l f)) e = sym (first_told f)
+      ∙ if_family (bytes_eq l.tag (codes "FAM")) (first_as n (members_told ks (list_of f))) e
 
   pub root_at : (k : ℕ) → slice_get (roots ks) k
       ≡ option_map unlined (option_map (lined_root (place_in ks)) (slice_get ks k))
@@ -166,10 +166,13 @@ module _ (ks : List FileNode) (n : ℕ) where
   root_at k = slice_get-map unlined (lined_roots ks) k
       ∙ ap (option_map unlined) (slice_get-map (lined_root (place_in ks)) ks k)
 
-  -- by the nodes it is a partner exactly where it is by the lines that are read
+  -- by the nodes it is named as it is by the lines that are read
+  pub named_told : (k : ℕ) → bytes_eq (tag_at (roots ks) k) (codes "FAM") ≡ true
+      → line_first (known (roots ks)) n (lines_at (roots ks) k) ≡ named_in ks k n
+  named_told k e = ap (λ o. line_first (known (roots ks)) n (below_on o)) (root_at k)
+      ∙ named_at (slice_get ks k) (ap (λ tag. bytes_eq tag (codes "FAM")) (sym (tag_at_root ks k)) ∙ e)
+
+  -- so it is a partner exactly where it is by these
   pub is_partner_told : (k : ℕ) → bytes_eq (tag_at (roots ks) k) (codes "FAM") ≡ true
       → is_partner (roots ks) n k ≡ partner_in (named_in ks k n)
-  is_partner_told k e =
-      once_has (known (roots ks)) n (lines_at (roots ks) k) []
-      ∙ ap (λ o. partner_in (line_first (known (roots ks)) n (below_on o))) (root_at k)
-      ∙ part_at (slice_get ks k) (ap (λ tag. bytes_eq tag (codes "FAM")) (sym (tag_at_root ks k)) ∙ e)
+  is_partner_told k e = once_has (known (roots ks)) n (lines_at (roots ks) k) [] ∙ ap partner_in (named_told k e)

@@ -7,7 +7,6 @@ use Rattle.stored_lines.specs.Line.{Line, Lines}
 use Rattle.stored_lines.specs.declared.carried.Value.{Value}
 use Rattle.stored_lines.specs.declared.carried.Value.TheVariants as value
 use Rattle.gedcom_line.specs.Value.{Meaning, Text, Pointer}
-use Rattle.receipts.specs.declared.report.ReportLine.{ReportLine}
 use Rattle.receipts.specs.declared.report.ReportWord.TheVariants as word
 use Rattle.record_shapes.specs.Fields.{a_member, family_field, is_citation, is_same}
 use Rattle.record_shapes.specs.Tags.{family_tags}

@@ -1,6 +1,6 @@
 -- What is said of the lines of persons is what the report says of them.
 use Rattle.std.proofs.Common.{◌≡◌, ℕ, ◌+◌, Bool, true, false, List, [], ◌∷◌, ◌++◌, refl, sym, ap, ◌∙◌, subst, cond, map}
-use Rattle.std.specs.Prelude.{◌&&◌, ◌||◌, ◌==◌, not, Option, Some, None, option_map, bytes_eq, codes, if◌then◌else◌}
+use Rattle.std.specs.Prelude.{◌&&◌, ◌||◌, ◌==◌, not, Option, Some, None, option_map, bytes_eq, codes}
 use Rattle.std.specs.List.{list_any}
 use Rattle.std.proofs.lemmas.Bool.{eqb-true}
 use Rattle.std.proofs.lemmas.Slice.Eq.{bytes_eq-Decides}
@@ -9,7 +9,6 @@ use Rattle.stored_lines.specs.Line.{Line, Lines}
 use Rattle.stored_lines.specs.declared.carried.Value.{Value}
 use Rattle.stored_lines.specs.declared.carried.Value.TheVariants as value
 use Rattle.gedcom_line.specs.Value.{Meaning, Text, Pointer}
-use Rattle.receipts.specs.declared.report.ReportLine.{ReportLine}
 use Rattle.receipts.specs.declared.report.ReportWord.{ReportWord}
 use Rattle.receipts.specs.declared.report.ReportWord.TheVariants as word
 use Rattle.record_fields.specs.Words.{sex_of}

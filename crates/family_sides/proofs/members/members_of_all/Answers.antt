@@ -1,5 +1,4 @@
-use Rattle.std.proofs.Common.{◌≡◌, ◌+◌, ◌≤◌, ◌++◌, List, [], drop, length, map, ap, sym, ◌∙◌, append-nil, arith}
-use Rattle.std.specs.Prelude.{ℕ}
+use Rattle.std.proofs.Common.{◌+◌, ◌≤◌, ◌++◌, drop, length, map, ap, sym, ◌∙◌, append-nil, arith}
 use Rattle.file_roots.specs.Nodes.{tree_of, trees_at}
 use Rattle.family_sides.specs.Members.{membership_of}
 use Rattle.family_sides.specs.Views.{member_at}

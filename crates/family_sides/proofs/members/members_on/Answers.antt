@@ -1,4 +1,4 @@
-use Rattle.std.proofs.Common.{◌∙◌, drop, ◌+◌}
+use Rattle.std.proofs.Common.{drop, ◌+◌}
 use Rattle.file_roots.specs.Nodes.{tree_of, trees_of}
 use Rattle.family_sides.specs.Views.{member_at}
 use Rattle.family_sides.proofs.Fronts.{front_of}

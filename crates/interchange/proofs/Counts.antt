@@ -1,0 +1,47 @@
+-- There is a path for each node, and a draft.
+use Rattle.std.proofs.Common.{◌≡◌, ℕ, ◌+◌, ◌<◌, ◌^◌, List, [], ◌∷◌, ◌++◌, length, map, ap, ◌∙◌, arith, refl}
+use Rattle.std.specs.Prelude.{Option}
+use Rattle.std.proofs.lemmas.List.{length-append, length-map}
+use Rattle.stored_lines.specs.Line.{Lines}
+use Rattle.stored_lines.specs.Tree.{Tree}
+use Rattle.record_shapes.specs.Reading.{Draft}
+use Rattle.file_roots.specs.Nodes.{FileNode}
+use Rattle.file_roots.specs.Lines.{lined_root, lined_roots, place_in, roots, unlined}
+use Rattle.import_forest.specs.Positions.{path_behind, paths, paths_behind}
+use Rattle.import_forest.specs.Sides.{draft_at}
+use Rattle.import_drawing.specs.Drafts as drawing
+use Rattle.root_drafts.specs.Drafts.{drafts_from}
+
+behind_long : (rs : Lines) (ps : List (Option (List ℕ))) (behind : Lines)
+    → length (paths_behind rs ps behind) ≡ length ps + length behind
+behind_long rs ps [] = omega arith
+behind_long rs ps (r ∷ behind) =
+    omega (arith, behind_long rs (ps ++ path_behind rs ps r ∷ []) behind, length-append ps (path_behind rs ps r ∷ []))
+
+paths_long : (rs : Lines) → length (paths rs) ≡ length rs
+unfolding paths
+paths_long rs = omega (arith, behind_long rs [] rs)
+
+roots_long : (ks : List FileNode) → length (roots ks) ≡ length ks
+unfolding roots
+roots_long ks = length-map (lined_roots ks) unlined ∙ length-map ks (lined_root (place_in ks))
+
+drafts_long : (rs : Lines) (k : ℕ) (behind : Lines) → length (drafts_from rs k behind) ≡ length behind
+drafts_long rs k [] = refl
+drafts_long rs k (r ∷ behind) = omega (arith, drafts_long rs (k + 1) behind)
+
+-- what stands for each path is no more than the nodes
+pub paths_few : {P : Type 0} (ks : List FileNode) (said : P → Option (List ℕ)) (ps : List P)
+    → map said ps ≡ paths (roots ks) → length ks < 2 ^ 32 → length ps < 2 ^ 32
+paths_few ks said ps same few =
+    omega (arith, length-map ps said, ap length same, paths_long (roots ks), roots_long ks, few)
+
+pub drafts_few : {D : Type 0} (ks : List FileNode) (said : D → Tree Draft) (ds : List D)
+    → map said ds ≡ drafts_from (roots ks) 0 (roots ks) → length ks < 2 ^ 32 → length ds < 2 ^ 32
+drafts_few ks said ds same few =
+    omega (arith, length-map ds said, ap length same, drafts_long (roots ks) 0 (roots ks), roots_long ks, few)
+
+-- the drafts of nodes, told by two crates
+pub drafts_same : (rs : Lines) (k : ℕ) (behind : Lines) → drafts_from rs k behind ≡ drawing.drafts_from rs k behind
+drafts_same rs k [] = refl
+drafts_same rs k (r ∷ behind) = ap (λ ts. draft_at rs k r ∷ ts) (drafts_same rs (k + 1) behind)

@@ -1,0 +1,4 @@
+mod Batches
+mod Counts
+mod Ordered
+mod Parts

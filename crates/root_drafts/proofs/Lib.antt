@@ -1,0 +1,2 @@
+mod Families
+mod Nodes

@@ -1,0 +1,2 @@
+pub mod Keyed
+mod Among

@@ -1,0 +1,5 @@
+mod Loops
+mod Members
+mod Nodes
+mod Sides
+mod Whole
