@@ -1,6 +1,6 @@
 //! The lines of pedigrees, of the index and of the pages of surnames.
 
-ghost use Rattle.std.specs.Prelude.{◌≡◌, ◌++◌, OnOk, string_bytes};
+ghost use Rattle.std.specs.Prelude.{◌≡◌, ◌++◌, OnOk, option_copied, string_bytes};
 ghost use Rattle.sheet_lines.specs.Lines as lines;
 
 use crate::words::{push_dated, push_right};
@@ -12,11 +12,11 @@ pub fn push_ancestor(
     out: &mut String,
     number: u32,
     shown: &str,
-    birth: &Option<Date>,
-    death: &Option<Date>,
+    birth: Option<&Date>,
+    death: Option<&Date>,
 ) -> Result<(), AllocError>
     ensures { OnOk result (string_bytes out.new ≡ string_bytes out.old
-        ++ lines.ancestor_line number shown.now birth.now death.now) }
+        ++ lines.ancestor_line number shown.now (option_copied birth.entry) (option_copied death.entry)) }
 {
     push_right(out, 4, number)?;
     write!(out, "  {shown}")?;

@@ -49,7 +49,7 @@ fn push_entry_line(out: &mut String, entry: &Entry) -> Result<(), AllocError>
     out.push_str("  ")?;
     push_printed(out, entry.page.as_str())?;
     write!(out, "  {kind}")?;
-    push_dated(out, "  ", &entry.date)?;
+    push_dated(out, "  ", entry.date.as_ref())?;
     out.push_str("\n")
 }
 

@@ -1,6 +1,6 @@
 //! Words as they stand on a page.
 
-ghost use Rattle.std.specs.Prelude.{◌≡◌, ◌++◌, ◌∷◌, IfOk, MatchOption, OnOk, string_bytes};
+ghost use Rattle.std.specs.Prelude.{◌≡◌, ◌++◌, ◌∷◌, IfOk, MatchOption, OnOk, option_copied, string_bytes};
 ghost use Rattle.record_text.specs.Words.{Without};
 ghost use Rattle.sheet_lines.specs.Words as words;
 
@@ -41,9 +41,9 @@ pub(crate) fn push_right(out: &mut String, places: usize, number: u32) -> Result
 pub(crate) fn push_dated(
     out: &mut String,
     word: &str,
-    date: &Option<Date>,
+    date: Option<&Date>,
 ) -> Result<(), AllocError>
-    ensures { OnOk result (string_bytes out.new ≡ string_bytes out.old ++ words.dated word.now date.now) }
+    ensures { OnOk result (string_bytes out.new ≡ string_bytes out.old ++ words.dated word.now (option_copied date.entry)) }
 {
     match date {
         None => Ok(()),
