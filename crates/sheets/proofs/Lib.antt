@@ -1,1 +1,4 @@
+pub mod Appending
+pub mod Finding
 pub mod Same
+pub mod Standing

@@ -25,11 +25,14 @@ use Rattle.sheets.specs.Gathered.{Gathered, gathered}
 use Rattle.sheets.specs.Owned.{citations_text, display_in, events_text}
 
 -- ---- persons
--- names, sex, events, citations; the families as a child, and then those as a partner
+-- the number, the names and the sex
+abbrev pub own_text : ℕ → model.Person → List ℕ
+own_text n p = person_head n ++ (flat_map name_line p.names ++ sex_line p.sex)
+
+-- these, then events, citations, the families as a child, and those as a partner
 abbrev pub person_text : Gathered → ℕ → model.Person → List ℕ
-person_text g n p = person_head n ++ (flat_map name_line p.names ++ (sex_line p.sex ++ (events_text g n
-    ++ (citations_text g own_source n ++ (flat_map child_of_line (g.child_in n)
-    ++ flat_map partner_in_line (g.partner_in n))))))
+person_text g n p = own_text n p ++ (events_text g n ++ (citations_text g own_source n
+    ++ (flat_map child_of_line (g.child_in n) ++ flat_map partner_in_line (g.partner_in n))))
 
 abbrev pub person_in : Gathered → ℕ → Option Record → Result (List ℕ) RefusalKind
 person_in g n None = Err NoSuch
@@ -69,9 +72,12 @@ entry_in source _ = []
 abbrev pub entries_text : Gathered → ℕ → List ℕ
 entries_text g source = flat_map (λ k. entry_in source (g.at k)) g.entries
 
+abbrev pub register_text : Gathered → ℕ → model.Source → List ℕ
+register_text g n s = register_head n s.title ++ entries_text g n
+
 abbrev pub register_in : Gathered → ℕ → Option Record → Result (List ℕ) RefusalKind
 register_in g n None = Err NoSuch
-register_in g n (Some (kind.Source s)) = Ok (register_head n s.title ++ entries_text g n)
+register_in g n (Some (kind.Source s)) = Ok (register_text g n s)
 register_in g n (Some r) = Err WrongKind
 
 abbrev pub register_sheet : Records → ℕ → Result (List ℕ) RefusalKind

@@ -62,13 +62,55 @@ fn push_person(
     ensures { OnOk result (string_bytes out.new ≡ string_bytes out.old
         ++ sheets.person_text (indexed state.now.records index.now) number person.now) }
 {
-    push_person_head(out, number)?;
-    push_names(alloc, out, &person.names)?;
-    push_sex(out, person.sex)?;
+    push_own(alloc, out, number, person)?;
     push_events_of(alloc, out, state, index, number)?;
     push_citations_of(out, state, index, "Source ", number)?;
-    push_children_in(out, index.child_in(number))?;
-    push_partners_in(out, index.partner_in(number))
+    push_child_families(out, state, index, number)?;
+    push_partner_families(out, state, index, number)
+}
+
+/// Appends what a person tells alone: the number, the names and the sex.
+fn push_own(
+    alloc: Global,
+    out: &mut String,
+    number: u32,
+    person: &Person,
+) -> Result<(), AllocError>
+    ensures { OnOk result (string_bytes out.new ≡ string_bytes out.old ++ sheets.own_text number person.now) }
+{
+    push_person_head(out, number)?;
+    push_names(alloc, out, &person.names)?;
+    push_sex(out, person.sex)
+}
+
+/// Appends the families where the person is a child, by number.
+fn push_child_families(
+    out: &mut String,
+    state: &State,
+    index: &Index,
+    person: u32,
+) -> Result<(), AllocError>
+    requires { IsArranged index.now }
+    ensures { OnOk result (string_bytes out.new ≡ string_bytes out.old
+        ++ flat_map lines.child_of_line ((indexed state.now.records index.now).child_in person)) }
+{
+    let _ = state;
+    push_children_in(out, index.child_in(person))
+}
+
+/// Appends the families where the person is a partner, by number.
+fn push_partner_families(
+    out: &mut String,
+    state: &State,
+    index: &Index,
+    person: u32,
+) -> Result<(), AllocError>
+    requires { IsArranged index.now }
+    ensures { OnOk result (string_bytes out.new ≡ string_bytes out.old
+        ++ flat_map lines.partner_in_line ((indexed state.now.records index.now).partner_in person)) }
+{
+    let _ = state;
+    push_partners_in(out, index.partner_in(person))
 }
 
 fn push_children_in(out: &mut String, families: &[Membership]) -> Result<(), AllocError>
@@ -76,7 +118,7 @@ fn push_children_in(out: &mut String, families: &[Membership]) -> Result<(), All
         ++ flat_map (λ (x : membership.Membership). lines.child_of_line x.side.family) families.now) }
 {
     'families: for family in families {
-        push_child_of(out, family.side.family)?;
+        push_child_of_line(out, family)?;
     }
     Ok(())
 }
@@ -86,7 +128,21 @@ fn push_partners_in(out: &mut String, families: &[Membership]) -> Result<(), All
         ++ flat_map (λ (x : membership.Membership). lines.partner_in_line x.side.family) families.now) }
 {
     'families: for family in families {
-        push_partner_in(out, family.side.family)?;
+        push_partner_in_line(out, family)?;
     }
     Ok(())
+}
+
+fn push_child_of_line(out: &mut String, family: &Membership) -> Result<(), AllocError>
+    ensures { OnOk result (string_bytes out.new ≡ string_bytes out.old
+        ++ lines.child_of_line family.now.side.family) }
+{
+    push_child_of(out, family.side.family)
+}
+
+fn push_partner_in_line(out: &mut String, family: &Membership) -> Result<(), AllocError>
+    ensures { OnOk result (string_bytes out.new ≡ string_bytes out.old
+        ++ lines.partner_in_line family.now.side.family) }
+{
+    push_partner_in(out, family.side.family)
 }

@@ -9,7 +9,6 @@ ghost use Rattle.sheets.specs.Answers.{IsRefused};
 ghost use Rattle.sheets.specs.Gathered.{gathered};
 ghost use Rattle.sheets.specs.Indexed.{indexed};
 ghost use Rattle.sheets.specs.Sheets as sheets;
-ghost use Rattle.sheet_lines.specs.Lines as lines;
 
 use crate::gathering::index_of;
 use archive_state::State;
@@ -40,14 +39,27 @@ fn sheet_of(
     number: u32,
     source: &Source,
 ) -> Result<String, AllocError>
-    ensures { IsSound shown.now → IfOk result (λ s. string_bytes s
-        ≡ lines.register_head number source.now.title ++ sheets.entries_text (gathered shown.now.records) number) }
+    ensures { IsSound shown.now → IfOk result
+        (λ s. string_bytes s ≡ sheets.register_text (gathered shown.now.records) number source.now) }
 {
     let index = index_of(alloc, shown)?;
     let mut out = String::new(alloc);
-    push_register_head(&mut out, number, &source.title)?;
-    push_entries(&mut out, shown.as_state(), &index, number)?;
+    push_register(&mut out, shown.as_state(), &index, number, source)?;
     Ok(out)
+}
+
+fn push_register(
+    out: &mut String,
+    state: &State,
+    index: &Index,
+    number: u32,
+    source: &Source,
+) -> Result<(), AllocError>
+    ensures { OnOk result (string_bytes out.new ≡ string_bytes out.old
+        ++ sheets.register_text (indexed state.now.records index.now) number source.now) }
+{
+    push_register_head(out, number, &source.title)?;
+    push_entries(out, state, index, number)
 }
 
 /// Appends the entries of a source, by number.

@@ -1,0 +1,74 @@
+-- Who stands at a number of a pedigree, by who stands at half of it.
+use Rattle.std.proofs.Common.{
+  ◌≡◌,
+  ℕ,
+  zero,
+  suc,
+  ◌+◌,
+  ◌/◌,
+  ◌<◌,
+  ◌≤◌,
+  ◌++◌,
+  ◌∷◌,
+  [],
+  List,
+  length,
+  get_or,
+  true,
+  false,
+  ap,
+  refl,
+  sym,
+  ◌∙◌,
+  arith,
+  add-one,
+}
+use Rattle.std.specs.Prelude.{◌==◌, if◌then◌else◌, Option, Some, None}
+use Rattle.std.specs.Option.{option_and_then}
+use Rattle.std.proofs.lemmas.Bool.{cases_lt}
+use Rattle.std.proofs.lemmas.List.{get_or_append_left}
+use Rattle.std.proofs.Math.Seq.{get_or-append_seam}
+use Rattle.sheets.specs.Gathered.{Gathered}
+use Rattle.sheets.specs.Pedigrees.{ancestor_in, line_at, lines_to, parent, side, stands_at, stands_by}
+
+half : (n a : ℕ) → n ≤ suc a → n / 2 ≤ a
+half n a h = omega arith
+
+module _ (g : Gathered) (s : ℕ) where
+  none_at_0 : (steps : ℕ) → stands_by steps g s 0 ≡ None
+  none_at_0 zero = refl
+  none_at_0 (suc steps) = ap (option_and_then (parent g (side 0))) (none_at_0 steps)
+
+  nobody : (n steps : ℕ) → n ≤ 0 → stands_by steps g s n ≡ None
+  nobody n steps h = let is : n ≡ 0 = omega arith in rw is (none_at_0 steps)
+
+  -- more steps than the number do not matter
+  enough : (a b n : ℕ) → n ≤ a → n ≤ b → stands_by a g s n ≡ stands_by b g s n
+  enough zero b n h k = sym (nobody n b h)
+  enough (suc a) zero n h k = nobody n (suc a) k
+  enough (suc a) (suc b) n h k =
+      ap (λ (o : Option ℕ). if n == 1 then Some s else option_and_then (parent g (side n)) o)
+      (enough a b (n / 2) (half n a h) (half n b k))
+
+  pub stands_next : (n : ℕ) → 0 < n → stands_at g s n
+      ≡ (if n == 1 then Some s else option_and_then (parent g (side n)) (stands_at g s (n / 2)))
+  unfolding stands_at
+  stands_next zero h = absurd (omega arith)
+  stands_next (suc k) h =
+      ap (λ (o : Option ℕ). if suc k == 1 then Some s else option_and_then (parent g (side (suc k))) o)
+      (enough k (suc k / 2) (suc k / 2) (half (suc k) k (omega arith)) (omega arith))
+
+  pub nobody_at_0 : stands_at g s 0 ≡ None
+  unfolding stands_at
+  nobody_at_0 = refl
+
+  -- at each number from 0 to that one of the list stands who stands there
+  pub record Stand (people : List (Option ℕ)) (last : ℕ) : Type 0 where
+    pub counted : length people ≡ last + 1
+    pub each : (k : ℕ) → k ≤ last → get_or people k None ≡ stands_at g s k
+
+  pub stand_first : (people : List (Option ℕ)) → people ≡ None ∷ [] → Stand people 0
+  stand_first people is = record {
+    counted = ap length is;
+    each = λ k h. let at : k ≡ 0 = omega arith in rw (at, is) (sym nobody_at_0);
+  }
