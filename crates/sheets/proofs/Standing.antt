@@ -14,14 +14,16 @@ use Rattle.std.proofs.Common.{
   List,
   length,
   get_or,
-  true,
-  false,
+  inl,
+  inr,
   ap,
   refl,
   sym,
   ◌∙◌,
   arith,
   add-one,
+  append_assoc,
+  length-append,
 }
 use Rattle.std.specs.Prelude.{◌==◌, if◌then◌else◌, Option, Some, None}
 use Rattle.std.specs.Option.{option_and_then}
@@ -72,3 +74,47 @@ module _ (g : Gathered) (s : ℕ) where
     counted = ap length is;
     each = λ k h. let at : k ≡ 0 = omega arith in rw (at, is) (sym nobody_at_0);
   }
+
+  pub half_within : (people : List (Option ℕ)) (k : ℕ) → Stand people k → (k + 1) / 2 < length people
+  half_within people k stand = omega (arith, stand.counted)
+
+  module _ (people : List (Option ℕ)) (k : ℕ) (person : Option ℕ) (stand : Stand people k) where
+    pub person_is : person ≡ (if k + 1 == 1 then Some s
+        else option_and_then (parent g (side (k + 1))) (get_or people ((k + 1) / 2) None))
+        → person ≡ stands_at g s (k + 1)
+    person_is e = e
+        ∙ ap (λ (o : Option ℕ). if k + 1 == 1 then Some s else option_and_then (parent g (side (k + 1))) o)
+        (stand.each ((k + 1) / 2) (omega arith)) ∙ sym (stands_next (k + 1) (omega arith))
+
+    each_next : person ≡ stands_at g s (k + 1) → (j : ℕ) → j ≤ k + 1
+        → get_or (people ++ person ∷ []) j None ≡ stands_at g s j
+    each_next is j h =
+        let count : length people ≡ k + 1 = stand.counted in
+        elim (cases_lt j (k + 1)) as (λ _. get_or (people ++ person ∷ []) j None ≡ stands_at g s j) [
+          | inl less ↦ get_or_append_left people (person ∷ []) None j (omega arith) ∙ stand.each j (omega arith)
+          | inr most ↦
+              let at : j ≡ length people = omega arith in
+              let last : k + 1 ≡ j = omega arith in
+              ap (λ (i : ℕ). get_or (people ++ person ∷ []) i None) at ∙ get_or-append_seam people person [] None ∙ is
+              ∙ ap (stands_at g s) last
+        ]
+
+    pub stand_next : (new : List (Option ℕ)) → new ≡ people ++ person ∷ [] → person ≡ stands_at g s (k + 1)
+        → Stand new (k + 1)
+    stand_next new made is = record {
+      counted = ap length made ∙ length-append people (person ∷ []) ∙ ap (λ (n : ℕ). n + 1) stand.counted;
+      each = λ j h. ap (λ (xs : List (Option ℕ)). get_or xs j None) made ∙ each_next is j h;
+    }
+
+  one_more : (k : ℕ) → lines_to (line_at g s) (k + 1) ≡ lines_to (line_at g s) k ++ line_at g s (k + 1)
+  one_more k = rw add-one refl
+
+  -- the line of one more number is appended
+  pub text_next : (old out new : List ℕ) (k : ℕ) (person : Option ℕ) → person ≡ stands_at g s (k + 1)
+      → new ≡ out ++ ancestor_in g (k + 1) person → out ≡ old ++ lines_to (line_at g s) k
+      → new ≡ old ++ lines_to (line_at g s) (k + 1)
+  text_next old out new k person is e before =
+      e ∙ ap (λ (t : List ℕ). t ++ ancestor_in g (k + 1) person) before
+      ∙ append_assoc old (lines_to (line_at g s) k) (ancestor_in g (k + 1) person)
+      ∙ ap (λ (o : Option ℕ). old ++ (lines_to (line_at g s) k ++ ancestor_in g (k + 1) o)) is
+      ∙ ap (λ (t : List ℕ). old ++ t) (sym (one_more k))
