@@ -20,8 +20,14 @@ not_zero w = grind (arith, nat_tests)
 
 put_together : (a b : ℕ) (fill text : List ℕ) → a ≡ b
     → (((repeat a fill ++ []) ++ []) ++ []) ++ (text ++ repeat (a - a) fill) ≡ repeat b fill ++ text
-put_together a b fill text e = rw (nothing_left a, append-nil (repeat a fill), append-nil (repeat a fill),
-    append-nil (repeat a fill), append-nil text, e) refl
+put_together a b fill text e = rw (
+  nothing_left a,
+  append-nil (repeat a fill),
+  append-nil (repeat a fill),
+  append-nil (repeat a fill),
+  append-nil text,
+  e,
+) refl
 
 filled : (w : ℕ) (text : List ℕ) → padded_integral (format_spec 32 3 0 w 18446744073709551615) false [] text
     ≡ repeat (w - length text) (32 ∷ []) ++ text

@@ -32,11 +32,7 @@ fn date_text(date: &Option<Date>) -> &str
 }
 
 /// Appends a part behind the mark, where it is not empty, and answers the mark of the next.
-fn push_part(
-    out: &mut String,
-    mark: &'static str,
-    part: &str,
-) -> Result<&'static str, AllocError>
+fn push_part(out: &mut String, mark: &'static str, part: &str) -> Result<&'static str, AllocError>
     ensures text { OnOk result (string_bytes out.new ≡ string_bytes out.old ++ lines.part_behind mark.now part.now) }
     ensures next { IfOk result (λ next. next.now ≡ lines.mark_behind mark.now part.now) }
 {

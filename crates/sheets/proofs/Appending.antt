@@ -1,23 +1,5 @@
 -- Texts that are appended in steps, and what belongs to a record as lists have it.
-use Rattle.std.proofs.Common.{
-  ◌≡◌,
-  ℕ,
-  ◌+◌,
-  ◌<◌,
-  ◌++◌,
-  ◌∷◌,
-  [],
-  List,
-  length,
-  get_or,
-  take,
-  suc,
-  map,
-  ap,
-  sym,
-  ◌∙◌,
-  add-one,
-}
+use Rattle.std.proofs.Common.{◌≡◌, ℕ, ◌+◌, ◌<◌, ◌++◌, ◌∷◌, [], List, length, get_or, take, ap, sym, ◌∙◌, add-one}
 use Rattle.std.specs.Prelude.{◌==◌}
 use Rattle.std.specs.FinMap.{entries}
 use Rattle.std.specs.List.{filter, flat_map}

@@ -1,7 +1,6 @@
 -- An index of the records of an archive shows what belongs to each of them.
-use Rattle.std.proofs.Common.{◌≡◌, map}
+use Rattle.std.proofs.Common.{◌≡◌}
 use Rattle.std.specs.FinMap.{entries, get}
-use Rattle.record_shapes.specs.Shapes.{Side}
 use Rattle.archive_state.specs.Content.{Records}
 use Rattle.export_index.specs.Index.{Index, IsIndexOf}
 use Rattle.export_index.proofs.Places.{paths_are}

@@ -5,7 +5,9 @@ use Rattle.std.proofs.Common.{
   zero,
   suc,
   ◌+◌,
+  ◌*◌,
   ◌/◌,
+  ◌%◌,
   ◌<◌,
   ◌≤◌,
   ◌++◌,
@@ -14,6 +16,9 @@ use Rattle.std.proofs.Common.{
   List,
   length,
   get_or,
+  Bool,
+  true,
+  false,
   inl,
   inr,
   ap,
@@ -28,10 +33,25 @@ use Rattle.std.proofs.Common.{
 use Rattle.std.specs.Prelude.{◌==◌, if◌then◌else◌, Option, Some, None}
 use Rattle.std.specs.Option.{option_and_then}
 use Rattle.std.proofs.lemmas.Bool.{cases_lt}
+use Rattle.std.proofs.lemmas.Bool.Decides.{nat_tests}
 use Rattle.std.proofs.lemmas.List.{get_or_append_left}
 use Rattle.std.proofs.Math.Seq.{get_or-append_seam}
+use Rattle.record_fields.specs.declared.words.Partnership.{Partnership}
+use Rattle.record_fields.specs.declared.words.Partnership.TheVariants as partnership
 use Rattle.sheets.specs.Gathered.{Gathered}
 use Rattle.sheets.specs.Pedigrees.{ancestor_in, line_at, lines_to, parent, side, stands_at, stands_by}
+
+even_test : (n : ℕ) → ((2 * n) % 2 == 0) ≡ true
+even_test n = grind (arith, nat_tests)
+
+odd_test : (n : ℕ) → ((2 * n + 1) % 2 == 0) ≡ false
+odd_test n = grind (arith, nat_tests)
+
+even : (n : ℕ) → side (2 * n) ≡ partnership.Husband
+even n = ap (λ (b : Bool). if b then partnership.Husband else partnership.Wife) (even_test n)
+
+odd : (n : ℕ) → side (2 * n + 1) ≡ partnership.Wife
+odd n = ap (λ (b : Bool). if b then partnership.Husband else partnership.Wife) (odd_test n)
 
 half : (n a : ℕ) → n ≤ suc a → n / 2 ≤ a
 half n a h = omega arith
@@ -63,6 +83,28 @@ module _ (g : Gathered) (s : ℕ) where
   pub nobody_at_0 : stands_at g s 0 ≡ None
   unfolding stands_at
   nobody_at_0 = refl
+
+  pub subject_at : stands_at g s 1 ≡ Some s
+  unfolding stands_at
+  subject_at = refl
+
+  parent_at : (n m : ℕ) (w : Partnership) → 0 < n → (m == 1) ≡ false → m / 2 ≡ n → side m ≡ w → 0 < m
+      → stands_at g s m ≡ option_and_then (parent g w) (stands_at g s n)
+  parent_at n m w some more is of first =
+      stands_next m first
+      ∙ ap (λ (b : Bool). if b then Some s else option_and_then (parent g (side m)) (stands_at g s (m / 2))) more
+      ∙ ap (λ (k : ℕ). option_and_then (parent g (side m)) (stands_at g s k)) is
+      ∙ ap (λ (x : Partnership). option_and_then (parent g x) (stands_at g s n)) of
+
+  pub father_at : (n : ℕ) → 0 < n
+      → stands_at g s (2 * n) ≡ option_and_then (parent g partnership.Husband) (stands_at g s n)
+  father_at n h = parent_at n (2 * n) partnership.Husband h (grind (arith, nat_tests)) (omega arith) (even n)
+      (omega arith)
+
+  pub mother_at : (n : ℕ) → 0 < n
+      → stands_at g s (2 * n + 1) ≡ option_and_then (parent g partnership.Wife) (stands_at g s n)
+  mother_at n h = parent_at n (2 * n + 1) partnership.Wife h (grind (arith, nat_tests)) (omega arith) (odd n)
+      (omega arith)
 
   -- at each number from 0 to that one of the list stands who stands there
   pub record Stand (people : List (Option ℕ)) (last : ℕ) : Type 0 where

@@ -1,5 +1,4 @@
 -- The same as an index has it.
-use Rattle.std.specs.Prelude.{ℕ, List, Option}
 use Rattle.std.specs.FinMap.{get}
 use Rattle.archive_state.specs.Content.{Records}
 use Rattle.export_index.specs.Index.{Index}

@@ -14,9 +14,9 @@ display_in (Some (kind.Person p)) = display_of p.names
 display_in _ = codes "?"
 
 -- the path of the place of an event
-abbrev pub place_words : Gathered → Option model.EventPlace → List ℕ
-place_words g None = []
-place_words g (Some p) = g.path p.place
+abbrev pub place_words : (ℕ → List ℕ) → Option model.EventPlace → List ℕ
+place_words path None = []
+place_words path (Some p) = path p.place
 
 -- the line of a citation; of another record nothing
 abbrev pub citation_in : List ℕ → Option Record → List ℕ
@@ -28,13 +28,13 @@ abbrev pub citations_text : Gathered → List ℕ → ℕ → List ℕ
 citations_text g word n = flat_map (λ k. citation_in word (g.at k)) (g.citations n)
 
 -- the line of one who took part, with the display
-abbrev pub participant_text : Gathered → model.Participant → List ℕ
-participant_text g p = participant_line (display_in (g.at p.person)) p
+abbrev pub participant_text : (ℕ → Option Record) → model.Participant → List ℕ
+participant_text at p = participant_line (display_in (at p.person)) p
 
 -- an event with those who took part, and its citations; of another record nothing
 abbrev pub event_in : Gathered → ℕ → Option Record → List ℕ
-event_in g k (Some (kind.Event e)) = event_line (place_words g e.place) e
-    ++ (flat_map (participant_text g) e.participants ++ citations_text g event_source k)
+event_in g k (Some (kind.Event e)) = event_line (place_words g.path e.place) e
+    ++ (flat_map (participant_text g.at) e.participants ++ citations_text g event_source k)
 event_in g k _ = []
 
 -- the events of a record

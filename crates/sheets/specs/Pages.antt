@@ -1,5 +1,5 @@
 -- The index, and the page of a surname: rules of our own.
-use Rattle.std.specs.Prelude.{ℕ, Bool, if◌then◌else◌, List, [], length, bytes_eq, Option, Some, None}
+use Rattle.std.specs.Prelude.{ℕ, Bool, if◌then◌else◌, List, [], length, bytes_eq, Option, Some}
 use Rattle.std.specs.List.{flat_map, list_any}
 use Rattle.record_kinds.specs.Model as model
 use Rattle.record_kinds.specs.declared.record.Record.{Record}

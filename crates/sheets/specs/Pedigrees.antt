@@ -87,13 +87,13 @@ or_else None other = other
 or_else (Some a) other = Some a
 
 -- the first of these dates
-abbrev pub first_date : Gathered → List ℕ → List ℕ → Option Date
-first_date g tag [] = None
-first_date g tag (k ∷ ks) = or_else (date_as tag (g.at k)) (first_date g tag ks)
+abbrev pub first_date : (ℕ → Option Record) → List ℕ → List ℕ → Option Date
+first_date at tag [] = None
+first_date at tag (k ∷ ks) = or_else (date_as tag (at k)) (first_date at tag ks)
 
 -- the date of the lowest birth, or death, with a date
 abbrev pub date_of : Gathered → List ℕ → ℕ → Option Date
-date_of g tag person = first_date g tag (g.events person)
+date_of g tag person = first_date g.at tag (g.events person)
 
 abbrev pub ancestor_in : Gathered → ℕ → Option ℕ → List ℕ
 ancestor_in g number None = []

@@ -43,16 +43,16 @@ abbrev pub person_sheet : Records → ℕ → Result (List ℕ) RefusalKind
 person_sheet m n = person_in (gathered m) n ((gathered m).at n)
 
 -- ---- families
-abbrev pub partner_text : Gathered → model.Partner → List ℕ
-partner_text g p = partner_line (display_in (g.at p.person)) p
+abbrev pub partner_text : (ℕ → Option Record) → model.Partner → List ℕ
+partner_text at p = partner_line (display_in (at p.person)) p
 
-abbrev pub child_text : Gathered → model.Child → List ℕ
-child_text g c = child_line (display_in (g.at c.person)) c
+abbrev pub child_text : (ℕ → Option Record) → model.Child → List ℕ
+child_text at c = child_line (display_in (at c.person)) c
 
 -- partners, events, citations, children
 abbrev pub family_text : Gathered → ℕ → model.Family → List ℕ
-family_text g n f = family_head n ++ (flat_map (partner_text g) f.partners ++ (events_text g n
-    ++ (citations_text g own_source n ++ flat_map (child_text g) f.children)))
+family_text g n f = family_head n ++ (flat_map (partner_text g.at) f.partners ++ (events_text g n
+    ++ (citations_text g own_source n ++ flat_map (child_text g.at) f.children)))
 
 abbrev pub family_in : Gathered → ℕ → Option Record → Result (List ℕ) RefusalKind
 family_in g n None = Err NoSuch

@@ -65,19 +65,13 @@ pub(crate) fn date_of<'a>(
     ensures { option_copied result
         ≡ pedigrees.date_of (indexed state.now.records index.now) tag.now person }
 {
-    first_date(state, index, tag, index.events_of(person))
+    first_date(state, tag, index.events_of(person))
 }
 
-fn first_date<'a>(
-    state: &'a State,
-    index: &Index,
-    tag: &str,
-    events: &[Owned],
-) -> Option<&'a Date>
-    ensures { option_copied result ≡ pedigrees.first_date (indexed state.now.records index.now) tag.now
+fn first_date<'a>(state: &'a State, tag: &str, events: &[Owned]) -> Option<&'a Date>
+    ensures { option_copied result ≡ pedigrees.first_date (maps.get state.now.records) tag.now
         (map (λ (o : owned.Owned). o.number) events.now) }
 {
-    let _ = index;
     'events: for event in events {
         if let Some(date) = date_at(state, tag, event.number) {
             return Some(date);

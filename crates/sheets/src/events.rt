@@ -79,9 +79,9 @@ fn push_event(
     ensures { OnOk result (string_bytes out.new ≡ string_bytes out.old
         ++ texts.event_in (indexed state.now.records index.now) number (Some (kind.Event event.now))) }
 {
-    let path = path_of(alloc, state, index, &event.place)?;
+    let path = path_of(alloc, index, &event.place)?;
     push_event_line(out, event, path.as_str())?;
-    push_participants(alloc, out, state, index, &event.participants)?;
+    push_participants(alloc, out, state, &event.participants)?;
     push_citations_of(out, state, index, "  source ", number)
 }
 
@@ -89,13 +89,11 @@ fn push_participants(
     alloc: Global,
     out: &mut String,
     state: &State,
-    index: &Index,
     participants: &[Participant],
 ) -> Result<(), AllocError>
     ensures { OnOk result (string_bytes out.new ≡ string_bytes out.old
-        ++ flat_map (texts.participant_text (indexed state.now.records index.now)) participants.now) }
+        ++ flat_map (texts.participant_text (map.get state.now.records)) participants.now) }
 {
-    let _ = index;
     'participants: for participant in participants {
         let shown = shown_at(alloc, state, participant.person)?;
         push_participant(out, participant, shown.as_str())?;

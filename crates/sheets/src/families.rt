@@ -1,6 +1,7 @@
 //! The sheet of a family.
 
 ghost use Rattle.std.specs.Prelude.{◌≡◌, ◌++◌, IfErr, IfOk, Ok, OnOk, string_bytes};
+ghost use Rattle.std.specs.FinMap as map;
 ghost use Rattle.std.specs.List.{flat_map};
 ghost use Rattle.archive_state.specs.Sound.{IsSound};
 ghost use Rattle.export_index.specs.Index.{IsArranged};
@@ -62,23 +63,21 @@ fn push_family(
         ++ sheets.family_text (indexed state.now.records index.now) number family.now) }
 {
     push_family_head(out, number)?;
-    push_partners(alloc, out, state, index, &family.partners)?;
+    push_partners(alloc, out, state, &family.partners)?;
     push_events_of(alloc, out, state, index, number)?;
     push_citations_of(out, state, index, "Source ", number)?;
-    push_children(alloc, out, state, index, &family.children)
+    push_children(alloc, out, state, &family.children)
 }
 
 fn push_partners(
     alloc: Global,
     out: &mut String,
     state: &State,
-    index: &Index,
     partners: &[Partner],
 ) -> Result<(), AllocError>
     ensures { OnOk result (string_bytes out.new ≡ string_bytes out.old
-        ++ flat_map (sheets.partner_text (indexed state.now.records index.now)) partners.now) }
+        ++ flat_map (sheets.partner_text (map.get state.now.records)) partners.now) }
 {
-    let _ = index;
     'partners: for partner in partners {
         let shown = shown_at(alloc, state, partner.person)?;
         push_partner(out, partner, shown.as_str())?;
@@ -90,13 +89,11 @@ fn push_children(
     alloc: Global,
     out: &mut String,
     state: &State,
-    index: &Index,
     children: &[Child],
 ) -> Result<(), AllocError>
     ensures { OnOk result (string_bytes out.new ≡ string_bytes out.old
-        ++ flat_map (sheets.child_text (indexed state.now.records index.now)) children.now) }
+        ++ flat_map (sheets.child_text (map.get state.now.records)) children.now) }
 {
-    let _ = index;
     'children: for child in children {
         let shown = shown_at(alloc, state, child.person)?;
         push_child(out, child, shown.as_str())?;

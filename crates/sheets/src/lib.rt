@@ -12,6 +12,7 @@ mod events;
 mod families;
 mod gathering;
 mod generations;
+pub mod laws;
 mod looks;
 mod pages;
 mod pedigrees;

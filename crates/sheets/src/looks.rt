@@ -2,7 +2,7 @@
 
 ghost use Rattle.std.specs.Prelude.{◌≡◌, IfOk, string_bytes};
 ghost use Rattle.std.specs.FinMap as map;
-ghost use Rattle.sheets.specs.Indexed.{indexed};
+ghost use Rattle.export_index.specs.Paths.{path_in};
 ghost use Rattle.sheets.specs.Owned.{display_in, place_words};
 
 use archive_state::State;
@@ -25,13 +25,11 @@ pub(crate) fn shown_at(alloc: Global, state: &State, number: u32) -> Result<Stri
 /// The path of the place of an event; empty where there is none.
 pub(crate) fn path_of(
     alloc: Global,
-    state: &State,
     index: &Index,
     place: &Option<EventPlace>,
 ) -> Result<String, AllocError>
-    ensures { IfOk result (λ s. string_bytes s ≡ place_words (indexed state.now.records index.now) place.now) }
+    ensures { IfOk result (λ s. string_bytes s ≡ place_words (path_in index.now) place.now) }
 {
-    let _ = state;
     match place {
         Some(place) => index.path(alloc, place.place),
         None => Ok(String::new(alloc)),

@@ -1,10 +1,11 @@
 //! The index, and the page of a surname.
 
-ghost use Rattle.std.specs.Prelude.{◌≡◌, ◌++◌, IfOk, OnOk, Some, string_bytes};
+ghost use Rattle.std.specs.Prelude.{◌≡◌, ◌++◌, IfOk, OnOk, Some, length, string_bytes};
 ghost use Rattle.std.specs.FinMap as map;
 ghost use Rattle.std.specs.List.{list_any};
 ghost use Rattle.record_kinds.specs.declared.record.Record.TheVariants as kind;
 ghost use Rattle.archive_state.specs.Sound.{IsSound};
+ghost use Rattle.sheet_lines.specs.Lines as lines;
 ghost use Rattle.sheets.specs.Gathered.{gathered};
 ghost use Rattle.sheets.specs.Indexed.{indexed};
 ghost use Rattle.sheets.specs.Pages as pages;
@@ -24,15 +25,14 @@ pub fn index_page(alloc: Global, shown: &Shown) -> Result<String, AllocError>
 {
     let index = index_of(alloc, shown)?;
     let mut out = String::new(alloc);
-    push_counts(&mut out, shown.as_state(), &index)?;
+    push_counts(&mut out, &index)?;
     Ok(out)
 }
 
-fn push_counts(out: &mut String, state: &State, index: &Index) -> Result<(), AllocError>
-    ensures { OnOk result (string_bytes out.new ≡ string_bytes out.old
-        ++ pages.index_text (indexed state.now.records index.now)) }
+fn push_counts(out: &mut String, index: &Index) -> Result<(), AllocError>
+    ensures { OnOk result (string_bytes out.new ≡ string_bytes out.old ++ lines.index_page
+        (length index.now.persons) (length index.now.families) (length index.now.sources)) }
 {
-    let _ = state;
     let persons = index.numbers(Rank::Persons);
     let families = index.numbers(Rank::Families);
     let registers = index.numbers(Rank::Sources);

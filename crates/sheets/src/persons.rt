@@ -5,9 +5,10 @@ ghost use Rattle.std.specs.List.{flat_map};
 ghost use Rattle.archive_state.specs.Sound.{IsSound};
 ghost use Rattle.sheet_lines.specs.Lines as lines;
 ghost use Rattle.export_index.specs.Index.{IsArranged};
+ghost use Rattle.export_index.specs.Owned.{sides_by};
 ghost use Rattle.export_index.specs.declared.membership.Membership as membership;
 ghost use Rattle.sheets.specs.Answers.{IsRefused};
-ghost use Rattle.sheets.specs.Gathered.{gathered};
+ghost use Rattle.sheets.specs.Gathered.{families_of, gathered};
 ghost use Rattle.sheets.specs.Indexed.{indexed};
 ghost use Rattle.sheets.specs.Sheets as sheets;
 
@@ -65,17 +66,12 @@ fn push_person(
     push_own(alloc, out, number, person)?;
     push_events_of(alloc, out, state, index, number)?;
     push_citations_of(out, state, index, "Source ", number)?;
-    push_child_families(out, state, index, number)?;
-    push_partner_families(out, state, index, number)
+    push_child_families(out, index, number)?;
+    push_partner_families(out, index, number)
 }
 
 /// Appends what a person tells alone: the number, the names and the sex.
-fn push_own(
-    alloc: Global,
-    out: &mut String,
-    number: u32,
-    person: &Person,
-) -> Result<(), AllocError>
+fn push_own(alloc: Global, out: &mut String, number: u32, person: &Person) -> Result<(), AllocError>
     ensures { OnOk result (string_bytes out.new ≡ string_bytes out.old ++ sheets.own_text number person.now) }
 {
     push_person_head(out, number)?;
@@ -84,32 +80,20 @@ fn push_own(
 }
 
 /// Appends the families where the person is a child, by number.
-fn push_child_families(
-    out: &mut String,
-    state: &State,
-    index: &Index,
-    person: u32,
-) -> Result<(), AllocError>
+fn push_child_families(out: &mut String, index: &Index, person: u32) -> Result<(), AllocError>
     requires { IsArranged index.now }
     ensures { OnOk result (string_bytes out.new ≡ string_bytes out.old
-        ++ flat_map lines.child_of_line ((indexed state.now.records index.now).child_in person)) }
+        ++ flat_map lines.child_of_line (families_of (sides_by person index.now.child_in))) }
 {
-    let _ = state;
     push_children_in(out, index.child_in(person))
 }
 
 /// Appends the families where the person is a partner, by number.
-fn push_partner_families(
-    out: &mut String,
-    state: &State,
-    index: &Index,
-    person: u32,
-) -> Result<(), AllocError>
+fn push_partner_families(out: &mut String, index: &Index, person: u32) -> Result<(), AllocError>
     requires { IsArranged index.now }
     ensures { OnOk result (string_bytes out.new ≡ string_bytes out.old
-        ++ flat_map lines.partner_in_line ((indexed state.now.records index.now).partner_in person)) }
+        ++ flat_map lines.partner_in_line (families_of (sides_by person index.now.partner_in))) }
 {
-    let _ = state;
     push_partners_in(out, index.partner_in(person))
 }
 

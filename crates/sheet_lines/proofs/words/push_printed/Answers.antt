@@ -16,6 +16,6 @@ front-preserved c = (
 pub returns : goal.returns
 returns c =
     let e : OnOk c.push_str-2.result (string_bytes c.push_str-2.new.self ≡ string_bytes c.front.out ++ c.front.rest.now)
-        = search rules in
+    = search rules in
     on_ok c.push_str-2.result (λ e. e ∙ last_turn 10 (32 ∷ []) (string_bytes c.front.out) c.front.rest.now
     (string_bytes c.args.out.now ++ words.printed c.args.text.now) c.in_default.ensures c.front.invariant.1) e

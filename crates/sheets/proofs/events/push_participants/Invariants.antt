@@ -1,14 +1,8 @@
 use Rattle.std.proofs.Common.{◌≡◌, ◌++◌, take, string_bytes}
 use Rattle.std.specs.FinMap as map
 use Rattle.std.specs.List.{flat_map}
-use Rattle.export_index.specs.declared.owned.Owned as owned
-use Rattle.export_index.specs.declared.membership.Membership as membership
-use Rattle.sheet_lines.specs.Lines as lines
-use Rattle.sheets.specs.Indexed.{indexed}
 use Rattle.sheets.specs.Owned as texts
-use Rattle.sheets.specs.Sheets as sheets
-use Rattle.sheets.specs.Pages as pages
 use Rattle.sheets.proofs.events.push_participants.Given as goal
 
 abbrev pub invariant-participants : goal.invariant-participants
-invariant-participants l = string_bytes l.out ≡ string_bytes l.fn.out ++ flat_map (texts.participant_text (indexed l.state.records l.index)) (take l.participant-index l.participants)
+invariant-participants l = string_bytes l.out ≡ string_bytes l.fn.out ++ flat_map (texts.participant_text (map.get l.state.records)) (take l.participant-index l.participants)

@@ -1,14 +1,8 @@
 use Rattle.std.proofs.Common.{◌≡◌, ◌++◌, take, string_bytes}
 use Rattle.std.specs.FinMap as map
 use Rattle.std.specs.List.{flat_map}
-use Rattle.export_index.specs.declared.owned.Owned as owned
-use Rattle.export_index.specs.declared.membership.Membership as membership
-use Rattle.sheet_lines.specs.Lines as lines
-use Rattle.sheets.specs.Indexed.{indexed}
-use Rattle.sheets.specs.Owned as texts
 use Rattle.sheets.specs.Sheets as sheets
-use Rattle.sheets.specs.Pages as pages
 use Rattle.sheets.proofs.families.push_children.Given as goal
 
 abbrev pub invariant-children : goal.invariant-children
-invariant-children l = string_bytes l.out ≡ string_bytes l.fn.out ++ flat_map (sheets.child_text (indexed l.state.records l.index)) (take l.child-index l.children)
+invariant-children l = string_bytes l.out ≡ string_bytes l.fn.out ++ flat_map (sheets.child_text (map.get l.state.records)) (take l.child-index l.children)

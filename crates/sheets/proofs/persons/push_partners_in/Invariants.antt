@@ -1,13 +1,7 @@
 use Rattle.std.proofs.Common.{◌≡◌, ◌++◌, take, string_bytes}
-use Rattle.std.specs.FinMap as map
 use Rattle.std.specs.List.{flat_map}
-use Rattle.export_index.specs.declared.owned.Owned as owned
 use Rattle.export_index.specs.declared.membership.Membership as membership
 use Rattle.sheet_lines.specs.Lines as lines
-use Rattle.sheets.specs.Indexed.{indexed}
-use Rattle.sheets.specs.Owned as texts
-use Rattle.sheets.specs.Sheets as sheets
-use Rattle.sheets.specs.Pages as pages
 use Rattle.sheets.proofs.persons.push_partners_in.Given as goal
 
 abbrev pub invariant-families : goal.invariant-families
