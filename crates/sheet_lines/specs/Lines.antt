@@ -95,10 +95,13 @@ abbrev pub child_line : List ℕ → model.Child → List ℕ
 child_line shown c = line (codes "Child: " ++ who c.person shown)
 
 -- ---- pedigrees
--- who stands at a number, with the dates of birth and death
-abbrev pub ancestor_line : ℕ → List ℕ → Option Date → Option Date → List ℕ
-ancestor_line n shown birth death =
-    line (at_right 4 n ++ (codes "  " ++ (shown ++ (dated (codes ", b. ") birth ++ dated (codes ", d. ") death))))
+-- a person as displayed, with the dates of birth and death
+abbrev pub ancestor_words : List ℕ → Option Date → Option Date → List ℕ
+ancestor_words shown birth death = shown ++ (dated (codes ", b. ") birth ++ dated (codes ", d. ") death)
+
+-- the words of who stands at a number
+abbrev pub ancestor_line : ℕ → List ℕ → List ℕ
+ancestor_line n words = line (at_right 4 n ++ (codes "  " ++ words))
 
 -- ---- registers
 abbrev pub title_words : Option (List ℕ) → List ℕ

@@ -16,7 +16,7 @@ mod words;
 
 pub use events::{push_citation, push_event_line, push_participant};
 pub use families::{push_child, push_family_head, push_partner};
-pub use pages::{push_ancestor, push_index, push_surname};
+pub use pages::{push_ancestor, push_ancestor_words, push_index, push_surname};
 pub use persons::{push_child_of, push_names, push_partner_in, push_person_head, push_sex};
 pub use registers::{push_entry, push_register_head};
 pub use words::display_of;

@@ -7,22 +7,28 @@ use crate::words::{push_dated, push_right};
 use record_fields::Date;
 use std::alloc::AllocError;
 
-/// Appends the line of who stands at a number of a pedigree.
-pub fn push_ancestor(
+/// Appends what a pedigree tells of a person: the display, and the dates of birth and death.
+pub fn push_ancestor_words(
     out: &mut String,
-    number: u32,
     shown: &str,
     birth: Option<&Date>,
     death: Option<&Date>,
 ) -> Result<(), AllocError>
     ensures { OnOk result (string_bytes out.new ≡ string_bytes out.old
-        ++ lines.ancestor_line number shown.now (option_copied birth.entry) (option_copied death.entry)) }
+        ++ lines.ancestor_words shown.now (option_copied birth.entry) (option_copied death.entry)) }
+{
+    out.push_str(shown)?;
+    push_dated(out, ", b. ", birth)?;
+    push_dated(out, ", d. ", death)
+}
+
+/// Appends the line of who stands at a number of a pedigree, with these words.
+pub fn push_ancestor(out: &mut String, number: u32, words: &str) -> Result<(), AllocError>
+    ensures { OnOk result (string_bytes out.new ≡ string_bytes out.old
+        ++ lines.ancestor_line number words.now) }
 {
     push_right(out, 4, number)?;
-    write!(out, "  {shown}")?;
-    push_dated(out, ", b. ", birth)?;
-    push_dated(out, ", d. ", death)?;
-    out.push_str("\n")
+    write!(out, "  {words}\n")
 }
 
 /// Appends how many persons, families and registers there are.

@@ -36,7 +36,7 @@ use Rattle.record_kinds.specs.declared.record.Record.TheVariants as kind
 use Rattle.record_text.specs.declared.refusal.RefusalKind.{RefusalKind}
 use Rattle.record_text.specs.declared.refusal.RefusalKind.TheVariants.{NoSuch, WrongKind}
 use Rattle.archive_state.specs.Content.{Records}
-use Rattle.sheet_lines.specs.Lines.{ancestor_line}
+use Rattle.sheet_lines.specs.Lines.{ancestor_line, ancestor_words}
 use Rattle.sheets.specs.Gathered.{Gathered, gathered}
 use Rattle.sheets.specs.Owned.{display_in}
 
@@ -95,10 +95,14 @@ first_date at tag (k ∷ ks) = or_else (date_as tag (at k)) (first_date at tag k
 abbrev pub date_of : Gathered → List ℕ → ℕ → Option Date
 date_of g tag person = first_date g.at tag (g.events person)
 
+-- what is told of a person
+abbrev pub words_of : Gathered → ℕ → List ℕ
+words_of g person = ancestor_words (display_in (g.at person)) (date_of g (codes "BIRT") person)
+    (date_of g (codes "DEAT") person)
+
 abbrev pub ancestor_in : Gathered → ℕ → Option ℕ → List ℕ
 ancestor_in g number None = []
-ancestor_in g number (Some person) = ancestor_line number (display_in (g.at person)) (date_of g (codes "BIRT") person)
-    (date_of g (codes "DEAT") person)
+ancestor_in g number (Some person) = ancestor_line number (words_of g person)
 
 -- the line of a number, if anybody stands there
 abbrev pub line_at : Gathered → ℕ → ℕ → List ℕ

@@ -12,6 +12,7 @@ mod events;
 mod families;
 mod gathering;
 mod generations;
+mod known;
 pub mod laws;
 mod looks;
 mod pages;

@@ -8,6 +8,7 @@ ghost use Rattle.std.specs.Prelude.{
   ◌-◌,
   ◌^◌,
   ◌<◌,
+  ℕ,
   IfErr,
   IfOk,
   None,
@@ -23,20 +24,22 @@ ghost use Rattle.std.specs.Option.{option_and_then};
 ghost use Rattle.archive_state.specs.Sound.{IsSound};
 ghost use Rattle.export_index.specs.Index.{IsArranged};
 ghost use Rattle.sheets.specs.Answers.{IsRefused};
-ghost use Rattle.sheets.specs.Gathered.{gathered};
+ghost use Rattle.sheets.specs.Gathered.{Gathered, gathered};
 ghost use Rattle.sheets.specs.Indexed.{indexed};
+ghost use Rattle.sheets.specs.Known.{AreKnown, IsAncestor};
 ghost use Rattle.sheets.specs.Pedigrees as pedigrees;
 
-use crate::ancestors::{date_of, parent_of};
+use crate::ancestors::parent_of;
 use crate::gathering::index_of;
 use crate::generations::Generations;
-use crate::looks::shown_at;
+use crate::known::{Ancestor, found, learn, words_of};
 use archive_state::State;
 use export_index::Index;
 use records::{Partnership, Record, RefusalKind};
 use sheet_lines::push_ancestor;
 use shown_state::Shown;
 use std::alloc::{AllocError, Global};
+use std::collections::BTreeMap;
 
 /// The pedigree of a person by Ahnentafel numbers: the person is 1, the father of n is 2n, the mother 2n + 1. So many
 /// generations are the numbers below 2 to that power; nobody stands at most of them. 50: no record that is shown has
@@ -96,12 +99,14 @@ fn push_lines(
     ensures { OnOk result (string_bytes out.new ≡ string_bytes out.old ++ pedigrees.lines_to
         (pedigrees.line_at (indexed state.now.records index.now) subject) last) }
 {
+    let mut known = BTreeMap::new(alloc);
     // Who stands at each number so far; nobody at 0.
     let mut people = Vec::new(alloc);
     people.push(None)?;
     'numbers: for before in 0..last {
-        let person = person_at(state, index, subject, &people, before + 1);
-        push_ancestor_at(alloc, out, state, index, before + 1, person)?;
+        let person = person_at(state, index, subject, &people, &known, before + 1);
+        learn_if_there(alloc, state, index, &mut known, person)?;
+        push_ancestor_at(alloc, out, state, index, &known, before + 1, person)?;
         people.push(person)?;
     }
     Ok(())
@@ -113,11 +118,13 @@ fn person_at(
     index: &Index,
     subject: u32,
     people: &[Option<u32>],
+    known: &BTreeMap<u32, Ancestor>,
     number: u32,
 ) -> Option<u32>
     requires arranged { IsArranged index.now }
     requires within { number / 2 < length people.now }
-    ensures { result ≡ if number == 1 then Some subject else option_and_then
+    ensures { AreKnown (indexed state.now.records index.now) known.now.entries
+        → result ≡ if number == 1 then Some subject else option_and_then
         (pedigrees.parent (indexed state.now.records index.now) (pedigrees.side number))
         (get_or people.now (number / 2) None) }
 {
@@ -126,7 +133,35 @@ fn person_at(
     }
     match people[(number / 2) as usize] {
         None => None,
-        Some(child) => parent_of(state, index, side_of(number), child),
+        Some(child) => parent_at(state, index, known, number, child),
+    }
+}
+
+/// The father, at an even number, or the mother of a person. Takes no memory.
+fn parent_at(
+    state: &State,
+    index: &Index,
+    known: &BTreeMap<u32, Ancestor>,
+    number: u32,
+    child: u32,
+) -> Option<u32>
+    requires { IsArranged index.now }
+    ensures { AreKnown (indexed state.now.records index.now) known.now.entries
+        → result ≡ pedigrees.parent (indexed state.now.records index.now) (pedigrees.side number) child }
+{
+    match found(known, child) {
+        Some(ancestor) => known_parent(ancestor, number),
+        None => parent_of(state, index, side_of(number), child),
+    }
+}
+
+fn known_parent(ancestor: &Ancestor, number: u32) -> Option<u32>
+    ensures { (g : Gathered) (child : ℕ) → IsAncestor g child ancestor.now
+        → result ≡ pedigrees.parent g (pedigrees.side number) child }
+{
+    match side_of(number) {
+        Partnership::Husband => ancestor.father,
+        Partnership::Wife => ancestor.mother,
     }
 }
 
@@ -141,39 +176,65 @@ fn side_of(number: u32) -> Partnership
     }
 }
 
+/// Looks at who stands at a number, if anybody does.
+fn learn_if_there(
+    alloc: Global,
+    state: &State,
+    index: &Index,
+    known: &mut BTreeMap<u32, Ancestor>,
+    person: Option<u32>,
+) -> Result<(), AllocError>
+    requires { IsArranged index.now }
+    ensures { OnOk result (AreKnown (indexed state.now.records index.now) known.old.entries
+        → AreKnown (indexed state.now.records index.now) known.new.entries) }
+{
+    match person {
+        None => Ok(()),
+        Some(person) => learn(alloc, state, index, known, person),
+    }
+}
+
 /// Appends the line of who stands at a number, if anybody does.
 fn push_ancestor_at(
     alloc: Global,
     out: &mut String,
     state: &State,
     index: &Index,
+    known: &BTreeMap<u32, Ancestor>,
     number: u32,
     person: Option<u32>,
 ) -> Result<(), AllocError>
     requires { IsArranged index.now }
-    ensures { OnOk result (string_bytes out.new ≡ string_bytes out.old
+    ensures { OnOk result (AreKnown (indexed state.now.records index.now) known.now.entries
+        → string_bytes out.new ≡ string_bytes out.old
         ++ pedigrees.ancestor_in (indexed state.now.records index.now) number person) }
 {
     match person {
         None => Ok(()),
-        Some(person) => push_person(alloc, out, state, index, number, person),
+        Some(person) => push_person(alloc, out, state, index, known, number, person),
     }
 }
 
+/// Appends the line of a person. Who is not known is looked at anew.
 fn push_person(
     alloc: Global,
     out: &mut String,
     state: &State,
     index: &Index,
+    known: &BTreeMap<u32, Ancestor>,
     number: u32,
     person: u32,
 ) -> Result<(), AllocError>
     requires { IsArranged index.now }
-    ensures { OnOk result (string_bytes out.new ≡ string_bytes out.old
+    ensures { OnOk result (AreKnown (indexed state.now.records index.now) known.now.entries
+        → string_bytes out.new ≡ string_bytes out.old
         ++ pedigrees.ancestor_in (indexed state.now.records index.now) number (Some person)) }
 {
-    let shown = shown_at(alloc, state, person)?;
-    let birth = date_of(state, index, "BIRT", person);
-    let death = date_of(state, index, "DEAT", person);
-    push_ancestor(out, number, shown.as_str(), birth, death)
+    match found(known, person) {
+        Some(ancestor) => push_ancestor(out, number, ancestor.words.as_str()),
+        None => {
+            let words = words_of(alloc, state, index, person)?;
+            push_ancestor(out, number, words.as_str())
+        }
+    }
 }
