@@ -1,6 +1,6 @@
 -- What is known stays known, and one more is known behind it.
 use Rattle.std.proofs.Common.{◌≡◌, ℕ, List, [], ap, cond, refl, sym, subst, ◌∙◌}
-use Rattle.std.specs.Prelude.{Option, Some, None}
+use Rattle.std.specs.Prelude.{Some, None}
 use Rattle.std.specs.Ordering.{is_eq, nat_cmp}
 use Rattle.std.specs.Cmp.{ranked}
 use Rattle.std.specs.declared.cmp.Ordering.TheVariants.{Less, Equal, Greater}
