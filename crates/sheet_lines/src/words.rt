@@ -43,7 +43,8 @@ pub(crate) fn push_dated(
     word: &str,
     date: Option<&Date>,
 ) -> Result<(), AllocError>
-    ensures { OnOk result (string_bytes out.new ≡ string_bytes out.old ++ words.dated word.now (option_copied date.entry)) }
+    ensures { OnOk result (string_bytes out.new ≡ string_bytes out.old
+        ++ words.dated word.now (option_copied date.entry)) }
 {
     match date {
         None => Ok(()),

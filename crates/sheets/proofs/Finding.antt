@@ -40,11 +40,14 @@ module _ (at_number : ℕ → Option Record) (tag : List ℕ) (os : List Owned) 
 
   date_here : (o : Owned) (d : Option Date) → i < length os → o ≡ get_or os i o → d ≡ date_as tag (at_number o.number)
       → from_here i ≡ or_else d (from_here (i + 1))
-  date_here o d less at is = ap (λ (xs : List Owned). first_date at_number tag (map number_of xs)) (at_index os i o less at)
+  date_here o d less at is =
+      ap (λ (xs : List Owned). first_date at_number tag (map number_of xs)) (at_index os i o less at)
       ∙ ap (λ (x : Option Date). or_else x (from_here (i + 1))) (sym is)
 
-  pub found_date : (o : Owned) (d : Date) → i < length os → o ≡ get_or os i o → Some d ≡ date_as tag (at_number o.number)
-      → from_here i ≡ first_date at_number tag (map number_of os) → Some d ≡ first_date at_number tag (map number_of os)
+  pub found_date : (o : Owned) (d : Date) → i < length os → o ≡ get_or os i o
+      → Some d ≡ date_as tag (at_number o.number)
+      → from_here i ≡ first_date at_number tag (map number_of os)
+      → Some d ≡ first_date at_number tag (map number_of os)
   found_date o d less at is before = sym (date_here o (Some d) less at is) ∙ before
 
   pub passed_date : (o : Owned) → i < length os → o ≡ get_or os i o → None ≡ date_as tag (at_number o.number)

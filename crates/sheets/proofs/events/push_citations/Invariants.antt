@@ -6,4 +6,8 @@ use Rattle.sheets.specs.Owned as texts
 use Rattle.sheets.proofs.events.push_citations.Given as goal
 
 abbrev pub invariant-citations : goal.invariant-citations
-invariant-citations l = string_bytes l.out ≡ string_bytes l.fn.out ++ flat_map (λ (o : owned.Owned). texts.citation_in l.word (map.get l.state.records o.number)) (take l.citation-index l.citations)
+invariant-citations l =
+    string_bytes l.out
+    ≡ string_bytes l.fn.out ++ flat_map
+    (λ (o : owned.Owned). texts.citation_in l.word (map.get l.state.records o.number))
+    (take l.citation-index l.citations)

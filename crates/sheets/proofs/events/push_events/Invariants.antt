@@ -7,5 +7,7 @@ use Rattle.sheets.specs.Owned as texts
 use Rattle.sheets.proofs.events.push_events.Given as goal
 
 abbrev pub invariant-events : goal.invariant-events
-invariant-events l = string_bytes l.out ≡ string_bytes l.fn.out ++ flat_map (λ (o : owned.Owned). texts.event_in (indexed l.state.records l.index) o.number
+invariant-events l =
+    string_bytes l.out
+    ≡ string_bytes l.fn.out ++ flat_map (λ (o : owned.Owned). texts.event_in (indexed l.state.records l.index) o.number
     (map.get l.state.records o.number)) (take l.event-index l.events)

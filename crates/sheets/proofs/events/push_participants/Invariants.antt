@@ -5,4 +5,8 @@ use Rattle.sheets.specs.Owned as texts
 use Rattle.sheets.proofs.events.push_participants.Given as goal
 
 abbrev pub invariant-participants : goal.invariant-participants
-invariant-participants l = string_bytes l.out ≡ string_bytes l.fn.out ++ flat_map (texts.participant_text (map.get l.state.records)) (take l.participant-index l.participants)
+invariant-participants l =
+    string_bytes l.out
+    ≡ string_bytes l.fn.out ++ flat_map
+    (texts.participant_text (map.get l.state.records))
+    (take l.participant-index l.participants)

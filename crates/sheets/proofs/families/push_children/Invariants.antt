@@ -5,4 +5,8 @@ use Rattle.sheets.specs.Sheets as sheets
 use Rattle.sheets.proofs.families.push_children.Given as goal
 
 abbrev pub invariant-children : goal.invariant-children
-invariant-children l = string_bytes l.out ≡ string_bytes l.fn.out ++ flat_map (sheets.child_text (map.get l.state.records)) (take l.child-index l.children)
+invariant-children l =
+    string_bytes l.out
+    ≡ string_bytes l.fn.out ++ flat_map
+    (sheets.child_text (map.get l.state.records))
+    (take l.child-index l.children)

@@ -5,4 +5,8 @@ use Rattle.sheets.specs.Pages as pages
 use Rattle.sheets.proofs.pages.push_persons.Given as goal
 
 abbrev pub invariant-numbers : goal.invariant-numbers
-invariant-numbers l = string_bytes l.out ≡ string_bytes l.fn.out ++ flat_map (λ n. pages.surname_in l.key n (map.get l.state.records n)) (take l.number-index l.numbers)
+invariant-numbers l =
+    string_bytes l.out
+    ≡ string_bytes l.fn.out ++ flat_map
+    (λ n. pages.surname_in l.key n (map.get l.state.records n))
+    (take l.number-index l.numbers)

@@ -26,7 +26,8 @@ numbers-preserved c =
     let g = indexed c.args.state.now.records c.args.index.now in
     let is = person_is g c.args.subject c.numbers.people.items c.numbers.before c.person_at-person.result
     c.numbers.invariant.stand
-    (c.person_at-person.ensures c.numbers.invariant.known ∙ ap (λ (people : List (Option ℕ)). if c.numbers.before + 1 == 1
+    (c.person_at-person.ensures c.numbers.invariant.known
+    ∙ ap (λ (people : List (Option ℕ)). if c.numbers.before + 1 == 1
     then Some c.args.subject
     else option_and_then (pedigrees.parent g (pedigrees.side (c.numbers.before + 1)))
     (get_or people ((c.numbers.before + 1) / 2) None)) c.deref.ensures.value) in

@@ -5,6 +5,7 @@ use Rattle.sheets.proofs.Appending.{then_next}
 use Rattle.sheets.proofs.persons.push_partners_in.Goals as goal
 
 pub families-preserved : goal.families-preserved
-families-preserved c = then_next (λ (x : membership.Membership). lines.partner_in_line x.side.family) c.args.families.now
+families-preserved c =
+    then_next (λ (x : membership.Membership). lines.partner_in_line x.side.family) c.args.families.now
     c.families.family-index c.family-item.result (string_bytes c.args.out.now) _ _ c.families-test.true c.family-item.is
     c.in_ok-push_partner_in_line.ensures c.families.invariant

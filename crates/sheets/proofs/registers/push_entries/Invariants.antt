@@ -5,4 +5,8 @@ use Rattle.sheets.specs.Sheets as sheets
 use Rattle.sheets.proofs.registers.push_entries.Given as goal
 
 abbrev pub invariant-numbers : goal.invariant-numbers
-invariant-numbers l = string_bytes l.out ≡ string_bytes l.fn.out ++ flat_map (λ k. sheets.entry_in l.source (map.get l.state.records k)) (take l.number-index l.numbers)
+invariant-numbers l =
+    string_bytes l.out
+    ≡ string_bytes l.fn.out ++ flat_map
+    (λ k. sheets.entry_in l.source (map.get l.state.records k))
+    (take l.number-index l.numbers)
