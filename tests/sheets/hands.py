@@ -1,4 +1,4 @@
-"""Sheets by hand: the examples of docs/FORMATS.md, "Sheets", and what drawn archives have not, the living before all."""
+"""Sheets by hand: the examples of docs/FORMATS.md, "Sheets", and what drawn archives have not, as the living."""
 
 from __future__ import annotations
 
