@@ -288,6 +288,10 @@ def all_tests_with_requests(copy):
     all_tests_with(copy, "request_rows", "requests")
 
 
+def all_tests_with_sheets(copy):
+    all_tests_with(copy, "sheet_rows", "sheets")
+
+
 def tests_that_fail(copy):
     for text, end in (
         ("print('1 passed, 2 failed'); exit(1)\n", b"4 passed, 2 failed"),
@@ -327,6 +331,7 @@ SCRIPTS = (
     ("./test runs the tests of dates where that crate is listed", all_tests_with_dates),
     ("./test runs the tests of the archive where that crate is listed", all_tests_with_archive),
     ("./test runs the tests of requests where that crate is listed", all_tests_with_requests),
+    ("./test runs the tests of sheets where that crate is listed", all_tests_with_sheets),
     ("./test fails where its second part fails", tests_that_fail),
     ("./test runs no second part where the first fails", proofs_that_fail),
 )

@@ -1,0 +1,5 @@
+pub mod Appending
+pub mod Finding
+pub mod Knowing
+pub mod Same
+pub mod Standing

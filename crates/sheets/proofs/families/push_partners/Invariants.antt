@@ -1,0 +1,12 @@
+use Rattle.std.proofs.Common.{◌≡◌, ◌++◌, take, string_bytes}
+use Rattle.std.specs.FinMap as map
+use Rattle.std.specs.List.{flat_map}
+use Rattle.sheets.specs.Sheets as sheets
+use Rattle.sheets.proofs.families.push_partners.Given as goal
+
+abbrev pub invariant-partners : goal.invariant-partners
+invariant-partners l =
+    string_bytes l.out
+    ≡ string_bytes l.fn.out ++ flat_map
+    (sheets.partner_text (map.get l.state.records))
+    (take l.partner-index l.partners)

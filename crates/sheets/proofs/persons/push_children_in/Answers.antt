@@ -1,0 +1,11 @@
+use Rattle.std.proofs.Common.{string_bytes}
+use Rattle.export_index.specs.declared.membership.Membership as membership
+use Rattle.sheet_lines.specs.Lines as lines
+use Rattle.sheets.proofs.Appending.{then_next}
+use Rattle.sheets.proofs.persons.push_children_in.Goals as goal
+
+pub families-preserved : goal.families-preserved
+families-preserved c =
+    then_next (λ (x : membership.Membership). lines.child_of_line x.side.family) c.args.families.now
+    c.families.family-index c.family-item.result (string_bytes c.args.out.now) _ _ c.families-test.true c.family-item.is
+    c.in_ok-push_child_of_line.ensures c.families.invariant

@@ -1,0 +1,12 @@
+use Rattle.std.proofs.Common.{◌≡◌, ◌++◌, take, string_bytes}
+use Rattle.std.specs.List.{flat_map}
+use Rattle.export_index.specs.declared.membership.Membership as membership
+use Rattle.sheet_lines.specs.Lines as lines
+use Rattle.sheets.proofs.persons.push_partners_in.Given as goal
+
+abbrev pub invariant-families : goal.invariant-families
+invariant-families l =
+    string_bytes l.out
+    ≡ string_bytes l.fn.out ++ flat_map
+    (λ (x : membership.Membership). lines.partner_in_line x.side.family)
+    (take l.family-index l.families)

@@ -1,0 +1,28 @@
+//! Sheets: pages of the masked records to read, to print and to take home.
+//!
+//! It uses `shown_state`, whose masked state is all that it can see, `export_index` for what belongs to a record, and
+//! `sheet_lines` for the lines.
+//!
+//! Callers may rely on: a sheet is the text of its definition over the masked records; it is refused where no record
+//! has the number (50), where it is of another kind (51), and for want of memory.
+#![tactic(auto)]
+
+mod ancestors;
+mod events;
+mod families;
+mod gathering;
+mod generations;
+mod known;
+pub mod laws;
+mod looks;
+mod pages;
+mod pedigrees;
+mod persons;
+mod registers;
+
+pub use families::family_sheet;
+pub use generations::Generations;
+pub use pages::{index_page, surname_page};
+pub use pedigrees::pedigree;
+pub use persons::person_sheet;
+pub use registers::register_sheet;

@@ -1,0 +1,78 @@
+"""Runs sheet_rows on sheets by hand and on those of drawn archives: python3 tests/sheets/run.py [ARCHIVES [PROGRAM]].
+
+One line a failed case, and last `N passed, M failed`; status 0 only if none failed and one passed.
+"""
+
+from __future__ import annotations
+
+import pathlib
+import sys
+
+sys.dont_write_bytecode = True
+HERE = pathlib.Path(__file__).resolve().parent
+sys.path.insert(0, str(HERE.parent / "archive"))
+
+import drawn  # noqa: E402
+import hands  # noqa: E402
+from asking import differences  # noqa: E402
+from plain import Family, Person, Source, lines  # noqa: E402
+from rows import Ask, Case, given, row  # noqa: E402
+from rules import Sheets  # noqa: E402
+
+PROGRAM = HERE.parents[1] / "crates/sheet_rows/out/sheet_rows"
+TODAY = 19_723  # 2024-01-01
+SURNAMES = ("Lee", "LEE", "strasse", "", "Ray", "nobody")
+
+
+def stored(records: dict) -> tuple[Ask, ...]:
+    """The rows that make an archive of these records."""
+    rows = [Ask("new", "")]
+    for number, record in records.items():
+        rows += [*given(lines(record)), Ask(row("put", number), "")]
+    return (*rows, Ask(row("next", max(records) + 1), ""))
+
+
+def cases_by_hand():
+    for scene in hands.SCENES:
+        asks = [Ask(row("sheet", TODAY, *words), wanted) for words, wanted in scene.sheets]
+        yield Case(f"by hand: {scene.name}", (*stored(scene.records), *asks))
+
+
+def drawn_case(seed: int) -> Case:
+    """Every sheet of every number of an archive, and the pages."""
+    records = drawn.archive(seed)
+    sheets = Sheets(records)
+    asks = [*stored(records), Ask(row("sheet", TODAY, "index"), sheets.index())]
+    for number in (*records, 0, 121):
+        generations = (seed + number) % 7 + 1
+
+        def up(subject: int, _: Person) -> list[str]:
+            return sheets.pedigree(subject, generations)
+
+        for words, kind, of in (
+            (("person", number), Person, sheets.person),
+            (("family", number), Family, sheets.family),
+            (("register", number), Source, sheets.register),
+            (("pedigree", number, generations), Person, up),
+        ):
+            asks.append(Ask(row("sheet", TODAY, *words), sheets.sheet(kind, number, of)))
+    asks += [Ask(row("sheet", TODAY, "surname", name), sheets.page(name)) for name in SURNAMES]
+    return Case(f"drawn: {seed}", tuple(asks))
+
+
+def main() -> int:
+    archives = int(sys.argv[1]) if len(sys.argv) > 1 else 100
+    program = sys.argv[2] if len(sys.argv) > 2 else PROGRAM
+    count, failures = 0, []
+    runs = [list(cases_by_hand())] + [[drawn_case(seed)] for seed in range(archives)]
+    for cases in runs:
+        count += len(cases)
+        failures += differences(program, cases)
+    for failure in failures:
+        print(f"failed: {failure}")
+    print(f"{count - len(failures)} passed, {len(failures)} failed")
+    return 1 if failures or not count else 0
+
+
+if __name__ == "__main__":
+    sys.exit(main())
