@@ -40,26 +40,35 @@ IsMergeIn m keep gone c = c.new ≡ merged keep gone (get m) c.number
 abbrev pub AreMerges : Records → ℕ → ℕ → List Change → Type 0
 AreMerges m keep gone cs = EachOf (IsMergeIn m keep gone) cs
 
+-- which part the two persons break
+abbrev pub BreaksPersons : Records → ℕ → ℕ → SlipPart → Type 0
+BreaksPersons m keep gone part.Gone = ¬ (HasPersonAt m gone)
+BreaksPersons m keep gone part.Keep = ¬ (HasKeep m keep gone)
+BreaksPersons m keep gone part.Same = keep ≡ gone
+BreaksPersons m keep gone part.Clash = ¬ (AreJoinable m keep gone)
+BreaksPersons m keep gone _ = ⊥
+
+-- which part old records and changes break
+abbrev pub BreaksInside : ℕ → Records → ℕ → ℕ → List Change → SlipPart → Type 0
+BreaksInside next m keep gone cs part.Merge = ¬ (AreMerges m keep gone cs)
+BreaksInside next m keep gone cs (part.Old b) = IsBreach next true m b
+BreaksInside next m keep gone cs p = BreaksPersons m keep gone p
+
 -- the slip of that number breaks that part
 abbrev pub BreaksSlip : ℕ → ℕ → Slip → SlipPart → Type 0
 BreaksSlip next n s part.Number = ¬ (EachOf (IsNumber next) (all_numbers n s))
 BreaksSlip next n s part.Order = ¬ (Ascends (changed s.changes))
-BreaksSlip next n s part.Gone = ¬ (HasPersonAt (old_records s) s.gone)
-BreaksSlip next n s part.Keep = ¬ (HasKeep (old_records s) s.keep s.gone)
-BreaksSlip next n s part.Same = s.keep ≡ s.gone
-BreaksSlip next n s part.Clash = ¬ (AreJoinable (old_records s) s.keep s.gone)
-BreaksSlip next n s part.Merge = ¬ (AreMerges (old_records s) s.keep s.gone s.changes)
-BreaksSlip next n s (part.Old b) = IsBreach next true (old_records s) b
+BreaksSlip next n s p = BreaksInside next (old_records s) s.keep s.gone s.changes p
 
 -- the two persons keep their parts
-pub record KeepsPersons (s : Slip) : Type 0 where
-  pub gone : HasPersonAt (old_records s) s.gone
-  pub keep : HasKeep (old_records s) s.keep s.gone
-  pub apart : s.keep ≢ s.gone
-  pub joinable : AreJoinable (old_records s) s.keep s.gone
+pub record KeepsPersons (m : Records) (keep gone : ℕ) : Type 0 where
+  pub gone_person : HasPersonAt m gone
+  pub keep_person : HasKeep m keep gone
+  pub apart : keep ≢ gone
+  pub joinable : AreJoinable m keep gone
 
--- the records of the slip keep theirs
-pub record KeepsInside (next : ℕ) (s : Slip) : Type 0 where
-  pub persons : KeepsPersons s
-  pub merges : AreMerges (old_records s) s.keep s.gone s.changes
-  pub whole : AreWhole next true (old_records s)
+-- old records and changes keep theirs
+pub record KeepsInside (next : ℕ) (m : Records) (keep gone : ℕ) (cs : List Change) : Type 0 where
+  pub persons : KeepsPersons m keep gone
+  pub merges : AreMerges m keep gone cs
+  pub whole : AreWhole next true m

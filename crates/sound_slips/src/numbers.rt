@@ -1,6 +1,6 @@
 //! The numbers in a slip.
 
-ghost use Rattle.std.specs.Prelude.{◌≡◌, ◌↔◌, ◌++◌, ◌&&◌, IsTrue, IfOk};
+ghost use Rattle.std.specs.Prelude.{◌≡◌, ◌↔◌, ◌++◌, ◌∷◌, ◌&&◌, nat_lt, IsTrue, IfOk};
 ghost use Rattle.std.specs.List.{flat_map};
 ghost use Rattle.record_links.specs.Links.{names};
 ghost use Rattle.record_shapes.specs.Lists.{Ascends, EachOf};
@@ -74,14 +74,11 @@ fn new_is_below(new: &Option<Record>, next: u64) -> bool
     }
 }
 
-/// Whether the changed numbers ascend.
+/// Whether the changed numbers ascend, and are from 1.
 pub(crate) fn are_in_order(changes: &[Change]) -> bool
-    ensures { IsTrue result ↔ Ascends (changed changes.now) }
+    ensures { IsTrue result ↔ Ascends (0 ∷ changed changes.now) }
 {
-    match changes.split_first() {
-        Some((first, rest)) => rise_from(first.number, rest),
-        None => true,
-    }
+    rise_from(0, changes)
 }
 
 /// Whether each number is greater than the one before it, the first than `before`.
@@ -89,15 +86,19 @@ fn rise_from(before: u32, changes: &[Change]) -> bool
     ensures { result ≡ rises_from before (changed changes.now) }
 {
     let mut last = before;
-    let mut rest = changes;
-    'changes: while let Some((change, more)) = rest.split_first() {
-        if change.number <= last {
+    'changes: for change in changes {
+        if !is_less(last, change.number) {
             return false;
         }
         last = change.number;
-        rest = more;
     }
     true
+}
+
+fn is_less(one: u32, other: u32) -> bool
+    ensures { result ≡ nat_lt one other }
+{
+    one < other
 }
 
 /// The changed numbers.

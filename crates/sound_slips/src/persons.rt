@@ -1,7 +1,9 @@
 //! The two persons of a slip, among its old records.
 
-ghost use Rattle.std.specs.Prelude.{◌≡◌, ◌↔◌, IsTrue, Some};
+ghost use Rattle.std.specs.Prelude.{◌≡◌, ◌==◌, ◌↔◌, IsTrue, Some};
+ghost use Rattle.std.specs.List.{list_any};
 ghost use Rattle.std.specs.FinMap.{get};
+ghost use Rattle.record_kinds.specs.Model as model;
 ghost use Rattle.record_kinds.specs.declared.record.Record as seen;
 ghost use Rattle.record_kinds.specs.declared.record.Record.TheVariants as kind;
 ghost use Rattle.record_shapes.specs.Lists.{EachOf};
@@ -71,8 +73,17 @@ fn is_joinable_at(olds: &State, keep: u32, gone: u32, number: u32) -> bool
     ensures { IsTrue result ↔ IsJoinableAt olds.now.records keep gone number }
 {
     match olds.record(number) {
-        Some(Record::Family(family)) => !clashes(family, keep, gone),
-        _ => true,
+        Some(found) => !clashes_in(found, keep, gone),
+        None => true,
+    }
+}
+
+fn clashes_in(found: &Record, keep: u32, gone: u32) -> bool
+    ensures { result ≡ merging.clashes keep gone found.now }
+{
+    match found {
+        Record::Family(family) => clashes(family, keep, gone),
+        _ => false,
     }
 }
 
@@ -88,7 +99,13 @@ fn clashes(family: &Family, keep: u32, gone: u32) -> bool
 fn has_member(family: &Family, person: u32) -> bool
     ensures { result ≡ merging.has_member person family.now }
 {
-    family.partners.iter().any(|partner| partner.person == person) || has_child(family, person)
+    has_partner(family, person) || has_child(family, person)
+}
+
+fn has_partner(family: &Family, person: u32) -> bool
+    ensures { result ≡ list_any (λ (p : model.Partner). p.person == person) family.now.partners }
+{
+    family.partners.iter().any(|partner| partner.person == person)
 }
 
 fn has_child(family: &Family, person: u32) -> bool
