@@ -1,0 +1,3 @@
+mod Maps
+pub mod Steps
+pub mod Surveyed

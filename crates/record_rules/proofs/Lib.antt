@@ -1,0 +1,5 @@
+pub mod Tests
+pub mod Parts
+pub mod Flat
+pub mod Leaves
+pub mod Once

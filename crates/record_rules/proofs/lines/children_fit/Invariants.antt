@@ -1,0 +1,9 @@
+use Rattle.std.proofs.Common.{◌≡◌, ◌++◌, drop}
+use Rattle.std.specs.List.{list_all}
+use Rattle.record_kinds.specs.Model as model
+use Rattle.record_rules.specs.Lines.{lines_all}
+use Rattle.record_rules.proofs.lines.children_fit.Given as goal
+
+abbrev pub invariant-children : goal.invariant-children
+invariant-children g l = list_all (λ (c : model.Child). lines_all (g.J.Judge.fit l.judge) (c.carried ++ c.carried_by_person)) (drop l.child-index l.children)
+    ≡ list_all (λ (c : model.Child). lines_all (g.J.Judge.fit l.judge) (c.carried ++ c.carried_by_person)) l.children

@@ -1,0 +1,4 @@
+pub mod Worded
+pub mod Keyed
+pub mod Judged
+pub mod Whole

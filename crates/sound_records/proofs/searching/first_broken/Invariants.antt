@@ -1,0 +1,8 @@
+use Rattle.std.proofs.Common.{take}
+use Rattle.known_records.specs.Knowing.{KnowsPaths}
+use Rattle.sound_records.specs.Parts.{AllKeep}
+use Rattle.sound_records.proofs.searching.first_broken.Given as goal
+
+abbrev pub invariant-numbers : goal.invariant-numbers
+invariant-numbers l = KnowsPaths l.state.records l.paths
+    → AllKeep l.next l.may_miss l.state.records (take l.number-index l.numbers)

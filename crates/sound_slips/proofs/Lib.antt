@@ -1,0 +1,5 @@
+pub mod Loops
+pub mod Rising
+pub mod BeforeAll
+pub mod Inside
+pub mod Below

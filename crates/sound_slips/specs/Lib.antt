@@ -1,0 +1,5 @@
+pub mod Parts
+pub mod Rising
+pub mod Olds
+pub mod Clashes
+pub mod Below
