@@ -1,5 +1,23 @@
 -- No two wordings have the same bytes.
-use Rattle.std.specs.Prelude.{map, ◌≡◌, ◌≢◌, ◌≤◌, ◌++◌, ℕ, List, [], ◌∷◌, true, false, codes, Option, Some, None, refl, decimal}
+use Rattle.std.specs.Prelude.{
+  map,
+  ◌≡◌,
+  ◌≢◌,
+  ◌≤◌,
+  ◌++◌,
+  ℕ,
+  List,
+  [],
+  ◌∷◌,
+  true,
+  false,
+  codes,
+  Option,
+  Some,
+  None,
+  refl,
+  decimal,
+}
 use Rattle.std.specs.Char.{is_ascii_digit}
 use Rattle.std.specs.List.{flat_map, list_all, list_any}
 use Rattle.std.proofs.Common.{ap, sym, ◌∙◌, subst, arith, append_assoc}
