@@ -1,6 +1,8 @@
 pub mod Again
+pub mod Forests
 pub mod Chains
 pub mod Dated
+pub mod Feeding
 pub mod Heard
 pub mod Items
 pub mod Mentions

@@ -5,13 +5,10 @@ use Rattle.std.specs.Prelude.{
   ◌≢◌,
   ◌≤◌,
   ◌++◌,
-  ◌&&◌,
-  ◌||◌,
   ℕ,
   List,
   [],
   ◌∷◌,
-  Bool,
   true,
   false,
   codes,
@@ -34,6 +31,7 @@ use Rattle.csv.specs.Writing.{default_writer, fields_text, is_blank, needs_byte,
 use Rattle.csv.specs.declared.parser.State.TheVariants as st
 use Rattle.csv.proofs.RoundTrip.{read-write}
 use Rattle.record_fields.specs.Words.{entry_kind_word}
+use Rattle.gedcom_tree.specs.Text.{text}
 use Rattle.commands.specs.Bytes.{
   Wording,
   Row,
@@ -48,7 +46,7 @@ use Rattle.commands.specs.Bytes.{
   wording_of,
   written,
 }
-use Rattle.commands.specs.Sound.{BeginsWithVerb, HaveFields, IsSound, IsSoundWording}
+use Rattle.commands.specs.Sound.{BeginsWithVerb, HaveFields, IsOneCommand, IsSound, IsSoundWording}
 use Rattle.commands.specs.Verbs.{verb_of, verb_word}
 use Rattle.commands.specs.declared.command.Command.{Command}
 use Rattle.commands.specs.declared.command.Command.TheVariants as command
@@ -57,6 +55,7 @@ use Rattle.commands.specs.declared.row_command.RowCommand.{RowCommand}
 use Rattle.commands.specs.declared.row_command.RowCommand.TheVariants as row_command
 use Rattle.commands.specs.declared.verb.Verb.TheVariants as verb
 use Rattle.commands.proofs.Again.{one_batch, one_row, verb_back}
+use Rattle.commands.proofs.Forests.{one_forest}
 use Rattle.commands.proofs.Numbers.{decimal_digits}
 
 -- ---- digits need no quotes
@@ -252,17 +251,24 @@ some-fields (e ∷ rows) = (
 sound-wording : (c : Command) → IsSound c → IsSoundWording (wording_of c)
 sound-wording (command.Row c) h = row-begins c
 sound-wording (command.Entries source rows) h = (h.0.1, some-fields rows)
+sound-wording (command.Import forest) h = tt
 
-same-command : (c d : Command) → IsSound c → IsSound d → wording_of c ≡ wording_of d → c ≡ d
+same-command : (c d : Command) → IsSound c → IsSound d → wording_of c ≡ wording_of d → IsOneCommand c d
 same-command (command.Row c) (command.Row d) x y e = let rows : row_of c ≡ row_of d = cc in
     ap command.Row (one_row c d x y rows)
 same-command (command.Row c) (command.Entries t q) x y e = absurd cc
+same-command (command.Row c) (command.Import g) x y e = absurd cc
 same-command (command.Entries s r) (command.Row d) x y e = absurd cc
+same-command (command.Entries s r) (command.Import g) x y e = absurd cc
+same-command (command.Import f) (command.Row d) x y e = absurd cc
+same-command (command.Import f) (command.Entries t q) x y e = absurd cc
+same-command (command.Import f) (command.Import g) x y e = let texts : text f ≡ text g = cc in
+    one_forest f g x y texts
 same-command (command.Entries s r) (command.Entries t q) x y e =
     let source : s ≡ t = cc in
     let rows : map entry_fields r ≡ map entry_fields q = cc in
     ap (λ (n : ℕ). command.Entries n r) source ∙ ap (command.Entries t) (one_batch r q x.1 y.1 rows)
 
-pub one_command : (c d : Command) → IsSound c → IsSound d → bytes_of c ≡ bytes_of d → c ≡ d
+pub one_command : (c d : Command) → IsSound c → IsSound d → bytes_of c ≡ bytes_of d → IsOneCommand c d
 one_command c d x y e = same-command c d x y
     (one_wording (wording_of c) (wording_of d) (sound-wording c x) (sound-wording d y) e)

@@ -5,6 +5,7 @@ use Rattle.std.specs.List.{flat_map}
 use Rattle.csv.specs.Writing.{default_writer, row_text}
 use Rattle.sha2.specs.Sha256.{sha256}
 use Rattle.record_fields.specs.Words.{entry_kind_word, quality_word, sex_word}
+use Rattle.gedcom_tree.specs.Text.{text}
 use Rattle.commands.specs.Given.{GivenDate}
 use Rattle.commands.specs.Verbs.{verb_word}
 use Rattle.commands.specs.declared.entry_row.GivenMention.{GivenMention}
@@ -78,6 +79,7 @@ written (Import text) = codes "import" ++ 10 ∷ text
 abbrev pub wording_of : Command → Wording
 wording_of (command.Row c) = Row (row_of c)
 wording_of (command.Entries source rows) = Batch source (map entry_fields rows)
+wording_of (command.Import forest) = Import (text forest)
 
 abbrev pub bytes_of : Command → List ℕ
 bytes_of c = written (wording_of c)

@@ -1,6 +1,7 @@
 -- Commands as rows have them, and what bytes are written from. A rule of our own.
 use Rattle.std.specs.Prelude.{◌≡◌, ◌≢◌, ℕ, ◌≤◌, List, [], ◌∷◌, Option, Some, None}
 use Rattle.std.specs.List.{All}
+use Rattle.gedcom_tree.specs.Text.{IsForest, IsSame}
 use Rattle.commands.specs.Bytes.{Wording, Row, Batch, Import}
 use Rattle.commands.specs.Given.{GivenDate, IsGiven}
 use Rattle.commands.specs.Mentions.{IsCount}
@@ -52,10 +53,16 @@ IsSoundRow (row_command.Merge keep gone) = IsNumber keep × IsNumber gone
 IsSoundRow (row_command.Undo slip) = IsNumber slip
 IsSoundRow (row_command.Remove number) = IsNumber number
 
--- the same of any command: of a batch of entries, of its source and of each row
+-- the same of any command: of a batch of entries, of its source and of each row; the nodes of an import are a forest
 abbrev pub IsSound : Command → Type 0
 IsSound (command.Row c) = IsSoundRow c
 IsSound (command.Entries source rows) = IsNumber source × All IsSoundEntry rows
+IsSound (command.Import forest) = IsForest forest
+
+-- one command, where the numbers of the lines of an import are not looked at
+abbrev pub IsOneCommand : Command → Command → Type 0
+IsOneCommand (command.Import f) (command.Import g) = IsSame f g
+IsOneCommand c d = c ≡ d
 
 -- a row begins with the word of a verb
 abbrev pub BeginsWithVerb : List (List ℕ) → Type 0

@@ -2,6 +2,7 @@
 
 use crate::entry_row::EntryRows;
 use crate::row_command::RowCommand;
+use gedcom_tree::Forest;
 
 /// A command.
 #[derive(Drop)]
@@ -10,4 +11,6 @@ pub enum Command {
     Row(RowCommand),
     /// A batch of new register entries of a source, in the order of their rows.
     Entries { source: u32, rows: EntryRows },
+    /// The records of a file of lines, as its forest has them.
+    Import(Forest),
 }

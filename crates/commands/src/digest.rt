@@ -9,6 +9,7 @@ ghost use Rattle.commands.specs.declared.row_command.RowCommand.TheVariants as r
 use crate::command::Command;
 use crate::entry_bytes::{entries_bytes, entry_bytes};
 use crate::field::Field;
+use crate::forest_bytes::{forest_bytes, forest_digest};
 use crate::given::GivenDate;
 use crate::row_command::RowCommand;
 use crate::rows::verb_row;
@@ -17,23 +18,31 @@ use record_fields::{Quality, Sex};
 use sha2::{Digest, Sha256};
 use std::alloc::{AllocError, Global};
 
-/// The SHA-256 of the command's bytes: FIPS 180-4. Refused only for want of memory.
+/// The SHA-256 of the command's bytes: FIPS 180-4. Of an import they are not put together: each record is written for
+/// itself. Refused only for want of memory.
 pub fn command_digest(alloc: Global, command: &Command) -> Result<[u8; 32], AllocError>
     ensures { IfOk result (λ digest. digest ≡ digest_of command.now) }
 {
-    let bytes = command_bytes(alloc, command)?;
-    Ok(Sha256::digest(bytes.as_slice()))
+    match command {
+        Command::Import(forest) => forest_digest(alloc, forest),
+        _ => {
+            let bytes = command_bytes(alloc, command)?;
+            Ok(Sha256::digest(bytes.as_slice()))
+        }
+    }
 }
 
 /// The bytes of a command: of one row, its verb and its fields as a row of CSV, numbers without leading zeros and
 /// dates in canonical spelling; of a batch of entries, `entries,`, the number of its source, LF, and then each row
-/// so, without verb and source. Refused only for want of memory.
+/// so, without verb and source; of an import, `import`, LF, and then the canonical text of its forest. Refused only for
+/// want of memory.
 pub fn command_bytes(alloc: Global, command: &Command) -> Result<Vec<u8>, AllocError>
     ensures { IfOk result (λ bytes. bytes.items ≡ bytes_of command.now) }
 {
     match command {
         Command::Row(row) => row_command_bytes(alloc, row),
         Command::Entries { source, rows } => entries_bytes(alloc, *source, rows),
+        Command::Import(forest) => forest_bytes(alloc, forest),
     }
 }
 

@@ -17,6 +17,7 @@ mod entry_bytes;
 mod entry_reading;
 mod entry_row;
 mod field;
+mod forest_bytes;
 mod given;
 pub mod laws;
 mod reading;
