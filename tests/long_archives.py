@@ -3,16 +3,20 @@
     python3 tests/long_archives.py kills [ROWS [KILLS [SEED]]]
     python3 tests/long_archives.py compare 'COMMAND' [ROWS [SEED]]
     python3 tests/long_archives.py exports 'COMMAND' [ARCHIVES [SEED]]
+    python3 tests/long_archives.py imports 'COMMAND' [FILES [SEED]]
 
 `kills` gives ROWS generated rows (2,000) to `apply`, kills it KILLS times (20) at random moments and gives the same
 rows again: each answer has to be that of a run that was not stopped, and so have the tables. `compare` gives ROWS rows
 (5,000), in archives of 200 rows each, to `apply` and to a second program, which takes the same words, then drawn
 batches to `entries`, and their rows one by one to `apply`, and compares what is told. `exports` gives the rows of
-ARCHIVES archives (500) to both, and compares what they export. The last line is `N passed, M failed`.
+ARCHIVES archives (500) to both, and compares what they export. `imports` gives FILES drawn files (2,000) to both, each
+into an archive of 20 rows and again, and compares what is told and what is exported then. The last line is `N passed, M
+failed`.
 """
 
 from __future__ import annotations
 
+import collections
 import csv
 import io
 import os
@@ -25,6 +29,7 @@ sys.dont_write_bytecode = True
 
 from archives import generated, killed_and_run_again  # noqa: E402
 from harness import ROOT, Failed, Tools, difference, run  # noqa: E402
+from lineages import drawn as drawn_file  # noqa: E402
 
 EACH = 200  # rows of an archive
 BATCHES = 12  # of an archive
@@ -131,6 +136,36 @@ def exports_compared(command, archives, seed):
     return passed, failed
 
 
+def imported_by(program, seed, given):
+    """What is told of a file that is imported twice into an archive with some rows, and what is exported then."""
+    with tempfile.TemporaryDirectory() as folder:
+        file = os.path.join(folder, "ashby.db")
+        run(program, ("init", file, "--society", "Ashby"))
+        run(program, ("apply", file), generated(seed, 20), limit=600)
+        words = ("import", file, "--token", "file")
+        return [run(program, words, given, limit=600), run(program, words, given, limit=600),
+                run(program, ("export", file), b"", limit=600)]
+
+
+def imports_compared(command, files, seed):
+    """How many drawn files are taken in as by a second program, and how many are not."""
+    passed = failed = 0
+    found: collections.Counter = collections.Counter()
+    for number in range(files):
+        given = drawn_file(seed, number)
+        ours, theirs = (imported_by(program, seed * 1_000 + number, given) for program in (PARISH, command))
+        same = list(map(said, ours)) == list(map(said, theirs))
+        passed += same
+        failed += not same
+        found.update(line.partition(b": ")[2].decode() for line in ours[0].out.splitlines()[1:])
+        found[f"status {ours[0].status}"] += 1
+        if not same:
+            one, other = next(both for both in zip(ours, theirs, strict=True) if said(both[0]) != said(both[1]))
+            print(f"file {number}: {difference(other.out, one.out)} {one.err!r} {other.err!r}")
+    print(", ".join(f"{count} {what}" for what, count in sorted(found.items())))
+    return passed, failed
+
+
 def stopped(rows, kills, seed):
     try:
         killed_and_run_again(Tools(PARISH, None), seed, rows, kills)
@@ -151,6 +186,9 @@ def main():
         case ["exports", command, *numbers]:
             archives, seed = [*map(int, numbers), *(500, 1)[len(numbers) :]]
             passed, failed = exports_compared(tuple(shlex.split(command)), archives, seed)
+        case ["imports", command, *numbers]:
+            files, seed = [*map(int, numbers), *(2_000, 1)[len(numbers) :]]
+            passed, failed = imports_compared(tuple(shlex.split(command)), files, seed)
         case _:
             print(__doc__.strip())
             return 2

@@ -24,6 +24,7 @@ import archives  # noqa: E402
 import documents  # noqa: E402
 import exports  # noqa: E402
 import files  # noqa: E402
+import imports  # noqa: E402
 import layout  # noqa: E402
 import memory  # noqa: E402
 import merges  # noqa: E402
@@ -50,6 +51,7 @@ PARTS = (
     refusals,
     files,
     layout,
+    sizes, archives, imports, merges, exports, memory, properties, streams, scripts, documents, refusals, files, layout,
 )
 PIECES = "tree_pieces"
 VISITS = "visit_rows"

@@ -21,7 +21,7 @@ use Rattle.archive_commands.specs.Opening.{IsTakenUp}
 use Rattle.archive_commands.proofs.Answering.{performed_on}
 
 -- an archive that was taken up, and nothing done on it
-nothing_done : (image : Image) (s : State) → IsTakenUp image s → PerformsOn image [] s
+pub nothing_done : (image : Image) (s : State) → IsTakenUp image s → PerformsOn image [] s
 nothing_done image s taken = λ clean society c t holds is.
     let has = taken clean society c t holds is in
     ((λ none. (c, refl, has.0)), has.1)

@@ -1,5 +1,6 @@
 mod Answering
 mod Entered
 mod Exported
+mod Imported
 mod Opened
 mod Refusing

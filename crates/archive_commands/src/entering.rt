@@ -71,7 +71,7 @@ fn entries_under<S: Start, R: Read + Device>(
 }
 
 /// The word as a token, in memory of its own. 93: it is none. 1: memory was refused.
-fn token_given(alloc: Global, word: &str) -> Result<Token, RefusalKind>
+pub(crate) fn token_given(alloc: Global, word: &str) -> Result<Token, RefusalKind>
     ensures given { IfOk result (λ token. (token ≡ word.now) × IsToken word.now) }
     ensures refused { IfErr result (λ kind. (kind ≡ OutOfMemory) ⊎ ((kind ≡ BadToken) × ¬ (IsToken word.now))) }
 {

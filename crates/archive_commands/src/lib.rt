@@ -9,10 +9,12 @@
 
 mod entering;
 mod exporting;
+mod importing;
 mod opening;
 mod running;
 
 pub use entering::entries;
 pub use exporting::export;
+pub use importing::import;
 pub use opening::OpenFile;
 pub use running::{ClosedFile, apply, close, init};

@@ -39,7 +39,8 @@ pub fn a_receipt_is_kept_for_good()
 {}
 
 /// An accepted command draws the numbers from the next one of before up to that of after, each for a record or a slip,
-/// and is answered with the first of them and their count; or with 0 and 0, where it makes nothing.
+/// and is answered with the first of them and their count; or with 0 and 0, where it makes nothing. A batch of entries
+/// and an import are answered with the next number and the count also where that is 0.
 pub fn an_answer_has_the_numbers_drawn()
     ensures { (c after : Content) (command : Command) (a : Answer) → step c command ≡ Ok (after, a) → Draws c a after }
 {}
@@ -50,8 +51,8 @@ pub fn no_number_is_used_twice()
     ensures { (dones : List Done) (c after : Content) → Runs c dones after → UsesNoneAgain c after }
 {}
 
-/// A request leaves a sound archive sound, accepted or refused. Its words are what a `String` can hold: the type of a
-/// request keeps that, and here any request is meant.
+/// A request leaves a sound archive sound, accepted or refused. Its words are what a `String` can hold, and the nodes
+/// of an import are a forest: the type of a request keeps that, and here any request is meant.
 pub fn a_request_keeps_an_archive_sound()
     ensures { (c after : Content) (r : Request) (o : Result Answer Refusal)
         → HasUtf8Words r.command → IsSound c → Does c r o after → IsSound after }

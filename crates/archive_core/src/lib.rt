@@ -1,9 +1,9 @@
 //! What a request does to an archive: its command is looked at, and either refused or done once, with its answer
 //! kept under the request's token for good.
 //!
-//! It uses `archive_steps` for what each command of one row makes and `entry_batches` for what a batch of register
-//! entries does, `archive_view` and `archive_state` for the view of an archive and for what changes, `records` for what
-//! is in it, and `commands` for the commands and their digests.
+//! It uses `archive_steps` for what each command of one row makes, `entry_batches` for what a batch of register entries
+//! does and `import_steps` for an import, `archive_view` and `archive_state` for the view of an archive and for what
+//! changes, `records` for what is in it, and `commands` for the commands and their digests.
 //!
 //! Callers may rely on: `decide` over any view answers the changes that, made, are the step of the definitions, or
 //! its refusal, and changes nothing itself. `apply` makes changes on a state, all of them or none, and `step` does
@@ -17,5 +17,6 @@ mod request;
 
 pub use applying::apply;
 pub use commands::{Command, Field, GivenDate, RowCommand};
+pub use gedcom_tree::Forest;
 pub use machine::{decide, step};
 pub use request::Request;

@@ -19,6 +19,7 @@ use archive_steps::decide_row;
 use archive_view::View;
 use commands::{Command, command_digest};
 use entry_batches::decide_entries;
+use import_steps::decide_import;
 use records::{Refusal, RefusalKind};
 use std::alloc::Global;
 
@@ -46,8 +47,10 @@ fn decide_over(alloc: Global, state: &State, request: &Request) -> Result<Change
 /// has empty parts alone), then what is the command's own (`SamePerson`, `AlreadyInFamily`, `NotOfKind`), and last
 /// whether a number is left (`Full`). Of a batch of register entries the source is looked at first, and then each row
 /// so, behind the rows before it: the first refusal is the batch's, with the place of its row, and the source's has
-/// none. The stops may come in place of any answer: `OutOfMemory`, and where a look of the view fails `BadStored` and
-/// `Storage`. Whatever it answers, the words of the request are UTF-8, by the type of the request.
+/// none. Of an import it is first whether two entries of the file have one key (`DuplicateEntry`, at the line of the
+/// second), and then whether there are numbers for all that it makes, and a next one (`Full`). The stops may come in
+/// place of any answer: `OutOfMemory`, and where a look of the view fails `BadStored` and `Storage`. Whatever it
+/// answers, the words of the request are UTF-8, and the nodes of an import a forest, by the type of the request.
 pub fn decide<V: View>(alloc: Global, view: &mut V, request: &Request) -> Result<Changes, Refusal>
     ensures decides { On V.View view.old view.new (λ c. Decides c result (outcome c request.now)) }
     ensures exact { On V.View view.old view.new (λ c. IfOk result (IsExactFor c request.now)) }
@@ -122,6 +125,7 @@ fn decide_command<V: View>(
         Command::Entries { source, rows } => {
             decide_entries(alloc, view, *source, rows.as_slice())
         }
+        Command::Import(forest) => decide_import(alloc, view, forest),
     }
 }
 

@@ -6,6 +6,7 @@ use archive_state::Token;
 use archive_steps::tell_row;
 use commands::Command;
 use entry_batches::tell_entries;
+use import_steps::tell_forest;
 
 /// A command, with the token under which its answer is kept.
 #[derive(Drop)]
@@ -14,12 +15,13 @@ pub struct Request {
     pub command: Command,
 }
 
-/// Does nothing: it tells a proof that the words of a command are UTF-8.
+/// Does nothing: it tells a proof that the words of a command are UTF-8, and that the nodes of an import are a forest.
 pub(crate) fn tell_words(command: &Command)
     ensures { HasUtf8Words command.now }
 {
     match command {
         Command::Row(row) => tell_row(row),
         Command::Entries { rows, .. } => tell_entries(rows.as_slice()),
+        Command::Import(forest) => tell_forest(forest),
     }
 }

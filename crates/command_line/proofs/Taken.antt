@@ -87,37 +87,39 @@ built_has a held words r h =
     let stop = (walk a.top.rules (names_of a) held words).stopped in
     level_has a.top (names_of a) held words (is_some (entered a stop)) (entered_fault a stop) r h
 
--- the one of six subcommands that is entered
-abbrev one_in : Bool → Bool → Bool → Bool → Bool → Bool → Shape → Shape → Shape → Shape → Shape → Shape
+-- the one of seven subcommands that is entered
+abbrev one_in : Bool → Bool → Bool → Bool → Bool → Bool → Bool → Shape → Shape → Shape → Shape → Shape → Shape → Shape
     → Option Shape
-one_in a b c d e f s t u v w x =
-    cond a (Some s) (cond b (Some t) (cond c (Some u) (cond d (Some v) (cond e (Some w) (cond f (Some x) None)))))
+one_in a b c d e f g s t u v w x y =
+    cond a (Some s) (cond b (Some t) (cond c (Some u) (cond d (Some v) (cond e (Some w) (cond f (Some x)
+    (cond g (Some y) None))))))
 
-abbrev pub IsOneOf : Option Text → Text → Text → Text → Text → Text → Text → Type 0
-IsOneOf o s t u v w x =
-    (o ≡ Some s) ⊎ ((o ≡ Some t) ⊎ ((o ≡ Some u) ⊎ ((o ≡ Some v) ⊎ ((o ≡ Some w) ⊎ (o ≡ Some x)))))
+abbrev pub IsOneOf : Option Text → Text → Text → Text → Text → Text → Text → Text → Type 0
+IsOneOf o s t u v w x y =
+    (o ≡ Some s) ⊎ ((o ≡ Some t) ⊎ ((o ≡ Some u) ⊎ ((o ≡ Some v) ⊎ ((o ≡ Some w) ⊎ ((o ≡ Some x) ⊎ (o ≡ Some y))))))
 
-one_of : (a b c d e f : Bool) (s t u v w x : Shape) (words : List Text)
-    → is_some (option_map (λ (y : Shape). rows_at y words) (one_in a b c d e f s t u v w x)) ≡ true
-    → IsOneOf (option_map (λ g. g.0) (option_map (λ (y : Shape). rows_at y words) (one_in a b c d e f s t u v w x)))
-    s.name t.name u.name v.name w.name x.name
-one_of true b c d e f s t u v w x words h = inl refl
-one_of false true c d e f s t u v w x words h = inr (inl refl)
-one_of false false true d e f s t u v w x words h = inr (inr (inl refl))
-one_of false false false true e f s t u v w x words h = inr (inr (inr (inl refl)))
-one_of false false false false true f s t u v w x words h = inr (inr (inr (inr (inl refl))))
-one_of false false false false false true s t u v w x words h = inr (inr (inr (inr (inr refl))))
-one_of false false false false false false s t u v w x words h = absurd cc
+one_of : (a b c d e f g : Bool) (s t u v w x y : Shape) (words : List Text)
+    → is_some (option_map (λ (z : Shape). rows_at z words) (one_in a b c d e f g s t u v w x y)) ≡ true
+    → IsOneOf (option_map (λ r. r.0) (option_map (λ (z : Shape). rows_at z words)
+    (one_in a b c d e f g s t u v w x y))) s.name t.name u.name v.name w.name x.name y.name
+one_of true b c d e f g s t u v w x y words h = inl refl
+one_of false true c d e f g s t u v w x y words h = inr (inl refl)
+one_of false false true d e f g s t u v w x y words h = inr (inr (inl refl))
+one_of false false false true e f g s t u v w x y words h = inr (inr (inr (inl refl)))
+one_of false false false false true f g s t u v w x y words h = inr (inr (inr (inr (inl refl))))
+one_of false false false false false true g s t u v w x y words h = inr (inr (inr (inr (inr (inl refl)))))
+one_of false false false false false false true s t u v w x y words h = inr (inr (inr (inr (inr (inr refl)))))
+one_of false false false false false false false s t u v w x y words h = absurd cc
 
 entered_one : (stop : Option (Text × List Text)) → is_some (entered (built program) stop) ≡ true
     → IsOneOf (option_map (λ f. f.0) (entered (built program) stop)) (codes "norm") (codes "check") (codes "init")
-    (codes "apply") (codes "entries") (codes "export")
+    (codes "apply") (codes "entries") (codes "import") (codes "export")
 entered_one None h = absurd cc
-entered_one (Some p) h = one_of _ _ _ _ _ _ _ _ _ _ _ _ p.1 h
+entered_one (Some p) h = one_of _ _ _ _ _ _ _ _ _ _ _ _ _ _ p.1 h
 
 -- words that are taken name a command
 pub taken_names : (words : List Text) → fault_of program words ≡ [] → IsOneOf (command_named words) (codes "norm")
-    (codes "check") (codes "init") (codes "apply") (codes "entries") (codes "export")
+    (codes "check") (codes "init") (codes "apply") (codes "entries") (codes "import") (codes "export")
 taken_names words h =
     let a = built program in
     let ws = argument_words program words in

@@ -27,7 +27,7 @@ use Rattle.clap.specs.ValueTests.{is_unsigned_in}
 use Rattle.clap.specs.declared.builder.action.ArgAction.TheVariants.{Set}
 use Rattle.clap.specs.declared.builder.value_parser.ValueParser.TheVariants.{Unsigned}
 use Rattle.command_line.specs.declared.reading.Asked.{Asked}
-use Rattle.command_line.specs.declared.reading.Asked.TheVariants.{Apply, Check, Entries, Export, Init, Norm}
+use Rattle.command_line.specs.declared.reading.Asked.TheVariants.{Apply, Check, Entries, Export, Import, Init, Norm}
 use Rattle.command_line.specs.declared.reading.Refused.{Refused}
 use Rattle.command_line.specs.declared.reading.Refused.TheVariants.{OutOfMemory}
 
@@ -83,6 +83,9 @@ apply_shape = record (new_shape (codes "apply")) { rules = file_rule ∷ [] }
 abbrev pub entries_shape : Shape
 entries_shape = record (new_shape (codes "entries")) { rules = file_rule ∷ source_rule ∷ token_rule ∷ [] }
 
+abbrev pub import_shape : Shape
+import_shape = record (new_shape (codes "import")) { rules = file_rule ∷ token_rule ∷ [] }
+
 abbrev pub export_shape : Shape
 export_shape = record (new_shape (codes "export")) { rules = file_rule ∷ [] }
 
@@ -94,9 +97,9 @@ with_streams_alone = with_subcommand (with_subcommand bare (new_shape (codes "no
 abbrev pub with_rows : App
 with_rows = with_subcommand (with_subcommand (with_subcommand with_streams_alone init_shape) apply_shape) entries_shape
 
--- the program with its commands
+-- the program with its commands: beside these those that take in and give out a file of lines
 abbrev pub program : App
-program = with_subcommand with_rows export_shape
+program = with_subcommand (with_subcommand with_rows import_shape) export_shape
 
 -- the command that words name, the program's name being the first
 abbrev pub command_named : List Text → Option Text
@@ -109,6 +112,7 @@ name_of Check = Some (codes "check")
 name_of (Init file society) = Some (codes "init")
 name_of (Apply file) = Some (codes "apply")
 name_of (Entries file source token) = Some (codes "entries")
+name_of (Import file token) = Some (codes "import")
 name_of (Export file) = Some (codes "export")
 name_of _ = None
 
@@ -128,6 +132,8 @@ HasWords found (Apply file) = file.now ≡ word_in found (codes "FILE")
 HasWords found (Entries file source token) =
     (file.now ≡ word_in found (codes "FILE")) × (source ≡ number_of (word_in found (codes "source")))
     × (token.now ≡ word_in found (codes "token"))
+HasWords found (Import file token) = (file.now ≡ word_in found (codes "FILE"))
+    × (token.now ≡ word_in found (codes "token"))
 HasWords found (Export file) = file.now ≡ word_in found (codes "FILE")
 HasWords found _ = ⊤
 
@@ -139,6 +145,11 @@ IsTaken words = fault_of program words ≡ []
 abbrev pub batch_words : Text → List Text
 batch_words name =
     name ∷ codes "entries" ∷ codes "ashby.db" ∷ codes "--source" ∷ codes "3" ∷ codes "--token" ∷ codes "page-12" ∷ []
+
+-- the example in the help of `import`, under any name of the program
+abbrev pub import_words : Text → List Text
+import_words name =
+    name ∷ codes "import" ∷ codes "ashby.db" ∷ codes "--token" ∷ codes "first-file" ∷ []
 
 -- work is asked for only by words that are taken, that name its command, and that it has
 abbrev pub Asks : List Text → Asked → Type 0

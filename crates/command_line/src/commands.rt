@@ -9,6 +9,7 @@ ghost use Rattle.command_line.specs.Commands.{
   entries_shape,
   export_shape,
   file_rule,
+  import_shape,
   init_shape,
   program,
   society_rule,
@@ -155,6 +156,33 @@ do; so it does of the others: 1, 40, 80, 82, 83, 94 and 95.
 Example:
   parish entries ashby.db --source 3 --token page-12 < page12.csv";
 
+const IMPORT_ABOUT: &str = "Take the GEDCOM file of standard input into the archive";
+
+const IMPORT_EXAMPLE: &str = "\
+The file is taken in whole or not at all: at a refusal nothing is. It prints
+`imported <count> records, first <first>` once all is kept in FILE, then a line
+`line <n>: <word>` for each line of the file that was not taken as it stood.
+Who sends the same file again under T gets the same, and nothing is done twice.
+
+Words of the report:
+  dangling       its pointer names no record of the file: the line is dropped
+  one-sided      a family and a person do not both name the other: dropped
+  doubled        the same is said by a line before it: dropped
+  value dropped  the record stands, the value of its first line does not
+
+Refusals, with `at line <n>` where a line of the file is to blame:
+  10 to 15, 20 to 30  the file is no GEDCOM file that is read: try `check`
+  52 TokenReused      T is kept with another file or request
+  60 DuplicateEntry   two register entries of one source, kind, page and item
+  63 Full             no number is left
+  93 BadToken         T is none
+docs/REFUSALS.md, beside the source of parish, says when each comes and what to
+do; so it does of the others: 1, 40, 80, 82, 83, 94 and 95. docs/KEEPING.md says
+how to move in from another program.
+
+Example:
+  parish import ashby.db --token first-file < family.ged";
+
 const EXPORT_ABOUT: &str = "Write the archive as a GEDCOM 5.5.1 file";
 
 const EXPORT_EXAMPLE: &str = "\
@@ -180,7 +208,7 @@ const SOCIETY_HELP: &str = "The name of the society";
 
 const SOURCE_HELP: &str = "The number of the register's source, 1 to 4294967295";
 
-const TOKEN_HELP: &str = "The token of the batch: 1 to 64 characters from `!` to `~`";
+const TOKEN_HELP: &str = "The token of the request: 1 to 64 characters from `!` to `~`";
 
 /// The most that the number of a record can be.
 const MOST_NUMBER: u64 = 4_294_967_295;
@@ -262,7 +290,7 @@ fn source_arg<'a>(alloc: Global) -> Arg<'a>
         .value_parser(ValueParser::unsigned(1, MOST_NUMBER))
 }
 
-/// The token of a batch, which has to be given.
+/// The token of a request, which has to be given.
 fn token_arg<'a>(alloc: Global) -> Arg<'a>
     ensures rule { rule_of result ≡ token_rule }
     ensures local { result.global ≡ false }
@@ -284,6 +312,17 @@ fn entries_command<'a>(alloc: Global) -> Result<Command<'a>, AllocError>
         .after_help(ENTRIES_EXAMPLE)
         .arg(file_arg(alloc))?
         .arg(source_arg(alloc))?
+        .arg(token_arg(alloc))
+}
+
+fn import_command<'a>(alloc: Global) -> Result<Command<'a>, AllocError>
+    ensures shape { IfOk result (λ c. shape_of c ≡ import_shape) }
+    ensures local { IfOk result (λ c. (out-Command c).has_globals ≡ false) }
+{
+    Command::new(alloc, "import")
+        .about(IMPORT_ABOUT)
+        .after_help(IMPORT_EXAMPLE)
+        .arg(file_arg(alloc))?
         .arg(token_arg(alloc))
 }
 
@@ -338,6 +377,7 @@ fn with_rows<'a>(alloc: Global) -> Result<Command<'a>, AllocError>
 pub(crate) fn parish_command<'a>(alloc: Global) -> Result<Command<'a>, AllocError>
     ensures { IfOk result (λ c. app_of c ≡ program) }
 {
+    let import = import_command(alloc)?;
     let export = export_command(alloc)?;
-    with_rows(alloc)?.subcommand(export)
+    with_rows(alloc)?.subcommand(import)?.subcommand(export)
 }

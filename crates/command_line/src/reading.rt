@@ -32,6 +32,12 @@ pub enum Asked<'a> {
         source: u32,
         token: &'a str,
     },
+    /// `import`: the file of standard input taken into the archive in a file, under a token, and its report on standard
+    /// output. The token may be any word.
+    Import {
+        file: &'a str,
+        token: &'a str,
+    },
     /// `export`: the archive in a file as a GEDCOM file, on standard output.
     Export {
         file: &'a str,
@@ -87,6 +93,7 @@ fn command_found<'a>(alloc: Global, found: &ArgMatches<'a>) -> Result<Asked<'a>,
     ensures init { subcommand_name_of found.now ≡ Some (codes "init") → AsksForWork result }
     ensures apply { subcommand_name_of found.now ≡ Some (codes "apply") → AsksForWork result }
     ensures entries { subcommand_name_of found.now ≡ Some (codes "entries") → AsksForWork result }
+    ensures import { subcommand_name_of found.now ≡ Some (codes "import") → AsksForWork result }
     ensures export { subcommand_name_of found.now ≡ Some (codes "export") → AsksForWork result }
 {
     match found.subcommand() {
@@ -108,6 +115,7 @@ fn command_named<'a>(
     ensures init { name.now ≡ codes "init" → AsksForWork result }
     ensures apply { name.now ≡ codes "apply" → AsksForWork result }
     ensures entries { name.now ≡ codes "entries" → AsksForWork result }
+    ensures import { name.now ≡ codes "import" → AsksForWork result }
     ensures export { name.now ≡ codes "export" → AsksForWork result }
 {
     match name {
@@ -123,6 +131,10 @@ fn command_named<'a>(
         "entries" => Ok(Asked::Entries {
             file: word_of(given, "FILE"),
             source: number_of(word_of(given, "source")),
+            token: word_of(given, "token"),
+        }),
+        "import" => Ok(Asked::Import {
+            file: word_of(given, "FILE"),
             token: word_of(given, "token"),
         }),
         "export" => Ok(Asked::Export {

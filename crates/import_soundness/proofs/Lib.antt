@@ -1,4 +1,4 @@
-mod Drawn
+pub mod Drawn
 mod Standing
 mod Lists
 mod Fine
@@ -34,7 +34,7 @@ mod RenamedTexts
 mod Targets
 mod Judging
 mod Keys
-mod Whole
+pub mod Whole
 mod EntryLines
 mod LinksMet
 mod Said

@@ -185,13 +185,12 @@ module _ (m : Records) (ns : List ℕ) (asc : Ascends ns) (all : HasAll ns m) wh
 
     is_too_long_at : (path : List ℕ) → path_with (get_or ns i 0) (get paths) (get m (get_or ns i 0)) ≡ Some path
         → is_within_limits path ≡ false → IsTooLong m (get_or ns i 0)
-    is_too_long_at path e fits =
-        (
-          path,
-          (path_known m (get_or ns i 0) path).1 (sym here ∙ e),
-          λ w. let both : true ≡ false = sym ((limits path).1 w) ∙ fits in
-              absurd cc,
-        )
+    is_too_long_at path e fits = (
+      path,
+      (path_known m (get_or ns i 0) path).1 (sym here ∙ e),
+      λ w. let both : true ≡ false = sym ((limits path).1 w) ∙ fits in
+          absurd cc,
+    )
 
   pub all_known : (paths : PathMap) → Upto m ns paths → KnowsPaths m paths
   all_known paths h n = h.known n ∙ elim (is_in ns n) as (λ b. is_in ns n ≡ b

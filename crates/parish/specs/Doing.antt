@@ -10,7 +10,7 @@ use Rattle.sqlite_wal.specs.Recovery.{Image}
 use Rattle.devices.specs.Devices.{Rose}
 use Rattle.devices.specs.declared.device.Device as device
 use Rattle.batch_reading.specs.Input.{row_bytes}
-use Rattle.parish.specs.Ends.{ApplyEnds, CheckEnds, EntriesEnds, ExportEnds, NormEnds}
+use Rattle.parish.specs.Ends.{ApplyEnds, CheckEnds, EntriesEnds, ExportEnds, ImportEnds, NormEnds}
 
 module _ {R W : Type 0} (reader : read.Ghosts R) (reads : device.Ghosts R) (writer : write.Ghosts W)
     (writes : device.Ghosts W) where
@@ -48,3 +48,10 @@ module _ {R W : Type 0} (reader : read.Ghosts R) (reads : device.Ghosts R) (writ
   EntersBatch image token source status input rest output written left = EntriesEnds image token source status
       (row_bytes (reader.remaining input))
       (writer.contents output) (writer.contents written) (HasReadFailed input rest) (HasWriteFailed output written) left
+
+  -- a file under this token
+  abbrev pub ImportsFile : {D : Type 0} {g : disk.Ghosts D} → Image → List ℕ → ℕ → R → R → W → W
+      → Option (Held (FileStore D g)) → Type 0
+  ImportsFile image token status input rest output written left =
+      ImportEnds image token status (reader.remaining input) (writer.contents output) (writer.contents written)
+      (HasReadFailed input rest) (HasWriteFailed output written) left

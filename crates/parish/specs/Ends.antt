@@ -1,5 +1,22 @@
 -- How a command ends.
-use Rattle.std.specs.Prelude.{◌≡◌, ◌⊎◌, ◌++◌, ◌∷◌, ◌≤◌, [], ℕ, List, Option, None, Some, IfSome, Ok, Err, codes}
+use Rattle.std.specs.Prelude.{
+  ◌≡◌,
+  ◌⊎◌,
+  ◌++◌,
+  ◌∷◌,
+  ◌≤◌,
+  [],
+  ℕ,
+  List,
+  Option,
+  None,
+  Some,
+  IfSome,
+  Result,
+  Ok,
+  Err,
+  codes,
+}
 use Rattle.std.specs.Fmt.{decimal}
 use Rattle.std.specs.Io.KnownBytes.{Appends, Keeps}
 use Rattle.clap.specs.Words.{subcommand_of}
@@ -10,6 +27,7 @@ use Rattle.sqlite_wal.specs.Recovery.{Image}
 use Rattle.archive_commands.specs.Applying.{Answered, Unanswered}
 use Rattle.archive_commands.specs.Entering.{Entered, Unentered}
 use Rattle.archive_commands.specs.Exporting.{Exported, Unexported}
+use Rattle.archive_commands.specs.Importing.{ImportedAll, Unimported}
 use Rattle.archive_commands.specs.Made.{IsMadeIn, Unmade}
 use Rattle.command_line.specs.Commands.{IsTaken, command_named, number_of, program, word_in}
 use Rattle.devices.specs.Devices.{AppendsBeginning}
@@ -22,6 +40,8 @@ use Rattle.record_text.specs.declared.refusal.RefusalKind.{RefusalKind}
 use Rattle.record_text.specs.declared.refusal.Refusal.{Refusal}
 use Rattle.record_text.specs.declared.refusal.RefusalKind.TheVariants.{OutOfMemory, WriteFailed}
 use Rattle.receipts.specs.declared.answer.Answer.{Answer}
+use Rattle.receipts.specs.declared.report.ReportLine.{ReportLine}
+use Rattle.file_imports.specs.Telling.{import_text}
 use Rattle.batch_reading.specs.Batches.{placeless}
 use Rattle.store.specs.Histories.{Outcome}
 
@@ -33,7 +53,7 @@ AreOf words name = IsTaken words × (command_named words ≡ Some name)
 abbrev pub society_in : List (List ℕ) → List ℕ
 society_in words = word_in (subcommand_of program words) (codes "society")
 
--- the token that they name for `entries`, and the source
+-- the token that they name for `entries` or `import`, and the source
 abbrev pub token_in : List (List ℕ) → List ℕ
 token_in words = word_in (subcommand_of program words) (codes "token")
 
@@ -106,6 +126,30 @@ IsUntoldBatch outcome e old new WriterFailed =
 abbrev pub IsToldBatch : Outcome → Option (List ℕ) → Option (List ℕ) → Type 0
 IsToldBatch outcome old new = (answer : Answer) × (outcome ≡ Ok answer) × Appends old new (made_text answer)
 
+-- ---- what is told of an import
+-- of its lines the writer got a beginning
+pub record TellsPartOfImport (answer : Answer) (said : List ReportLine) (e : Refusal) (old new : Option (List ℕ))
+    (WriterFailed : Type 0) : Type 0 where
+  pub why : IsUnwritten WriterFailed e
+  pub written : AppendsBeginning old new (import_text answer said)
+
+-- what an import answers, with the report
+abbrev pub Reported : Type 0
+Reported = Result (Answer × List ReportLine) Refusal
+
+-- why the lines of an import were not told: it was refused so, and nothing is written; or a beginning of them is
+abbrev pub IsUntoldImport : Reported → Refusal → Option (List ℕ) → Option (List ℕ) → Type 0 → Type 0
+IsUntoldImport outcome e old new WriterFailed =
+    ((outcome ≡ Err e) × Keeps old new)
+    ⊎ ((answer : Answer) × (said : List ReportLine) × (outcome ≡ Ok (answer, said))
+    × TellsPartOfImport answer said e old new WriterFailed)
+
+-- the file was imported, and its lines were told
+abbrev pub IsToldImport : Reported → Option (List ℕ) → Option (List ℕ) → Type 0
+IsToldImport outcome old new =
+    (answer : Answer) × (said : List ReportLine) × (outcome ≡ Ok (answer, said))
+    × Appends old new (import_text answer said)
+
 module _ {D : Type 0} {g : disk.Ghosts D} where
   -- ---- init
   -- 0 where the file that was opened has the new archive of this society, 1 where there is a reason why none was made
@@ -151,3 +195,16 @@ module _ {D : Type 0} {g : disk.Ghosts D} where
     pub refused : status ≡ 1 → (e : Refusal) × ((Unentered image token source input e ReaderFailed left × Keeps old new)
         ⊎ ((answer : Answer) × Entered image token source input (Ok answer) left
         × TellsPart answer e old new WriterFailed))
+
+  -- ---- import
+  -- 0 where the input is a file that was imported into the archive that the opened file held, and what was made and the
+  -- report were told. 1 where there is a reason why it was not, and nothing is written; or where it was, and of what is
+  -- told a beginning was written
+  pub record ImportEnds (image : Image) (token : List ℕ) (status : ℕ) (input old new : Option (List ℕ))
+      (ReaderFailed WriterFailed : Type 0) (left : Option (Held (FileStore D g))) : Type 0 where
+    pub bound : status ≤ 1
+    pub done : status ≡ 0 → (answer : Answer) × (said : List ReportLine)
+        × ImportedAll image token input answer said left × Appends old new (import_text answer said)
+    pub refused : status ≡ 1 → (e : Refusal) × ((Unimported image token input e ReaderFailed left × Keeps old new)
+        ⊎ ((answer : Answer) × (said : List ReportLine) × ImportedAll image token input answer said left
+        × TellsPartOfImport answer said e old new WriterFailed))

@@ -22,12 +22,13 @@ ghost use Rattle.command_line.specs.Commands.{HasWords, IsTaken, name_of, number
 ghost use Rattle.devices.specs.Devices.{AppendsBeginning, Rose};
 ghost use Rattle.gedcom_rules.specs.Views.{fault_view};
 ghost use Rattle.gedcom_tree.specs.Streams.{NotWritten};
-ghost use Rattle.parish.specs.Doing.{Applies, Checks, EntersBatch, Exports, Normalises};
+ghost use Rattle.parish.specs.Doing.{Applies, Checks, EntersBatch, Exports, ImportsFile, Normalises};
 ghost use Rattle.parish.specs.Ends.{AreOf, InitEnds, Told, Untold, society_in, source_in, token_in};
 
 use crate::batches::entered;
+use crate::imports::imported;
 use crate::telling::{refuse, refuse_words, status_of};
-use archive_commands::{OpenFile, apply, entries, export, init};
+use archive_commands::{OpenFile, apply, entries, export, import, init};
 use command_line::{Asked, Refused, read_words};
 use gedcom_tree::{
     Device, TransferError, TreeFault, TreeKind, normalise, read_forest, write_bytes,
@@ -81,6 +82,9 @@ pub fn command<S: Start, R: Read + Device, W: Write + Device, F: Write + Device>
         → EntersBatch R.Read R.Device W.Write W.Device (image_at S.Start) (token_in (map string_bytes words.now))
         (source_in (map string_bytes words.now))
         result.0 input.old input.new output.old output.new result.1 }
+    ensures import { AreOf (map string_bytes words.now) (codes "import")
+        → ImportsFile R.Read R.Device W.Write W.Device (image_at S.Start) (token_in (map string_bytes words.now))
+        result.0 input.old input.new output.old output.new result.1 }
     ensures export { AreOf (map string_bytes words.now) (codes "export")
         → Exports R.Read R.Device W.Write W.Device (image_at S.Start) result.0 output.old output.new result.1
         × (input.new ≡ input.old) }
@@ -121,6 +125,9 @@ fn work<S: Start, R: Read + Device, W: Write + Device, F: Write + Device>(
         → EntersBatch R.Read R.Device W.Write W.Device (image_at S.Start) (word_in found (codes "token"))
         (number_of (word_in found (codes "source")))
         result.0 input.old input.new output.old output.new result.1 }
+    ensures import { (found : _) → HasWords found asked.entry → name_of asked.entry ≡ Some (codes "import")
+        → ImportsFile R.Read R.Device W.Write W.Device (image_at S.Start) (word_in found (codes "token"))
+        result.0 input.old input.new output.old output.new result.1 }
     ensures export { name_of asked.entry ≡ Some (codes "export")
         → Exports R.Read R.Device W.Write W.Device (image_at S.Start) result.0 output.old output.new result.1
         × (input.new ≡ input.old) }
@@ -144,6 +151,12 @@ fn work<S: Start, R: Read + Device, W: Write + Device, F: Write + Device>(
         } => entered(
             rt.alloc(),
             entries(rt, file, token, source, start, input),
+            output,
+            faults,
+        ),
+        Asked::Import { file, token } => imported(
+            rt.alloc(),
+            import(rt, file, token, start, input),
             output,
             faults,
         ),

@@ -9,6 +9,7 @@ ghost use Rattle.archive_commands.specs.Closing.{IsClosedOver};
 
 mod batches;
 mod command;
+mod imports;
 mod telling;
 
 use archive_commands::{ClosedFile, OpenFile, close};

@@ -25,7 +25,6 @@ pub(crate) fn has_numbers(next: u64, number: u32, slip: &Slip) -> bool
         && changes_are_below(next, &slip.changes)
 }
 
-
 fn is_below(number: u32, next: u64) -> bool
     ensures { IsTrue result ↔ IsNumber next number }
 {

@@ -110,9 +110,11 @@ module _ (may_miss : Bool) (m : Records) where
       → IsUnmet may_miss m (l ∷ ls) k) [
         | true ↦ λ is rest. let h = one_unmet ls k rest in (inr h.0, h.1)
         | false ↦ λ is found.
-            let same : l ≡ k = cc in
-            (inl same, subst (λ x. ¬ (Meets may_miss m x)) same
-            (λ h. true≢false (sym ((decides may_miss m l).1 h) ∙ is)))
+            let same : l ≡ k = cc in (
+              inl same,
+              subst (λ x. ¬ (Meets may_miss m x)) same
+                  (λ h. true≢false (sym ((decides may_miss m l).1 h) ∙ is)),
+            )
       ] refl e
 
   pub first_says : (ls : List Link) (r : Option Unmet) → option_map link_of r ≡ first_unmet may_miss m ls

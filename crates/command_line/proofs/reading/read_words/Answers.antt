@@ -65,7 +65,8 @@ returns-in-Ok-clause-taken c = λ taken.
       | inr (inr (inl n)) ↦ c.command_found.ensures.init (name ∙ n)
       | inr (inr (inr (inl n))) ↦ c.command_found.ensures.apply (name ∙ n)
       | inr (inr (inr (inr (inl n)))) ↦ c.command_found.ensures.entries (name ∙ n)
-      | inr (inr (inr (inr (inr n)))) ↦ c.command_found.ensures.export (name ∙ n)
+      | inr (inr (inr (inr (inr (inl n))))) ↦ c.command_found.ensures.import (name ∙ n)
+      | inr (inr (inr (inr (inr (inr n))))) ↦ c.command_found.ensures.export (name ∙ n)
     ]
 
 pub returns-in-Err-clause-taken : goal.returns-in-Err-clause-taken

@@ -4,6 +4,7 @@ use Rattle.clap.specs.Words.{subcommand_of}
 use Rattle.command_line.specs.Commands.{IsTaken, command_named, name_of, program}
 use Rattle.parish.specs.Ends.{AreOf}
 use Rattle.parish.proofs.Entered.{entries_wanting}
+use Rattle.parish.proofs.Imported.{import_wanting}
 use Rattle.parish.proofs.Ending.{apply_wanting, check_wanting, export_wanting, init_wanting, norm_wanting}
 use Rattle.parish.proofs.command.command.Goals as goal
 
@@ -63,6 +64,13 @@ returns-in-Ok-clause-entries g c = λ are.
     c.work.ensures.entries (subcommand_of program words) asked.asked.1
     (asked_as (name_of c.in-Ok.asked) words (codes "entries") (asked.taken are.0) asked.asked.0 are.1)
 
+pub returns-in-Ok-clause-import : goal.returns-in-Ok-clause-import
+returns-in-Ok-clause-import g c = λ are.
+    let asked = c.in-Ok.ensures in
+    let words = map string_bytes c.args.words.now in
+    c.work.ensures.import (subcommand_of program words) asked.asked.1
+    (asked_as (name_of c.in-Ok.asked) words (codes "import") (asked.taken are.0) asked.asked.0 are.1)
+
 pub returns-in-Ok-clause-export : goal.returns-in-Ok-clause-export
 returns-in-Ok-clause-export g c = λ are.
     let asked = c.in-Ok.ensures in
@@ -100,6 +108,9 @@ returns-clause-init g c = λ words. (init_wanting _ _ c.refuse.result c.refuse.e
 
 pub returns-clause-entries : goal.returns-clause-entries
 returns-clause-entries g c = λ words. entries_wanting _ _ _ c.refuse.result _ _ _ _ c.refuse.ensures
+
+pub returns-clause-import : goal.returns-clause-import
+returns-clause-import g c = λ words. import_wanting _ _ c.refuse.result _ _ _ _ c.refuse.ensures
 
 pub returns-clause-export : goal.returns-clause-export
 returns-clause-export g c = λ words. (export_wanting _ c.refuse.result _ _ c.refuse.ensures, refl)

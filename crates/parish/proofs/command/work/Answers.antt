@@ -2,6 +2,7 @@ use Rattle.std.proofs.Common.{ap, refl, subst}
 use Rattle.sqlite_wal.specs.Files.{image_at}
 use Rattle.command_line.specs.Commands.{HasWords, name_of}
 use Rattle.parish.proofs.Entered.{entries_ends}
+use Rattle.parish.proofs.Imported.{import_ends}
 use Rattle.parish.proofs.Ending.{apply_ends, export_ends, init_ends}
 use Rattle.parish.proofs.command.work.Goals as goal
 
@@ -35,6 +36,14 @@ returns-in-Entries-clause-entries g c = λ found has _.
     entries_ends (image_at g.S.Start) c.entries.result.0 _ _ _ _ c.entered.result.0 _ _ _ _ _ c.entries.result.1
     c.entered.result.1 words.2 words.1 ended.left ended.status
     did.entered did.refused ended.told ended.untold
+
+pub returns-in-Import-clause-import : goal.returns-in-Import-clause-import
+returns-in-Import-clause-import g c = λ found has _.
+    let words = subst (HasWords found) c.in-Import.is has in
+    let did = c.import.ensures in
+    let ended = c.imported.ensures in
+    import_ends (image_at g.S.Start) c.import.result.0 _ _ c.imported.result.0 _ _ _ _ _ c.import.result.1
+    c.imported.result.1 words.1 ended.left ended.status did.imported did.refused ended.told ended.untold
 
 pub returns-in-Export-clause-export : goal.returns-in-Export-clause-export
 returns-in-Export-clause-export g c = λ _.

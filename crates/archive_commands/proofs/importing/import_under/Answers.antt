@@ -1,0 +1,27 @@
+use Rattle.std.proofs.Common.{ap, inl, inr, subst, sym}
+use Rattle.sqlite_wal.specs.Files.{image_at}
+use Rattle.record_text.specs.declared.refusal.Refusal.{Refusal}
+use Rattle.archive_commands.specs.Opening.{Unopened}
+use Rattle.archive_commands.proofs.Imported.{all_imported, none_imported}
+use Rattle.archive_commands.proofs.importing.import_under.Goals as goal
+
+pub returns-in-Ok-clause-imported : goal.returns-in-Ok-clause-imported
+returns-in-Ok-clause-imported g c =
+    let taken = c.in-Ok.ensures.opened in
+    all_imported _ _ _ c.requires.word c.in-Ok.archive c.import-outcome.new.archive c.into_connection.result taken.0
+    taken.1 c.into_connection.ensures c.import-outcome.result c.import-outcome.ensures.imported
+
+pub returns-in-Ok-clause-refused : goal.returns-in-Ok-clause-refused
+returns-in-Ok-clause-refused g c =
+    let taken = c.in-Ok.ensures.opened in
+    none_imported _ _ _ c.requires.word c.in-Ok.archive c.import-outcome.new.archive c.into_connection.result taken.0
+    taken.1 c.into_connection.ensures c.import-outcome.result _ c.import-outcome.ensures.refused
+
+pub returns-in-Err-clause-refused : goal.returns-in-Err-clause-refused
+returns-in-Err-clause-refused g c =
+    let is = sym c.from.ensures in
+    inr (inl (
+      c.requires.word,
+      ap (λ (e : Refusal). e.at) c.from.ensures,
+      subst (λ (e : Refusal). Unopened (image_at g.S.Start) e.kind c.in-Err.left) is c.in-Err.ensures.refused,
+    ))

@@ -1,0 +1,26 @@
+use Rattle.std.proofs.Common.{◌≡◌, [], codes, refl}
+use Rattle.clap.specs.Words.{Text, fault_of, subcommand_of}
+use Rattle.clap.proofs.OnLiterals.{clap_on_literals}
+use Rattle.command_line.specs.Commands.{import_words, program, word_in}
+use Rattle.command_line.proofs.laws.an_import_is_taken.Goals as goal
+
+is_taken : (name : Text) → fault_of program (import_words name) ≡ []
+unfolding clap_on_literals
+is_taken name = refl
+
+has_file : (name : Text) → word_in (subcommand_of program (import_words name)) (codes "FILE") ≡ codes "ashby.db"
+unfolding clap_on_literals
+has_file name = refl
+
+has_token : (name : Text) → word_in (subcommand_of program (import_words name)) (codes "token") ≡ codes "first-file"
+unfolding clap_on_literals
+has_token name = refl
+
+pub returns-clause-taken : goal.returns-clause-taken
+returns-clause-taken c = is_taken
+
+pub returns-clause-file : goal.returns-clause-file
+returns-clause-file c = has_file
+
+pub returns-clause-token : goal.returns-clause-token
+returns-clause-token c = has_token

@@ -1,0 +1,57 @@
+-- What the import of a file does: the file is read as a forest, and one request makes all that it has. Rules of our
+-- own.
+use Rattle.std.specs.Prelude.{◌≡◌, ◌⊎◌, ℕ, List, Option, None, IfSome, Ok, Err}
+use Rattle.sqlite_trees.specs.declared.store.Store.{Ghosts}
+use Rattle.record_text.specs.declared.refusal.Refusal.{Refusal}
+use Rattle.record_text.specs.declared.refusal.RefusalKind.TheVariants.{OutOfMemory}
+use Rattle.receipts.specs.declared.answer.Answer.{Answer}
+use Rattle.receipts.specs.declared.report.ReportLine.{ReportLine}
+use Rattle.gedcom_rules.specs.Faults.{Fault}
+use Rattle.gedcom_tree.specs.File.{ReadsFile}
+use Rattle.gedcom_tree.specs.Forest.{Item}
+use Rattle.gedcom_tree.specs.Streams.{NotRead}
+use Rattle.gedcom_tree.specs.Text.{IsForest}
+use Rattle.commands.specs.declared.command.Command.TheVariants as command
+use Rattle.archive_state.specs.Content.{nothing}
+use Rattle.import_forest.specs.Made.{made}
+use Rattle.import_forest.specs.Report.{report}
+use Rattle.archive_core.specs.declared.request.Request.{Request}
+use Rattle.store.specs.Histories.{Outcome}
+use Rattle.store.specs.declared.archive.Archive.{Archive}
+use Rattle.tables.specs.Applying.{Steps}
+use Rattle.file_imports.specs.Faults.{refusal_of}
+
+-- the request of the import of a forest
+abbrev pub import_request : List ℕ → List Item → Request
+import_request token forest = record { token = token; command = command.Import forest }
+
+-- the input is a file of that forest
+abbrev pub IsFileOf : Option (List ℕ) → List Item → Type 0
+IsFileOf input forest = IsForest forest × IfSome input (λ b. ReadsFile b forest)
+
+-- the input is a file, and the request of its import was performed on the archive with this outcome
+pub record Imports {S : Type 0} (g : Ghosts S) (token : List ℕ) (input : Option (List ℕ)) (old : Archive S g)
+    (outcome : Outcome) (new : Archive S g) : Type 0 where
+  pub forest : List Item
+  pub read : IsFileOf input forest
+  pub done : Steps g (Ok (import_request token forest, outcome)) old new
+
+-- it was accepted, and this is the report of the file
+abbrev pub ImportsAll : {S : Type 0} → (g : Ghosts S) → List ℕ → Option (List ℕ) → Archive S g → Answer
+    → List ReportLine → Archive S g → Type 0
+ImportsAll g token input old answer said new =
+    (all : Imports g token input old (Ok answer) new) × (said ≡ report all.forest)
+
+-- why there is no report of a forest: memory was refused, or an empty archive does not take it
+abbrev pub IsUnreported : List Item → Refusal → Type 0
+IsUnreported forest e = (e ≡ record { kind = OutOfMemory; at = None }) ⊎ (made nothing forest ≡ Err e)
+
+-- it was accepted, and there is no report
+abbrev pub ImportsSilently : {S : Type 0} → (g : Ghosts S) → List ℕ → Option (List ℕ) → Archive S g → Refusal
+    → Archive S g → Type 0
+ImportsSilently g token input old e new =
+    (answer : Answer) × (all : Imports g token input old (Ok answer) new) × IsUnreported all.forest e
+
+-- why the input is no file; the reader is blamed only where it failed
+abbrev pub IsNoFile : Option (List ℕ) → Refusal → Type 0 → Type 0
+IsNoFile input e ReaderFailed = (f : Fault) × (e ≡ refusal_of f) × NotRead input ReaderFailed f

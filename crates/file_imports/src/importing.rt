@@ -1,0 +1,109 @@
+//! A file read from an input, and imported into an archive by one request.
+
+ghost use Rattle.std.specs.Prelude.{◌≡◌, ◌⊎◌, Err, IfErr, IfOk, Ok};
+ghost use Rattle.devices.specs.Devices.{Rose};
+ghost use Rattle.receipts.specs.declared.answer.Answer.{Answer};
+ghost use Rattle.import_forest.specs.Report.{report as report_said};
+ghost use Rattle.tables.specs.Applying.{Steps};
+ghost use Rattle.file_imports.specs.Importing.{
+  Imports,
+  ImportsAll,
+  ImportsSilently,
+  IsNoFile,
+  IsUnreported,
+  import_request,
+};
+
+use crate::faults::refusal_of;
+use archive_core::{Command, Request};
+use archive_state::State;
+use devices::Device;
+use gedcom_tree::{Forest, read_forest};
+use interchange::batch_of;
+use receipts::{Answer, Report, Token};
+use record_text::Refusal;
+use sqlite::Alter;
+use std::alloc::Global;
+use std::io::Read;
+use store::Archive;
+
+/// Reads a file of lines, and imports it into the archive: whole or not at all, in one commit, as one request under the
+/// token. It answers what the request is answered, with the report of the file, which is that of its forest alone.
+///
+/// Where the input is no file, or memory or the reader is wanting, the refusal is that of `read_forest`, with its line,
+/// and the archive is not touched. Else it is that of `Archive::perform`, whose place is the line that is refused.
+/// Where memory for the report is refused, the request is done all the same, and is answered when it comes again.
+pub fn import<S: Alter, R: Read + Device>(
+    alloc: Global,
+    archive: &mut Archive<S>,
+    token: Token,
+    input: &mut R,
+) -> Result<(Answer, Report), Refusal>
+    ensures imported { IfOk result (λ done. ImportsAll S.Store token (R.remaining input.old) archive.old done.0 done.1
+        archive.new) }
+    ensures refused { IfErr result (λ e. Imports S.Store token (R.remaining input.old) archive.old (Err e) archive.new
+        ⊎ (ImportsSilently S.Store token (R.remaining input.old) archive.old e archive.new
+        ⊎ ((archive.new ≡ archive.old) × IsNoFile (R.remaining input.old) e
+        (Rose (R.failed input.old) (R.failed input.new))))) }
+{
+    match read_forest(alloc, input) {
+        Ok(forest) => import_forest(alloc, archive, token, forest),
+        Err(fault) => Err(refusal_of(fault)),
+    }
+}
+
+/// Imports a forest, with its report.
+fn import_forest<S: Alter>(
+    alloc: Global,
+    archive: &mut Archive<S>,
+    token: Token,
+    forest: Forest,
+) -> Result<(Answer, Report), Refusal>
+    ensures imported { IfOk result (λ done. Steps S.Store (Ok (import_request token forest, Ok done.0)) archive.old
+        archive.new × (done.1 ≡ report_said forest)) }
+    ensures refused { IfErr result (λ e. Steps S.Store (Ok (import_request token forest, Err e)) archive.old archive.new
+        ⊎ ((answer : Answer) × Steps S.Store (Ok (import_request token forest, Ok answer)) archive.old archive.new
+        × IsUnreported forest e)) }
+{
+    let report = report_of(alloc, &forest);
+    let request = Request {
+        token,
+        command: Command::Import(forest),
+    };
+    match perform_once(alloc, archive, request) {
+        Ok(answer) => match report {
+            Ok(report) => Ok((answer, report)),
+            Err(why) => Err(why),
+        },
+        Err(why) => {
+            drop(report);
+            Err(why)
+        }
+    }
+}
+
+/// What is reported of a forest: what an empty archive reports of it.
+#[tactic(auto, using(crate::proofs::Unreported::unreported))]
+fn report_of(alloc: Global, forest: &Forest) -> Result<Report, Refusal>
+    ensures told { IfOk result (λ report. report ≡ report_said forest.now) }
+    ensures untold { IfErr result (IsUnreported forest.now) }
+{
+    let state = State::new(alloc);
+    let mut view: &State = &state;
+    let (batch, report) = batch_of(alloc, forest, &mut view)?;
+    drop(batch);
+    Ok(report)
+}
+
+/// Performs a request that is not asked again.
+fn perform_once<S: Alter>(
+    alloc: Global,
+    archive: &mut Archive<S>,
+    request: Request,
+) -> Result<Answer, Refusal>
+    ensures { Steps S.Store (Ok (request, result)) archive.old archive.new }
+{
+    let outcome = archive.perform(alloc, &request);
+    drop(request);
+    outcome
+}

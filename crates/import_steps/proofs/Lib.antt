@@ -1,0 +1,3 @@
+pub mod Commands
+mod Decided
+mod Standing

@@ -1,0 +1,79 @@
+//! What is told of an import.
+
+ghost use Rattle.std.specs.Prelude.{◌≡◌, ◌≤◌, IfErr, IfOk, OnErr, OnOk};
+ghost use Rattle.std.specs.Io.KnownBytes.{Appends};
+ghost use Rattle.devices.specs.Devices.{AppendsBeginning, Rose};
+ghost use Rattle.file_imports.specs.Telling as telling;
+ghost use Rattle.record_text.specs.declared.refusal.Refusal.{Refusal};
+ghost use Rattle.parish.specs.Ends.{IsToldImport, IsUntoldImport, IsUnwritten};
+
+use crate::telling::status_of;
+use archive_commands::OpenFile;
+use file_imports::import_text;
+use gedcom_tree::{Device, TransferError, write_bytes};
+use receipts::{Answer, Report};
+use record_text::{Refusal, RefusalKind, RefusalText, Unit};
+use sqlite::Start;
+use std::alloc::Global;
+use std::io::Write;
+
+/// The status of a file that was imported into an archive, after its lines on the output, or of one that was not, after
+/// the line of its refusal, with the line of the file that is to blame. The connection is handed on.
+pub(crate) fn imported<S: Start, W: Write + Device, F: Write + Device>(
+    alloc: Global,
+    done: (Result<(Answer, Report), Refusal>, Option<OpenFile<S>>),
+    output: &mut W,
+    faults: &mut F,
+) -> (u8, Option<OpenFile<S>>)
+    ensures status { result.0 ≤ 1 }
+    ensures told { result.0 ≡ 0 → IsToldImport done.0 (W.contents output.old) (W.contents output.new) }
+    ensures untold { result.0 ≡ 1 → (e : Refusal) × IsUntoldImport done.0 e (W.contents output.old)
+        (W.contents output.new)
+        (Rose (W.failed output.old) (W.failed output.new)) }
+    ensures done { result.0 ≡ 0 → faults.new ≡ faults.old }
+    ensures left { result.1 ≡ done.1 }
+{
+    let (outcome, left) = done;
+    (status_of(tell(alloc, outcome, output), faults), left)
+}
+
+/// Tells of a file that was imported on the output, or hands on why it was not.
+fn tell<W: Write + Device>(
+    alloc: Global,
+    outcome: Result<(Answer, Report), Refusal>,
+    output: &mut W,
+) -> Result<(), RefusalText>
+    ensures told { OnOk result (IsToldImport outcome (W.contents output.old) (W.contents output.new)) }
+    ensures untold { IfErr result (λ t. IsUntoldImport outcome t.refusal (W.contents output.old)
+        (W.contents output.new) (Rose (W.failed output.old) (W.failed output.new))) }
+{
+    match outcome {
+        Ok((answer, report)) => match tell_imported(alloc, answer, &report, output) {
+            Ok(()) => Ok(()),
+            Err(why) => Err(why.text(Unit::Line)),
+        },
+        Err(why) => Err(why.text(Unit::Line)),
+    }
+}
+
+/// Tells how many records were made, and the report. At an error a beginning of that was written.
+fn tell_imported<W: Write + Device>(
+    alloc: Global,
+    answer: Answer,
+    report: &Report,
+    output: &mut W,
+) -> Result<(), Refusal>
+    ensures ok { OnOk result (Appends (W.contents output.old) (W.contents output.new)
+        (telling.import_text answer report.now)) }
+    ensures err { OnErr result (AppendsBeginning (W.contents output.old) (W.contents output.new)
+        (telling.import_text answer report.now)) }
+    ensures why { IfErr result (IsUnwritten (Rose (W.failed output.old) (W.failed output.new))) }
+{
+    let text = import_text(alloc, answer, report)?;
+    let before = output.failures();
+    match write_bytes(output, before, text.as_bytes()) {
+        Ok(()) => Ok(()),
+        Err(TransferError::OutOfMemory) => Err(Refusal::from(RefusalKind::OutOfMemory)),
+        Err(TransferError::Failed) => Err(Refusal::from(RefusalKind::WriteFailed)),
+    }
+}
