@@ -22,6 +22,7 @@ sys.dont_write_bytecode = True
 
 import archives  # noqa: E402
 import documents  # noqa: E402
+import exchanges  # noqa: E402
 import exports  # noqa: E402
 import files  # noqa: E402
 import imports  # noqa: E402
@@ -40,8 +41,10 @@ from harness import ROOT, Case, Failed, Tools  # noqa: E402
 PARTS = (
     sizes,
     archives,
+    imports,
     merges,
     exports,
+    exchanges,
     memory,
     properties,
     streams,
@@ -51,7 +54,6 @@ PARTS = (
     refusals,
     files,
     layout,
-    sizes, archives, imports, merges, exports, memory, properties, streams, scripts, documents, refusals, files, layout,
 )
 PIECES = "tree_pieces"
 VISITS = "visit_rows"
