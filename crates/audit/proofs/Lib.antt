@@ -1,0 +1,4 @@
+pub mod Gathered
+pub mod Broken
+pub mod Sound
+pub mod KeptSlips
