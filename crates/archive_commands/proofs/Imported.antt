@@ -33,7 +33,8 @@ module _ {D : Type 0} {g : disk.Ghosts D} (image : Image) (token : List ℕ) (in
   module _ (word : IsToken token) (old new : Archive (FileStore D g) over_files) (conn : Held (FileStore D g))
       (kept : old.is_lost ≡ false)
       (taken : IsTakenUp image (file_state old.conn)) (same : conn ≡ new.conn) where
-    abbrev imported : (o : Outcome) → Imports over_files token input old o new → Imported image token input o (Some conn)
+    abbrev imported : (o : Outcome) → Imports over_files token input old o new
+        → Imported image token input o (Some conn)
     imported o h = record {
       word = word;
       forest = h.forest;
