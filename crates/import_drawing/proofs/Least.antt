@@ -41,7 +41,8 @@ module _ (least : ℕ) (w : Places) where
         all_above k d.next (drawn_more d (of_file d.next owner r path)) f up
     drawn_above k owner d (node (sought path) f) h = settled_above None k (names_of path) d h
 
-    pub all_above : (k owner : ℕ) (d : Drawing) (f : Forest Draft) → least ≤ d.next → least ≤ (draw_all w k owner d f).next
+    pub all_above : (k owner : ℕ) (d : Drawing) (f : Forest Draft) → least ≤ d.next
+        → least ≤ (draw_all w k owner d f).next
     all_above k owner d none h = h
     all_above k owner d (more t ts) h = all_above k owner (draw w k owner d t) ts (drawn_above k owner d t h)
 
@@ -50,7 +51,8 @@ module _ (least : ℕ) (w : Places) where
   each_above k d (t ∷ ts) h = each_above (k + 1) (draw w k 0 (root_drawn d) t) ts (drawn_above k 0 (root_drawn d) t h)
 
 -- one after the other
-pub one_above : {X : Type 0} (w : Places) (k owner : ℕ) (d : Drawing) (tree : X → Tree Draft) (x : X) (behind all : List X)
+pub one_above : {X : Type 0} (w : Places) (k owner : ℕ) (d : Drawing) (tree : X → Tree Draft) (x : X)
+    (behind all : List X)
     → all ≡ x ∷ behind → (draw w k owner d (tree x)).next ≤ (draw_all w k owner d (forest_of (map tree all))).next
 one_above w k owner d tree x behind all e =
     let first : Drawing = draw w k owner d (tree x) in

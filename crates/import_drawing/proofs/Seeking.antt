@@ -38,7 +38,19 @@ use Rattle.record_shapes.specs.Forms.{
 }
 use Rattle.record_shapes.specs.Lists.{EachOf}
 use Rattle.record_shapes.specs.Paths.{has_part, is_within_limits, normal}
-use Rattle.record_shapes.specs.Reading.{Draft, below_event, citation_draft, draft_if, draft_of, place_named, read, sought, sought_drafts, sought_on, unless_named}
+use Rattle.record_shapes.specs.Reading.{
+  Draft,
+  below_event,
+  citation_draft,
+  draft_if,
+  draft_of,
+  place_named,
+  read,
+  sought,
+  sought_drafts,
+  sought_on,
+  unless_named,
+}
 use Rattle.gedcom_line.specs.Value.{Meaning, Text, Pointer}
 use Rattle.field_rows.proofs.Plain.{name_is_plain}
 use Rattle.file_roots.specs.Nodes.{FileLine, FileNode, HaveLines, IsSaid}
@@ -119,7 +131,8 @@ module _ (known : Known) where
   place_met false false false true e = absurd cc
   place_met false false false false e = absurd cc
 
-  path_met : (t : Tree Line) → is_same (event_field known t) a_place ≡ true → is_within_limits (normal (text_of t)) ≡ true
+  path_met : (t : Tree Line) → is_same (event_field known t) a_place ≡ true
+      → is_within_limits (normal (text_of t)) ≡ true
   path_met t e =
       let met = place_met (tagged (codes "DATE") t && is_bare t)
       (tagged (codes "PLAC") t && (is_text t && is_place_text (text_of t)))

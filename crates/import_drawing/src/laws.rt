@@ -36,7 +36,7 @@ pub fn the_numbers_of_drafts_are_those_of_nodes()
         → drawing next w rs ≡ draw_each w 0 (numbers.begun next) (drafts_from rs 0 rs) }
 {}
 
-/// The batch of the drafts of nodes is what an import makes of the nodes, beside a second entry of one key: the file has
+/// The batch of the drafts of nodes is what an import makes of the nodes, a second entry of one key apart: the file has
 /// the first place of each path.
 pub fn the_batch_of_drafts_is_that_of_nodes()
     ensures { (c : Content) (rs : Lines) (file : BTreeMap (String Global) ℕ)

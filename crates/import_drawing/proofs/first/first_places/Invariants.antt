@@ -7,5 +7,6 @@ use Rattle.import_drawing.proofs.first.first_places.Given as goal
 abbrev pub invariant-loop-path : goal.invariant-loop-path
 invariant-loop-path l = record {
   count : l.at ≡ l.path-index;
-  places : (q : List ℕ) → under l.places q ≡ position_of q 0 (map (option_map string_bytes) (take l.path-index l.paths));
+  places : (q : List ℕ) → under l.places q
+      ≡ position_of q 0 (map (option_map string_bytes) (take l.path-index l.paths));
 }

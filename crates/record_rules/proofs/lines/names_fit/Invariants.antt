@@ -5,5 +5,7 @@ use Rattle.record_rules.specs.Lines.{lines_all}
 use Rattle.record_rules.proofs.lines.names_fit.Given as goal
 
 abbrev pub invariant-names : goal.invariant-names
-invariant-names g l = list_all (λ (n : model.Name). lines_all (g.J.Judge.fit l.judge) n.carried) (drop l.name-index l.names)
+invariant-names g l =
+    list_all (λ (n : model.Name). lines_all (g.J.Judge.fit l.judge) n.carried)
+    (drop l.name-index l.names)
     ≡ list_all (λ (n : model.Name). lines_all (g.J.Judge.fit l.judge) n.carried) l.names
