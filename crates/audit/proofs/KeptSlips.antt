@@ -52,7 +52,7 @@ pub shared : (c : Content) (n : ℕ) (s : Slip) (b : Bool) → get c.slips n ≡
     → Decides (not b) (get c.records n ≡ None) → b ≡ true → IsSound c → ⊥
 shared c n s b at d is sound =
     let free : get c.records n ≡ None = none_where (get c.records n)
-        (λ r there. let both : None ≡ Some s = sym (sound.distinct n r there) ∙ at in absurd cc) in
+    (λ r there. let both : None ≡ Some s = sym (sound.distinct n r there) ∙ at in absurd cc) in
     let both : true ≡ false = sym (d.1 free) ∙ ap not is in absurd cc
 
 pub taken : (c : Content) (n gone : ℕ) (s : Slip) (b : Bool) → get c.slips n ≡ Some s → gone ≡ s.gone

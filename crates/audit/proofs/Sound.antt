@@ -22,7 +22,7 @@ is_sound : (c : Content) (last : ℕ) → last + 1 ≡ c.next → c.next ≤ 429
     → AreWhole c.next false c.records → KeepSlips c (last + 1) → IsSound c
 is_sound c last is bound beyond whole slips =
     let kept : (n : ℕ) (s : Slip) → get c.slips n ≡ Some s → KeepsSlip c n s =
-        λ n s at. slips n (subst (λ k. n < k) (sym is) (beyond.slips n s at)) s at in
+    λ n s at. slips n (subst (λ k. n < k) (sym is) (beyond.slips n s at)) s at in
     record {
       begun = omega (arith, is);
       bounded = bound;

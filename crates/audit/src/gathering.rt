@@ -8,11 +8,7 @@ use archive_state::State;
 use std::alloc::{AllocError, Global};
 
 /// The numbers up to the last that have a record, ascending.
-pub(crate) fn numbers_upto(
-    alloc: Global,
-    state: &State,
-    last: u32,
-) -> Result<Vec<u32>, AllocError>
+pub(crate) fn numbers_upto(alloc: Global, state: &State, last: u32) -> Result<Vec<u32>, AllocError>
     ensures { IfOk result (λ ns. AreGathered state.now.records ns.items (last + 1)) }
 {
     let mut numbers = Vec::new(alloc);

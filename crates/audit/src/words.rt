@@ -37,11 +37,7 @@ fn write_breach<W: fmt::Write>(f: &mut fmt::Formatter<W>, breach: Breach) -> fmt
     }
 }
 
-fn write_unmet<W: fmt::Write>(
-    f: &mut fmt::Formatter<W>,
-    number: u32,
-    unmet: Unmet,
-) -> fmt::Result {
+fn write_unmet<W: fmt::Write>(f: &mut fmt::Formatter<W>, number: u32, unmet: Unmet) -> fmt::Result {
     let named = unmet.number;
     let kind = demanded(unmet.demand);
     write!(f, "record {number}: it names {named}, which is no {kind}")

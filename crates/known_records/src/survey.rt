@@ -73,12 +73,7 @@ fn keep(paths: &mut Paths, number: u32, look: PathLook) -> Result<(), AllocError
 }
 
 /// The path of the place of a number, where those of the places before it are known.
-fn path_at(
-    alloc: Global,
-    state: &State,
-    paths: &Paths,
-    number: u32,
-) -> Result<PathLook, AllocError>
+fn path_at(alloc: Global, state: &State, paths: &Paths, number: u32) -> Result<PathLook, AllocError>
     ensures { IfOk result (λ l. IsLook (path_with number (get paths.now) (get state.now.records number)) l) }
 {
     match state.record(number) {

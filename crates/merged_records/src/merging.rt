@@ -26,13 +26,7 @@ pub fn merged_at(
         return Ok(None);
     };
     if number == keep {
-        Ok(Some(merged_person(
-            alloc,
-            found,
-            before.record(gone),
-            keep,
-            gone,
-        )?))
+        Ok(Some(merged_person(alloc, found, before.record(gone), keep, gone)?))
     } else {
         Ok(Some(merged_record(alloc, found, keep, gone)?))
     }

@@ -7,7 +7,9 @@ ghost use Rattle.record_kinds.specs.declared.record.Record.TheVariants as kind;
 ghost use Rattle.record_shapes.specs.Lists.{EachOf};
 ghost use Rattle.record_shapes.specs.Levels as levels;
 
-use record_kinds::{Child, Event, EventPlace, Family, Holding, Name, Participant, Partner, Person, Record, Source};
+use record_kinds::{
+    Child, Event, EventPlace, Family, Holding, Name, Participant, Partner, Person, Record, Source,
+};
 use stored_lines::Carried;
 
 /// The most levels below a record that is written at level 0, so that no line of it is below level 98.
@@ -50,7 +52,10 @@ fn source_has_room(source: &Source) -> bool
     ensures { IsTrue result ↔ (EachOf (λ (h : model.Holding). levels.AreWithin 97 h.carried) source.now.holdings
         × levels.AreWithin 98 source.now.carried) }
 {
-    source.holdings.iter().all(|h| are_within(&h.carried, BELOW_FIELD))
+    source
+        .holdings
+        .iter()
+        .all(|h| are_within(&h.carried, BELOW_FIELD))
         && are_within(&source.carried, BELOW_RECORD)
 }
 
@@ -58,7 +63,10 @@ fn person_has_room(person: &Person) -> bool
     ensures { IsTrue result ↔ (EachOf (λ (n : model.Name). levels.AreWithin 97 n.carried) person.now.names
         × levels.AreWithin 98 person.now.carried) }
 {
-    person.names.iter().all(|n| are_within(&n.carried, BELOW_FIELD))
+    person
+        .names
+        .iter()
+        .all(|n| are_within(&n.carried, BELOW_FIELD))
         && are_within(&person.carried, BELOW_RECORD)
 }
 
@@ -85,13 +93,15 @@ fn children_have_room(children: &[Child]) -> bool
 }
 
 fn partner_has_room(partner: &Partner) -> bool
-    ensures { IsTrue result ↔ (levels.AreWithin 97 partner.now.carried × levels.AreWithin 97 partner.now.carried_by_person) }
+    ensures { IsTrue result ↔ (levels.AreWithin 97 partner.now.carried
+        × levels.AreWithin 97 partner.now.carried_by_person) }
 {
     are_within(&partner.carried, BELOW_FIELD) && are_within(&partner.carried_by_person, BELOW_FIELD)
 }
 
 fn child_has_room(child: &Child) -> bool
-    ensures { IsTrue result ↔ (levels.AreWithin 97 child.now.carried × levels.AreWithin 97 child.now.carried_by_person) }
+    ensures { IsTrue result ↔ (levels.AreWithin 97 child.now.carried
+        × levels.AreWithin 97 child.now.carried_by_person) }
 {
     are_within(&child.carried, BELOW_FIELD) && are_within(&child.carried_by_person, BELOW_FIELD)
 }
@@ -100,7 +110,10 @@ fn event_has_room(event: &Event) -> bool
     ensures { IsTrue result ↔ levels.HasRoom None (kind.Event event.now) }
 {
     place_has_room(&event.place)
-        && event.participants.iter().all(|p| are_within(&p.carried, BELOW_EVENT_FIELD))
+        && event
+            .participants
+            .iter()
+            .all(|p| are_within(&p.carried, BELOW_EVENT_FIELD))
         && are_within(&event.carried, BELOW_FIELD)
 }
 

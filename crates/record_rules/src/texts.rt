@@ -11,7 +11,9 @@ ghost use Rattle.record_rules.specs.Judged as judged;
 
 use crate::lines::{Judge, carried_fit};
 use record_fields::Date;
-use record_kinds::{Entry, Event, Holding, Link, Mention, Name, Participant, Person, Record, Source};
+use record_kinds::{
+    Entry, Event, Holding, Link, Mention, Name, Participant, Person, Record, Source,
+};
 use record_text::Text;
 use stored_lines::{Carried, Value};
 
@@ -77,22 +79,24 @@ fn holdings_have_texts(holdings: &[Holding]) -> bool
     ensures { result ≡ list_all (λ (h : model.Holding). list_all judged.is_text (texts.there h.call_number))
         holdings.now }
 {
-    holdings.iter().all(|holding| is_text_if_there(&holding.call_number))
+    holdings
+        .iter()
+        .all(|holding| is_text_if_there(&holding.call_number))
 }
 
 #[tactic(auto, using(crate::proofs::Leaves::event_all))]
 fn event_has_texts(event: &Event) -> bool
     ensures { result ≡ list_all judged.is_text (texts.event_texts event.now) }
 {
-    is_text(&event.value)
-        && is_text_date(&event.date)
-        && roles_are_texts(&event.participants)
+    is_text(&event.value) && is_text_date(&event.date) && roles_are_texts(&event.participants)
 }
 
 fn roles_are_texts(participants: &[Participant]) -> bool
     ensures { result ≡ list_all (λ (p : model.Participant). judged.is_text p.role) participants.now }
 {
-    participants.iter().all(|participant| is_text(&participant.role))
+    participants
+        .iter()
+        .all(|participant| is_text(&participant.role))
 }
 
 #[tactic(auto, using(crate::proofs::Flat::all_both, crate::proofs::Leaves::mentions_texts))]

@@ -9,10 +9,12 @@ ghost use Rattle.record_shapes.specs.Untaken as untaken;
 ghost use Rattle.record_rules.specs.Judged as judged;
 
 use field_rows::{
-    EventRow, Known, citation_field, event_row, family_field, holding_field, parent_field, participant_field,
-    person_field, repo_field, source_field,
+    EventRow, Known, citation_field, event_row, family_field, holding_field, parent_field,
+    participant_field, person_field, repo_field, source_field,
 };
-use record_kinds::{Citation, Event, Family, Holding, Participant, Person, Place, Record, Repo, Source};
+use record_kinds::{
+    Citation, Event, Family, Holding, Participant, Person, Place, Record, Repo, Source,
+};
 use record_shapes::Field;
 use std::alloc::{AllocError, Global};
 use stored_lines::Carried;
@@ -43,10 +45,10 @@ fn place_has_untaken<E: Known>(earlier: &E, place: &Place) -> bool
     ensures { result ≡ judged.are_untaken (fields.parent_field (E.known earlier.now) place.now.name)
         (untaken.place_leaves place.now) place.now.carried }
 {
-    place
-        .carried
-        .iter()
-        .all(|line| place_leaves(place, parent_field(earlier, place.name.as_str(), line)))
+    place.carried.iter().all(|line| place_leaves(
+        place,
+        parent_field(earlier, place.name.as_str(), line),
+    ))
 }
 
 /// Whether the place leaves a line of that field.
@@ -214,10 +216,7 @@ fn participant_has_untaken(participant: &Participant) -> bool
     ensures { result ≡ judged.are_untaken fields.participant_field (untaken.participant_leaves participant.now)
         participant.now.carried }
 {
-    participant
-        .carried
-        .iter()
-        .all(|line| participant_leaves(participant, participant_field(line)))
+    participant.carried.iter().all(|line| participant_leaves(participant, participant_field(line)))
 }
 
 fn participant_leaves(participant: &Participant, field: Field) -> bool

@@ -189,6 +189,7 @@ module _ {Y : Type 0} (m : Records) (ns : List ℕ) (asc : Ascends ns) (i : ℕ)
         not_there : (n : ℕ) (e : model.Entry) → get_or ns i 0 ≡ n → entry_in (get m n) ≡ Some e → ⊥
         not_there n e same at =
             let both : None ≡ Some e = sym none ∙ ap (λ k. entry_in (get m k)) same ∙ at in absurd cc
+
         no_more : (words : List ℕ) → list_any (λ n. has_words words (entry_in (get m n))) (take i ns)
             ≡ list_any (λ n. has_words words (entry_in (get m n))) (take (i + 1) ns)
         no_more words = sym (or_nothing _)
@@ -225,8 +226,7 @@ module _ {Y : Type 0} (m : Records) (ns : List ℕ) (asc : Ascends ns) (i : ℕ)
       is_taken adds =
           let found = some_has (λ n. has_words (key_words e) (entry_in (get m n))) (take i ns)
           (sym (h.keyed (key_words e)) ∙ is_true (contains_text old (key_words e)) adds.told) in
-          let f = entry_with (key_words e) (entry_in (get m found.0)) found.2 in
-          (
+          let f = entry_with (key_words e) (entry_in (get m found.0)) found.2 in (
             e,
             entry_is (get m (get_or ns i 0)) e is,
             (

@@ -13,7 +13,7 @@ pub whole : (next : ℕ) (may_miss : Bool) (m : Records) (ns : List ℕ) → Has
     → AllKeep next may_miss m ns → AreApart m → AreWhole next may_miss m
 whole next may_miss m ns all within keep apart =
     let at : (n : ℕ) (r : Record) → get m n ≡ Some r → Keeps next may_miss m n r =
-        λ n r e. in_list (KeepsAt next may_miss m) ns n keep (all n r e) r e in
+    λ n r e. in_list (KeepsAt next may_miss m) ns n keep (all n r e) r e in
     record {
       rules = record {
         numbered = λ n r e. (at n r e).0.number;

@@ -1,5 +1,23 @@
 -- The keys of register entries as texts, one for each key.
-use Rattle.std.specs.Prelude.{ℕ, ◌≡◌, ◌≢◌, ◌<◌, List, ◌∷◌, ◌++◌, ◌||◌, not, Bool, true, false, bytes_eq, decimal, Option, Some, None}
+use Rattle.std.specs.Prelude.{
+  ℕ,
+  ◌≡◌,
+  ◌≢◌,
+  ◌<◌,
+  List,
+  ◌∷◌,
+  ◌++◌,
+  ◌||◌,
+  not,
+  Bool,
+  true,
+  false,
+  bytes_eq,
+  decimal,
+  Option,
+  Some,
+  None,
+}
 use Rattle.std.specs.List.{list_any}
 use Rattle.std.specs.FinMap.{get}
 use Rattle.std.specs.BTreeSet.{BTreeSet, contains_text}

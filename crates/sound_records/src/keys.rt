@@ -44,11 +44,7 @@ fn add_at(
     }
 }
 
-fn add(
-    alloc: Global,
-    entry: &Entry,
-    keys: &mut BTreeSet<String>,
-) -> Result<bool, AllocError>
+fn add(alloc: Global, entry: &Entry, keys: &mut BTreeSet<String>) -> Result<bool, AllocError>
     ensures { IfOk result (λ b. specs.AddsKey keys.old keys.new entry.now b) }
 {
     let words = key_words(alloc, entry)?;

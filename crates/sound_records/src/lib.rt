@@ -7,8 +7,8 @@
 //! breaks the part that it names. Each record is looked at once for each part.
 #![tactic(auto)]
 
-mod beside;
 mod alone;
+mod beside;
 mod event_tags;
 mod keys;
 mod part;

@@ -103,8 +103,11 @@ slip_decided next n s keep gone cs r k g e numbers asc h = decided next n s r nu
 from_one : (next : ℕ) (cs : List Change) → EachOf (IsNumber next) (flat_map change_names cs)
     → EachOf (λ m. 0 < m) (changed cs)
 from_one next [] h = tt
-from_one next (c ∷ cs) h = (h.0.0, from_one next cs (each_back (IsNumber next) (names_of c)
-    (flat_map change_names cs) h.1))
+from_one next (c ∷ cs) h = (
+  h.0.0,
+  from_one next cs (each_back (IsNumber next) (names_of c)
+      (flat_map change_names cs) h.1),
+)
   where
     names_of : Change → List ℕ
     names_of x = names x.old ++ new_names x.new

@@ -48,7 +48,7 @@ module _ {A : Type 0} (P : A → Type 0) where
       → EachOf P xs → ⊥
   one_fails xs i d less h p e =
       let both : P (get_or xs i d) × EachOf P (drop (i + 1) xs) =
-          subst (EachOf P) (drop_more xs i d less) (h.left e) in p both.0
+      subst (EachOf P) (drop_more xs i d less) (h.left e) in p both.0
 
   pub none_left : (xs : List A) (i : ℕ) → length xs ≤ i → IsLeft xs i → EachOf P xs
   none_left xs i end h = h.all (subst (EachOf P) (sym (drop_all i xs end)) tt)
@@ -62,8 +62,11 @@ each_flat P f (x ∷ xs) h = each_both P (f x) (flat_map f xs) h.0 (each_flat P 
 pub each_of_flat : {A B : Type 0} (P : B → Type 0) (f : A → List B) (xs : List A) → EachOf P (flat_map f xs)
     → EachOf (λ x. EachOf P (f x)) xs
 each_of_flat P f [] h = tt
-each_of_flat P f (x ∷ xs) h = (each_front P (f x) (flat_map f xs) h, each_of_flat P f xs
-    (each_back P (f x) (flat_map f xs) h))
+each_of_flat P f (x ∷ xs) h = (
+  each_front P (f x) (flat_map f xs) h,
+  each_of_flat P f xs
+      (each_back P (f x) (flat_map f xs) h),
+)
 
 pub both_lists : {A : Type 0} (P : A → Type 0) (xs ys : List A) (a b : Bool) → Decides a (EachOf P xs)
     → Decides b (EachOf P ys) → Decides (a && b) (EachOf P (xs ++ ys))

@@ -202,7 +202,9 @@ impl Numbered for Partner {
     ghost links_of = { partner_links };
 
     fn is_below(&self, next: u64) -> bool {
-        is_number(self.person, next) && all_below(&self.carried, next) && all_below(&self.carried_by_person, next)
+        is_number(self.person, next)
+            && all_below(&self.carried, next)
+            && all_below(&self.carried_by_person, next)
     }
 }
 
@@ -211,7 +213,9 @@ impl Numbered for Child {
     ghost links_of = { child_links };
 
     fn is_below(&self, next: u64) -> bool {
-        is_number(self.person, next) && all_below(&self.carried, next) && all_below(&self.carried_by_person, next)
+        is_number(self.person, next)
+            && all_below(&self.carried, next)
+            && all_below(&self.carried_by_person, next)
     }
 }
 
@@ -220,7 +224,9 @@ impl Numbered for Family {
     ghost links_of = { family_links };
 
     fn is_below(&self, next: u64) -> bool {
-        all_below(&self.partners, next) && all_below(&self.children, next) && all_below(&self.carried, next)
+        all_below(&self.partners, next)
+            && all_below(&self.children, next)
+            && all_below(&self.carried, next)
     }
 }
 
@@ -229,7 +235,9 @@ impl Numbered for Citation {
     ghost links_of = { citation_links };
 
     fn is_below(&self, next: u64) -> bool {
-        is_number(self.owner, next) && is_number(self.source, next) && all_below(&self.carried, next)
+        is_number(self.owner, next)
+            && is_number(self.source, next)
+            && all_below(&self.carried, next)
     }
 }
 
@@ -256,7 +264,10 @@ impl Numbered for Event {
     ghost links_of = { event_links };
 
     fn is_below(&self, next: u64) -> bool {
-        is_number(self.owner, next) && place_below(&self.place, next) && all_below(&self.participants, next) && all_below(&self.carried, next)
+        is_number(self.owner, next)
+            && place_below(&self.place, next)
+            && all_below(&self.participants, next)
+            && all_below(&self.carried, next)
     }
 }
 
@@ -265,7 +276,9 @@ impl Numbered for Entry {
     ghost links_of = { entry_links };
 
     fn is_below(&self, next: u64) -> bool {
-        is_number(self.source, next) && field_below(self.place, next) && all_below(&self.mentions, next)
+        is_number(self.source, next)
+            && field_below(self.place, next)
+            && all_below(&self.mentions, next)
     }
 }
 

@@ -25,7 +25,6 @@ pub(crate) fn has_numbers(next: u64, number: u32, slip: &Slip) -> bool
         && changes_are_below(next, &slip.changes)
 }
 
-
 fn is_below(number: u32, next: u64) -> bool
     ensures { IsTrue result ↔ IsNumber next number }
 {
@@ -39,7 +38,8 @@ fn changes_are_below(next: u64, changes: &[Change]) -> bool
 }
 
 fn each_is_below(next: u64, changes: &[Change]) -> bool
-    ensures { IsTrue result ↔ EachOf (λ (c : changes_seen.Change). EachOf (IsNumber next) (change_names c)) changes.now }
+    ensures { IsTrue result ↔ EachOf (λ (c : changes_seen.Change). EachOf (IsNumber next) (change_names c))
+        changes.now }
 {
     changes.iter().all(|change| change_is_below(next, change))
 }

@@ -105,7 +105,10 @@ fn has_member(family: &Family, person: u32) -> bool
 fn has_partner(family: &Family, person: u32) -> bool
     ensures { result ≡ list_any (λ (p : model.Partner). p.person == person) family.now.partners }
 {
-    family.partners.iter().any(|partner| partner.person == person)
+    family
+        .partners
+        .iter()
+        .any(|partner| partner.person == person)
 }
 
 fn has_child(family: &Family, person: u32) -> bool

@@ -122,7 +122,10 @@ impl Linked for Place {
     ghost links_of = { place_links };
 
     fn first_unmet(&self, state: &State, may_miss: bool) -> Option<Unmet> {
-        first_of(in_field(state, may_miss, self.parent, Demand::Place), first_in(state, may_miss, &self.carried))
+        first_of(
+            in_field(state, may_miss, self.parent, Demand::Place),
+            first_in(state, may_miss, &self.carried),
+        )
     }
 }
 
@@ -140,7 +143,10 @@ impl Linked for Holding {
     ghost links_of = { holding_links };
 
     fn first_unmet(&self, state: &State, may_miss: bool) -> Option<Unmet> {
-        first_of(look_at(state, may_miss, self.repo, Demand::Repo), first_in(state, may_miss, &self.carried))
+        first_of(
+            look_at(state, may_miss, self.repo, Demand::Repo),
+            first_in(state, may_miss, &self.carried),
+        )
     }
 }
 
@@ -149,7 +155,10 @@ impl Linked for Source {
     ghost links_of = { source_links };
 
     fn first_unmet(&self, state: &State, may_miss: bool) -> Option<Unmet> {
-        first_of(first_in(state, may_miss, &self.holdings), first_in(state, may_miss, &self.carried))
+        first_of(
+            first_in(state, may_miss, &self.holdings),
+            first_in(state, may_miss, &self.carried),
+        )
     }
 }
 
@@ -167,7 +176,10 @@ impl Linked for Person {
     ghost links_of = { person_links };
 
     fn first_unmet(&self, state: &State, may_miss: bool) -> Option<Unmet> {
-        first_of(first_in(state, may_miss, &self.names), first_in(state, may_miss, &self.carried))
+        first_of(
+            first_in(state, may_miss, &self.names),
+            first_in(state, may_miss, &self.carried),
+        )
     }
 }
 
@@ -176,7 +188,13 @@ impl Linked for Partner {
     ghost links_of = { partner_links };
 
     fn first_unmet(&self, state: &State, may_miss: bool) -> Option<Unmet> {
-        first_of(look_at(state, may_miss, self.person, Demand::Person), first_of(first_in(state, may_miss, &self.carried), first_in(state, may_miss, &self.carried_by_person)))
+        first_of(
+            look_at(state, may_miss, self.person, Demand::Person),
+            first_of(
+                first_in(state, may_miss, &self.carried),
+                first_in(state, may_miss, &self.carried_by_person),
+            ),
+        )
     }
 }
 
@@ -185,7 +203,13 @@ impl Linked for Child {
     ghost links_of = { child_links };
 
     fn first_unmet(&self, state: &State, may_miss: bool) -> Option<Unmet> {
-        first_of(look_at(state, may_miss, self.person, Demand::Person), first_of(first_in(state, may_miss, &self.carried), first_in(state, may_miss, &self.carried_by_person)))
+        first_of(
+            look_at(state, may_miss, self.person, Demand::Person),
+            first_of(
+                first_in(state, may_miss, &self.carried),
+                first_in(state, may_miss, &self.carried_by_person),
+            ),
+        )
     }
 }
 
@@ -194,7 +218,13 @@ impl Linked for Family {
     ghost links_of = { family_links };
 
     fn first_unmet(&self, state: &State, may_miss: bool) -> Option<Unmet> {
-        first_of(first_in(state, may_miss, &self.partners), first_of(first_in(state, may_miss, &self.children), first_in(state, may_miss, &self.carried)))
+        first_of(
+            first_in(state, may_miss, &self.partners),
+            first_of(
+                first_in(state, may_miss, &self.children),
+                first_in(state, may_miss, &self.carried),
+            ),
+        )
     }
 }
 
@@ -203,7 +233,13 @@ impl Linked for Citation {
     ghost links_of = { citation_links };
 
     fn first_unmet(&self, state: &State, may_miss: bool) -> Option<Unmet> {
-        first_of(look_at(state, may_miss, self.owner, Demand::Cited), first_of(look_at(state, may_miss, self.source, Demand::Source), first_in(state, may_miss, &self.carried)))
+        first_of(
+            look_at(state, may_miss, self.owner, Demand::Cited),
+            first_of(
+                look_at(state, may_miss, self.source, Demand::Source),
+                first_in(state, may_miss, &self.carried),
+            ),
+        )
     }
 }
 
@@ -212,7 +248,10 @@ impl Linked for EventPlace {
     ghost links_of = { event_place_links };
 
     fn first_unmet(&self, state: &State, may_miss: bool) -> Option<Unmet> {
-        first_of(look_at(state, may_miss, self.place, Demand::Place), first_in(state, may_miss, &self.carried))
+        first_of(
+            look_at(state, may_miss, self.place, Demand::Place),
+            first_in(state, may_miss, &self.carried),
+        )
     }
 }
 
@@ -221,7 +260,10 @@ impl Linked for Participant {
     ghost links_of = { participant_links };
 
     fn first_unmet(&self, state: &State, may_miss: bool) -> Option<Unmet> {
-        first_of(look_at(state, may_miss, self.person, Demand::Person), first_in(state, may_miss, &self.carried))
+        first_of(
+            look_at(state, may_miss, self.person, Demand::Person),
+            first_in(state, may_miss, &self.carried),
+        )
     }
 }
 
@@ -230,7 +272,16 @@ impl Linked for Event {
     ghost links_of = { event_links };
 
     fn first_unmet(&self, state: &State, may_miss: bool) -> Option<Unmet> {
-        first_of(look_at(state, may_miss, self.owner, Demand::Holder), first_of(in_place(state, may_miss, &self.place), first_of(first_in(state, may_miss, &self.participants), first_in(state, may_miss, &self.carried))))
+        first_of(
+            look_at(state, may_miss, self.owner, Demand::Holder),
+            first_of(
+                in_place(state, may_miss, &self.place),
+                first_of(
+                    first_in(state, may_miss, &self.participants),
+                    first_in(state, may_miss, &self.carried),
+                ),
+            ),
+        )
     }
 }
 
@@ -239,7 +290,13 @@ impl Linked for Entry {
     ghost links_of = { entry_links };
 
     fn first_unmet(&self, state: &State, may_miss: bool) -> Option<Unmet> {
-        first_of(look_at(state, may_miss, self.source, Demand::Source), first_of(in_field(state, may_miss, self.place, Demand::Place), first_in(state, may_miss, &self.mentions)))
+        first_of(
+            look_at(state, may_miss, self.source, Demand::Source),
+            first_of(
+                in_field(state, may_miss, self.place, Demand::Place),
+                first_in(state, may_miss, &self.mentions),
+            ),
+        )
     }
 }
 
@@ -248,7 +305,10 @@ impl Linked for Other {
     ghost links_of = { other_links };
 
     fn first_unmet(&self, state: &State, may_miss: bool) -> Option<Unmet> {
-        first_of(in_value(state, may_miss, &self.value), first_in(state, may_miss, &self.carried))
+        first_of(
+            in_value(state, may_miss, &self.value),
+            first_in(state, may_miss, &self.carried),
+        )
     }
 }
 

@@ -22,8 +22,8 @@ returns-in-Some c = λ at sound. slip_breaks c.args.state.now.next c.args.number
 pub returns-then-not-may_stay : goal.returns-then-not-may_stay
 returns-then-not-may_stay c = λ at sound.
     let stays : IfSome (get c.args.state.now.records c.slip.inside.keep) IsPerson =
-        subst (λ k. IfSome (get c.args.state.now.records k) IsPerson) (sym (ap (λ (s : Slip). s.keep) c.slip.view_is))
-        (sound.stayed c.args.number c.args.slip.now at) in
+    subst (λ k. IfSome (get c.args.state.now.records k) IsPerson) (sym (ap (λ (s : Slip). s.keep) c.slip.view_is))
+    (sound.stayed c.args.number c.args.slip.now at) in
     let both : true ≡ false = sym (c.may_stay.ensures.1 stays) ∙ c.if-not-may_stay.true in absurd cc
 
 pub returns-then-has_slip : goal.returns-then-has_slip

@@ -1,4 +1,4 @@
-use Rattle.std.proofs.Common.{subst, sym, ◌∙◌, arith, ◌≡◌, List, ℕ, take}
+use Rattle.std.proofs.Common.{subst, sym, ◌∙◌, arith}
 use Rattle.std.proofs.lemmas.List.{take_all}
 use Rattle.known_records.proofs.Surveyed.{Upto, all_known, all_within, kept, none_yet, stopped}
 use Rattle.known_records.proofs.survey.paths_of.Goals as goal
@@ -19,10 +19,9 @@ returns-then-is_too_long c = λ asc all. stopped c.args.state.now.records c.args
 pub returns : goal.returns
 returns c = λ asc all.
     let upto : Upto c.args.state.now.records c.args.numbers.now c.numbers.paths =
-        subst (λ ns. Upto c.args.state.now.records ns c.numbers.paths)
-        (take_all c.numbers.number-index c.args.numbers.now (omega (arith, c.numbers-test.false)))
-        (c.numbers.invariant asc all) in
-    (
+    subst (λ ns. Upto c.args.state.now.records ns c.numbers.paths)
+    (take_all c.numbers.number-index c.args.numbers.now (omega (arith, c.numbers-test.false)))
+    (c.numbers.invariant asc all) in (
       all_known c.args.state.now.records c.args.numbers.now asc all c.numbers.paths upto,
       all_within c.args.state.now.records c.args.numbers.now asc all c.numbers.paths upto,
     )

@@ -10,7 +10,7 @@ pub returns-then-not-are_in_order : goal.returns-then-not-are_in_order
 returns-then-not-are_in_order c = λ asc.
     let s = c.args.slip.now in
     let cs : s.changes ≡ c.deref.result.now =
-        sym (c.deref.ensures.value ∙ ap (λ (x : Slip). x.changes) c.slip.view_is) in
+    sym (c.deref.ensures.value ∙ ap (λ (x : Slip). x.changes) c.slip.view_is) in
     let all : Ascends (0 ∷ changed c.deref.result.now) = subst (λ ds. Ascends (0 ∷ changed ds)) cs
     (ascend_from c.args.next c.args.number s (c.has_numbers.ensures.0 c.if-not-has_numbers.false) asc) in
     let both : true ≡ false = sym (c.are_in_order.ensures.1 all) ∙ c.if-not-are_in_order.true in absurd cc
@@ -19,7 +19,7 @@ pub returns : goal.returns
 returns c =
     let s = c.args.slip.now in
     let cs : c.deref.result.now ≡ s.changes =
-        c.deref.ensures.value ∙ ap (λ (x : Slip). x.changes) c.slip.view_is in
+    c.deref.ensures.value ∙ ap (λ (x : Slip). x.changes) c.slip.view_is in
     let asc : Ascends (0 ∷ changed s.changes) = subst (λ ds. Ascends (0 ∷ changed ds)) cs
     (c.are_in_order.ensures.0 c.if-not-are_in_order.false) in
     slip_decided c.args.next c.args.number s c.slip.inside.keep c.slip.inside.gone c.deref-2.result.now
