@@ -28,9 +28,8 @@ module _ (next : ℕ) (may_miss : Bool) (m : Records) (n : ℕ) where
   not_whole part.Path (path, has, fails) w = fails (w.rules.paths n path has)
   not_whole part.Key (e, at, (k, is, apart)) w = apart (w.rules.keys n k e at is)
   not_whole (part.Link u) (r, at, inl gap) w = gap
-  not_whole (part.Link u) (r, at, inr fails) w =
-      fails.1 (one_of may_miss m (Meets may_miss m) (links r) (link_of u) fails.0
-      (w.named n r at))
+  not_whole (part.Link u) (r, at, inr fails) w = fails.1
+      (one_of may_miss m (Meets may_miss m) (links r) (link_of u) fails.0 (w.named n r at))
   not_whole part.Number (r, at, inl fails) w = fails (w.rules.numbered n r at)
   not_whole part.Number (r, at, inr gap) w = gap
   not_whole part.Parent (r, at, inl fails) w = fails (w.rules.parents n r at)

@@ -1,51 +1,17 @@
 -- The paths of the places of the first of some numbers.
-use Rattle.std.proofs.Common.{
-  ◌≡◌,
-  ◌⊎◌,
-  ℕ,
-  zero,
-  suc,
-  ◌+◌,
-  ◌<◌,
-  ◌≤◌,
-  ◌==◌,
-  nat_le,
-  List,
-  [],
-  ◌∷◌,
-  ◌++◌,
-  length,
-  take,
-  get_or,
-  Bool,
-  true,
-  false,
-  ◌&&◌,
-  ◌||◌,
-  refl,
-  sym,
-  ap,
-  subst,
-  ◌∙◌,
-  inl,
-  inr,
-  arith,
-  eqb-true,
-  eq-eqb,
-}
+use Rattle.std.proofs.Common.{◌≡◌, ℕ, zero, suc, ◌+◌, ◌<◌, ◌==◌, nat_le, List, [], ◌∷◌, length, take, get_or, Bool, true, false, ◌||◌, refl, sym, ap, subst, ◌∙◌, inl, inr, arith, eqb-true, eq-eqb}
 use Rattle.std.specs.Prelude.{Option, Some, None, if◌then◌else◌, string_bytes}
 use Rattle.std.specs.Bool.{Decides}
 use Rattle.std.proofs.lemmas.Bool.Decides.{nat_tests, Decides-and}
 use Rattle.std.specs.List.{list_any}
 use Rattle.std.specs.FinMap.{get, insert}
-use Rattle.std.proofs.lemmas.List.{take_more, take_all}
+use Rattle.std.proofs.lemmas.List.{take_more}
 use Rattle.std.proofs.lemmas.List.Folds.{list_any-append}
 use Rattle.record_kinds.specs.declared.record.Record.{Record}
 use Rattle.record_shapes.specs.Lists.{Ascends, EachOf}
 use Rattle.record_shapes.specs.Paths.{IsWithinLimits, is_within_limits, parts}
 use Rattle.archive_state.specs.Content.{Records}
 use Rattle.archive_state.specs.Known.{path_of, path_with}
-use Rattle.archive_state.specs.Paths.{HasPath}
 use Rattle.archive_state.proofs.Known.{path_known}
 use Rattle.archive_state.proofs.Putting.{put_cases}
 use Rattle.known_records.specs.Knowing.{AreWithin, HasAll, IsTooLong, KnowsPaths, PathMap}

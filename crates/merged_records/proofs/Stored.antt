@@ -1,6 +1,6 @@
 -- Two records are the same where their stored lines are.
 use Rattle.std.proofs.Common.{◌≡◌, ◌↔◌, Bool, ap}
-use Rattle.std.specs.Prelude.{Option, Some, None, IsTrue, Result, Ok, Err, IfOk}
+use Rattle.std.specs.Prelude.{Some, IsTrue}
 use Rattle.record_kinds.specs.declared.record.Record.{Record}
 use Rattle.records.specs.Stored.{stored}
 use Rattle.records.proofs.Shallow.{stored_one}

@@ -50,8 +50,8 @@ pub(crate) fn merged_person(
     keep: u32,
     gone: u32,
 ) -> Result<Record, AllocError>
-    ensures { IfOk result (λ r. Some r
-        ≡ merging.merged_person keep gone (Some value.now) (option_map (λ r. r.now) other.entry)) }
+    ensures { IfOk result (λ r. Some r ≡ merging.merged_person keep gone (Some value.now)
+        (option_map (λ r. r.now) other.entry)) }
 {
     match (value, other) {
         (Record::Person(stays), Some(Record::Person(goes))) => {

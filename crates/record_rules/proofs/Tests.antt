@@ -1,13 +1,10 @@
 -- Each test decides its rule.
-use Rattle.std.proofs.Common.{◌≡◌, ℕ, List, [], ◌∷◌, Bool, true, false, refl, sym, subst, ◌∙◌, arith, IfSome}
-use Rattle.std.specs.Prelude.{Option, Some, None, cond}
+use Rattle.std.proofs.Common.{◌≡◌, List, [], ◌∷◌, Bool, true, refl, subst, IfSome}
+use Rattle.std.specs.Prelude.{Option, Some, None}
 use Rattle.std.specs.Bool.{Decides}
-use Rattle.std.proofs.lemmas.Bool.Decides.{nat_tests, Decides-and}
+use Rattle.std.proofs.lemmas.Bool.Decides.{Decides-and}
 use Rattle.std.specs.List.{list_all}
-use Rattle.std.specs.FinMap.{FinMap, get}
-use Rattle.std.specs.Ordering.{nat_cmp, eq_by_cmp}
 use Rattle.record_shapes.specs.Lists.{EachOf}
-use Rattle.archive_state.specs.Sound.{EachIn}
 use Rattle.record_rules.specs.Judged.{all_some}
 
 pub each_of : {A : Type 0} (p : A → Bool) (P : A → Type 0) → ((x : A) → Decides (p x) (P x)) → (xs : List A)

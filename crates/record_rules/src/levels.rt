@@ -93,15 +93,15 @@ fn children_have_room(children: &[Child]) -> bool
 }
 
 fn partner_has_room(partner: &Partner) -> bool
-    ensures { IsTrue result
-        ↔ (levels.AreWithin 97 partner.now.carried × levels.AreWithin 97 partner.now.carried_by_person) }
+    ensures { IsTrue result ↔ (levels.AreWithin 97 partner.now.carried
+        × levels.AreWithin 97 partner.now.carried_by_person) }
 {
     are_within(&partner.carried, BELOW_FIELD) && are_within(&partner.carried_by_person, BELOW_FIELD)
 }
 
 fn child_has_room(child: &Child) -> bool
-    ensures { IsTrue result
-        ↔ (levels.AreWithin 97 child.now.carried × levels.AreWithin 97 child.now.carried_by_person) }
+    ensures { IsTrue result ↔ (levels.AreWithin 97 child.now.carried
+        × levels.AreWithin 97 child.now.carried_by_person) }
 {
     are_within(&child.carried, BELOW_FIELD) && are_within(&child.carried_by_person, BELOW_FIELD)
 }

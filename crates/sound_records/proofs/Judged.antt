@@ -1,6 +1,6 @@
 -- What is judged by what is known of records, of exactly known ones.
-use Rattle.std.proofs.Common.{◌≡◌, ℕ, List, Bool, true, false, nat_lt, refl, sym, ap, subst, ◌∙◌}
-use Rattle.std.specs.Prelude.{Option, Some, None, Result, Ok, Err, IfOk, IsTrue, IfSome, if◌then◌else◌}
+use Rattle.std.proofs.Common.{◌≡◌, ℕ, List, Bool, true, nat_lt, sym, subst, ◌∙◌}
+use Rattle.std.specs.Prelude.{None, Result, Ok, Err, IfOk, if◌then◌else◌}
 use Rattle.std.specs.Bool.{Decides}
 use Rattle.std.proofs.lemmas.Bool.Decides.{Decides-at}
 use Rattle.std.specs.FinMap.{get}
@@ -9,7 +9,7 @@ use Rattle.record_kinds.specs.declared.record.Record.TheVariants as kind
 use Rattle.record_shapes.specs.Paths.{has_part}
 use Rattle.record_shapes.specs.Untaken.{HasUntaken}
 use Rattle.archive_state.specs.Content.{Records}
-use Rattle.archive_state.specs.Known.{known_before, known_of, path_of, tag_at}
+use Rattle.archive_state.specs.Known.{known_before, known_of, tag_at}
 use Rattle.archive_state.specs.Paths.{HasPath}
 use Rattle.archive_state.specs.Sound.{HasOwnShape}
 use Rattle.archive_state.proofs.Known.{path_known}

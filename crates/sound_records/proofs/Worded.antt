@@ -1,28 +1,5 @@
 -- Two entries have one key text where they have one source, kind, page and item.
-use Rattle.std.proofs.Common.{
-  ◌≡◌,
-  ℕ,
-  ◌<◌,
-  ◌≤◌,
-  ◌^◌,
-  subst,
-  arith,
-  List,
-  [],
-  ◌∷◌,
-  ◌++◌,
-  Bool,
-  true,
-  false,
-  ◌==◌,
-  ◌||◌,
-  refl,
-  sym,
-  ap,
-  ◌∙◌,
-  eq-eqb,
-  append_assoc,
-}
+use Rattle.std.proofs.Common.{◌≡◌, ℕ, ◌<◌, ◌^◌, subst, arith, List, [], ◌∷◌, ◌++◌, true, false, ◌==◌, ◌||◌, refl, sym, ap, ◌∙◌, eq-eqb, append_assoc}
 use Rattle.std.specs.Prelude.{Some, decimal}
 use Rattle.std.specs.Char.{digit_value}
 use Rattle.std.specs.Str.Parse.{AllDigits, digits_value}
@@ -34,7 +11,7 @@ use Rattle.record_fields.specs.Words.{entry_kind_of, entry_kind_word}
 use Rattle.record_fields.specs.declared.entry_words.EntryKind.{EntryKind}
 use Rattle.record_fields.specs.declared.entry_words.EntryKind.TheVariants.{Baptism, Marriage, Burial}
 use Rattle.record_fields.specs.declared.item.Item.{Item}
-use Rattle.record_fields.proofs.Items.{decimal_is_plain, item_back, same_item}
+use Rattle.record_fields.proofs.Items.{decimal_is_plain, item_back}
 use Rattle.record_fields.proofs.Worded.{entry_kind_back}
 use Rattle.record_fields.specs.Items.{item_of}
 use Rattle.record_kinds.specs.Model as model

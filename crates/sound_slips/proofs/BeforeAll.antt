@@ -46,9 +46,9 @@ pub one_before : (cs : List Change) (left : ℕ) (d : Change) → 0 < left → l
     ≡ insert (records_before (drop left cs)) ((get_or cs (left - 1) d).number) ((get_or cs (left - 1) d).old)
 one_before cs left d some within =
     let same : (left - 1) + 1 ≡ left = omega arith in
+    let x : Change = get_or cs (left - 1) d in
     ap records_before (drop_more cs (left - 1) d (omega arith))
-    ∙ ap (λ i. insert (records_before (drop i cs)) ((get_or cs (left - 1) d).number) ((get_or cs (left - 1) d).old))
-    same
+    ∙ ap (λ i. insert (records_before (drop i cs)) x.number x.old) same
 
 either_true : (a b : Bool) → a ≡ true → (a || b) ≡ true
 either_true true b e = refl

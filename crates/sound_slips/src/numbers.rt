@@ -38,8 +38,8 @@ fn changes_are_below(next: u64, changes: &[Change]) -> bool
 }
 
 fn each_is_below(next: u64, changes: &[Change]) -> bool
-    ensures { IsTrue result
-        ↔ EachOf (λ (c : changes_seen.Change). EachOf (IsNumber next) (change_names c)) changes.now }
+    ensures { IsTrue result ↔ EachOf (λ (c : changes_seen.Change). EachOf (IsNumber next) (change_names c))
+        changes.now }
 {
     changes.iter().all(|change| change_is_below(next, change))
 }

@@ -1,30 +1,5 @@
 -- The first number that is not met, of lists that were put together.
-use Rattle.std.proofs.Common.{
-  ◌≡◌,
-  ◌⊎◌,
-  ℕ,
-  List,
-  [],
-  ◌∷◌,
-  ◌++◌,
-  ◌+◌,
-  ◌<◌,
-  length,
-  drop,
-  get_or,
-  true≢false,
-  IfSome,
-  Bool,
-  true,
-  false,
-  refl,
-  sym,
-  ap,
-  ◌∙◌,
-  inl,
-  inr,
-  subst,
-}
+use Rattle.std.proofs.Common.{◌≡◌, ℕ, List, [], ◌∷◌, ◌++◌, ◌+◌, ◌<◌, length, drop, get_or, true≢false, IfSome, Bool, true, false, refl, sym, ap, ◌∙◌, inl, inr, subst}
 use Rattle.std.specs.Prelude.{Option, Some, None, option_map, if◌then◌else◌, MatchOption}
 use Rattle.std.specs.Bool.{Decides}
 use Rattle.std.specs.List.{flat_map}
@@ -37,7 +12,7 @@ use Rattle.record_links.specs.Links.{Link, Wanted, is_wanted, line_links, forest
 use Rattle.record_shapes.specs.Lists.{EachOf}
 use Rattle.archive_state.specs.Content.{Records}
 use Rattle.standing_links.specs.declared.demand.Unmet.{Unmet}
-use Rattle.standing_links.specs.Standing.{IsOne, IsUnmet, Meets, first_of, first_unmet, link_of, meets, met, unmet}
+use Rattle.standing_links.specs.Standing.{IsUnmet, Meets, first_of, first_unmet, link_of, meets, met, unmet}
 
 first_three : (a b c : Option Link) → first_of a (first_of b c) ≡ first_of (first_of a b) c
 first_three None b c = refl

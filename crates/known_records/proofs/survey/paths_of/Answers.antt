@@ -1,4 +1,4 @@
-use Rattle.std.proofs.Common.{subst, sym, ◌∙◌, arith, ◌≡◌, List, ℕ, take}
+use Rattle.std.proofs.Common.{subst, sym, ◌∙◌, arith}
 use Rattle.std.proofs.lemmas.List.{take_all}
 use Rattle.known_records.proofs.Surveyed.{Upto, all_known, all_within, kept, none_yet, stopped}
 use Rattle.known_records.proofs.survey.paths_of.Goals as goal

@@ -6,6 +6,5 @@ use Rattle.record_rules.proofs.lines.children_fit.Given as goal
 
 abbrev pub invariant-children : goal.invariant-children
 invariant-children g l =
-    list_all (λ (c : model.Child). lines_all (g.J.Judge.fit l.judge) (c.carried ++ c.carried_by_person))
-    (drop l.child-index l.children)
-    ≡ list_all (λ (c : model.Child). lines_all (g.J.Judge.fit l.judge) (c.carried ++ c.carried_by_person)) l.children
+    let fits = λ (c : model.Child). lines_all (g.J.Judge.fit l.judge) (c.carried ++ c.carried_by_person) in
+    list_all fits (drop l.child-index l.children) ≡ list_all fits l.children

@@ -6,6 +6,5 @@ use Rattle.record_rules.proofs.lines.partners_fit.Given as goal
 
 abbrev pub invariant-partners : goal.invariant-partners
 invariant-partners g l =
-    list_all (λ (p : model.Partner). lines_all (g.J.Judge.fit l.judge) (p.carried ++ p.carried_by_person))
-    (drop l.partner-index l.partners)
-    ≡ list_all (λ (p : model.Partner). lines_all (g.J.Judge.fit l.judge) (p.carried ++ p.carried_by_person)) l.partners
+    let fits = λ (p : model.Partner). lines_all (g.J.Judge.fit l.judge) (p.carried ++ p.carried_by_person) in
+    list_all fits (drop l.partner-index l.partners) ≡ list_all fits l.partners

@@ -1,8 +1,7 @@
-use Rattle.std.proofs.Common.{◌≡◌, List, ℕ, subst, ap, arith}
+use Rattle.std.proofs.Common.{subst, ap, arith}
 use Rattle.std.proofs.lemmas.List.{take_all}
 use Rattle.std.specs.BTreeSet.{contains_text}
-use Rattle.std.specs.FinMap.{get}
-use Rattle.sound_records.specs.Keys.{Adds, entry_in}
+use Rattle.sound_records.specs.Keys.{Adds}
 use Rattle.sound_records.proofs.Keyed.{AreKeyed, all_apart, none_keyed, one_keyed, one_taken}
 use Rattle.sound_records.proofs.keys.first_taken.Goals as goal
 

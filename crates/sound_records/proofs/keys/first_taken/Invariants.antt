@@ -1,6 +1,5 @@
 use Rattle.std.proofs.Common.{take}
 use Rattle.record_shapes.specs.Lists.{Ascends}
-use Rattle.known_records.specs.Knowing.{HasAll}
 use Rattle.sound_records.proofs.Keyed.{AreKeyed}
 use Rattle.sound_records.proofs.keys.first_taken.Given as goal
 

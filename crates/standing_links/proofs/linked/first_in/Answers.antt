@@ -1,6 +1,5 @@
 use Rattle.standing_links.proofs.Firsts.{found_at, passed_by}
-use Rattle.standing_links.specs.Standing.{first_unmet, link_of}
-use Rattle.std.specs.List.{flat_map}
+use Rattle.standing_links.specs.Standing.{link_of}
 use Rattle.standing_links.proofs.linked.first_in.Goals as goal
 
 pub returns-in-Some : goal.returns-in-Some
