@@ -4,7 +4,8 @@ ghost use Rattle.std.specs.Prelude.{◌≡◌, ◌++◌, IfErr, IfOk, Ok, OnOk, 
 ghost use Rattle.std.specs.FinMap as map;
 ghost use Rattle.std.specs.List.{flat_map};
 ghost use Rattle.archive_state.specs.Sound.{IsSound};
-ghost use Rattle.export_index.specs.Index.{IsArranged};
+ghost use Rattle.export_index.specs.Index.{IsArranged, IsIndexOf};
+ghost use Rattle.std.specs.FinMap.{entries};
 ghost use Rattle.sheets.specs.Answers.{IsRefused};
 ghost use Rattle.sheets.specs.Gathered.{gathered};
 ghost use Rattle.sheets.specs.Indexed.{indexed};
@@ -30,23 +31,28 @@ pub fn family_sheet(alloc: Global, shown: &Shown, number: u32) -> Result<String,
     let state = shown.as_state();
     match state.record(number) {
         None => Err(RefusalKind::NoSuch),
-        Some(Record::Family(family)) => Ok(sheet_of(alloc, shown, number, family)?),
+        Some(Record::Family(family)) => {
+            let index = index_of(alloc, shown)?;
+            Ok(sheet_by(alloc, shown, &index, number, family)?)
+        }
         Some(_) => Err(RefusalKind::WrongKind),
     }
 }
 
-fn sheet_of(
+/// The sheet by the index of the masked records.
+pub(crate) fn sheet_by(
     alloc: Global,
     shown: &Shown,
+    index: &Index,
     number: u32,
     family: &Family,
 ) -> Result<String, AllocError>
-    ensures { IsSound shown.now
+    requires { IsArranged index.now }
+    ensures { IsIndexOf (entries shown.now.records) index.now
         → IfOk result (λ s. string_bytes s ≡ sheets.family_text (gathered shown.now.records) number family.now) }
 {
-    let index = index_of(alloc, shown)?;
     let mut out = String::new(alloc);
-    push_family(alloc, &mut out, shown.as_state(), &index, number, family)?;
+    push_family(alloc, &mut out, shown.as_state(), index, number, family)?;
     Ok(out)
 }
 

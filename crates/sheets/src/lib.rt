@@ -14,6 +14,7 @@ mod gathering;
 mod generations;
 mod known;
 pub mod laws;
+mod library;
 mod looks;
 mod pages;
 mod pedigrees;
@@ -22,6 +23,7 @@ mod registers;
 
 pub use families::family_sheet;
 pub use generations::Generations;
+pub use library::Library;
 pub use pages::{index_page, surname_page};
 pub use pedigrees::pedigree;
 pub use persons::person_sheet;

@@ -5,6 +5,7 @@ ghost use Rattle.std.specs.FinMap as map;
 ghost use Rattle.std.specs.List.{list_any};
 ghost use Rattle.record_kinds.specs.declared.record.Record.TheVariants as kind;
 ghost use Rattle.archive_state.specs.Sound.{IsSound};
+ghost use Rattle.export_index.specs.Index.{IsIndexOf};
 ghost use Rattle.sheet_lines.specs.Lines as lines;
 ghost use Rattle.sheets.specs.Gathered.{gathered};
 ghost use Rattle.sheets.specs.Indexed.{indexed};
@@ -24,8 +25,17 @@ pub fn index_page(alloc: Global, shown: &Shown) -> Result<String, AllocError>
     ensures { IsSound shown.now → IfOk result (λ s. string_bytes s ≡ pages.index_page shown.now.records) }
 {
     let index = index_of(alloc, shown)?;
+    index_by(alloc, shown, &index)
+}
+
+/// The same by the index of the masked records.
+pub(crate) fn index_by(alloc: Global, shown: &Shown, index: &Index) -> Result<String, AllocError>
+    ensures { IsIndexOf (map.entries shown.now.records) index.now
+        → IfOk result (λ s. string_bytes s ≡ pages.index_page shown.now.records) }
+{
+    let _ = shown;
     let mut out = String::new(alloc);
-    push_counts(&mut out, &index)?;
+    push_counts(&mut out, index)?;
     Ok(out)
 }
 
@@ -46,9 +56,22 @@ pub fn surname_page(alloc: Global, shown: &Shown, of: &str) -> Result<String, Al
         → IfOk result (λ s. string_bytes s ≡ pages.surname_page shown.now.records of.now) }
 {
     let index = index_of(alloc, shown)?;
+    surname_by(alloc, shown, &index, of)
+}
+
+/// The same by the index of the masked records.
+pub(crate) fn surname_by(
+    alloc: Global,
+    shown: &Shown,
+    index: &Index,
+    of: &str,
+) -> Result<String, AllocError>
+    ensures { IsIndexOf (map.entries shown.now.records) index.now
+        → IfOk result (λ s. string_bytes s ≡ pages.surname_page shown.now.records of.now) }
+{
     let key = surname_key(alloc, of)?;
     let mut out = String::new(alloc);
-    push_persons(alloc, &mut out, shown.as_state(), &index, key.as_str())?;
+    push_persons(alloc, &mut out, shown.as_state(), index, key.as_str())?;
     Ok(out)
 }
 

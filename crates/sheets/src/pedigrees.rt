@@ -22,7 +22,8 @@ ghost use Rattle.std.specs.Prelude.{
 };
 ghost use Rattle.std.specs.Option.{option_and_then};
 ghost use Rattle.archive_state.specs.Sound.{IsSound};
-ghost use Rattle.export_index.specs.Index.{IsArranged};
+ghost use Rattle.std.specs.FinMap.{entries};
+ghost use Rattle.export_index.specs.Index.{IsArranged, IsIndexOf};
 ghost use Rattle.sheets.specs.Answers.{IsRefused};
 ghost use Rattle.sheets.specs.Gathered.{Gathered, gathered};
 ghost use Rattle.sheets.specs.Indexed.{indexed};
@@ -58,24 +59,29 @@ pub fn pedigree(
     let state = shown.as_state();
     match state.record(number) {
         None => Err(RefusalKind::NoSuch),
-        Some(Record::Person(_)) => Ok(pedigree_of(alloc, shown, number, generations)?),
+        Some(Record::Person(_)) => {
+            let index = index_of(alloc, shown)?;
+            Ok(pedigree_by(alloc, shown, &index, number, generations)?)
+        }
         Some(_) => Err(RefusalKind::WrongKind),
     }
 }
 
-fn pedigree_of(
+/// The pedigree by the index of the masked records.
+pub(crate) fn pedigree_by(
     alloc: Global,
     shown: &Shown,
+    index: &Index,
     subject: u32,
     generations: Generations,
 ) -> Result<String, AllocError>
-    ensures { IsSound shown.now → IfOk result (λ s. string_bytes s
+    requires { IsArranged index.now }
+    ensures { IsIndexOf (entries shown.now.records) index.now → IfOk result (λ s. string_bytes s
         ≡ pedigrees.pedigree_text (gathered shown.now.records) subject generations.count) }
 {
-    let index = index_of(alloc, shown)?;
     let mut out = String::new(alloc);
     let last = last_number(generations);
-    push_lines(alloc, &mut out, shown.as_state(), &index, subject, last)?;
+    push_lines(alloc, &mut out, shown.as_state(), index, subject, last)?;
     Ok(out)
 }
 

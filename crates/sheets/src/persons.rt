@@ -4,7 +4,8 @@ ghost use Rattle.std.specs.Prelude.{◌≡◌, ◌++◌, IfErr, IfOk, Ok, OnOk, 
 ghost use Rattle.std.specs.List.{flat_map};
 ghost use Rattle.archive_state.specs.Sound.{IsSound};
 ghost use Rattle.sheet_lines.specs.Lines as lines;
-ghost use Rattle.export_index.specs.Index.{IsArranged};
+ghost use Rattle.export_index.specs.Index.{IsArranged, IsIndexOf};
+ghost use Rattle.std.specs.FinMap.{entries};
 ghost use Rattle.export_index.specs.Owned.{sides_by};
 ghost use Rattle.export_index.specs.declared.membership.Membership as membership;
 ghost use Rattle.sheets.specs.Answers.{IsRefused};
@@ -31,23 +32,28 @@ pub fn person_sheet(alloc: Global, shown: &Shown, number: u32) -> Result<String,
     let state = shown.as_state();
     match state.record(number) {
         None => Err(RefusalKind::NoSuch),
-        Some(Record::Person(person)) => Ok(sheet_of(alloc, shown, number, person)?),
+        Some(Record::Person(person)) => {
+            let index = index_of(alloc, shown)?;
+            Ok(sheet_by(alloc, shown, &index, number, person)?)
+        }
         Some(_) => Err(RefusalKind::WrongKind),
     }
 }
 
-fn sheet_of(
+/// The sheet by the index of the masked records.
+pub(crate) fn sheet_by(
     alloc: Global,
     shown: &Shown,
+    index: &Index,
     number: u32,
     person: &Person,
 ) -> Result<String, AllocError>
-    ensures { IsSound shown.now
+    requires { IsArranged index.now }
+    ensures { IsIndexOf (entries shown.now.records) index.now
         → IfOk result (λ s. string_bytes s ≡ sheets.person_text (gathered shown.now.records) number person.now) }
 {
-    let index = index_of(alloc, shown)?;
     let mut out = String::new(alloc);
-    push_person(alloc, &mut out, shown.as_state(), &index, number, person)?;
+    push_person(alloc, &mut out, shown.as_state(), index, number, person)?;
     Ok(out)
 }
 

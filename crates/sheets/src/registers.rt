@@ -2,9 +2,11 @@
 
 ghost use Rattle.std.specs.Prelude.{◌≡◌, ◌++◌, IfErr, IfOk, Ok, OnOk, Some, string_bytes};
 ghost use Rattle.std.specs.FinMap as map;
+ghost use Rattle.std.specs.FinMap.{entries};
 ghost use Rattle.std.specs.List.{flat_map};
 ghost use Rattle.record_kinds.specs.declared.record.Record.TheVariants as kind;
 ghost use Rattle.archive_state.specs.Sound.{IsSound};
+ghost use Rattle.export_index.specs.Index.{IsIndexOf};
 ghost use Rattle.sheets.specs.Answers.{IsRefused};
 ghost use Rattle.sheets.specs.Gathered.{gathered};
 ghost use Rattle.sheets.specs.Indexed.{indexed};
@@ -28,23 +30,27 @@ pub fn register_sheet(alloc: Global, shown: &Shown, number: u32) -> Result<Strin
     let state = shown.as_state();
     match state.record(number) {
         None => Err(RefusalKind::NoSuch),
-        Some(Record::Source(source)) => Ok(sheet_of(alloc, shown, number, source)?),
+        Some(Record::Source(source)) => {
+            let index = index_of(alloc, shown)?;
+            Ok(sheet_by(alloc, shown, &index, number, source)?)
+        }
         Some(_) => Err(RefusalKind::WrongKind),
     }
 }
 
-fn sheet_of(
+/// The sheet by the index of the masked records.
+pub(crate) fn sheet_by(
     alloc: Global,
     shown: &Shown,
+    index: &Index,
     number: u32,
     source: &Source,
 ) -> Result<String, AllocError>
-    ensures { IsSound shown.now → IfOk result
+    ensures { IsIndexOf (entries shown.now.records) index.now → IfOk result
         (λ s. string_bytes s ≡ sheets.register_text (gathered shown.now.records) number source.now) }
 {
-    let index = index_of(alloc, shown)?;
     let mut out = String::new(alloc);
-    push_register(&mut out, shown.as_state(), &index, number, source)?;
+    push_register(&mut out, shown.as_state(), index, number, source)?;
     Ok(out)
 }
 
