@@ -7,13 +7,11 @@ ghost use Rattle.sheets.specs.Pages as pages;
 ghost use Rattle.sheets.specs.Pedigrees as pedigrees;
 ghost use Rattle.sheets.specs.Sheets as sheets;
 
-use crate::families;
 use crate::gathering::index_of;
 use crate::generations::Generations;
 use crate::pages::{index_by, surname_by};
 use crate::pedigrees::pedigree_by;
-use crate::persons;
-use crate::registers;
+use crate::{families, persons, registers};
 use export_index::Index;
 use records::{Record, RefusalKind};
 use shown_state::Shown;
