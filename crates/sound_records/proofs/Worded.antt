@@ -1,5 +1,26 @@
 -- Two entries have one key text where they have one source, kind, page and item.
-use Rattle.std.proofs.Common.{◌≡◌, ℕ, ◌<◌, ◌^◌, subst, arith, List, [], ◌∷◌, ◌++◌, true, false, ◌==◌, ◌||◌, refl, sym, ap, ◌∙◌, eq-eqb, append_assoc}
+use Rattle.std.proofs.Common.{
+  ◌≡◌,
+  ℕ,
+  ◌<◌,
+  ◌^◌,
+  subst,
+  arith,
+  List,
+  [],
+  ◌∷◌,
+  ◌++◌,
+  true,
+  false,
+  ◌==◌,
+  ◌||◌,
+  refl,
+  sym,
+  ap,
+  ◌∙◌,
+  eq-eqb,
+  append_assoc,
+}
 use Rattle.std.specs.Prelude.{Some, decimal}
 use Rattle.std.specs.Char.{digit_value}
 use Rattle.std.specs.Str.Parse.{AllDigits, digits_value}

@@ -1,5 +1,29 @@
 -- The first number that is not met, of lists that were put together.
-use Rattle.std.proofs.Common.{◌≡◌, ℕ, List, [], ◌∷◌, ◌++◌, ◌+◌, ◌<◌, length, drop, get_or, true≢false, IfSome, Bool, true, false, refl, sym, ap, ◌∙◌, inl, inr, subst}
+use Rattle.std.proofs.Common.{
+  ◌≡◌,
+  ℕ,
+  List,
+  [],
+  ◌∷◌,
+  ◌++◌,
+  ◌+◌,
+  ◌<◌,
+  length,
+  drop,
+  get_or,
+  true≢false,
+  IfSome,
+  Bool,
+  true,
+  false,
+  refl,
+  sym,
+  ap,
+  ◌∙◌,
+  inl,
+  inr,
+  subst,
+}
 use Rattle.std.specs.Prelude.{Option, Some, None, option_map, if◌then◌else◌, MatchOption}
 use Rattle.std.specs.Bool.{Decides}
 use Rattle.std.specs.List.{flat_map}
