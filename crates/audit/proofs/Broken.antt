@@ -1,8 +1,5 @@
 -- What is found breaks the rule.
-use Rattle.std.proofs.Common.{◌≡◌, ◌⊎◌, ℕ, List, [], ◌∷◌, Bool, true, false, inl, inr, subst}
-use Rattle.std.specs.Prelude.{Some}
-use Rattle.std.specs.FinMap.{get}
-use Rattle.record_kinds.specs.declared.record.Record.{Record}
+use Rattle.std.proofs.Common.{ℕ, List, [], ◌∷◌, Bool, true, inl, inr, subst}
 use Rattle.record_links.specs.Links.{Link, links}
 use Rattle.record_shapes.specs.Lists.{EachOf}
 use Rattle.archive_state.specs.Content.{Records}

@@ -1,11 +1,9 @@
 -- The numbers of records, gathered one after the other.
 use Rattle.std.proofs.Common.{
   ◌≡◌,
-  ◌⊎◌,
   ℕ,
   ◌+◌,
   ◌<◌,
-  ◌≤◌,
   ◌==◌,
   ◌||◌,
   List,

@@ -1,5 +1,5 @@
 -- What is found where an archive is not sound.
-use Rattle.std.specs.Prelude.{ℕ, ◌≡◌, ◌<◌, ◌≤◌, Option, Some, None, IfSome}
+use Rattle.std.specs.Prelude.{ℕ, ◌≡◌, ◌<◌, ◌≤◌, Some, None, IfSome}
 use Rattle.std.specs.FinMap.{get}
 use Rattle.record_kinds.specs.declared.record.Record.{Record}
 use Rattle.archive_state.specs.Content.{Content}

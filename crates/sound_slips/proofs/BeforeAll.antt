@@ -21,21 +21,19 @@ use Rattle.std.proofs.Common.{
   refl,
   sym,
   ap,
-  subst,
   ◌∙◌,
   cond,
   arith,
   eq-eqb,
 }
-use Rattle.std.specs.Prelude.{Option, Some, None}
+use Rattle.std.specs.Prelude.{Some}
 use Rattle.std.specs.List.{list_any}
 use Rattle.std.specs.Ordering.{nat_cmp, eq_by_cmp}
 use Rattle.std.specs.Cmp.{nat_cmp_total}
-use Rattle.std.specs.FinMap.{find, get, get-from_entries, insert}
+use Rattle.std.specs.FinMap.{find, get-from_entries, insert}
 use Rattle.std.proofs.lemmas.List.{drop_more}
 use Rattle.record_kinds.specs.declared.record.Record.{Record}
 use Rattle.archive_state.specs.declared.slip.Change.{Change}
-use Rattle.archive_state.specs.Content.{Records}
 use Rattle.archive_state.proofs.Putting.{one_number}
 use Rattle.known_records.specs.Knowing.{HasAll}
 use Rattle.sound_slips.specs.Olds.{records_before}

@@ -1,6 +1,5 @@
 -- Whether numbers of lists that were put together are given out.
-use Rattle.std.proofs.Common.{◌≡◌, ℕ, List, [], ◌∷◌, ◌++◌, Bool, nat_lt, ◌&&◌, refl, map, ◌↔◌}
-use Rattle.std.specs.Prelude.{IsTrue}
+use Rattle.std.proofs.Common.{◌≡◌, ℕ, List, [], ◌∷◌, ◌++◌, Bool, nat_lt, ◌&&◌, refl, map}
 use Rattle.std.specs.Bool.{Decides}
 use Rattle.std.proofs.lemmas.Bool.Decides.{Decides-and, Decides-at, Decides-ltb}
 use Rattle.std.proofs.lemmas.List.Folds.{list_all-append}

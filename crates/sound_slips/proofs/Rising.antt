@@ -26,7 +26,7 @@ use Rattle.archive_state.specs.declared.slip.Change.{Change}
 use Rattle.sound_slips.specs.Parts.{changed}
 use Rattle.std.specs.Bool.{Decides}
 use Rattle.std.proofs.lemmas.Bool.Decides.{Decides-and, Decides-ltb}
-use Rattle.record_shapes.specs.Lists.{Ascends, EachOf}
+use Rattle.record_shapes.specs.Lists.{Ascends}
 use Rattle.archive_state.proofs.Each.{each_more}
 use Rattle.sound_slips.specs.Rising.{rises_from}
 

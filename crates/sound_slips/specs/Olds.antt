@@ -1,5 +1,5 @@
 -- The records of before, of the changes of a slip.
-use Rattle.std.specs.Prelude.{ℕ, List, map}
+use Rattle.std.specs.Prelude.{List, map}
 use Rattle.std.specs.FinMap.{from_entries}
 use Rattle.archive_state.specs.declared.slip.Change.{Change}
 use Rattle.archive_state.specs.Content.{Records}

@@ -1,5 +1,5 @@
 -- The parts of the rule on the slip of a merge, and which of them it breaks.
-use Rattle.std.specs.Prelude.{ℕ, ◌≡◌, ◌≢◌, ◌∷◌, true, false, List, map, Option, Some, None, MatchOption}
+use Rattle.std.specs.Prelude.{ℕ, ◌≡◌, ◌≢◌, ◌∷◌, true, false, List, map, Some, MatchOption}
 use Rattle.std.specs.List.{flat_map}
 use Rattle.std.specs.FinMap.{get}
 use Rattle.record_kinds.specs.declared.record.Record.{Record}

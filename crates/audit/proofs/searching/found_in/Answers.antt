@@ -1,5 +1,4 @@
-use Rattle.std.proofs.Common.{◌≡◌, ◌+◌, ◌≤◌, true, false, sym, subst, ◌∙◌}
-use Rattle.audit.specs.Faults.{IsNext}
+use Rattle.std.proofs.Common.{◌≡◌, ◌≤◌, true, false, sym, subst, ◌∙◌}
 use Rattle.audit.proofs.Sound.{no_next}
 use Rattle.audit.proofs.searching.found_in.Goals as goal
 

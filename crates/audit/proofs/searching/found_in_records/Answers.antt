@@ -1,9 +1,8 @@
-use Rattle.std.proofs.Common.{◌≡◌, ◌+◌, ℕ, List, sym, subst, ◌∙◌, false}
+use Rattle.std.proofs.Common.{sym, subst, false}
 use Rattle.std.specs.Prelude.{MatchOption}
 use Rattle.known_records.specs.Knowing.{HasAll}
 use Rattle.sound_records.specs.Parts.{AreWhole, IsBreach}
 use Rattle.record_shapes.specs.Lists.{Ascends}
-use Rattle.audit.specs.Gathering.{AreGathered}
 use Rattle.audit.proofs.Sound.{has_all, not_sound}
 use Rattle.audit.proofs.searching.found_in_records.Goals as goal
 

@@ -1,4 +1,4 @@
-use Rattle.std.proofs.Common.{◌≡◌, ◌+◌, ◌≤◌, false, subst}
+use Rattle.std.proofs.Common.{false, subst}
 use Rattle.std.specs.Prelude.{MatchOption}
 use Rattle.archive_state.specs.Sound.{IsSound}
 use Rattle.sound_records.specs.Parts.{AreWhole}

@@ -1,4 +1,4 @@
-use Rattle.std.proofs.Common.{◌≡◌, ℕ, true, false, sym, ap, subst, ◌∙◌}
+use Rattle.std.proofs.Common.{◌≡◌, true, false, sym, ap, subst, ◌∙◌}
 use Rattle.std.specs.Prelude.{IfSome, None, MatchOption}
 use Rattle.std.specs.FinMap.{get}
 use Rattle.archive_state.specs.Slips.{Slip}

@@ -1,4 +1,4 @@
-use Rattle.std.proofs.Common.{◌≡◌, ℕ, ◌<◌, subst, arith}
+use Rattle.std.proofs.Common.{◌≡◌, subst, arith}
 use Rattle.std.specs.Prelude.{MatchOption}
 use Rattle.archive_state.specs.Sound.{IsSound}
 use Rattle.audit.specs.Faults.{KeepSlips, KeepsSlipAt}

@@ -1,4 +1,4 @@
-use Rattle.std.proofs.Common.{◌≡◌, List, ℕ, sym, subst, ◌∙◌}
+use Rattle.std.proofs.Common.{◌≡◌, sym, subst, ◌∙◌}
 use Rattle.std.specs.Prelude.{IfOk, MatchOption}
 use Rattle.record_shapes.specs.Lists.{Ascends}
 use Rattle.known_records.specs.Knowing.{HasAll}

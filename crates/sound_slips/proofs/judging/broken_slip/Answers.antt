@@ -1,6 +1,5 @@
-use Rattle.std.proofs.Common.{◌≡◌, List, ℕ, true, false, sym, ap, subst, ◌∷◌, ◌∙◌}
+use Rattle.std.proofs.Common.{◌≡◌, true, false, sym, ap, subst, ◌∷◌, ◌∙◌}
 use Rattle.record_shapes.specs.Lists.{Ascends}
-use Rattle.archive_state.specs.declared.slip.Change.{Change}
 use Rattle.archive_state.specs.Slips.{Slip}
 use Rattle.sound_slips.specs.Parts.{changed}
 use Rattle.sound_slips.proofs.Inside.{ascend_from, slip_decided}
