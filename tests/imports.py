@@ -174,7 +174,7 @@ def no_number_left(tools):
         expect(at.import_(between("0 @I1@ INDI")), written(b"imported 1 records, first 4294967295\n"))
 
 
-def there_and_back(tools, seed=1, files=60):
+def there_and_back(tools, seed, files=60):
     """What is exported of an imported file is imported without a line of the report, and exported as the same again, up
     to the numbers."""
     for number in range(files):
@@ -305,7 +305,6 @@ def an_entry_of_a_file(tools):
 
 
 TESTS = (
-    there_and_back,
     killed_in_an_import,
     refused_memory,
     worked_files,
@@ -325,5 +324,7 @@ TESTS = (
 
 
 def cases(tools: Tools):
+    for seed in range(1, 6):
+        yield Case(f"imports: there and back, seed {seed}", lambda seed=seed: there_and_back(tools, seed))
     for test in TESTS:
         yield Case(f"imports: {test.__name__.replace('_', ' ')}", lambda test=test: test(tools))
