@@ -1,20 +1,12 @@
 -- Each of a list, and lists joined.
-use Rattle.std.proofs.Common.{◌≡◌, ℕ, ◌+◌, ◌<◌, List, [], ◌∷◌, ◌++◌, refl, sym, ap, ◌∙◌, length, take, get_or}
+use Rattle.std.proofs.Common.{◌≡◌, List, [], ◌∷◌, ◌++◌, refl, sym, ap, ◌∙◌}
 use Rattle.std.specs.Prelude.{map}
 use Rattle.std.specs.List.{flat_map}
-use Rattle.std.proofs.lemmas.List.{map-append, map_push, take_more}
+use Rattle.std.proofs.lemmas.List.{map-append}
 use Rattle.archive_state.proofs.Each.{each_front, each_back, each_both}
 use Rattle.record_shapes.specs.Lists.{EachOf}
 
 module _ {A B : Type 0} where
-  -- one more of a list that is mapped from its start on
-  pub mapped_more : (f : A → B) (xs : List A) (i : ℕ) (x : A) (made more : List B) (y : B)
-      → i < length xs → x ≡ get_or xs i x → made ≡ map f (take i xs) → y ≡ f x → more ≡ made ++ (y ∷ [])
-      → more ≡ map f (take (i + 1) xs)
-  mapped_more f xs i x made more y h e was is pushed =
-      pushed ∙ ap (λ l. l ++ (y ∷ [])) was ∙ ap (λ z. map f (take i xs) ++ (z ∷ [])) (is ∙ ap f e)
-      ∙ sym (ap (map f) (take_more xs i x h) ∙ map_push f (take i xs) (get_or xs i x))
-
   pub each_mapped : (P : B → Type 0) (f : A → B) (xs : List A) → EachOf P (map f xs) → EachOf (λ a. P (f a)) xs
   each_mapped P f [] h = tt
   each_mapped P f (x ∷ xs) h = (h.0, each_mapped P f xs h.1)

@@ -1,6 +1,5 @@
 pub mod Comparing
 pub mod Looks
 pub mod Merges
-pub mod Parts
 pub mod Rest
 pub mod Steps

@@ -19,10 +19,10 @@ ghost use Rattle.archive_merge.specs.Merges as specs;
 ghost use Rattle.archive_merge.specs.Steps.{merge_step};
 
 use crate::finding::changed_numbers;
-use crate::new_records::{merged_person, merged_record};
 use archive_looks::{next_free, person_at};
 use archive_state::{Answer, Change, Changes, Numbered, Slip, SlipChange};
 use archive_view::View;
+use merged_records::{merged_person, merged_record};
 use records::{Family, Person, Record, RefusalKind, copy_record};
 use std::alloc::{AllocError, Global};
 
@@ -225,7 +225,7 @@ fn new_at<V: View>(
     }
     if number == keep {
         let other = view.record_at(alloc, gone)?;
-        return Ok(Some(merged_person(alloc, old, &other, keep, gone)?));
+        return Ok(Some(merged_person(alloc, old, other.as_ref(), keep, gone)?));
     }
     Ok(Some(merged_record(alloc, old, keep, gone)?))
 }

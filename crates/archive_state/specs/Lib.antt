@@ -10,3 +10,4 @@ pub mod Slips
 pub mod Sound
 pub mod Texts
 pub mod Owned
+pub mod Last

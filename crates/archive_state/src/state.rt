@@ -3,6 +3,7 @@
 ghost use Rattle.std.specs.Prelude.{◌≡◌, IfOk, OnOk, OnErr, Some, None, MatchOption, option_copied};
 ghost use Rattle.std.specs.FinMap as map;
 ghost use Rattle.archive_state.specs.Content.{nothing};
+ghost use Rattle.archive_state.specs.Last.{IsLastNumber, last_of as last_of_two};
 ghost use Rattle.archive_state.specs.Sound.{IsSound};
 ghost use Rattle.archive_state.specs.Referrers.{referrers};
 ghost use Rattle.archive_state.specs.Entries.{IsEntryAt};
@@ -108,6 +109,16 @@ impl State {
         self.slips.get(&number)
     }
 
+    /// The last number that has a record or a slip. `None`: nothing has one. Takes no memory.
+    pub fn last_number(&self) -> Option<u32>
+        ensures { IsLastNumber self.now result }
+    {
+        last_of(
+            self.records.last_key_value().map(|found| *found.0),
+            self.slips.last_key_value().map(|found| *found.0),
+        )
+    }
+
     /// The numbers of the records that name a number, ascending.
     pub fn referrers(&self, alloc: Global, number: u32) -> Result<Vec<u32>, AllocError>
         ensures { IfOk result (λ found. found.items ≡ referrers self.now number) }
@@ -204,5 +215,16 @@ impl State {
     {
         let key = token.into_string();
         Ok(self.receipts.insert(key, receipt)?)
+    }
+}
+
+/// The greater of two numbers that may be missing.
+fn last_of(one: Option<u32>, other: Option<u32>) -> Option<u32>
+    ensures { result ≡ last_of_two one other }
+{
+    match (one, other) {
+        (Some(one), Some(other)) => Some(one.max(other)),
+        (Some(one), None) => Some(one),
+        (None, other) => other,
     }
 }

@@ -14,4 +14,4 @@ mod slips;
 mod words;
 
 pub use fault::Fault;
-pub use searching::first_fault;
+pub use searching::{first_fault, sound};

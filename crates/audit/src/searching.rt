@@ -81,3 +81,24 @@ fn last_number(next: u64) -> u32
         u32::MAX
     }
 }
+
+/// Whether the state is sound. Refused only for want of memory.
+pub fn sound(alloc: Global, state: &State) -> Result<bool, Refusal>
+    ensures sound { IfOk result (λ b. IsTrue b ↔ IsSound state.now) }
+    ensures refused { IfErr result (λ e. e ≡ record { kind = refusal.OutOfMemory; at = None }) }
+{
+    if !is_below_next(state) {
+        return Ok(false);
+    }
+    Ok(first_fault(alloc, state)?.is_none())
+}
+
+/// Whether each record and each slip has a number below the next one.
+fn is_below_next(state: &State) -> bool
+    ensures { IsTrue result ↔ faults.NoneBeyond state.now }
+{
+    match state.last_number() {
+        Some(last) => u64::from(last) < state.next(),
+        None => true,
+    }
+}

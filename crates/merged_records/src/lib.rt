@@ -18,3 +18,4 @@ mod two_persons;
 
 pub use comparing::is_same;
 pub use merging::merged_at;
+pub use new_records::{merged_person, merged_record};

@@ -12,7 +12,7 @@ use std::collections::VecDeque;
 use std::mem;
 
 /// A record that is neither of the two persons.
-pub(crate) fn merged_record(
+pub fn merged_record(
     alloc: Global,
     value: &Record,
     keep: u32,
@@ -43,7 +43,7 @@ fn once_family(alloc: Global, family: Family, person: u32) -> Result<Family, All
 }
 
 /// The person that stays, of what stands at the two numbers.
-pub(crate) fn merged_person(
+pub fn merged_person(
     alloc: Global,
     value: &Record,
     other: Option<&Record>,
