@@ -11,7 +11,8 @@ use Rattle.record_text.specs.declared.refusal.Refusal.{Refusal}
 use Rattle.gedcom_tree.specs.Forest.{Item}
 use Rattle.import_forest.specs.Report.{report}
 use Rattle.store.specs.Histories.{Outcome}
-use Rattle.file_imports.specs.Importing.{IsFileOf, IsNoFile, IsUnreported, import_request}
+use Rattle.interchange.specs.Results.{IsUnreported}
+use Rattle.file_imports.specs.Importing.{IsFileOf, IsNoFile, import_request}
 use Rattle.archive_commands.specs.Applying.{IsPerformed}
 use Rattle.archive_commands.specs.Entering.{IsUnnamed, IsUntaken}
 

@@ -48,7 +48,7 @@ use Rattle.archive_state.specs.Sound.{IsSound}
 use Rattle.archive_state.specs.Sound as sound
 use Rattle.archive_state.proofs.Each.{each_more}
 use Rattle.import_forest.specs.Made.{has_key_of, same_key, second}
-use Rattle.import_forest.specs.Sides.{draft_at}
+use Rattle.import_forest.specs.Sides.{draft_at, drafts_from}
 use Rattle.file_roots.proofs.Greatest.{and_both}
 use Rattle.export_forest.specs.Order.{Numbered, household, households}
 use Rattle.exchange_orders.specs.Positions.{nodes_by_position}
@@ -56,7 +56,7 @@ use Rattle.exchange_orders.proofs.Entries.{keys, Stands}
 use Rattle.exchange_orders.proofs.Listed.{has, or_false, other_way, same_self, true_not_false}
 use Rattle.exchange_orders.proofs.Nodes.{pos}
 use Rattle.exchange_orders.proofs.Ordered.{order, order_once, order_stands, StandsAt0}
-use Rattle.exchange_reading.specs.Drafts.{drafts_from, without_owner}
+use Rattle.exchange_reading.specs.Drafts.{without_owner}
 use Rattle.exchange_reading.specs.Laws.{DraftsComeBack}
 use Rattle.exchange_reading.proofs.Seen.{positions_apart}
 

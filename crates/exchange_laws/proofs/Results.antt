@@ -31,7 +31,7 @@ use Rattle.import_forest.specs.Numbers.{
   results,
   root_drawn,
 }
-use Rattle.import_forest.specs.Sides.{draft_at}
+use Rattle.import_forest.specs.Sides.{draft_at, drafts_from}
 use Rattle.export_forest.specs.Order.{Numbered, citations_of, household, households, is_citation_of, is_event_of}
 use Rattle.exchange_orders.specs.Positions.{new_number, nodes_by_position, numbers_in, position_of}
 use Rattle.exchange_orders.proofs.Entries.{entries_stand, keys, Stands}
@@ -40,7 +40,7 @@ use Rattle.exchange_orders.proofs.Households.{have_all}
 use Rattle.exchange_orders.proofs.Listed.{each_filter, has, true_not_false}
 use Rattle.exchange_orders.proofs.Nodes.{pos, positions_are}
 use Rattle.exchange_orders.proofs.Ordered.{order, order_stands, StandsAt0}
-use Rattle.exchange_reading.specs.Drafts.{drafts_from, without_owner}
+use Rattle.exchange_reading.specs.Drafts.{without_owner}
 use Rattle.exchange_reading.specs.Laws.{DraftsComeBack}
 use Rattle.exchange_reading.proofs.Placed.{at_all}
 use Rattle.exchange_laws.proofs.Drawing.{all_drawn_by, draw_trees, drawn_by, draws_in_order}

@@ -25,7 +25,7 @@ use Rattle.archive_state.specs.Sound.{IsSound}
 use Rattle.archive_state.specs.Sound as sound
 use Rattle.archive_state.proofs.Each.{each_back}
 use Rattle.import_forest.specs.Positions.{known, known_by, paths}
-use Rattle.import_forest.specs.Sides.{draft_at, root_with_sides, with_sides}
+use Rattle.import_forest.specs.Sides.{draft_at, drafts_from, root_with_sides, with_sides}
 use Rattle.export_forest.specs.Around.{around}
 use Rattle.export_forest.specs.Order.{Numbered, citations_of, events_of, household, households, rank}
 use Rattle.exchange_orders.specs.Positions.{nodes_by_position, position_of}
@@ -35,7 +35,7 @@ use Rattle.exchange_orders.proofs.Entries.{keys, Stands}
 use Rattle.exchange_orders.proofs.Ordered.{order, order_once, order_stands, StandsAt0}
 use Rattle.exchange_orders.proofs.Nodes.{house, node_tree, nodes_are, pos, positions_are}
 use Rattle.exchange_orders.proofs.Renamed.{renamed}
-use Rattle.exchange_reading.specs.Drafts.{drafts, drafts_from, without_owner}
+use Rattle.exchange_reading.specs.Drafts.{drafts, without_owner}
 use Rattle.exchange_reading.specs.Laws.{DraftsComeBack, apart_family}
 use Rattle.exchange_reading.proofs.Inverse.{
   moved,

@@ -1,16 +1,11 @@
 -- What all nodes of a file are read as.
-use Rattle.std.specs.Prelude.{ℕ, ◌+◌, List, [], ◌∷◌}
+use Rattle.std.specs.Prelude.{List}
 use Rattle.stored_lines.specs.Tree.{Tree}
 use Rattle.stored_lines.specs.Line.{Lines}
 use Rattle.record_kinds.specs.declared.record.Record.{Record}
 use Rattle.record_kinds.specs.declared.record.Record.TheVariants as kind
 use Rattle.record_shapes.specs.Reading.{Draft}
-use Rattle.import_forest.specs.Sides.{draft_at}
-
--- what these nodes are read as, the first of which has position k
-abbrev pub drafts_from : Lines → ℕ → Lines → List (Tree Draft)
-drafts_from rs k [] = []
-drafts_from rs k (r ∷ behind) = draft_at rs k r ∷ drafts_from rs (k + 1) behind
+use Rattle.import_forest.specs.Sides.{drafts_from}
 
 abbrev pub drafts : Lines → List (Tree Draft)
 drafts rs = drafts_from rs 0 rs

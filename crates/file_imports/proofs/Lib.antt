@@ -1,2 +1,1 @@
 mod Imported
-pub mod Unreported

@@ -1,9 +1,8 @@
 -- What the import of a file does: the file is read as a forest, and one request makes all that it has. Rules of our
 -- own.
-use Rattle.std.specs.Prelude.{◌≡◌, ◌⊎◌, ℕ, List, Option, None, IfSome, Ok, Err}
+use Rattle.std.specs.Prelude.{◌≡◌, ℕ, List, Option, IfSome, Ok}
 use Rattle.sqlite_trees.specs.declared.store.Store.{Ghosts}
 use Rattle.record_text.specs.declared.refusal.Refusal.{Refusal}
-use Rattle.record_text.specs.declared.refusal.RefusalKind.TheVariants.{OutOfMemory}
 use Rattle.receipts.specs.declared.answer.Answer.{Answer}
 use Rattle.receipts.specs.declared.report.ReportLine.{ReportLine}
 use Rattle.gedcom_rules.specs.Faults.{Fault}
@@ -12,9 +11,8 @@ use Rattle.gedcom_tree.specs.Forest.{Item}
 use Rattle.gedcom_tree.specs.Streams.{NotRead}
 use Rattle.gedcom_tree.specs.Text.{IsForest}
 use Rattle.commands.specs.declared.command.Command.TheVariants as command
-use Rattle.archive_state.specs.Content.{nothing}
-use Rattle.import_forest.specs.Made.{made}
 use Rattle.import_forest.specs.Report.{report}
+use Rattle.interchange.specs.Results.{IsUnreported}
 use Rattle.archive_core.specs.declared.request.Request.{Request}
 use Rattle.store.specs.Histories.{Outcome}
 use Rattle.store.specs.declared.archive.Archive.{Archive}
@@ -41,10 +39,6 @@ abbrev pub ImportsAll : {S : Type 0} → (g : Ghosts S) → List ℕ → Option 
     → List ReportLine → Archive S g → Type 0
 ImportsAll g token input old answer said new =
     (all : Imports g token input old (Ok answer) new) × (said ≡ report all.forest)
-
--- why there is no report of a forest: memory was refused, or an empty archive does not take it
-abbrev pub IsUnreported : List Item → Refusal → Type 0
-IsUnreported forest e = (e ≡ record { kind = OutOfMemory; at = None }) ⊎ (made nothing forest ≡ Err e)
 
 -- it was accepted, and there is no report
 abbrev pub ImportsSilently : {S : Type 0} → (g : Ghosts S) → List ℕ → Option (List ℕ) → Archive S g → Refusal

@@ -10,16 +10,15 @@ ghost use Rattle.file_imports.specs.Importing.{
   ImportsAll,
   ImportsSilently,
   IsNoFile,
-  IsUnreported,
   import_request,
 };
+ghost use Rattle.interchange.specs.Results.{IsUnreported};
 
 use crate::faults::refusal_of;
 use archive_core::{Command, Request};
-use archive_state::State;
 use devices::Device;
 use gedcom_tree::{Forest, read_forest};
-use interchange::batch_of;
+use interchange::report_of;
 use receipts::{Answer, Report, Token};
 use record_text::Refusal;
 use sqlite::Alter;
@@ -80,19 +79,6 @@ fn import_forest<S: Alter>(
             Err(why)
         }
     }
-}
-
-/// What is reported of a forest: what an empty archive reports of it.
-#[tactic(auto, using(crate::proofs::Unreported::unreported))]
-fn report_of(alloc: Global, forest: &Forest) -> Result<Report, Refusal>
-    ensures told { IfOk result (λ report. report ≡ report_said forest.now) }
-    ensures untold { IfErr result (IsUnreported forest.now) }
-{
-    let state = State::new(alloc);
-    let mut view: &State = &state;
-    let (batch, report) = batch_of(alloc, forest, &mut view)?;
-    drop(batch);
-    Ok(report)
 }
 
 /// Performs a request that is not asked again.

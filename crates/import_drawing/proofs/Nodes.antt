@@ -12,9 +12,9 @@ use Rattle.archive_state.specs.Content.{Content}
 use Rattle.import_forest.specs.Made.{batch, drawing, lowest_place, places, unless_full}
 use Rattle.import_forest.specs.Numbers.{Drawing, Places, begun, draw, draw_roots, root_drawn}
 use Rattle.import_forest.specs.Positions.{paths, position_of}
-use Rattle.import_forest.specs.Sides.{draft_at}
+use Rattle.import_forest.specs.Sides.{draft_at, drafts_from}
 use Rattle.import_places.specs.Views.{places_of, under}
-use Rattle.import_drawing.specs.Drafts.{draw_each, drafts_from}
+use Rattle.import_drawing.specs.Drafts.{draw_each}
 use Rattle.import_drawing.specs.Drawing.{batch_or_full, with_no_line}
 
 pub draws_same : (rs : Lines) (w : Places) (k : ℕ) (d : Drawing) (behind : Lines)

@@ -57,9 +57,9 @@ use Rattle.file_roots.specs.Nodes.{FileLine, FileNode, HaveLines, IsSaid}
 use Rattle.file_roots.specs.Lines.{Lined, lined_root, put, resolve, resolved, roots, unlined, place_in}
 use Rattle.file_roots.specs.Views.{AreInFile}
 use Rattle.import_forest.specs.Positions.{known, known_before}
-use Rattle.import_forest.specs.Sides.{root_with_sides, with_sides}
+use Rattle.import_forest.specs.Sides.{drafts_from, root_with_sides, with_sides}
 use Rattle.import_places.specs.Settling.{IsPathText}
-use Rattle.import_drawing.specs.Drafts.{AllSeekByPaths, SeeksByPaths, drafts_from}
+use Rattle.import_drawing.specs.Drafts.{AllSeekByPaths, SeeksByPaths}
 use Rattle.import_drawing.proofs.Normal.{normal_twice}
 
 -- ---- plain lines

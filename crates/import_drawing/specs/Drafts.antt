@@ -4,13 +4,7 @@ use Rattle.stored_lines.specs.Tree.{Tree, Forest, node, none, more}
 use Rattle.stored_lines.specs.Line.{Lines}
 use Rattle.record_shapes.specs.Reading.{Draft, read, sought}
 use Rattle.import_forest.specs.Numbers as numbers
-use Rattle.import_forest.specs.Sides.{draft_at}
 use Rattle.import_places.specs.Settling.{IsPathText}
-
--- what nodes of a file are read as, the first of which has position k
-abbrev pub drafts_from : Lines → ℕ → Lines → List (Tree Draft)
-drafts_from rs k [] = []
-drafts_from rs k (r ∷ behind) = draft_at rs k r ∷ drafts_from rs (k + 1) behind
 
 -- numbers are drawn for what stands at the positions from k on
 abbrev pub draw_each : numbers.Places → ℕ → numbers.Drawing → List (Tree Draft) → numbers.Drawing

@@ -16,7 +16,8 @@ ghost use Rattle.import_forest.specs.Made.{drawing, lowest_place, places, unless
 ghost use Rattle.import_forest.specs.Numbers as numbers;
 ghost use Rattle.import_forest.specs.Positions.{paths, position_of};
 ghost use Rattle.import_places.specs.Views.{places_of, under};
-ghost use Rattle.import_drawing.specs.Drafts.{SeeksByPaths, draw_each, drafts_from};
+ghost use Rattle.import_drawing.specs.Drafts.{SeeksByPaths, draw_each};
+ghost use Rattle.import_forest.specs.Sides.{drafts_from};
 ghost use Rattle.import_drawing.specs.Drawing.{batch_or_full, with_no_line};
 
 /// The nodes that become records are no more than the lines of a file.

@@ -3,12 +3,14 @@
 -- FAMS. What becomes of a membership that one side has alone is a rule of our own.
 use Rattle.std.specs.Prelude.{
   ℕ,
+  ◌+◌,
   ◌&&◌,
   ◌==◌,
   not,
   Bool,
   List,
   [],
+  ◌∷◌,
   ◌++◌,
   length,
   map,
@@ -87,3 +89,8 @@ root_with_sides rs k (node d f) = node (with_sides rs k d) f
 -- what the node at a position is read as, with all below it
 abbrev pub draft_at : Lines → ℕ → Tree Line → Tree Draft
 draft_at rs k r = root_with_sides rs k (draft_of (known_before rs k) (known rs) r)
+
+-- what nodes of a file are read as, the first of which has position k
+abbrev pub drafts_from : Lines → ℕ → Lines → List (Tree Draft)
+drafts_from rs k [] = []
+drafts_from rs k (r ∷ behind) = draft_at rs k r ∷ drafts_from rs (k + 1) behind

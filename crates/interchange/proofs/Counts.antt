@@ -8,9 +8,7 @@ use Rattle.record_shapes.specs.Reading.{Draft}
 use Rattle.file_roots.specs.Nodes.{FileNode}
 use Rattle.file_roots.specs.Lines.{lined_root, lined_roots, place_in, roots, unlined}
 use Rattle.import_forest.specs.Positions.{path_behind, paths, paths_behind}
-use Rattle.import_forest.specs.Sides.{draft_at}
-use Rattle.import_drawing.specs.Drafts as drawing
-use Rattle.root_drafts.specs.Drafts.{drafts_from}
+use Rattle.import_forest.specs.Sides.{drafts_from}
 
 behind_long : (rs : Lines) (ps : List (Option (List ℕ))) (behind : Lines)
     → length (paths_behind rs ps behind) ≡ length ps + length behind
@@ -40,8 +38,3 @@ pub drafts_few : {D : Type 0} (ks : List FileNode) (said : D → Tree Draft) (ds
     → map said ds ≡ drafts_from (roots ks) 0 (roots ks) → length ks < 2 ^ 32 → length ds < 2 ^ 32
 drafts_few ks said ds same few =
     omega (arith, length-map ds said, ap length same, drafts_long (roots ks) 0 (roots ks), roots_long ks, few)
-
--- the drafts of nodes, told by two crates
-pub drafts_same : (rs : Lines) (k : ℕ) (behind : Lines) → drafts_from rs k behind ≡ drawing.drafts_from rs k behind
-drafts_same rs k [] = refl
-drafts_same rs k (r ∷ behind) = ap (λ ts. draft_at rs k r ∷ ts) (drafts_same rs (k + 1) behind)

@@ -3,8 +3,8 @@
 ghost use Rattle.archive_view.specs.Looks.{is_stop, Agrees, CountsStops, OnView};
 ghost use Rattle.import_forest.specs.Made.{made};
 ghost use Rattle.import_forest.specs.Report.{report as report_of};
-ghost use Rattle.std.specs.Prelude.{◌≡◌, IfOk};
-ghost use Rattle.interchange.specs.Results.{batch_in};
+ghost use Rattle.std.specs.Prelude.{◌≡◌, IfErr, IfOk};
+ghost use Rattle.interchange.specs.Results.{IsUnreported, batch_in};
 
 use crate::reading::{Reading, reading_of};
 use archive_state::Batch;
@@ -39,4 +39,19 @@ pub fn batch_of<V: View>(
     the_batch_of_drafts_is_that_of_nodes();
     let batch = batch_of_drafts(alloc, view, &places, next, drafts)?;
     Ok((batch, report))
+}
+
+/// What is reported of a forest: it depends on the forest alone. It is refused where an empty archive does not take the
+/// forest, as `batch_of`, and for want of memory.
+#[tactic(auto, using(crate::proofs::Batches::unreported))]
+pub fn report_of(alloc: Global, forest: &Forest) -> Result<Report, Refusal>
+    ensures told { IfOk result (λ r. r ≡ report_of forest.now) }
+    ensures untold { IfErr result (IsUnreported forest.now) }
+{
+    let Reading {
+        drafts: _,
+        places: _,
+        report,
+    } = reading_of(alloc, forest)?;
+    Ok(report)
 }

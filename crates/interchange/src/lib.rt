@@ -11,4 +11,4 @@ mod batch;
 mod reading;
 mod reports;
 
-pub use batch::batch_of;
+pub use batch::{batch_of, report_of};

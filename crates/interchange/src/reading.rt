@@ -29,7 +29,7 @@ ghost use Rattle.import_forest.specs.Report.{report as report_of, said_of_lines,
 ghost use Rattle.import_drawing.specs.Drafts.{SeeksByPaths};
 ghost use Rattle.import_places.specs.Views.{under};
 ghost use Rattle.known_roots.specs.Views.{path_said};
-ghost use Rattle.root_drafts.specs.Drafts.{drafts_from};
+ghost use Rattle.import_forest.specs.Sides.{drafts_from};
 ghost use Rattle.second_entries.specs.Seconds.{refused_second, second_position};
 
 use crate::reports::put_in_order;

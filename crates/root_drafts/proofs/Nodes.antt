@@ -80,9 +80,9 @@ use Rattle.file_roots.specs.Lines.{
 use Rattle.file_roots.specs.Reports.{dangling}
 use Rattle.file_roots.proofs.Trees.{tree_out}
 use Rattle.import_forest.specs.Positions.{known, known_before, known_by, path_behind, paths, paths_behind}
-use Rattle.import_forest.specs.Sides.{draft_at}
+use Rattle.import_forest.specs.Sides.{draft_at, drafts_from}
 use Rattle.known_roots.specs.Views.{path_said}
-use Rattle.root_drafts.specs.Drafts.{as_line, as_lines, drafts_from}
+use Rattle.root_drafts.specs.Drafts.{as_line, as_lines}
 
 -- ---- the nodes below a node
 have_below : (t : FileNode) (l : FileLine) (cs : List FileNode) → t ≡ node l (forest_of cs) → IsInFile t

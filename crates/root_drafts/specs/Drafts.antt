@@ -1,5 +1,5 @@
 -- What all nodes of a file are read as.
-use Rattle.std.specs.Prelude.{ℕ, ◌≡◌, ◌+◌, List, [], ◌∷◌, codes, bytes_eq, true, map, Option, None}
+use Rattle.std.specs.Prelude.{ℕ, ◌≡◌, List, codes, bytes_eq, true, map, Option, None}
 use Rattle.stored_lines.specs.Tree.{Tree, Forest, node}
 use Rattle.stored_lines.specs.Line.{Line, Lines}
 use Rattle.record_kinds.specs.Model as model
@@ -8,12 +8,7 @@ use Rattle.record_shapes.specs.Reading.{Draft, family_from, read}
 use Rattle.file_roots.specs.Nodes.{FileNode}
 use Rattle.file_roots.specs.Lines.{lined_root, unlined}
 use Rattle.import_forest.specs.Positions.{known, tag_at}
-use Rattle.import_forest.specs.Sides.{draft_at, lines_at}
-
--- what nodes are read as, the first of which has position k
-abbrev pub drafts_from : Lines → ℕ → Lines → List (Tree Draft)
-drafts_from rs k [] = []
-drafts_from rs k (r ∷ behind) = draft_at rs k r ∷ drafts_from rs (k + 1) behind
+use Rattle.import_forest.specs.Sides.{lines_at}
 
 -- a node that becomes a record, as a line
 abbrev pub as_line : (List ℕ → Option ℕ) → FileNode → Tree Line

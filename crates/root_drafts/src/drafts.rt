@@ -12,9 +12,9 @@ ghost use Rattle.family_sides.specs.Taken.{sides as sides_told};
 ghost use Rattle.family_sides.specs.declared.sides.Side as declared;
 ghost use Rattle.import_forest.specs.Positions.{paths as paths_in};
 ghost use Rattle.import_forest.specs.Report.{said_of_lines};
-ghost use Rattle.import_forest.specs.Sides.{draft_at};
+ghost use Rattle.import_forest.specs.Sides.{draft_at, drafts_from};
 ghost use Rattle.known_roots.specs.Views.{path_said};
-ghost use Rattle.root_drafts.specs.Drafts.{as_line, drafts_from};
+ghost use Rattle.root_drafts.specs.Drafts.{as_line};
 
 use crate::lines::line_of;
 use crate::sided::put_sides;

@@ -73,8 +73,7 @@ use Rattle.file_roots.specs.Lines.{lined_root, lined_roots, place_in, roots, unl
 use Rattle.file_roots.proofs.Trees.{tree_out}
 use Rattle.import_forest.specs.Made.{line_of, same_key, second}
 use Rattle.import_forest.specs.Positions.{known, known_before, tag_at}
-use Rattle.import_forest.specs.Sides.{draft_at, root_with_sides, with_sides}
-use Rattle.root_drafts.specs.Drafts.{drafts_from}
+use Rattle.import_forest.specs.Sides.{draft_at, drafts_from, root_with_sides, with_sides}
 use Rattle.second_entries.specs.Keys.{is_key, is_seen, key_words, second_by, seen_with, AreSmall, IsSmall}
 use Rattle.second_entries.specs.Seconds.{entry_in, said_of, second_among, second_position}
 use Rattle.second_entries.proofs.Keyed.{one_key}

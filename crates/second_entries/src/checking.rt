@@ -6,7 +6,7 @@ ghost use Rattle.record_text.specs.declared.refusal.RefusalKind.TheVariants as r
 ghost use Rattle.draft_reading.specs.Trees.{draft_tree};
 ghost use Rattle.file_roots.specs.Lines.{roots as roots_in};
 ghost use Rattle.import_forest.specs.Made.{line_of};
-ghost use Rattle.root_drafts.specs.Drafts.{drafts_from};
+ghost use Rattle.import_forest.specs.Sides.{drafts_from};
 ghost use Rattle.second_entries.specs.Seconds.{refused_second, second_position};
 
 use crate::seconds::second_entry;

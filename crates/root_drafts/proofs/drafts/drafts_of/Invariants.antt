@@ -3,7 +3,8 @@ use Rattle.draft_reading.specs.Trees.{draft_tree}
 use Rattle.file_roots.specs.Lines.{place_in, roots}
 use Rattle.file_roots.specs.Nodes.{trees_at}
 use Rattle.file_roots.specs.Views.{AreInFile}
-use Rattle.root_drafts.specs.Drafts.{as_lines, drafts_from}
+use Rattle.root_drafts.specs.Drafts.{as_lines}
+use Rattle.import_forest.specs.Sides.{drafts_from}
 use Rattle.root_drafts.proofs.Nodes.{said_of}
 use Rattle.root_drafts.proofs.drafts.drafts_of.Given as goal
 
