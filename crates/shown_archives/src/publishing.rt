@@ -1,14 +1,16 @@
 //! What is shown of an archive that is open, written as a GEDCOM file.
 
-ghost use Rattle.std.specs.Prelude.{◌≡◌, ◌⊎◌, false, IfErr, OnOk};
+ghost use Rattle.std.specs.Prelude.{◌≡◌, ◌⊎◌, false, true, IfErr, OnOk};
+ghost use Rattle.std.specs.Io.KnownBytes.{Keeps};
 ghost use Rattle.sqlite.specs.Held.{state};
 ghost use Rattle.archive_state.specs.Sound.{IsSound};
+ghost use Rattle.archive_view.specs.Looks.{is_failure};
 ghost use Rattle.devices.specs.Devices.{Rose};
 ghost use Rattle.gedcom_export.specs.Ends.{IsWhole};
 ghost use Rattle.record_text.specs.declared.refusal.RefusalKind.TheVariants.{WriteFailed};
-ghost use Rattle.archive_exports.specs.Exporting.{IsPart, export_text};
+ghost use Rattle.archive_exports.specs.Exporting.{export_text};
 ghost use Rattle.archive_exports.specs.Reading.{OnOpen};
-ghost use Rattle.shown_archives.specs.Writing.{IsNotBegun, IsPartPublished, IsPublished};
+ghost use Rattle.shown_archives.specs.Writing.{IsCut, IsNotBegun, IsPartPublished, IsPublished};
 
 use crate::showing::shown_of;
 use archive_exports::society_of;
@@ -38,6 +40,8 @@ pub fn write_public<S: Alter, W: Write + Device>(
         (λ society c. IsPublished (W.contents writer.old) (W.contents writer.new) today society c)) }
     ensures begun { IfErr result (λ kind. OnOpen (state S.Store archive.old.conn) (state S.Store archive.new.conn)
         (λ society c. IsPartPublished kind (W.contents writer.old) (W.contents writer.new) today society c)) }
+    ensures unread { IfErr result
+        (λ kind. is_failure kind ≡ true → Keeps (W.contents writer.old) (W.contents writer.new)) }
     ensures writer { IfErr result (λ kind. kind ≡ WriteFailed → Rose (W.failed writer.old) (W.failed writer.new)) }
 {
     match society_of(alloc, archive) {
@@ -59,6 +63,8 @@ fn write_named<S: Alter, W: Write + Device>(
         (λ _ c. IsPublished (W.contents writer.old) (W.contents writer.new) today society.now c)) }
     ensures begun { IfErr result (λ kind. OnOpen (state S.Store archive.old.conn) (state S.Store archive.new.conn)
         (λ _ c. IsPartPublished kind (W.contents writer.old) (W.contents writer.new) today society.now c)) }
+    ensures unread { IfErr result
+        (λ kind. is_failure kind ≡ true → Keeps (W.contents writer.old) (W.contents writer.new)) }
     ensures writer { IfErr result (λ kind. kind ≡ WriteFailed → Rose (W.failed writer.old) (W.failed writer.new)) }
 {
     match shown_of(alloc, archive, today) {
@@ -78,7 +84,9 @@ fn write_shown<W: Write + Device>(
         (IsWhole (W.contents writer.old) (W.contents writer.new) (export_text society.now shown.now)) }
     ensures begun { IsSound shown.now → IfErr result (λ kind.
         IsNotBegun kind (W.contents writer.old) (W.contents writer.new)
-        ⊎ IsPart kind (W.contents writer.old) (W.contents writer.new) (export_text society.now shown.now)) }
+        ⊎ IsCut kind (W.contents writer.old) (W.contents writer.new) (export_text society.now shown.now)) }
+    ensures unread { IfErr result
+        (λ kind. is_failure kind ≡ true → Keeps (W.contents writer.old) (W.contents writer.new)) }
     ensures writer { IfErr result (λ kind. kind ≡ WriteFailed → Rose (W.failed writer.old) (W.failed writer.new)) }
 {
     match public_export(alloc, shown, society, writer) {

@@ -1,9 +1,10 @@
 //! A sheet of an archive that is open, written.
 
-ghost use Rattle.std.specs.Prelude.{◌≡◌, ◌⊎◌, false, IfErr, OnErr, OnOk};
-ghost use Rattle.std.specs.Io.KnownBytes.{Appends};
+ghost use Rattle.std.specs.Prelude.{◌≡◌, ◌⊎◌, false, true, IfErr, OnErr, OnOk};
+ghost use Rattle.std.specs.Io.KnownBytes.{Appends, Keeps};
 ghost use Rattle.sqlite.specs.Held.{state};
 ghost use Rattle.archive_state.specs.Sound.{IsSound};
+ghost use Rattle.archive_view.specs.Looks.{is_failure};
 ghost use Rattle.devices.specs.Devices.{AppendsBeginning, Rose};
 ghost use Rattle.record_text.specs.declared.refusal.RefusalKind.TheVariants.{OutOfMemory, WriteFailed};
 ghost use Rattle.archive_exports.specs.Reading.{OnOpen};
@@ -37,6 +38,8 @@ pub fn write_sheet<S: Alter, W: Write + Device>(
         (λ _ c. IsSheetWritten (W.contents writer.old) (W.contents writer.new) sheet.now today c)) }
     ensures refused { IfErr result (λ kind. OnOpen (state S.Store archive.old.conn) (state S.Store archive.new.conn)
         (λ _ c. IsSheetRefused kind (W.contents writer.old) (W.contents writer.new) sheet.now today c)) }
+    ensures unread { IfErr result
+        (λ kind. is_failure kind ≡ true → Keeps (W.contents writer.old) (W.contents writer.new)) }
     ensures writer { IfErr result (λ kind. kind ≡ WriteFailed → Rose (W.failed writer.old) (W.failed writer.new)) }
 {
     match shown_of(alloc, archive, today) {
@@ -57,6 +60,8 @@ fn write_shown<W: Write + Device>(
     ensures refused { IsSound shown.now → IfErr result (λ kind.
         IsNotBegun kind (W.contents writer.old) (W.contents writer.new)
         ⊎ GotNoText kind (W.contents writer.old) (W.contents writer.new) (sheet_text shown.now.records sheet.now)) }
+    ensures unread { IfErr result
+        (λ kind. is_failure kind ≡ true → Keeps (W.contents writer.old) (W.contents writer.new)) }
     ensures writer { IfErr result (λ kind. kind ≡ WriteFailed → Rose (W.failed writer.old) (W.failed writer.new)) }
 {
     match sheet_of(alloc, shown, sheet) {

@@ -5,7 +5,7 @@ use Rattle.sqlite.specs.Held.{state}
 use Rattle.archive_exports.specs.Reading.{OnOpen}
 use Rattle.archive_exports.proofs.Named.{not_blamed, part_of_named, whole_of_named}
 use Rattle.shown_archives.specs.Writing.{IsPartPublished, IsPublished}
-use Rattle.shown_archives.proofs.Masked.{not_begun}
+use Rattle.shown_archives.proofs.Masked.{keeps, not_begun}
 use Rattle.shown_archives.proofs.publishing.write_public.Goals as goal
 
 pub returns-in-Ok-clause-written : goal.returns-in-Ok-clause-written
@@ -39,3 +39,6 @@ returns-in-Err-clause-begun g c =
 
 pub returns-in-Err-clause-writer : goal.returns-in-Err-clause-writer
 returns-in-Err-clause-writer g c = not_blamed c.in-Err.kind _ c.in-Err.ensures.stops
+
+pub returns-in-Err-clause-unread : goal.returns-in-Err-clause-unread
+returns-in-Err-clause-unread g c = λ _. keeps (g.W.Write.contents c.args.writer.now)

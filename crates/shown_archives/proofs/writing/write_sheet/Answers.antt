@@ -4,7 +4,7 @@ use Rattle.sqlite.specs.Held.{state}
 use Rattle.archive_exports.proofs.Named.{not_blamed}
 use Rattle.shown_archives.specs.Sheets.{sheet_text}
 use Rattle.shown_archives.specs.Writing.{GotNoText, GotText, IsNotBegun}
-use Rattle.shown_archives.proofs.Masked.{all_of_shown, none_of_shown, not_begun, of_day}
+use Rattle.shown_archives.proofs.Masked.{all_of_shown, keeps, none_of_shown, not_begun, of_day}
 use Rattle.shown_archives.proofs.writing.write_sheet.Goals as goal
 
 pub returns-in-Ok-clause-written : goal.returns-in-Ok-clause-written
@@ -34,3 +34,6 @@ returns-in-Err-clause-refused g c =
 
 pub returns-in-Err-clause-writer : goal.returns-in-Err-clause-writer
 returns-in-Err-clause-writer g c = not_blamed c.in-Err.kind _ c.in-Err.ensures.stops
+
+pub returns-in-Err-clause-unread : goal.returns-in-Err-clause-unread
+returns-in-Err-clause-unread g c = λ _. keeps (g.W.Write.contents c.args.writer.now)
