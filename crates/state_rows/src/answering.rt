@@ -1,13 +1,12 @@
 //! The answer to a row: lines, and one with a full stop.
 
+use crate::files::{say_batch, say_batch_size};
+use crate::masked::{day, say_how_many, say_living, say_shown};
 use crate::session::Session;
+use crate::sheet::say_sheet;
 use archive_state::State;
 use records::RefusalKind;
 use row_words::{Answer, line_of, number, word, words_of};
-use sheets::{
-    Generations, family_sheet, index_page, pedigree, person_sheet, register_sheet, surname_page,
-};
-use shown_state::{Shown, shown};
 use std::alloc::Global;
 
 /// The answer to a row. A row that is refused is answered with its refusal alone.
@@ -45,7 +44,15 @@ fn answer(
 ) -> Result<(), RefusalKind> {
     match word(words, 0) {
         "put" => session.put(alloc, number(words, 1)),
+        "living" => say_living(alloc, &session.state, words, out),
+        "shown" => say_shown(alloc, &session.state, day(words, 1), out),
+        "count" => say_how_many(alloc, &session.state, day(words, 1), out),
         "sheet" => say_sheet(alloc, &session.state, words, out),
+        "batch" => Ok(say_batch(alloc, &session.state, word(words, 1), out)?),
+        "size" => {
+            say_batch_size(alloc, &session.state, word(words, 1), out);
+            Ok(())
+        }
         "new" => {
             session.state = State::new(alloc);
             Ok(())
@@ -54,47 +61,5 @@ fn answer(
             session.state.set_next(u64::from(number(words, 1)));
             Ok(())
         }
-    }
-}
-
-/// Says a sheet of what is shown that day.
-fn say_sheet(
-    alloc: Global,
-    state: &State,
-    words: &[String],
-    out: &mut Answer,
-) -> Result<(), RefusalKind> {
-    let today = word(words, 1).parse::<i32>().unwrap_or(0);
-    let masked = match shown(alloc, state, today) {
-        Ok(masked) => masked,
-        Err(refusal) => return Err(refusal.kind),
-    };
-    let text = sheet_of(alloc, &masked, words);
-    drop(masked);
-    out.say(text?.as_str());
-    Ok(())
-}
-
-fn sheet_of(alloc: Global, masked: &Shown, words: &[String]) -> Result<String, RefusalKind> {
-    let of = number(words, 3);
-    match word(words, 2) {
-        "person" => person_sheet(alloc, masked, of),
-        "family" => family_sheet(alloc, masked, of),
-        "register" => register_sheet(alloc, masked, of),
-        "pedigree" => pedigree_of(alloc, masked, of, number(words, 4)),
-        "surname" => Ok(surname_page(alloc, masked, word(words, 3))?),
-        _ => Ok(index_page(alloc, masked)?),
-    }
-}
-
-fn pedigree_of(
-    alloc: Global,
-    masked: &Shown,
-    of: u32,
-    generations: u32,
-) -> Result<String, RefusalKind> {
-    match Generations::new(generations) {
-        Some(generations) => pedigree(alloc, masked, of, generations),
-        None => Err(RefusalKind::BadRow),
     }
 }

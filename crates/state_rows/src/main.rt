@@ -1,9 +1,12 @@
-//! Answers each row of standard input: records put into a state, who of it is living, and what of it is shown. A tool
-//! of the tests, no part of the product.
+//! Answers each row of standard input: records put into a state; who of it is living, what of it is shown, and the
+//! sheets of that; what a file of lines would make of it. A tool of the tests, no part of the product.
 #![tactic(auto)]
 
 mod answering;
+mod files;
+mod masked;
 mod session;
+mod sheet;
 
 use crate::answering::answer_to;
 use crate::session::Session;
