@@ -1,6 +1,7 @@
 //! The answer to a row: lines, and one with a full stop.
 
 use crate::session::Session;
+use crate::visits::say_answer;
 use archive_state::State;
 use records::RefusalKind;
 use row_words::{Answer, line_of, number, word, words_of};
@@ -46,6 +47,7 @@ fn answer(
     match word(words, 0) {
         "put" => session.put(alloc, number(words, 1)),
         "sheet" => say_sheet(alloc, &session.state, words, out),
+        "visit" => say_visit(alloc, &session.state, words, out),
         "new" => {
             session.state = State::new(alloc);
             Ok(())
@@ -64,15 +66,31 @@ fn say_sheet(
     words: &[String],
     out: &mut Answer,
 ) -> Result<(), RefusalKind> {
-    let today = word(words, 1).parse::<i32>().unwrap_or(0);
-    let masked = match shown(alloc, state, today) {
-        Ok(masked) => masked,
-        Err(refusal) => return Err(refusal.kind),
-    };
+    let masked = masked_on(alloc, state, word(words, 1))?;
     let text = sheet_of(alloc, &masked, words);
     drop(masked);
     out.say(text?.as_str());
     Ok(())
+}
+
+/// Says what a room that shows what is shown that day answers to a request.
+fn say_visit(
+    alloc: Global,
+    state: &State,
+    words: &[String],
+    out: &mut Answer,
+) -> Result<(), RefusalKind> {
+    let masked = masked_on(alloc, state, word(words, 1))?;
+    say_answer(alloc, masked, word(words, 2), out)
+}
+
+/// What is shown on a day.
+fn masked_on(alloc: Global, state: &State, day: &str) -> Result<Shown, RefusalKind> {
+    let today = day.parse::<i32>().unwrap_or(0);
+    match shown(alloc, state, today) {
+        Ok(masked) => Ok(masked),
+        Err(refusal) => Err(refusal.kind),
+    }
 }
 
 fn sheet_of(alloc: Global, masked: &Shown, words: &[String]) -> Result<String, RefusalKind> {

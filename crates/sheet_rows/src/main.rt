@@ -1,9 +1,10 @@
-//! Answers each row of standard input: records put into a state, and the sheets of what of it is shown. A tool of the
-//! tests, no part of the product.
+//! Answers each row of standard input: records put into a state, the sheets of what of it is shown, and what a reading
+//! room answers to a request. A tool of the tests, no part of the product.
 #![tactic(auto)]
 
 mod answering;
 mod session;
+mod visits;
 
 use crate::answering::answer_to;
 use crate::session::Session;
