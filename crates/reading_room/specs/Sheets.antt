@@ -4,6 +4,7 @@ use Rattle.record_text.specs.declared.refusal.RefusalKind.{RefusalKind}
 use Rattle.sheets.specs.Answers.{IsRefused}
 
 -- the text is that sheet; memory was refused, or that is the refusal of the sheet
-pub record IsToldOf {Z : Type 0} (answered : Result (String Z) RefusalKind) (sheet : Result (List ℕ) RefusalKind) : Type 0 where
+pub record IsToldOf {Z : Type 0} (answered : Result (String Z) RefusalKind) (sheet : Result (List ℕ) RefusalKind)
+    : Type 0 where
   pub text : IfOk answered (λ s. sheet ≡ Ok (string_bytes s))
   pub refused : IfErr answered (λ e. IsRefused e sheet)
