@@ -1,5 +1,5 @@
 //! Answers each row of standard input: records put into a state; who of it is living, what of it is shown, and the
-//! sheets of that; what a file of lines would make of it. A tool of the tests, no part of the product.
+//! sheets of that; what a reading room answers to a request; what a file of lines would make of it. A tool of the tests, no part of the product.
 #![tactic(auto)]
 
 mod answering;
@@ -7,6 +7,7 @@ mod files;
 mod masked;
 mod session;
 mod sheet;
+mod visits;
 
 use crate::answering::answer_to;
 use crate::session::Session;

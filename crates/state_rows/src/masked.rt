@@ -12,6 +12,22 @@ pub(crate) fn day(words: &[String], at: usize) -> i32 {
     word(words, at).parse::<i32>().unwrap_or(0)
 }
 
+/// What is shown on the day of a row.
+pub(crate) fn masked_on(
+    alloc: Global,
+    state: &State,
+    words: &[String],
+) -> Result<Shown, RefusalKind> {
+    masked_of(alloc, state, day(words, 1))
+}
+
+fn masked_of(alloc: Global, state: &State, today: i32) -> Result<Shown, RefusalKind> {
+    match shown(alloc, state, today) {
+        Ok(masked) => Ok(masked),
+        Err(refusal) => Err(refusal.kind),
+    }
+}
+
 /// Says whether a person is living.
 pub(crate) fn say_living(
     alloc: Global,
@@ -34,10 +50,7 @@ pub(crate) fn say_shown(
     today: i32,
     out: &mut Answer,
 ) -> Result<(), RefusalKind> {
-    let masked = match shown(alloc, state, today) {
-        Ok(masked) => masked,
-        Err(refusal) => return Err(refusal.kind),
-    };
+    let masked = masked_of(alloc, state, today)?;
     let said = say_records(alloc, &masked, out);
     drop(masked);
     Ok(said?)
@@ -50,10 +63,7 @@ pub(crate) fn say_how_many(
     today: i32,
     out: &mut Answer,
 ) -> Result<(), RefusalKind> {
-    let masked = match shown(alloc, state, today) {
-        Ok(masked) => masked,
-        Err(refusal) => return Err(refusal.kind),
-    };
+    let masked = masked_of(alloc, state, today)?;
     out.say("count ");
     out.say_count(how_many(masked.as_state()));
     drop(masked);

@@ -1,13 +1,13 @@
 //! Sheets of what is shown.
 
-use crate::masked::day;
+use crate::masked::masked_on;
 use archive_state::State;
 use records::RefusalKind;
 use row_words::{Answer, number, word};
 use sheets::{
     Generations, family_sheet, index_page, pedigree, person_sheet, register_sheet, surname_page,
 };
-use shown_state::{Shown, shown};
+use shown_state::Shown;
 use std::alloc::Global;
 
 /// Says a sheet of what is shown that day.
@@ -17,10 +17,7 @@ pub(crate) fn say_sheet(
     words: &[String],
     out: &mut Answer,
 ) -> Result<(), RefusalKind> {
-    let masked = match shown(alloc, state, day(words, 1)) {
-        Ok(masked) => masked,
-        Err(refusal) => return Err(refusal.kind),
-    };
+    let masked = masked_on(alloc, state, words)?;
     let text = sheet_of(alloc, &masked, words);
     drop(masked);
     out.say(text?.as_str());
