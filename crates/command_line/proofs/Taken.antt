@@ -1,9 +1,6 @@
 -- Words that are taken name a command of the program.
 use Rattle.std.proofs.Common.{
   ◌≡◌,
-  ◌⊎◌,
-  inl,
-  inr,
   Bool,
   true,
   false,
@@ -18,10 +15,11 @@ use Rattle.std.proofs.Common.{
   None,
   option_map,
   is_some,
-  codes,
   refl,
 }
-use Rattle.std.specs.Prelude.{Box}
+use Rattle.std.specs.List.{list_all}
+use Rattle.std.specs.Option.{option_map_or}
+use Rattle.std.specs.Prelude.{Box, find}
 use Rattle.std.specs.Box.{box_value}
 use Rattle.clap.specs.Words.{subcommand_name_of}
 use Rattle.clap.specs.Faults.{
@@ -35,22 +33,26 @@ use Rattle.clap.specs.Faults.{
   walk_fault,
 }
 use Rattle.clap.specs.Kinds.{Kinds, check_kinds, or_else}
-use Rattle.clap.specs.Walk.{Held, Names, Text, finished, nothing_held, settled, walk, walk_from}
+use Rattle.clap.specs.Walk.{Held, Names, Text, answers_to, finished, nothing_held, settled, walk, walk_from}
 use Rattle.clap.specs.Simple.{
   App,
   Shape,
   argument_words,
   built,
   entered,
+  label_of,
   names_of,
   rows_at,
+  subcommand_of,
   subcommand_rows,
   subcommand_rows_of,
 }
 use Rattle.clap.specs.declared.parser.matches.ArgMatches.{ArgMatches}
 use Rattle.clap.specs.declared.parser.matches.ArgMatches.TheViews.{out-ArgMatches, out-SubCommand}
 use Rattle.clap.specs.declared.parser.matches.SubCommand.{SubCommand}
-use Rattle.command_line.specs.Commands.{command_named, program}
+use Rattle.clap.proofs.WalkLemmas.{both}
+use Rattle.command_line.specs.Asking.{is_of_program}
+use Rattle.command_line.specs.Commands.{program}
 
 neither : (a b : Kinds) → or_else a b ≡ [] → (a ≡ []) × (b ≡ [])
 neither [] b h = (refl, h)
@@ -87,43 +89,46 @@ built_has a held words r h =
     let stop = (walk a.top.rules (names_of a) held words).stopped in
     level_has a.top (names_of a) held words (is_some (entered a stop)) (entered_fault a stop) r h
 
--- the one of seven subcommands that is entered
-abbrev one_in : Bool → Bool → Bool → Bool → Bool → Bool → Bool → Shape → Shape → Shape → Shape → Shape → Shape → Shape
-    → Option Shape
-one_in a b c d e f g s t u v w x y =
-    cond a (Some s) (cond b (Some t) (cond c (Some u) (cond d (Some v) (cond e (Some w) (cond f (Some x)
-    (cond g (Some y) None))))))
+-- what is found in a list has what all of the list have
+first_has : {A : Type 0} (p : A → Bool) (b : Bool) (x : A) (rest : Option A) → p x ≡ true
+    → (is_some rest ≡ true → option_map_or p rest false ≡ true) → is_some (cond b (Some x) rest) ≡ true
+    → option_map_or p (cond b (Some x) rest) false ≡ true
+first_has p true x rest has others h = has
+first_has p false x rest has others h = others h
 
-abbrev pub IsOneOf : Option Text → Text → Text → Text → Text → Text → Text → Text → Type 0
-IsOneOf o s t u v w x y =
-    (o ≡ Some s) ⊎ ((o ≡ Some t) ⊎ ((o ≡ Some u) ⊎ ((o ≡ Some v) ⊎ ((o ≡ Some w) ⊎ ((o ≡ Some x) ⊎ (o ≡ Some y))))))
+found_has : {A : Type 0} (p q : A → Bool) (xs : List A) → list_all p xs ≡ true → is_some (find q xs) ≡ true
+    → option_map_or p (find q xs) false ≡ true
+found_has p q [] all h = absurd cc
+found_has p q (x ∷ xs) all h =
+    let has = both (p x) (list_all p xs) all in
+    first_has p (q x) x (find q xs) has.0 (found_has p q xs has.1) h
 
-one_of : (a b c d e f g : Bool) (s t u v w x y : Shape) (words : List Text)
-    → is_some (option_map (λ (z : Shape). rows_at z words) (one_in a b c d e f g s t u v w x y)) ≡ true
-    → IsOneOf (option_map (λ r. r.0) (option_map (λ (z : Shape). rows_at z words)
-    (one_in a b c d e f g s t u v w x y))) s.name t.name u.name v.name w.name x.name y.name
-one_of true b c d e f g s t u v w x y words h = inl refl
-one_of false true c d e f g s t u v w x y words h = inr (inl refl)
-one_of false false true d e f g s t u v w x y words h = inr (inr (inl refl))
-one_of false false false true e f g s t u v w x y words h = inr (inr (inr (inl refl)))
-one_of false false false false true f g s t u v w x y words h = inr (inr (inr (inr (inl refl))))
-one_of false false false false false true g s t u v w x y words h = inr (inr (inr (inr (inr (inl refl)))))
-one_of false false false false false false true s t u v w x y words h = inr (inr (inr (inr (inr (inr refl)))))
-one_of false false false false false false false s t u v w x y words h = absurd cc
+-- the shape is that of a command of the program
+abbrev is_known : Shape → Bool
+is_known s = is_of_program (Some (s.name, []))
 
-entered_one : (stop : Option (Text × List Text)) → is_some (entered (built program) stop) ≡ true
-    → IsOneOf (option_map (λ f. f.0) (entered (built program) stop)) (codes "norm") (codes "check") (codes "init")
-    (codes "apply") (codes "entries") (codes "import") (codes "export")
-entered_one None h = absurd cc
-entered_one (Some p) h = one_of _ _ _ _ _ _ _ _ _ _ _ _ _ _ p.1 h
+rows_known : (o : Option Shape) (words : List Text) → (is_some o ≡ true → option_map_or is_known o false ≡ true)
+    → is_some (option_map (λ (s : Shape). rows_at s words) o) ≡ true
+    → is_of_program (option_map (λ (s : Shape). rows_at s words) o) ≡ true
+rows_known None words known h = absurd cc
+rows_known (Some s) words known h = known refl
 
--- words that are taken name a command
-pub taken_names : (words : List Text) → fault_of program words ≡ [] → IsOneOf (command_named words) (codes "norm")
-    (codes "check") (codes "init") (codes "apply") (codes "entries") (codes "import") (codes "export")
+all_known : list_all is_known (built program).subs ≡ true
+all_known = refl
+
+entered_known : (stop : Option (Text × List Text)) → is_some (entered (built program) stop) ≡ true
+    → is_of_program (entered (built program) stop) ≡ true
+entered_known None h = absurd cc
+entered_known (Some p) h =
+    rows_known (find (λ s. answers_to p.0 (label_of s)) (built program).subs) p.1
+    (found_has is_known (λ s. answers_to p.0 (label_of s)) (built program).subs all_known) h
+
+-- words in which the grammar has no fault to find name a command of the program
+pub taken_names : (words : List Text) → fault_of program words ≡ [] → is_of_program (subcommand_of program words) ≡ true
 taken_names words h =
     let a = built program in
     let ws = argument_words program words in
-    entered_one (walk a.top.rules (names_of a) nothing_held ws).stopped (built_has a nothing_held ws refl h)
+    entered_known (walk a.top.rules (names_of a) nothing_held ws).stopped (built_has a nothing_held ws refl h)
 
 -- the name of the subcommand that was found is that of its rows
 same_name : {Z : Type 0} (o : Option (Box SubCommand Z)) → option_map (λ b. (out-SubCommand (box_value b)).name.now) o

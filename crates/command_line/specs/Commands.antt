@@ -1,35 +1,9 @@
--- The commands of the program, and which of them a command line names, by the grammar of `clap`.
-use Rattle.std.specs.Prelude.{
-  ◌≡◌,
-  ℕ,
-  ⊤,
-  List,
-  [],
-  ◌∷◌,
-  Option,
-  Some,
-  None,
-  IfSome,
-  IsSome,
-  MatchResult,
-  Result,
-  true,
-  codes,
-  option_and_then,
-  option_map,
-  unwrap_or,
-  if◌then◌else◌,
-}
-use Rattle.std.specs.Str.Parse.{digits_value, without_leading_plus}
-use Rattle.clap.specs.Words.{App, Row, Rule, Shape, Text, fault_of, first_of, new_rule, subcommand_of, with_subcommand}
+-- The commands of the program as `clap` is told of them.
+use Rattle.std.specs.Prelude.{ℕ, [], ◌∷◌, Some, true, codes}
+use Rattle.clap.specs.Words.{App, Rule, Shape, Text, new_rule, with_subcommand}
 use Rattle.clap.specs.Simple.{new_shape}
-use Rattle.clap.specs.ValueTests.{is_unsigned_in}
-use Rattle.clap.specs.declared.builder.action.ArgAction.TheVariants.{Set}
+use Rattle.clap.specs.declared.builder.action.ArgAction.TheVariants.{Set, SetTrue}
 use Rattle.clap.specs.declared.builder.value_parser.ValueParser.TheVariants.{Unsigned}
-use Rattle.command_line.specs.declared.reading.Asked.{Asked}
-use Rattle.command_line.specs.declared.reading.Asked.TheVariants.{Apply, Check, Entries, Export, Import, Init, Norm}
-use Rattle.command_line.specs.declared.reading.Refused.{Refused}
-use Rattle.command_line.specs.declared.reading.Refused.TheVariants.{OutOfMemory}
 
 -- the program without its commands: it has a version, demands a command, and has none called help
 abbrev pub bare : App
@@ -42,37 +16,73 @@ bare = record {
   subs = [];
 }
 
--- FILE: a word that has to be there
+-- a word that has to be there
+abbrev pub word_rule : Text → Rule
+word_rule id = record (new_rule id) { action = Some Set; required = true }
+
+-- a word that has to be there, and is a number of those
+abbrev pub number_rule : Text → ℕ → ℕ → Rule
+number_rule id least most = record (word_rule id) { parser = Some (Unsigned least most) }
+
+-- an option with a value
+abbrev pub option_rule : Text → Rule
+option_rule name = record (new_rule name) { long = Some name; action = Some Set; value_names = 1 }
+
+-- an option that has to be there
+abbrev pub needed_rule : Text → Rule
+needed_rule name = record (option_rule name) { required = true }
+
+-- an option that has to be there, and is a number of those
+abbrev pub needed_number_rule : Text → ℕ → ℕ → Rule
+needed_number_rule name least most = record (needed_rule name) { parser = Some (Unsigned least most) }
+
+-- FILE
 abbrev pub file_rule : Rule
-file_rule = record (new_rule (codes "FILE")) { action = Some Set; required = true }
+file_rule = word_rule (codes "FILE")
 
--- `--society NAME`, which has to be there
+-- KIND, any word here
+abbrev pub kind_rule : Rule
+kind_rule = word_rule (codes "KIND")
+
+-- NO, a number of a record
+abbrev pub record_rule : Rule
+record_rule = number_rule (codes "NO") 1 4294967295
+
+-- `--society NAME`
 abbrev pub society_rule : Rule
-society_rule = record (new_rule (codes "society")) {
-  long = Some (codes "society");
-  action = Some Set;
-  value_names = 1;
-  required = true;
-}
+society_rule = needed_rule (codes "society")
 
--- `--source N`, which has to be there, a number of a record
+-- `--source N`, a number of a record
 abbrev pub source_rule : Rule
-source_rule = record (new_rule (codes "source")) {
-  long = Some (codes "source");
-  action = Some Set;
-  value_names = 1;
-  required = true;
-  parser = Some (Unsigned 1 4294967295);
-}
+source_rule = needed_number_rule (codes "source") 1 4294967295
 
--- `--token T`, which has to be there
+-- `--token T`
 abbrev pub token_rule : Rule
-token_rule = record (new_rule (codes "token")) {
-  long = Some (codes "token");
-  action = Some Set;
-  value_names = 1;
-  required = true;
-}
+token_rule = needed_rule (codes "token")
+
+-- `--today YYYY-MM-DD`, any word here
+abbrev pub today_rule : Rule
+today_rule = needed_rule (codes "today")
+
+-- the same where it may be left out
+abbrev pub maybe_today_rule : Rule
+maybe_today_rule = option_rule (codes "today")
+
+-- `--public`
+abbrev pub public_rule : Rule
+public_rule = record (new_rule (codes "public")) { long = Some (codes "public"); action = Some SetTrue }
+
+-- `--generations G`, which may be left out
+abbrev pub generations_rule : Rule
+generations_rule = record (option_rule (codes "generations")) { parser = Some (Unsigned 1 12) }
+
+-- `--port P`
+abbrev pub port_rule : Rule
+port_rule = needed_number_rule (codes "port") 1 65535
+
+-- `--count N`
+abbrev pub count_rule : Rule
+count_rule = needed_number_rule (codes "count") 0 4294967295
 
 abbrev pub init_shape : Shape
 init_shape = record (new_shape (codes "init")) { rules = file_rule ∷ society_rule ∷ [] }
@@ -87,7 +97,24 @@ abbrev pub import_shape : Shape
 import_shape = record (new_shape (codes "import")) { rules = file_rule ∷ token_rule ∷ [] }
 
 abbrev pub export_shape : Shape
-export_shape = record (new_shape (codes "export")) { rules = file_rule ∷ [] }
+export_shape = record (new_shape (codes "export")) { rules = file_rule ∷ public_rule ∷ maybe_today_rule ∷ [] }
+
+-- `sheet` without its options
+abbrev pub sheet_words : Shape
+sheet_words = record (new_shape (codes "sheet")) { rules = file_rule ∷ kind_rule ∷ record_rule ∷ [] }
+
+abbrev pub sheet_shape : Shape
+sheet_shape = record sheet_words { rules = file_rule ∷ kind_rule ∷ record_rule ∷ today_rule ∷ generations_rule ∷ [] }
+
+-- `serve` without its day
+abbrev pub serve_anyday : Shape
+serve_anyday = record (new_shape (codes "serve")) { rules = file_rule ∷ port_rule ∷ count_rule ∷ [] }
+
+abbrev pub serve_shape : Shape
+serve_shape = record serve_anyday { rules = file_rule ∷ port_rule ∷ count_rule ∷ today_rule ∷ [] }
+
+abbrev pub audit_shape : Shape
+audit_shape = record (new_shape (codes "audit")) { rules = file_rule ∷ [] }
 
 -- the commands that take no word
 abbrev pub with_streams_alone : App
@@ -97,65 +124,10 @@ with_streams_alone = with_subcommand (with_subcommand bare (new_shape (codes "no
 abbrev pub with_rows : App
 with_rows = with_subcommand (with_subcommand (with_subcommand with_streams_alone init_shape) apply_shape) entries_shape
 
--- the program with its commands: beside these those that take in and give out a file of lines
+-- with those that take in and give out a file of lines
+abbrev pub with_files : App
+with_files = with_subcommand (with_subcommand with_rows import_shape) export_shape
+
+-- the program with its commands: beside these those that show an archive, and the one that judges it
 abbrev pub program : App
-program = with_subcommand (with_subcommand with_rows import_shape) export_shape
-
--- the command that words name, the program's name being the first
-abbrev pub command_named : List Text → Option Text
-command_named words = option_map (λ found. found.0) (subcommand_of program words)
-
--- the name of a command
-abbrev pub name_of : Asked → Option Text
-name_of Norm = Some (codes "norm")
-name_of Check = Some (codes "check")
-name_of (Init file society) = Some (codes "init")
-name_of (Apply file) = Some (codes "apply")
-name_of (Entries file source token) = Some (codes "entries")
-name_of (Import file token) = Some (codes "import")
-name_of (Export file) = Some (codes "export")
-name_of _ = None
-
--- the word that a command is given for its FILE or for an option; the grammar takes no words that lack one
-abbrev pub word_in : Option (Text × List Row) → Text → Text
-word_in found id = unwrap_or (option_and_then (λ f. first_of id f.1) found) []
-
--- the number of a word, as the grammar reads one of 32 bits: digits, with a plus before them or not; 0 where it is none
-abbrev pub number_of : Text → ℕ
-number_of word = if is_unsigned_in 0 4294967295 word then digits_value 10 (without_leading_plus word) else 0
-
--- what is asked for has the words that the command is given
-abbrev pub HasWords : Option (Text × List Row) → Asked → Type 0
-HasWords found (Init file society) = (file.now ≡ word_in found (codes "FILE"))
-    × (society.now ≡ word_in found (codes "society"))
-HasWords found (Apply file) = file.now ≡ word_in found (codes "FILE")
-HasWords found (Entries file source token) =
-    (file.now ≡ word_in found (codes "FILE")) × (source ≡ number_of (word_in found (codes "source")))
-    × (token.now ≡ word_in found (codes "token"))
-HasWords found (Import file token) = (file.now ≡ word_in found (codes "FILE"))
-    × (token.now ≡ word_in found (codes "token"))
-HasWords found (Export file) = file.now ≡ word_in found (codes "FILE")
-HasWords found _ = ⊤
-
--- the words are those of a command, with nothing that it does not take: the grammar has no fault to find in them
-abbrev pub IsTaken : List Text → Type 0
-IsTaken words = fault_of program words ≡ []
-
--- the example in the help of `entries`, under any name of the program
-abbrev pub batch_words : Text → List Text
-batch_words name =
-    name ∷ codes "entries" ∷ codes "ashby.db" ∷ codes "--source" ∷ codes "3" ∷ codes "--token" ∷ codes "page-12" ∷ []
-
--- the example in the help of `import`, under any name of the program
-abbrev pub import_words : Text → List Text
-import_words name =
-    name ∷ codes "import" ∷ codes "ashby.db" ∷ codes "--token" ∷ codes "first-file" ∷ []
-
--- work is asked for only by words that are taken, that name its command, and that it has
-abbrev pub Asks : List Text → Asked → Type 0
-Asks words asked = IfSome (name_of asked) (λ name. IsTaken words × (command_named words ≡ Some name))
-    × HasWords (subcommand_of program words) asked
-
--- work is asked for, unless memory is wanting
-abbrev pub AsksForWork : Result Asked Refused → Type 0
-AsksForWork result = MatchResult result (λ asked. IsSome (name_of asked)) (λ refused. refused ≡ OutOfMemory)
+program = with_subcommand (with_subcommand (with_subcommand with_files sheet_shape) serve_shape) audit_shape

@@ -1,1 +1,4 @@
 pub mod Commands
+pub mod Days
+pub mod Asking
+pub mod Examples

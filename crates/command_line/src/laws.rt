@@ -1,8 +1,11 @@
 //! Laws of command lines, over the definitions that the contracts cite.
 
-ghost use Rattle.std.specs.Prelude.{◌≡◌, [], ◌∷◌, codes};
+ghost use Rattle.std.specs.Prelude.{◌≡◌, [], ◌∷◌, Some, codes, true};
 ghost use Rattle.clap.specs.Words.{Text, subcommand_of};
-ghost use Rattle.command_line.specs.Commands.{IsTaken, batch_words, import_words, number_of, program, word_in};
+ghost use Rattle.command_line.specs.Asking.{IsTaken, generations_in, is_public, kind_in, number_of, number_up_to, word_in};
+ghost use Rattle.command_line.specs.Commands.{program};
+ghost use Rattle.command_line.specs.Examples.{batch_words, import_words, public_words, serve_words, sheet_words};
+ghost use Rattle.command_line.specs.declared.tasks.SheetKind.TheVariants.{Pedigree};
 
 /// Each command is taken where it stands alone behind the program's name, whatever that is.
 pub fn each_command_is_taken()
@@ -28,4 +31,27 @@ pub fn an_import_is_taken()
         ≡ codes "ashby.db" }
     ensures token { (name : Text) → word_in (subcommand_of program (import_words name)) (codes "token")
         ≡ codes "first-file" }
+{}
+
+/// An export for the public is taken as the help of `export` shows it, and is one for the public.
+pub fn a_public_export_is_taken()
+    ensures taken { (name : Text) → IsTaken (public_words name) }
+    ensures public { (name : Text) → is_public (subcommand_of program (public_words name)) ≡ true }
+{}
+
+/// A sheet is taken as the help of `sheet` shows it, and is the pedigree of 5 generations of the person 17.
+pub fn a_sheet_is_taken()
+    ensures taken { (name : Text) → IsTaken (sheet_words name) }
+    ensures kind { (name : Text) → kind_in (subcommand_of program (sheet_words name)) ≡ Some Pedigree }
+    ensures number { (name : Text) → number_of (word_in (subcommand_of program (sheet_words name)) (codes "NO")) ≡ 17 }
+    ensures generations { (name : Text) → generations_in (subcommand_of program (sheet_words name)) ≡ 5 }
+{}
+
+/// A reading room is taken as the help of `serve` shows it, and is at that port for so many visitors.
+pub fn a_room_is_taken()
+    ensures taken { (name : Text) → IsTaken (serve_words name) }
+    ensures port { (name : Text)
+        → number_up_to 65535 (word_in (subcommand_of program (serve_words name)) (codes "port")) ≡ 8080 }
+    ensures count { (name : Text) → number_of (word_in (subcommand_of program (serve_words name)) (codes "count"))
+        ≡ 1000 }
 {}

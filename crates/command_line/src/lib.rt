@@ -1,14 +1,22 @@
 //! The words of the command line, read in one place and turned into a value of our own.
 //!
-//! It uses `clap`, of which the crates above know nothing.
+//! It uses `clap`, of which the crates above know nothing, and `jiff` for the day of `--today`.
 //!
 //! Callers may rely on: nothing is printed and nothing ends here. The texts that come back are
 //! whole, with their last LF: those that were asked for are for standard output, those of refused
 //! words for standard error.
 #![tactic(auto)]
 
+mod arguments;
 mod commands;
+mod days;
 pub mod laws;
 mod reading;
+mod showing;
+mod tasks;
+mod texts_in;
+mod texts_out;
+mod words;
 
-pub use reading::{Asked, Refused, read_words};
+pub use reading::read_words;
+pub use tasks::{Asked, Refused, SheetKind};

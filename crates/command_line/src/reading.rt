@@ -1,72 +1,24 @@
 //! What a command line asks for.
 
-ghost use Rattle.std.specs.Prelude.{◌≡◌, Err, IfOk, IfSome, None, OnOk, Some, [], codes, map, string_bytes, unwrap_or};
-ghost use Rattle.clap.specs.Words.{first_of, found_of, kind_of, rows_of, subcommand_name_of, subcommand_rows_of};
-ghost use Rattle.command_line.specs.Commands.{AsksForWork, Asks, HasWords, IsTaken, name_of, number_of};
+ghost use Rattle.std.specs.Prelude.{◌≡◌, Err, IfOk, IfSome, None, OnOk, Some, map, string_bytes, true};
+ghost use Rattle.clap.specs.Words.{found_of, kind_of, rows_of, subcommand_name_of, subcommand_rows_of};
+ghost use Rattle.command_line.specs.Asking.{
+  AsksForWork,
+  Asks,
+  HasWords,
+  IsTaken,
+  is_fit,
+  is_of_program,
+  name_of,
+};
 
 use crate::commands::parish_command;
+use crate::showing::{export_asked, serve_asked, sheet_asked};
+use crate::tasks::{Asked, Refused};
+use crate::words::{number_of, word_of};
 use clap::error::ErrorKind;
 use clap::{ArgMatches, Error};
-use std::alloc::{AllocError, Global};
-
-/// What a command line asks for.
-#[derive(Debug, Drop)]
-pub enum Asked<'a> {
-    /// `norm`: the forest of standard input, canonical, on standard output.
-    Norm,
-    /// `check`: the number of records of standard input's forest, on standard output.
-    Check,
-    /// `init`: a new archive of a society in a file.
-    Init {
-        file: &'a str,
-        society: &'a str,
-    },
-    /// `apply`: the requests of the rows of standard input on the archive in a file, their answers on standard output.
-    Apply {
-        file: &'a str,
-    },
-    /// `entries`: the rows of standard input as new register entries of a source of the archive in a file, under a
-    /// token. The token may be any word.
-    Entries {
-        file: &'a str,
-        source: u32,
-        token: &'a str,
-    },
-    /// `import`: the file of standard input taken into the archive in a file, under a token, and its report on standard
-    /// output. The token may be any word.
-    Import {
-        file: &'a str,
-        token: &'a str,
-    },
-    /// `export`: the archive in a file as a GEDCOM file, on standard output.
-    Export {
-        file: &'a str,
-    },
-    /// `--help` or `--version`, of the program or of a command: the text for standard output.
-    Show {
-        text: String,
-    },
-}
-
-/// Why a command line asks for nothing.
-#[derive(Debug, Drop)]
-pub enum Refused {
-    /// A growth was refused.
-    OutOfMemory,
-    /// The words were refused: the text for standard error, which says why and shows the usage.
-    Words { text: String },
-}
-
-impl From<AllocError> for Refused {
-    ghost use Rattle.std.specs.Prelude.{◌≡◌};
-    ghost use Rattle.command_line.specs.declared.reading.Refused.TheVariants.{OutOfMemory};
-
-    ghost from_gives = { λ _ r. r ≡ OutOfMemory };
-
-    fn from(_error: AllocError) -> Refused {
-        Refused::OutOfMemory
-    }
-}
+use std::alloc::Global;
 
 /// What the words ask for. The first word is the program's own name, and is not looked at.
 ///
@@ -88,13 +40,8 @@ fn command_found<'a>(alloc: Global, found: &ArgMatches<'a>) -> Result<Asked<'a>,
     ensures asked { IfOk result (λ a. IfSome (name_of a)
         (λ name. subcommand_name_of found.now ≡ Some name)) }
     ensures words { IfOk result (HasWords (subcommand_rows_of found.now)) }
-    ensures norm { subcommand_name_of found.now ≡ Some (codes "norm") → AsksForWork result }
-    ensures check { subcommand_name_of found.now ≡ Some (codes "check") → AsksForWork result }
-    ensures init { subcommand_name_of found.now ≡ Some (codes "init") → AsksForWork result }
-    ensures apply { subcommand_name_of found.now ≡ Some (codes "apply") → AsksForWork result }
-    ensures entries { subcommand_name_of found.now ≡ Some (codes "entries") → AsksForWork result }
-    ensures import { subcommand_name_of found.now ≡ Some (codes "import") → AsksForWork result }
-    ensures export { subcommand_name_of found.now ≡ Some (codes "export") → AsksForWork result }
+    ensures taken { is_of_program (subcommand_rows_of found.now) ≡ true → is_fit (subcommand_rows_of found.now) ≡ true
+        → AsksForWork result }
 {
     match found.subcommand() {
         Some((name, given)) => command_named(alloc, name, given),
@@ -110,13 +57,8 @@ fn command_named<'a>(
 ) -> Result<Asked<'a>, Refused>
     ensures asked { IfOk result (λ a. IfSome (name_of a) (λ n. name.now ≡ n)) }
     ensures words { IfOk result (HasWords (Some (name.now, rows_of (found_of given.now)))) }
-    ensures norm { name.now ≡ codes "norm" → AsksForWork result }
-    ensures check { name.now ≡ codes "check" → AsksForWork result }
-    ensures init { name.now ≡ codes "init" → AsksForWork result }
-    ensures apply { name.now ≡ codes "apply" → AsksForWork result }
-    ensures entries { name.now ≡ codes "entries" → AsksForWork result }
-    ensures import { name.now ≡ codes "import" → AsksForWork result }
-    ensures export { name.now ≡ codes "export" → AsksForWork result }
+    ensures taken { is_of_program (Some (name.now, rows_of (found_of given.now))) ≡ true
+        → is_fit (Some (name.now, rows_of (found_of given.now))) ≡ true → AsksForWork result }
 {
     match name {
         "norm" => Ok(Asked::Norm),
@@ -137,30 +79,13 @@ fn command_named<'a>(
             file: word_of(given, "FILE"),
             token: word_of(given, "token"),
         }),
-        "export" => Ok(Asked::Export {
+        "export" => export_asked(alloc, given),
+        "sheet" => sheet_asked(alloc, given),
+        "serve" => serve_asked(alloc, given),
+        "audit" => Ok(Asked::Audit {
             file: word_of(given, "FILE"),
         }),
         _ => no_such_command(alloc),
-    }
-}
-
-/// The word that a command is given for its FILE or for an option. `clap` takes no words that lack one.
-fn word_of<'a>(given: &ArgMatches<'a>, id: &str) -> &'a str
-    ensures { result.now ≡ unwrap_or (first_of id.now (rows_of (found_of given.now))) [] }
-{
-    match given.get_str(id) {
-        Some(word) => word,
-        None => "",
-    }
-}
-
-/// The number of a word. `clap` takes no words that have another than 1 to 4,294,967,295 where one has to be.
-fn number_of(word: &str) -> u32
-    ensures { result ≡ number_of word.now }
-{
-    match word.parse::<u32>() {
-        Ok(number) => number,
-        Err(_) => 0,
     }
 }
 

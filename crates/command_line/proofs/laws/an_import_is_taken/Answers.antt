@@ -1,12 +1,18 @@
-use Rattle.std.proofs.Common.{◌≡◌, [], codes, refl}
+use Rattle.std.proofs.Common.{◌≡◌, [], codes, refl, true}
 use Rattle.clap.specs.Words.{Text, fault_of, subcommand_of}
 use Rattle.clap.proofs.OnLiterals.{clap_on_literals}
-use Rattle.command_line.specs.Commands.{import_words, program, word_in}
+use Rattle.command_line.specs.Asking.{is_fit, word_in}
+use Rattle.command_line.specs.Commands.{program}
+use Rattle.command_line.specs.Examples.{import_words}
 use Rattle.command_line.proofs.laws.an_import_is_taken.Goals as goal
 
-is_taken : (name : Text) → fault_of program (import_words name) ≡ []
+no_fault : (name : Text) → fault_of program (import_words name) ≡ []
 unfolding clap_on_literals
-is_taken name = refl
+no_fault name = refl
+
+fits : (name : Text) → is_fit (subcommand_of program (import_words name)) ≡ true
+unfolding clap_on_literals
+fits name = refl
 
 has_file : (name : Text) → word_in (subcommand_of program (import_words name)) (codes "FILE") ≡ codes "ashby.db"
 unfolding clap_on_literals
@@ -17,7 +23,7 @@ unfolding clap_on_literals
 has_token name = refl
 
 pub returns-clause-taken : goal.returns-clause-taken
-returns-clause-taken c = is_taken
+returns-clause-taken c = λ name. (no_fault name, fits name)
 
 pub returns-clause-file : goal.returns-clause-file
 returns-clause-file c = has_file

@@ -1,16 +1,16 @@
-use Rattle.std.proofs.Common.{◌≡◌, [], ◌∷◌, codes, refl}
-use Rattle.clap.specs.Words.{Text, fault_of}
+use Rattle.std.proofs.Common.{[], ◌∷◌, codes, refl}
+use Rattle.clap.specs.Words.{Text}
 use Rattle.clap.proofs.OnLiterals.{clap_on_literals}
-use Rattle.command_line.specs.Commands.{program}
+use Rattle.command_line.specs.Asking.{IsTaken}
 use Rattle.command_line.proofs.laws.each_command_is_taken.Goals as goal
 
-norm_taken : (name : Text) → fault_of program (name ∷ codes "norm" ∷ []) ≡ []
+norm_taken : (name : Text) → IsTaken (name ∷ codes "norm" ∷ [])
 unfolding clap_on_literals
-norm_taken name = refl
+norm_taken name = (refl, refl)
 
-check_taken : (name : Text) → fault_of program (name ∷ codes "check" ∷ []) ≡ []
+check_taken : (name : Text) → IsTaken (name ∷ codes "check" ∷ [])
 unfolding clap_on_literals
-check_taken name = refl
+check_taken name = (refl, refl)
 
 pub returns-clause-norm : goal.returns-clause-norm
 returns-clause-norm c = norm_taken

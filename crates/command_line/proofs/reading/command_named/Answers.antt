@@ -16,6 +16,3 @@ returns-in-entries-clause-words c = (
 
 pub returns-in-import-clause-words : goal.returns-in-import-clause-words
 returns-in-import-clause-words c = (c.word_of-in-import.ensures, c.word_of-in-import-2.ensures)
-
-pub returns-in-export-clause-words : goal.returns-in-export-clause-words
-returns-in-export-clause-words c = c.word_of-in-export.ensures

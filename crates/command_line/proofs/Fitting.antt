@@ -1,0 +1,95 @@
+-- What is asked for fits the words: a day and a kind of sheet are there where they have to be.
+use Rattle.std.proofs.Common.{
+  ◌≡◌,
+  ◌&&◌,
+  Bool,
+  true,
+  false,
+  List,
+  [],
+  Option,
+  Some,
+  None,
+  Result,
+  Ok,
+  Err,
+  ap,
+  codes,
+  is_some,
+  option_map,
+  refl,
+  subst,
+  sym,
+}
+use Rattle.std.specs.Prelude.{IfOk, IfSome, IsSome, if◌then◌else◌, not, unwrap_or}
+use Rattle.clap.specs.Words.{Row, Text, fault_of, subcommand_of}
+use Rattle.command_line.specs.Asking.{Asks, HasWords, IsTaken, command_named, is_fit, name_of}
+use Rattle.command_line.specs.Commands.{program}
+use Rattle.command_line.specs.declared.tasks.Asked.{Asked}
+use Rattle.command_line.specs.declared.tasks.Asked.TheVariants as asked
+use Rattle.command_line.specs.declared.tasks.Refused.{Refused}
+
+at_name : (found : Option (Text × List Row)) (n : Text) → option_map (λ f. f.0) found ≡ Some n
+    → (rows : List Row) × (found ≡ Some (n, rows))
+at_name None n e = absurd cc
+at_name (Some f) n e =
+    (f.1, ap (λ (x : Text). Some (x, f.1)) (ap (λ (o : Option Text). unwrap_or o []) e))
+
+-- what holds of a command of a name with any rows that it has the words of, holds of what was found
+fit_by : (a : Asked) (found : Option (Text × List Row)) (n : Text) → option_map (λ f. f.0) found ≡ Some n
+    → HasWords found a → ((rows : List Row) → HasWords (Some (n, rows)) a → is_fit (Some (n, rows)) ≡ true)
+    → is_fit found ≡ true
+fit_by a found n e has all =
+    let p = at_name found n e in
+    subst (λ f. is_fit f ≡ true) (sym p.1) (all p.0 (subst (λ f. HasWords f a) p.1 has))
+
+both_there : {A B : Type 0} (o : Option A) (p : Option B) (a : A) (b : B) → o ≡ Some a → p ≡ Some b
+    → (is_some o && is_some p) ≡ true
+both_there o p a b e f = rw (e, f) refl
+
+there : {A : Type 0} (o : Option A) (a : A) → o ≡ Some a → is_some o ≡ true
+there o a e = rw e refl
+
+day_there : {A B : Type 0} (b : Bool) (o : Option A) (p : Option B) (a : A) → b ≡ true → o ≡ Some a
+    → (if b then is_some o else not (is_some p)) ≡ true
+day_there b o p a is e = rw (is, e) refl
+
+none_there : {A B : Type 0} (b : Bool) (o : Option A) (p : Option B) → b ≡ false → p ≡ None
+    → (if b then is_some o else not (is_some p)) ≡ true
+none_there b o p is e = rw (is, e) refl
+
+-- what is asked for fits the command that it has the name and the words of
+fit_of : (a : Asked) (found : Option (Text × List Row))
+    → IfSome (name_of a) (λ n. option_map (λ f. f.0) found ≡ Some n) → HasWords found a → IsSome (name_of a)
+    → is_fit found ≡ true
+fit_of asked.Norm found e has some = fit_by asked.Norm found (codes "norm") e has (λ rows words. refl)
+fit_of asked.Check found e has some = fit_by asked.Check found (codes "check") e has (λ rows words. refl)
+fit_of (asked.Init file society) found e has some = fit_by (asked.Init file society) found (codes "init") e has (λ rows words. refl)
+fit_of (asked.Apply file) found e has some = fit_by (asked.Apply file) found (codes "apply") e has (λ rows words. refl)
+fit_of (asked.Entries file source token) found e has some = fit_by (asked.Entries file source token) found (codes "entries") e has (λ rows words. refl)
+fit_of (asked.Import file token) found e has some = fit_by (asked.Import file token) found (codes "import") e has (λ rows words. refl)
+fit_of (asked.Export file) found e has some = fit_by (asked.Export file) found (codes "export") e has
+    (λ rows words. none_there _ _ _ words.1 words.2)
+fit_of (asked.ExportPublic file today) found e has some =
+    fit_by (asked.ExportPublic file today) found (codes "export") e has (λ rows words. day_there _ _ _ today words.1 words.2)
+fit_of (asked.Sheet file kind number generations today) found e has some =
+    fit_by (asked.Sheet file kind number generations today) found (codes "sheet") e has
+    (λ rows words. both_there _ _ kind today words.1 words.5)
+fit_of (asked.Serve file port count today) found e has some =
+    fit_by (asked.Serve file port count today) found (codes "serve") e has (λ rows words. there _ today words.3)
+fit_of (asked.Audit file) found e has some = fit_by (asked.Audit file) found (codes "audit") e has (λ rows words. refl)
+fit_of (asked.Show text) found e has some = absurd cc
+
+-- words in which the grammar has no fault to find, and that have the name and the words of what is asked for, ask for it
+asks_of : (o : Option Text) (words : List Text) → fault_of program words ≡ []
+    → IfSome o (λ n. command_named words ≡ Some n) → (IsSome o → is_fit (subcommand_of program words) ≡ true)
+    → IfSome o (λ name. IsTaken words × (command_named words ≡ Some name))
+asks_of None words none e fit = tt
+asks_of (Some name) words none e fit = ((none, fit refl), e)
+
+pub asks_if : (r : Result Asked Refused) (words : List Text) → fault_of program words ≡ []
+    → IfOk r (λ a. IfSome (name_of a) (λ n. command_named words ≡ Some n))
+    → IfOk r (HasWords (subcommand_of program words)) → IfOk r (Asks words)
+asks_if (Ok a) words none named has =
+    (asks_of (name_of a) words none named (fit_of a (subcommand_of program words) named has), has)
+asks_if (Err e) words none named has = tt

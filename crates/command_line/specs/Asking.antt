@@ -1,0 +1,162 @@
+-- What a command line asks for, by the command that it names and the words that this is given.
+use Rattle.std.specs.Prelude.{◌≡◌, ◌&&◌, ℕ, ℤ, ⊤, Bool, List, [], Option, Some, None, IfSome, IsSome, MatchResult, Result, true, false, codes, is_some, nat_le, not, option_and_then, option_map, unwrap_or, if◌then◌else◌}
+use Rattle.std.specs.Int.{IsInRange}
+use Rattle.std.specs.List.{list_any}
+use Rattle.std.specs.Option.{option_map_or}
+use Rattle.std.specs.Str.{bytes_eq}
+use Rattle.std.specs.Str.Parse.{digits_value, without_leading_plus}
+use Rattle.clap.specs.Words.{Row, Text, fault_of, first_of, subcommand_of}
+use Rattle.clap.specs.ValueTests.{is_unsigned_in}
+use Rattle.command_line.specs.Commands.{program}
+use Rattle.command_line.specs.Days.{day_read}
+use Rattle.command_line.specs.declared.tasks.Asked.{Asked}
+use Rattle.command_line.specs.declared.tasks.Asked.TheVariants.{
+  Apply,
+  Audit,
+  Check,
+  Entries,
+  Export,
+  ExportPublic,
+  Import,
+  Init,
+  Norm,
+  Serve,
+  Sheet,
+}
+use Rattle.command_line.specs.declared.tasks.Refused.{Refused}
+use Rattle.command_line.specs.declared.tasks.Refused.TheVariants.{OutOfMemory}
+use Rattle.command_line.specs.declared.tasks.SheetKind.{SheetKind}
+use Rattle.command_line.specs.declared.tasks.SheetKind.TheVariants.{Family, Pedigree, Person, Register}
+
+-- the command that words name, the program's name being the first
+abbrev pub command_named : List Text → Option Text
+command_named words = option_map (λ found. found.0) (subcommand_of program words)
+
+-- the name of a command
+abbrev pub name_of : Asked → Option Text
+name_of Norm = Some (codes "norm")
+name_of Check = Some (codes "check")
+name_of (Init file society) = Some (codes "init")
+name_of (Apply file) = Some (codes "apply")
+name_of (Entries file source token) = Some (codes "entries")
+name_of (Import file token) = Some (codes "import")
+name_of (Export file) = Some (codes "export")
+name_of (ExportPublic file today) = Some (codes "export")
+name_of (Sheet file kind number generations today) = Some (codes "sheet")
+name_of (Serve file port count today) = Some (codes "serve")
+name_of (Audit file) = Some (codes "audit")
+name_of _ = None
+
+-- ---- the words that a command is given
+
+-- the word for its FILE or for an option, if it is given one
+abbrev pub given_in : Option (Text × List Row) → Text → Option Text
+given_in found id = option_and_then (λ f. first_of id f.1) found
+
+-- that word; the grammar takes no words that lack one that has to be there
+abbrev pub word_in : Option (Text × List Row) → Text → Text
+word_in found id = unwrap_or (given_in found id) []
+
+-- the number of a word, as the grammar reads one: digits, with a plus before them or not; 0 where it is none, or is
+-- above the greatest
+abbrev pub number_up_to : ℕ → Text → ℕ
+number_up_to most word = if is_unsigned_in 0 most word then digits_value 10 (without_leading_plus word) else 0
+
+-- the same of 32 bits
+abbrev pub number_of : Text → ℕ
+number_of word = number_up_to 4294967295 word
+
+-- the generations of a pedigree that a word tells: 4 where it is no number from 1 to 12
+abbrev pub generations_of : Text → ℕ
+generations_of word = let n = number_of word in if nat_le 1 n && nat_le n 12 then n else 4
+
+-- the generations that are given; 4 where none are
+abbrev pub generations_in : Option (Text × List Row) → ℕ
+generations_in found = generations_of (word_in found (codes "generations"))
+
+-- the day of `--today`; none where no day is read from its word
+abbrev pub day_in : Option (Text × List Row) → Option ℤ
+day_in found = day_read (word_in found (codes "today"))
+
+-- `--public` is given: the grammar has the word `true` for a flag that is, and else `false`
+abbrev pub is_public : Option (Text × List Row) → Bool
+is_public found = bytes_eq (word_in found (codes "public")) (codes "true")
+
+-- the word of a kind of sheet
+abbrev pub kind_word : SheetKind → Text
+kind_word Person = codes "person"
+kind_word Family = codes "family"
+kind_word Pedigree = codes "pedigree"
+kind_word Register = codes "register"
+
+-- the kind of sheet of a word
+abbrev pub kind_named : Text → Option SheetKind
+kind_named word =
+    if bytes_eq word (codes "person") then Some Person
+    else if bytes_eq word (codes "family") then Some Family
+    else if bytes_eq word (codes "pedigree") then Some Pedigree
+    else if bytes_eq word (codes "register") then Some Register
+    else None
+
+abbrev pub kind_in : Option (Text × List Row) → Option SheetKind
+kind_in found = kind_named (word_in found (codes "KIND"))
+
+-- what is asked for has the words that the command is given
+abbrev pub HasWords : Option (Text × List Row) → Asked → Type 0
+HasWords found (Init file society) = (file.now ≡ word_in found (codes "FILE"))
+    × (society.now ≡ word_in found (codes "society"))
+HasWords found (Apply file) = file.now ≡ word_in found (codes "FILE")
+HasWords found (Entries file source token) =
+    (file.now ≡ word_in found (codes "FILE")) × (source ≡ number_of (word_in found (codes "source")))
+    × (token.now ≡ word_in found (codes "token"))
+HasWords found (Import file token) = (file.now ≡ word_in found (codes "FILE"))
+    × (token.now ≡ word_in found (codes "token"))
+HasWords found (Export file) =
+    (file.now ≡ word_in found (codes "FILE")) × (is_public found ≡ false) × (given_in found (codes "today") ≡ None)
+HasWords found (ExportPublic file today) =
+    (file.now ≡ word_in found (codes "FILE")) × (is_public found ≡ true) × (day_in found ≡ Some today)
+HasWords found (Sheet file kind number generations today) =
+    (file.now ≡ word_in found (codes "FILE")) × (kind_in found ≡ Some kind)
+    × (number ≡ number_of (word_in found (codes "NO"))) × (generations ≡ generations_in found)
+    × IsInRange 1 12 generations × (day_in found ≡ Some today)
+HasWords found (Serve file port count today) =
+    (file.now ≡ word_in found (codes "FILE")) × (port ≡ number_up_to 65535 (word_in found (codes "port")))
+    × (count ≡ number_of (word_in found (codes "count"))) × (day_in found ≡ Some today)
+HasWords found (Audit file) = file.now ≡ word_in found (codes "FILE")
+HasWords found _ = ⊤
+
+-- ---- the words that are taken
+
+abbrev pub is_named : Option (Text × List Row) → Text → Bool
+is_named found name = option_map_or (λ f. bytes_eq f.0 name) found false
+
+-- a command of the program is named
+abbrev pub is_of_program : Option (Text × List Row) → Bool
+is_of_program found = list_any (λ shape. is_named found shape.name) program.subs
+
+-- an export has a day where it is for the public, and else is given none
+abbrev pub is_export_fit : Option (Text × List Row) → Bool
+is_export_fit found =
+    if is_public found then is_some (day_in found) else not (is_some (given_in found (codes "today")))
+
+-- beside the grammar: a sheet has a kind and a day, a room has a day
+abbrev pub is_fit : Option (Text × List Row) → Bool
+is_fit found =
+    if is_named found (codes "export") then is_export_fit found
+    else if is_named found (codes "sheet") then is_some (kind_in found) && is_some (day_in found)
+    else if is_named found (codes "serve") then is_some (day_in found)
+    else true
+
+-- the words are those of a command, with nothing that it does not take: the grammar has no fault to find in them, and
+-- their day and their kind of sheet are some where they have to be
+abbrev pub IsTaken : List Text → Type 0
+IsTaken words = (fault_of program words ≡ []) × (is_fit (subcommand_of program words) ≡ true)
+
+-- work is asked for only by words that are taken, that name its command, and that it has
+abbrev pub Asks : List Text → Asked → Type 0
+Asks words asked = IfSome (name_of asked) (λ name. IsTaken words × (command_named words ≡ Some name))
+    × HasWords (subcommand_of program words) asked
+
+-- work is asked for, unless memory is wanting
+abbrev pub AsksForWork : Result Asked Refused → Type 0
+AsksForWork result = MatchResult result (λ asked. IsSome (name_of asked)) (λ refused. refused ≡ OutOfMemory)

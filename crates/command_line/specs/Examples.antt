@@ -1,0 +1,25 @@
+-- The examples in the help of the commands, under any name of the program.
+use Rattle.std.specs.Prelude.{List, [], ◌∷◌, codes}
+use Rattle.clap.specs.Words.{Text}
+
+abbrev pub batch_words : Text → List Text
+batch_words name =
+    name ∷ codes "entries" ∷ codes "ashby.db" ∷ codes "--source" ∷ codes "3" ∷ codes "--token" ∷ codes "page-12" ∷ []
+
+abbrev pub import_words : Text → List Text
+import_words name =
+    name ∷ codes "import" ∷ codes "ashby.db" ∷ codes "--token" ∷ codes "first-file" ∷ []
+
+abbrev pub public_words : Text → List Text
+public_words name =
+    name ∷ codes "export" ∷ codes "ashby.db" ∷ codes "--public" ∷ codes "--today" ∷ codes "2024-01-01" ∷ []
+
+abbrev pub sheet_words : Text → List Text
+sheet_words name =
+    name ∷ codes "sheet" ∷ codes "ashby.db" ∷ codes "pedigree" ∷ codes "17" ∷ codes "--today" ∷ codes "2024-01-01"
+    ∷ codes "--generations" ∷ codes "5" ∷ []
+
+abbrev pub serve_words : Text → List Text
+serve_words name =
+    name ∷ codes "serve" ∷ codes "ashby.db" ∷ codes "--port" ∷ codes "8080" ∷ codes "--count" ∷ codes "1000"
+    ∷ codes "--today" ∷ codes "2024-01-01" ∷ []

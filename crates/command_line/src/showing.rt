@@ -1,0 +1,114 @@
+//! The commands that show an archive on a day: an export, a sheet, and the reading room.
+
+ghost use Rattle.std.specs.Prelude.{◌≡◌, IfOk, Some, [], codes, true, unwrap_or};
+ghost use Rattle.clap.specs.Words.{first_of, found_of, rows_of};
+ghost use Rattle.command_line.specs.Asking.{AsksForWork, HasWords, is_fit, name_of};
+ghost use Rattle.command_line.specs.Days.{day_read};
+
+use crate::days::day_of;
+use crate::tasks::{Asked, Refused};
+use crate::words::{generations_of, given_word, is_yes, kind_named, number_of, port_of, word_of};
+use clap::ArgMatches;
+use std::alloc::{AllocError, Global};
+
+/// `export`: the whole archive, or where `--public` is given what may be shown of it on a day. Refused where the day is
+/// none, or one is given and `--public` is not.
+pub(crate) fn export_asked<'a>(alloc: Global, given: &ArgMatches<'a>) -> Result<Asked<'a>, Refused>
+    ensures asked { IfOk result (λ a. name_of a ≡ Some (codes "export")) }
+    ensures words { IfOk result (HasWords (Some (codes "export", rows_of (found_of given.now)))) }
+    ensures taken { is_fit (Some (codes "export", rows_of (found_of given.now))) ≡ true → AsksForWork result }
+{
+    let file = word_of(given, "FILE");
+    let day = given_word(given, "today");
+    if !is_yes(word_of(given, "public")) {
+        return match day {
+            None => Ok(Asked::Export { file }),
+            Some(_) => Err(lacking(alloc, "--public")),
+        };
+    }
+    match today_of(given) {
+        Some(today) => Ok(Asked::ExportPublic { file, today }),
+        None => Err(no_day(alloc, day)),
+    }
+}
+
+/// `sheet`: a sheet of a record. Refused where its kind or its day is none.
+pub(crate) fn sheet_asked<'a>(alloc: Global, given: &ArgMatches<'a>) -> Result<Asked<'a>, Refused>
+    ensures asked { IfOk result (λ a. name_of a ≡ Some (codes "sheet")) }
+    ensures words { IfOk result (HasWords (Some (codes "sheet", rows_of (found_of given.now)))) }
+    ensures taken { is_fit (Some (codes "sheet", rows_of (found_of given.now))) ≡ true → AsksForWork result }
+{
+    let Some(kind) = kind_named(word_of(given, "KIND")) else {
+        return Err(no_kind(alloc, word_of(given, "KIND")));
+    };
+    match today_of(given) {
+        Some(today) => Ok(Asked::Sheet {
+            file: word_of(given, "FILE"),
+            kind,
+            number: number_of(word_of(given, "NO")),
+            generations: generations_of(word_of(given, "generations")),
+            today,
+        }),
+        None => Err(no_day(alloc, given_word(given, "today"))),
+    }
+}
+
+/// `serve`: the reading room. Refused where its day is none.
+pub(crate) fn serve_asked<'a>(alloc: Global, given: &ArgMatches<'a>) -> Result<Asked<'a>, Refused>
+    ensures asked { IfOk result (λ a. name_of a ≡ Some (codes "serve")) }
+    ensures words { IfOk result (HasWords (Some (codes "serve", rows_of (found_of given.now)))) }
+    ensures taken { is_fit (Some (codes "serve", rows_of (found_of given.now))) ≡ true → AsksForWork result }
+{
+    match today_of(given) {
+        Some(today) => Ok(Asked::Serve {
+            file: word_of(given, "FILE"),
+            port: port_of(word_of(given, "port")),
+            count: number_of(word_of(given, "count")),
+            today,
+        }),
+        None => Err(no_day(alloc, given_word(given, "today"))),
+    }
+}
+
+/// The day of `--today`. `None`: no day is read from its word, or it is not given.
+fn today_of(given: &ArgMatches<'_>) -> Option<i32>
+    ensures { result ≡ day_read (unwrap_or (first_of (codes "today") (rows_of (found_of given.now))) []) }
+{
+    day_of(word_of(given, "today"))
+}
+
+/// The words are refused since no day is read from that of `--today`, or there is none.
+fn no_day(alloc: Global, word: Option<&str>) -> Refused {
+    match word {
+        Some(word) => refused(format!(in alloc;
+            "error: invalid value '{word}' for '--today <YYYY-MM-DD>': no day\n\n{HELP}"
+        )),
+        None => lacking(alloc, "--today <YYYY-MM-DD>"),
+    }
+}
+
+/// The words are refused since that is no kind of sheet.
+fn no_kind(alloc: Global, word: &str) -> Refused {
+    refused(format!(in alloc; "error: invalid value '{word}' for '<KIND>'\n{KINDS}\n\n{HELP}"))
+}
+
+/// The words are refused since an export lacks that option, which goes with one that is given.
+fn lacking(alloc: Global, option: &str) -> Refused {
+    refused(format!(in alloc;
+        "error: the following required arguments were not provided:\n  {option}\n\n{EXPORT_USAGE}\n\n{HELP}"
+    ))
+}
+
+/// The words are refused with that text, unless memory was wanting for it.
+fn refused(text: Result<String, AllocError>) -> Refused {
+    match text {
+        Ok(text) => Refused::Words { text },
+        Err(_) => Refused::OutOfMemory,
+    }
+}
+
+const KINDS: &str = "  [possible values: person, family, pedigree, register]";
+
+const EXPORT_USAGE: &str = "Usage: parish export [--public --today <YYYY-MM-DD>] <FILE>";
+
+const HELP: &str = "For more information, try '--help'.\n";

@@ -1,0 +1,100 @@
+//! What a command line may ask for, and why it may ask for nothing.
+
+use std::alloc::AllocError;
+
+/// What a command line asks for. Days are counted from 1970-01-01, day 0.
+#[derive(Debug, Drop)]
+pub enum Asked<'a> {
+    /// `norm`: the forest of standard input, canonical, on standard output.
+    Norm,
+    /// `check`: the number of records of standard input's forest, on standard output.
+    Check,
+    /// `init`: a new archive of a society in a file.
+    Init {
+        file: &'a str,
+        society: &'a str,
+    },
+    /// `apply`: the requests of the rows of standard input on the archive in a file, their answers on standard output.
+    Apply {
+        file: &'a str,
+    },
+    /// `entries`: the rows of standard input as new register entries of a source of the archive in a file, under a
+    /// token. The token may be any word.
+    Entries {
+        file: &'a str,
+        source: u32,
+        token: &'a str,
+    },
+    /// `import`: the file of standard input taken into the archive in a file, under a token, and its report on standard
+    /// output. The token may be any word.
+    Import {
+        file: &'a str,
+        token: &'a str,
+    },
+    /// `export`: the whole archive in a file as a GEDCOM file, on standard output.
+    Export {
+        file: &'a str,
+    },
+    /// `export --public`: what may be shown of the archive in a file on a day, as a GEDCOM file, on standard output.
+    ExportPublic {
+        file: &'a str,
+        today: i32,
+    },
+    /// `sheet`: a sheet of the archive in a file as it may be shown on a day, on standard output. A pedigree has so many
+    /// generations, 1 to 12; they are 4 where none were given.
+    Sheet {
+        file: &'a str,
+        kind: SheetKind,
+        number: u32,
+        generations: u32,
+        today: i32,
+    },
+    /// `serve`: what may be shown of the archive in a file on a day, to so many visitors at a port of this machine.
+    Serve {
+        file: &'a str,
+        port: u16,
+        count: u32,
+        today: i32,
+    },
+    /// `audit`: whether the archive in a file is sound.
+    Audit {
+        file: &'a str,
+    },
+    /// `--help` or `--version`, of the program or of a command: the text for standard output.
+    Show {
+        text: String,
+    },
+}
+
+/// The kinds of sheets.
+#[derive(Clone, Copy, Debug, PartialEq, Eq)]
+pub enum SheetKind {
+    /// `person`.
+    Person,
+    /// `family`.
+    Family,
+    /// `pedigree`: the ancestors of a person.
+    Pedigree,
+    /// `register`: the entries of a source.
+    Register,
+}
+
+/// Why a command line asks for nothing.
+#[derive(Debug, Drop)]
+pub enum Refused {
+    /// A growth was refused.
+    OutOfMemory,
+    /// The words were refused: the text for standard error, which says why and where help is.
+    Words { text: String },
+}
+
+impl From<AllocError> for Refused {
+    ghost use Rattle.std.specs.Prelude.{◌≡◌};
+    ghost use Rattle.command_line.specs.declared.tasks.Refused.TheVariants.{OutOfMemory};
+
+    ghost from_gives = { λ _ r. r ≡ OutOfMemory };
+
+    fn from(_error: AllocError) -> Refused {
+        Refused::OutOfMemory
+    }
+}

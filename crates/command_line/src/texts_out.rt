@@ -1,0 +1,102 @@
+//! The help of the commands that read files, and of those that give out what an archive has.
+
+pub(crate) const NORM_ABOUT: &str = "Write the GEDCOM file of standard input in canonical form";
+
+pub(crate) const NORM_EXAMPLE: &str = "\
+It is written to standard output once the whole input has been read without a
+fault; at a fault nothing is written.
+
+Example:
+  parish norm < family.ged > canonical.ged";
+
+pub(crate) const CHECK_ABOUT: &str =
+    "Check the GEDCOM file of standard input and count its records";
+
+pub(crate) const CHECK_EXAMPLE: &str = "\
+It prints `ok: <n> records` once the whole input has been read without a fault.
+The header and the trailer are no records.
+
+Example:
+  parish check < family.ged";
+
+pub(crate) const EXPORT_ABOUT: &str = "Write the archive as a GEDCOM 5.5.1 file";
+
+pub(crate) const EXPORT_EXAMPLE: &str = "\
+It is written to standard output in UTF-8, record by record, with all that the
+archive holds, the living too. The archive is not changed. At a refusal a
+beginning of the file may have been written.
+
+With --public nothing is written but what may be shown on the day of --today: of
+who is living then the number, the name `Living` and the places in families
+alone. docs/LIVING.md, beside the source of parish, has the rules.
+
+Refusals:
+  40 BadStored       what is stored is no record: somebody else wrote FILE
+  70 ExportTooLarge  the file would have more than 67108864 bytes
+  82 NotAnArchive    there is no FILE, or it is no archive
+  95 WriteFailed     standard output could not be written
+  1, 80, 83
+docs/REFUSALS.md, beside the source of parish, says what to do about each, and
+docs/FORMATS.md what is written of each record.
+
+Examples:
+  parish export ashby.db > ashby.ged
+  parish export ashby.db --public --today 2024-01-01 > public.ged";
+
+pub(crate) const SHEET_ABOUT: &str =
+    "Print a sheet of a person, a family, a pedigree or a register";
+
+pub(crate) const SHEET_EXAMPLE: &str = "\
+NO is the number of the person, of the family, of the person whose ancestors the
+pedigree tells, or of the register's source. The sheet has what may be shown on
+the day of --today, as docs/LIVING.md tells, and is written to standard output.
+The archive is not changed.
+
+Refusals:
+  50 NoSuch        NO names nothing that is shown
+  51 WrongKind     or a record of another kind
+  40 BadStored     what is stored is no record: somebody else wrote FILE
+  82 NotAnArchive  there is no FILE, or it is no archive
+  95 WriteFailed   standard output could not be written
+  1, 80, 83
+docs/REFUSALS.md, beside the source of parish, says what to do about each, and
+docs/FORMATS.md what the lines of a sheet are.
+
+Example:
+  parish sheet ashby.db pedigree 17 --today 2024-01-01 --generations 5";
+
+pub(crate) const SERVE_ABOUT: &str = "Show the archive to the browsers of this machine";
+
+pub(crate) const SERVE_EXAMPLE: &str = "\
+The archive is read once, and FILE is left alone then. What may be shown of it on
+the day of --today, as docs/LIVING.md tells, is given to each visitor who asks.
+`listening on 127.0.0.1:<port>` is printed, and N visitors are answered one after
+the other; then it ends. The archive is not changed.
+
+Refusals:
+  94 ReadFailed    nobody can be heard at the port, or no more
+  95 WriteFailed   standard output could not be written
+  40 BadStored     what is stored is no record: somebody else wrote FILE
+  82 NotAnArchive  there is no FILE, or it is no archive
+  1, 80, 83
+docs/REFUSALS.md, beside the source of parish, says what to do about each.
+
+Example:
+  parish serve ashby.db --port 8080 --count 1000 --today 2024-01-01";
+
+pub(crate) const AUDIT_ABOUT: &str = "Check that the archive is sound";
+
+pub(crate) const AUDIT_EXAMPLE: &str = "\
+It prints `sound: <n> records` where all that is stored keeps the rules of an
+archive. Where it does not, standard error tells the first record that breaks a
+rule, and which, before the refusal. The archive is not changed.
+
+Refusals:
+  40 BadStored     a rule is broken, or what is stored is no record
+  82 NotAnArchive  there is no FILE, or it is no archive
+  95 WriteFailed   standard output could not be written
+  1, 80, 83
+docs/REFUSALS.md, beside the source of parish, says what to do about each.
+
+Example:
+  parish audit ashby.db";
