@@ -1,4 +1,5 @@
-"""Runs sheet_rows on sheets by hand and on those of drawn archives: python3 tests/sheets/run.py [ARCHIVES [PROGRAM]].
+"""Runs state_rows on sheets by hand and on those of drawn archives, and on requests to a reading room, by hand and
+drawn: python3 tests/sheets/run.py [ARCHIVES [PROGRAM]].
 
 One line a failed case, and last `N passed, M failed`; status 0 only if none failed and one passed.
 """
@@ -14,13 +15,17 @@ sys.path.insert(0, str(HERE.parent / "archive"))
 
 import drawn  # noqa: E402
 import hands  # noqa: E402
-from asking import differences  # noqa: E402
+from asking import answers, differences  # noqa: E402
+from by_requests import VISITS, not_shown  # noqa: E402
+from heads import Heads  # noqa: E402
 from plain import Family, Person, Source, lines  # noqa: E402
 from rows import Ask, Case, given, row  # noqa: E402
+from room import Room, answer  # noqa: E402
 from rules import Sheets  # noqa: E402
 
-PROGRAM = HERE.parents[1] / "crates/sheet_rows/out/sheet_rows"
+PROGRAM = HERE.parents[1] / "crates/state_rows/out/state_rows"
 TODAY = 19_723  # 2024-01-01
+HEADS = 20  # of each of 25 archives
 SURNAMES = ("Lee", "LEE", "strasse", "", "Ray", "nobody")
 
 
@@ -60,14 +65,46 @@ def drawn_case(seed: int) -> Case:
     return Case(f"drawn: {seed}", tuple(asks))
 
 
+def visit(given: bytes) -> str:
+    """The row of a visit whose connection gives these bytes."""
+    return row("visit", TODAY, given.hex())
+
+
+def visits_by_hand():
+    for scene in VISITS:
+        asks = []
+        for words, status, wanted in scene.requests:
+            given = f"{words} HTTP/1.1\r\nHost: a\r\n\r\n".encode()
+            asks.append(Ask(visit(given), answer(status, wanted, not words.startswith("HEAD ")).hex() + "\n"))
+        yield Case(f"requests by hand: {scene.name}", (*stored(scene.records), *asks))
+
+
+def drawn_visits(program, seed: int):
+    """What is told of drawn heads that a room of a drawn archive answers otherwise than the second reading."""
+    records = drawn.archive(seed)
+    heads, room = Heads(seed, records), Room(records)
+    given = [heads.head() for _ in range(HEADS)]
+    asks = (*stored(records), *(Ask(visit(head), "") for head in given))
+    got = answers(program, [Case("", asks)])[-HEADS:]
+    for head, found in zip(given, got):
+        wanted = room.answers(head)
+        if found not in [one.hex() + "\n" for one in wanted]:
+            yield f"drawn head of archive {seed}: {head[:120]!r} gives {found[:400]!r}, and {wanted!r} was wanted"
+
+
 def main() -> int:
     archives = int(sys.argv[1]) if len(sys.argv) > 1 else 100
     program = sys.argv[2] if len(sys.argv) > 2 else PROGRAM
     count, failures = 0, []
-    runs = [list(cases_by_hand())] + [[drawn_case(seed)] for seed in range(archives)]
+    runs = [list(cases_by_hand()), list(visits_by_hand())] + [[drawn_case(seed)] for seed in range(archives)]
     for cases in runs:
         count += len(cases)
         failures += differences(program, cases)
+    count += 1
+    failures += [f"docs/READING-ROOM.md has not the page of {words}" for words in not_shown()]
+    for seed in range(archives // 4):
+        count += HEADS
+        failures += drawn_visits(program, seed)
     for failure in failures:
         print(f"failed: {failure}")
     print(f"{count - len(failures)} passed, {len(failures)} failed")

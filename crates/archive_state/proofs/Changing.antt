@@ -22,7 +22,7 @@ use Rattle.std.proofs.Common.{
   inr,
   arith,
 }
-use Rattle.std.specs.Prelude.{Option, Some, None, option_map, ◌||◌, ◌==◌, if◌then◌else◌}
+use Rattle.std.specs.Prelude.{Option, Some, None, option_map, ◌==◌, if◌then◌else◌}
 use Rattle.std.specs.FinMap.{get, insert, remove, get-remove}
 use Rattle.std.specs.Ordering.{nat_cmp, eq_by_cmp}
 use Rattle.std.specs.Cmp.{nat_cmp_total}

@@ -10,4 +10,3 @@ pub mod Slips
 pub mod Sound
 pub mod Texts
 pub mod Owned
-pub mod Last

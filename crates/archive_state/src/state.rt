@@ -2,8 +2,8 @@
 
 ghost use Rattle.std.specs.Prelude.{◌≡◌, IfOk, OnOk, OnErr, Some, None, MatchOption, option_copied};
 ghost use Rattle.std.specs.FinMap as map;
+ghost use Rattle.std.specs.Ordering.{nat_cmp};
 ghost use Rattle.archive_state.specs.Content.{nothing};
-ghost use Rattle.archive_state.specs.Last.{IsLastNumber, last_of as last_of_two};
 ghost use Rattle.archive_state.specs.Sound.{IsSound};
 ghost use Rattle.archive_state.specs.Referrers.{referrers};
 ghost use Rattle.archive_state.specs.Entries.{IsEntryAt};
@@ -109,14 +109,18 @@ impl State {
         self.slips.get(&number)
     }
 
-    /// The last number that has a record or a slip. `None`: nothing has one. Takes no memory.
-    pub fn last_number(&self) -> Option<u32>
-        ensures { IsLastNumber self.now result }
+    /// The numbers of the records, ascending.
+    pub fn record_numbers(&self, alloc: Global) -> Result<Vec<u32>, AllocError>
+        ensures { IfOk result (λ found. found.items ≡ map.keys self.now.records) }
     {
-        last_of(
-            self.records.last_key_value().map(|found| *found.0),
-            self.slips.last_key_value().map(|found| *found.0),
-        )
+        keys_of(alloc, &self.records)
+    }
+
+    /// The numbers of the slips, ascending.
+    pub fn slip_numbers(&self, alloc: Global) -> Result<Vec<u32>, AllocError>
+        ensures { IfOk result (λ found. found.items ≡ map.keys self.now.slips) }
+    {
+        keys_of(alloc, &self.slips)
     }
 
     /// The numbers of the records that name a number, ascending.
@@ -218,13 +222,13 @@ impl State {
     }
 }
 
-/// The greater of two numbers that may be missing.
-fn last_of(one: Option<u32>, other: Option<u32>) -> Option<u32>
-    ensures { result ≡ last_of_two one other }
+/// The keys of a map, ascending.
+fn keys_of<V>(alloc: Global, entries: &BTreeMap<u32, V>) -> Result<Vec<u32>, AllocError>
+    ensures { IfOk result (λ found. found.items ≡ map.keys (map.from_entries {R = nat_cmp} entries.now.entries)) }
 {
-    match (one, other) {
-        (Some(one), Some(other)) => Some(one.max(other)),
-        (Some(one), None) => Some(one),
-        (None, other) => other,
+    let mut found = Vec::new(alloc);
+    'entries: for (at, _value) in entries {
+        found.push(*at)?;
     }
+    Ok(found)
 }

@@ -52,7 +52,10 @@ pub trait Pages {
     /// What is found of a page with its query.
     ghost shows: { Self → SpecPage → List ℕ → SpecFound };
 
+    /// Whether it finds just that.
+    ghost is_honest: { Self → Type 0 };
+
     /// What is found of a page with its query. Refused only for want of memory.
     fn show(&self, alloc: Global, page: Page, query: &Query) -> Result<PageFound, AllocError>
-        ensures { IfOk result (λ found. found ≡ shows self.now page query.now) };
+        ensures { is_honest self.now → IfOk result (λ found. found ≡ shows self.now page query.now) };
 }

@@ -36,15 +36,15 @@ pub fn answer_one<P: Pages, R: Read + Device, W: Write + Device>(
     reader: &mut R,
     writer: &mut W,
 ) -> Result<(), VisitError>
-    ensures ok { OnOk result (Served (P.shows pages.now) (R.remaining reader.old)
+    ensures ok { P.is_honest pages.now → OnOk result (Served (P.shows pages.now) (R.remaining reader.old)
         (W.contents writer.old) (W.contents writer.new)) }
     ensures want { result ≡ Err VisitError.OutOfMemory → Keeps (W.contents writer.old) (W.contents writer.new) }
     ensures read { result ≡ Err VisitError.ReadFailed → Keeps (W.contents writer.old) (W.contents writer.new) }
     ensures blamed { result ≡ Err VisitError.ReadFailed → Rose (R.failed reader.old) (R.failed reader.new) }
-    ensures write { result ≡ Err VisitError.WriteFailed → BeginsToServe (P.shows pages.now)
+    ensures write { P.is_honest pages.now → result ≡ Err VisitError.WriteFailed → BeginsToServe (P.shows pages.now)
         (R.remaining reader.old) (W.contents writer.old) (W.contents writer.new) }
     ensures counted { result ≡ Err VisitError.WriteFailed → Rose (W.failed writer.old) (W.failed writer.new) }
-    ensures stopped { result ≡ Err VisitError.WriterStopped → BeginsToServe (P.shows pages.now)
+    ensures stopped { P.is_honest pages.now → result ≡ Err VisitError.WriterStopped → BeginsToServe (P.shows pages.now)
         (R.remaining reader.old) (W.contents writer.old) (W.contents writer.new) }
     ensures uncounted { result ≡ Err VisitError.WriterStopped → ¬ (Rose (W.failed writer.old) (W.failed writer.new)) }
 {
@@ -67,7 +67,7 @@ fn make_answer<P: Pages, R: Read + Device>(
     pages: &P,
     reader: &mut R,
 ) -> Result<Vec<u8>, TransferError>
-    ensures ok { IfOk result (λ answer. IfSome (R.remaining reader.old)
+    ensures ok { P.is_honest pages.now → IfOk result (λ answer. IfSome (R.remaining reader.old)
         (λ input. Answers (P.shows pages.now) input answer.items)) }
     ensures failed { result ≡ Err TransferError.Failed → Rose (R.failed reader.old) (R.failed reader.new) }
 {
@@ -83,7 +83,8 @@ fn make_answer<P: Pages, R: Read + Device>(
 
 /// The answer to what a connection begins with.
 fn answer_to<P: Pages>(alloc: Global, pages: &P, shown: HeadRead) -> Result<Vec<u8>, AllocError>
-    ensures { IfOk result (λ answer. answer.items ≡ answer_to (P.shows pages.now) shown) }
+    ensures { P.is_honest pages.now
+        → IfOk result (λ answer. answer.items ≡ answer_to (P.shows pages.now) shown) }
 {
     match shown {
         HeadRead::Nothing => Ok(Vec::new(alloc)),
@@ -95,8 +96,8 @@ fn answer_to<P: Pages>(alloc: Global, pages: &P, shown: HeadRead) -> Result<Vec<
 
 /// The answer to a whole head.
 fn answer_head<P: Pages>(alloc: Global, pages: &P, head: &Head) -> Result<Vec<u8>, AllocError>
-    ensures { IfOk result (λ answer. answer.items ≡ answer_of (P.shows pages.now) (asked_by head.now)
-        (not (is_head_of head.now))) }
+    ensures { P.is_honest pages.now → IfOk result (λ answer. answer.items ≡ answer_of (P.shows pages.now)
+        (asked_by head.now) (not (is_head_of head.now))) }
 {
     let with_page = !is_head(head);
     match read_request(alloc, head)? {

@@ -13,9 +13,12 @@ use std::alloc::{AllocError, Global};
 pub(crate) struct TestRoom;
 
 impl Pages for TestRoom {
+    ghost use Rattle.std.specs.Prelude.{⊤};
     ghost use Rattle.visit_rows.specs.Room.{room};
 
     ghost shows = { λ _. room };
+
+    ghost is_honest = { λ _. ⊤ };
 
     fn show(&self, alloc: Global, page: Page, query: &Query) -> Result<PageFound, AllocError> {
         match page {

@@ -1,0 +1,5 @@
+pub mod Alike
+pub mod Begun
+pub mod Few
+pub mod Missing
+pub mod Told

@@ -1,0 +1,3 @@
+pub mod Listening
+pub mod Room
+pub mod Sheets

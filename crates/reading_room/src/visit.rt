@@ -1,0 +1,37 @@
+//! One request, and its answer.
+
+ghost use Rattle.std.specs.Prelude.{◌≡◌, Err, OnOk};
+ghost use Rattle.std.specs.Io.KnownBytes.{Keeps};
+ghost use Rattle.devices.specs.Devices.{Rose};
+ghost use Rattle.archive_state.specs.Sound.{IsSound};
+ghost use Rattle.room_visits.specs.Visits.{Served, BeginsToServe};
+ghost use Rattle.reading_room.specs.Room as shows;
+
+use crate::room::Room;
+use devices::Device;
+use room_visits::{VisitError, answer_one};
+use std::alloc::Global;
+use std::io::{Read, Write};
+
+/// Reads one request and writes its answer, by what the room shows. Where the input ends before its first byte nothing
+/// is written.
+pub fn serve_one<R: Read + Device, W: Write + Device>(
+    alloc: Global,
+    room: &Room,
+    reader: &mut R,
+    writer: &mut W,
+) -> Result<(), VisitError>
+    ensures ok { IsSound room.now → OnOk result (Served (shows.room room.now.records)
+        (R.remaining reader.old) (W.contents writer.old) (W.contents writer.new)) }
+    ensures want { result ≡ Err VisitError.OutOfMemory → Keeps (W.contents writer.old) (W.contents writer.new) }
+    ensures read { result ≡ Err VisitError.ReadFailed → Keeps (W.contents writer.old) (W.contents writer.new) }
+    ensures blamed { result ≡ Err VisitError.ReadFailed → Rose (R.failed reader.old) (R.failed reader.new) }
+    ensures write { IsSound room.now → result ≡ Err VisitError.WriteFailed → BeginsToServe
+        (shows.room room.now.records) (R.remaining reader.old) (W.contents writer.old) (W.contents writer.new) }
+    ensures counted { result ≡ Err VisitError.WriteFailed → Rose (W.failed writer.old) (W.failed writer.new) }
+    ensures stopped { IsSound room.now → result ≡ Err VisitError.WriterStopped → BeginsToServe
+        (shows.room room.now.records) (R.remaining reader.old) (W.contents writer.old) (W.contents writer.new) }
+    ensures uncounted { result ≡ Err VisitError.WriterStopped → ¬ (Rose (W.failed writer.old) (W.failed writer.new)) }
+{
+    answer_one(alloc, room, reader, writer)
+}

@@ -1,0 +1,60 @@
+//! Requests to a reading room, and its answers.
+
+use crate::masked::masked_on;
+use archive_state::State;
+use devices::Counted;
+use reading_room::{Room, serve_one};
+use records::RefusalKind;
+use room_visits::VisitError;
+use row_words::{Answer, word};
+use shown_state::Shown;
+use std::alloc::Global;
+
+/// Says the bytes that a room, which shows what is shown that day, writes to those of a request, both in hexadecimal
+/// digits. 90: the request is not.
+pub(crate) fn say_visit(
+    alloc: Global,
+    state: &State,
+    words: &[String],
+    out: &mut Answer,
+) -> Result<(), RefusalKind> {
+    let masked = masked_on(alloc, state, words)?;
+    let written = answer_to(alloc, masked, word(words, 2))?;
+    out.say_bytes(&written);
+    out.say("\n");
+    Ok(())
+}
+
+fn answer_to(alloc: Global, masked: Shown, request: &str) -> Result<Vec<u8>, RefusalKind> {
+    let bytes = match hex::decode(alloc, request) {
+        Ok(bytes) => bytes,
+        Err(_) => return Err(RefusalKind::BadRow),
+    };
+    let room = Room::new(alloc, masked)?;
+    let mut written: Vec<u8> = Vec::new(alloc);
+    match visit(alloc, &room, &bytes, &mut written) {
+        Ok(()) => Ok(written),
+        Err(end) => Err(refusal_of(end, written.is_empty())),
+    }
+}
+
+fn visit(
+    alloc: Global,
+    room: &Room,
+    bytes: &[u8],
+    written: &mut Vec<u8>,
+) -> Result<(), VisitError> {
+    let mut reader = Counted::new(bytes);
+    let mut writer = Counted::new(written);
+    serve_one(alloc, room, &mut reader, &mut writer)
+}
+
+/// The refusal of a visit that ended early. 90: memory was refused, and yet something was written.
+fn refusal_of(end: VisitError, nothing_written: bool) -> RefusalKind {
+    match end {
+        VisitError::OutOfMemory if nothing_written => RefusalKind::OutOfMemory,
+        VisitError::OutOfMemory => RefusalKind::BadRow,
+        VisitError::ReadFailed => RefusalKind::ReadFailed,
+        VisitError::WriteFailed | VisitError::WriterStopped => RefusalKind::WriteFailed,
+    }
+}
