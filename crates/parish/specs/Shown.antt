@@ -1,11 +1,10 @@
 -- How the commands end that show an archive on a day, which is counted from 1970-01-01.
-use Rattle.std.specs.Prelude.{◌≡◌, ◌⊎◌, ◌≤◌, ℕ, ℤ, List, Option, None, Result, Ok, Err, IsSomeAnd, true}
+use Rattle.std.specs.Prelude.{◌≡◌, ◌≤◌, ℕ, ℤ, List, Option, None, IsSomeAnd, true}
 use Rattle.std.specs.Io.KnownBytes.{Appends, Keeps}
 use Rattle.sqlite.specs.Held.{Held}
 use Rattle.sqlite_disk.specs.declared.Disk as disk
 use Rattle.sqlite_store.specs.declared.store.FileStore.{FileStore}
 use Rattle.sqlite_wal.specs.Recovery.{Image}
-use Rattle.archive_state.specs.Content.{Content}
 use Rattle.archive_view.specs.Looks.{is_failure}
 use Rattle.command_line.specs.declared.tasks.SheetKind.{SheetKind}
 use Rattle.command_line.specs.declared.tasks.SheetKind.TheVariants as kind
@@ -13,7 +12,7 @@ use Rattle.devices.specs.Devices.{AppendsBeginning}
 use Rattle.parish.specs.declared.visits.Visits.{Visits}
 use Rattle.reading_room.specs.Listening.{listening_line}
 use Rattle.record_text.specs.declared.refusal.RefusalKind.{RefusalKind}
-use Rattle.record_text.specs.declared.refusal.RefusalKind.TheVariants.{OutOfMemory, WriteFailed}
+use Rattle.record_text.specs.declared.refusal.RefusalKind.TheVariants.{WriteFailed}
 use Rattle.shown_archives.specs.declared.sheet.Sheet.{Sheet}
 use Rattle.shown_archives.specs.declared.sheet.Sheet.TheVariants as sheet
 use Rattle.shown_commands.specs.Ends.{Published, SheetTold, SheetUntold, Shelved, Unpublished, Unshelved}
@@ -25,10 +24,6 @@ IsSheetOf kind.Family number generations (sheet.Family n) = n ≡ number
 IsSheetOf kind.Register number generations (sheet.Register n) = n ≡ number
 IsSheetOf kind.Pedigree number generations (sheet.Pedigree n few) = (n ≡ number) × (few.count ≡ generations)
 IsSheetOf _ number generations _ = ⊥
-
--- nothing is shown: what could be was refused, or no memory was found for a room
-abbrev pub IsUnshown : Result Content RefusalKind → RefusalKind → Type 0
-IsUnshown outcome e = (outcome ≡ Err e) ⊎ ((e ≡ OutOfMemory) × ((shown : Content) × (outcome ≡ Ok shown)))
 
 module _ {D : Type 0} {g : disk.Ghosts D} where
   -- ---- export --public

@@ -37,7 +37,7 @@ use command_line::{Asked, Refused, read_words};
 use gedcom_tree::{
     Device, TransferError, TreeFault, TreeKind, normalise, read_forest, write_bytes,
 };
-use shown_commands::{public_export, sheet, shown};
+use shown_commands::{library, public_export, sheet};
 use sqlite::Start;
 use std::alloc::Global;
 use std::io;
@@ -128,7 +128,7 @@ fn work<S: Start, R: Read + Device, W: Write + Device, F: Write + Device>(
             port,
             count,
             today,
-        } => opened(rt.alloc(), shown(rt, file, today, start), port, count, faults),
+        } => opened(library(rt, file, today, start), port, count, faults),
         Asked::Audit { file } => audited(rt.alloc(), audit(rt, file, start), output, faults),
         Asked::Apply { file } => {
             let done = apply(rt, file, start, input, output, faults);

@@ -16,7 +16,7 @@ mod imports;
 mod telling;
 mod visits;
 
-use crate::visits::{Visits, serve_visits};
+use crate::visits::Visits;
 use archive_commands::{ClosedFile, OpenFile, close};
 use gedcom_tree::{Counted, Device};
 use sqlite::{Start, Unknown};
@@ -66,7 +66,7 @@ where
         (W.contents output.new) (Rose (W.failed output.old) (W.failed output.new))) }
 {
     match room {
-        Some(visits) => serve_visits(alloc, net, visits, output, faults),
+        Some(visits) => visits.serve(alloc, net, output, faults),
         None => status,
     }
 }

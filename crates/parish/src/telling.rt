@@ -11,7 +11,7 @@ use std::fmt;
 use std::io::{Cursor, Write};
 
 /// The work is done.
-const DONE: u8 = 0;
+pub(crate) const DONE: u8 = 0;
 
 /// A refusal, told on the stream of faults.
 const REFUSED: u8 = 1;

@@ -1,20 +1,18 @@
 //! What is shown of an archive on a day: which sheet, and the reading room.
 
-ghost use Rattle.std.specs.Prelude.{◌≡◌, ◌≤◌, IfErr, IfOk, IsSomeAnd, None, Ok};
+ghost use Rattle.std.specs.Prelude.{◌≡◌, IfOk, IsSomeAnd, None, OnErr, OnOk, if◌then◌else◌, is_ok};
 ghost use Rattle.std.specs.Int.{IsInRange};
 ghost use Rattle.devices.specs.Devices.{Rose};
-ghost use Rattle.parish.specs.Shown.{IsSheetOf, IsUnshown, VisitsEnd};
-ghost use Rattle.record_text.specs.declared.refusal.RefusalKind.{RefusalKind as SpecKind};
+ghost use Rattle.parish.specs.Shown.{IsSheetOf, VisitsEnd};
 
-use crate::telling::{refuse, status_of};
+use crate::telling::{DONE, refuse, status_of};
 use archive_commands::OpenFile;
 use command_line::SheetKind;
 use gedcom_tree::Device;
 use reading_room::{Room, serve};
 use record_text::RefusalKind;
-use sheets::Generations;
+use sheets::{Generations, Library};
 use shown_archives::Sheet;
-use shown_state::Shown;
 use sqlite::Start;
 use std::alloc::Global;
 use std::io::Write;
@@ -56,61 +54,45 @@ pub(crate) fn sheet_of(kind: SheetKind, number: u32, generations: u32) -> Sheet
 }
 
 /// A room with what is shown of the archive in a file, and the connection over that; or the status, after the line of the
-/// refusal, which is want of memory where only that was wanting for the room.
+/// refusal.
 pub(crate) fn opened<S: Start, F: Write + Device>(
-    alloc: Global,
-    done: (Result<Shown, RefusalKind>, Option<OpenFile<S>>),
+    done: (Result<Library, RefusalKind>, Option<OpenFile<S>>),
     port: u16,
     count: u32,
     faults: &mut F,
 ) -> (u8, Option<OpenFile<S>>, Option<Visits>)
-    ensures status { result.0 ≤ 1 }
-    ensures open { result.0 ≡ 0 → IsSomeAnd result.2 (λ visits. (visits.port ≡ port) × (visits.count ≡ count)
-        × (done.0 ≡ Ok visits.room)) }
-    ensures shut { result.0 ≡ 1 → (result.2 ≡ None) × ((e : SpecKind) × IsUnshown done.0 e) }
-    ensures done { result.0 ≡ 0 → faults.new ≡ faults.old }
+    ensures status { result.0 ≡ (if is_ok done.0 then 0 else 1) }
+    ensures open { IfOk done.0 (λ shown. IsSomeAnd result.2 (λ visits. (visits.port ≡ port)
+        × (visits.count ≡ count) × (visits.room ≡ shown))) }
+    ensures shut { OnErr done.0 (result.2 ≡ None) }
+    ensures done { OnOk done.0 (faults.new ≡ faults.old) }
     ensures left { result.1 ≡ done.1 }
 {
     let (outcome, left) = done;
-    match room_of(alloc, outcome, port, count) {
-        Ok(visits) => (0, left, Some(visits)),
+    match outcome {
+        Ok(library) => {
+            let room = Room::over(library);
+            (DONE, left, Some(Visits { room, port, count }))
+        }
         Err(kind) => (refuse(faults, &kind), left, None),
     }
 }
 
-/// A room with what is shown, which is to be served so.
-fn room_of(
-    alloc: Global,
-    outcome: Result<Shown, RefusalKind>,
-    port: u16,
-    count: u32,
-) -> Result<Visits, RefusalKind>
-    ensures open { IfOk result (λ visits. (visits.port ≡ port) × (visits.count ≡ count)
-        × (outcome ≡ Ok visits.room)) }
-    ensures shut { IfErr result (IsUnshown outcome) }
-{
-    match outcome {
-        Ok(shown) => match Room::new(alloc, shown) {
-            Ok(room) => Ok(Visits { room, port, count }),
-            Err(_) => Err(RefusalKind::OutOfMemory),
-        },
-        Err(kind) => Err(kind),
+impl Visits {
+    /// Serves the room, and gives the exit status.
+    pub(crate) fn serve<N, W: Write + Device, F: Write + Device>(
+        self,
+        alloc: Global,
+        net: &N,
+        output: &mut W,
+        faults: &mut F,
+    ) -> u8
+    where
+        N: Net<Listener = TcpListener, Stream = TcpStream> + Clock,
+        ensures { VisitsEnd self.port result (W.contents output.old) (W.contents output.new)
+            (Rose (W.failed output.old) (W.failed output.new)) }
+    {
+        let Visits { room, port, count } = self;
+        status_of(serve(alloc, net, &room, port, count, output), faults)
     }
-}
-
-/// Serves a room, and gives the exit status.
-pub(crate) fn serve_visits<N, W: Write + Device, F: Write + Device>(
-    alloc: Global,
-    net: &N,
-    visits: Visits,
-    output: &mut W,
-    faults: &mut F,
-) -> u8
-where
-    N: Net<Listener = TcpListener, Stream = TcpStream> + Clock,
-    ensures { VisitsEnd visits.port result (W.contents output.old) (W.contents output.new)
-        (Rose (W.failed output.old) (W.failed output.new)) }
-{
-    let Visits { room, port, count } = visits;
-    status_of(serve(alloc, net, &room, port, count, output), faults)
 }

@@ -15,5 +15,5 @@ mod writing;
 
 pub use publishing::write_public;
 pub use sheet::{Sheet, sheet_of};
-pub use showing::shown_of;
+pub use showing::{library_of, shown_of};
 pub use writing::write_sheet;

@@ -13,6 +13,7 @@ ghost use Rattle.shown_archives.specs.Showing.{IsShown};
 use archive_exports::read_refusal;
 use archive_state::State;
 use record_text::RefusalKind;
+use sheets::Library;
 use shown_state::{Shown, shown};
 use sqlite::Alter;
 use std::alloc::Global;
@@ -46,5 +47,35 @@ fn masked(alloc: Global, state: &State, today: i32) -> Result<Shown, RefusalKind
     match shown(alloc, state, today) {
         Ok(shown) => Ok(shown),
         Err(refusal) => Err(refusal.kind),
+    }
+}
+
+/// The same with the index of what is shown, for many sheets: what a reading room has. Refusals as of `shown_of`.
+pub fn library_of<S: Alter>(
+    alloc: Global,
+    archive: &mut Archive<S>,
+    today: i32,
+) -> Result<Library, RefusalKind>
+    requires kept { archive.old.is_lost ≡ false }
+    ensures shown { IfOk result (λ l. OnOpen (state S.Store archive.old.conn) (state S.Store archive.new.conn)
+        (λ society c. IsShown c today l × HasArchive society c (state S.Store archive.new.conn))) }
+    ensures unshown { IfErr result (λ kind. OnOpen (state S.Store archive.old.conn) (state S.Store archive.new.conn)
+        (λ _ _. IsFailure kind)) }
+    ensures stops { IfErr result (λ kind. is_stop kind ≡ true) }
+{
+    match shown_of(alloc, archive, today) {
+        Ok(shown) => shelved(alloc, shown),
+        Err(kind) => Err(kind),
+    }
+}
+
+/// What is shown, with its index. Refused only for want of memory.
+fn shelved(alloc: Global, shown: Shown) -> Result<Library, RefusalKind>
+    ensures same { IfOk result (λ l. l ≡ shown) }
+    ensures refused { IfErr result (λ kind. kind ≡ OutOfMemory) }
+{
+    match Library::new(alloc, shown) {
+        Ok(library) => Ok(library),
+        Err(_) => Err(RefusalKind::OutOfMemory),
     }
 }

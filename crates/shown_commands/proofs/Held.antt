@@ -1,4 +1,4 @@
--- What is said of the archive in a file, from what is said of one that is open, which is shown.
+-- What is said of the archive in a file, from what is said of one that is open, of which a library was made.
 use Rattle.std.proofs.Common.{◌≡◌, inr, ℕ, ℤ, List, Ok, Err}
 use Rattle.std.specs.Prelude.{Some, Result, IfErr, IfOk}
 use Rattle.sqlite.specs.Files.{file_state}

@@ -10,5 +10,5 @@
 mod reading;
 mod writing;
 
-pub use reading::shown;
+pub use reading::library;
 pub use writing::{public_export, sheet};

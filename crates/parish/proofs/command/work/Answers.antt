@@ -91,10 +91,10 @@ returns-in-Sheet-clause-does g c =
 
 pub returns-in-Serve-clause-does : goal.returns-in-Serve-clause-does
 returns-in-Serve-clause-does g c =
-    let did = c.shown.ensures in
+    let did = c.library.ensures in
     let ended = c.opened.ensures in
     rw c.in-Serve.is (
-      room_ends (image_at g.S.Start) c.shown.result.0 _ _ _ c.opened.result.0 c.opened.result.2 c.shown.result.1
+      room_ends (image_at g.S.Start) c.library.result.0 _ _ _ c.opened.result.0 c.opened.result.2 c.library.result.1
           c.opened.result.1 ended.left ended.status ended.open ended.shut did.shelved did.unshelved,
       refl,
       refl,

@@ -1,5 +1,5 @@
 use Rattle.parish.proofs.Showing.{visits_end}
-use Rattle.parish.proofs.visits.serve_visits.Goals as goal
+use Rattle.parish.proofs.visits.Visits.serve.Goals as goal
 
 pub returns : goal.returns
 returns g c =
