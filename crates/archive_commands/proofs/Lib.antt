@@ -1,6 +1,6 @@
 mod Answering
 mod Entered
-mod Exported
+pub mod Exported
 mod Imported
 mod Opened
 mod Refusing

@@ -1,5 +1,5 @@
 -- An archive taken up in a file, by what the file and its log held as they were opened. Rules of our own.
-use Rattle.std.specs.Prelude.{◌≡◌, ◌⊎◌, ℕ, true, false, List, Option, None, Some}
+use Rattle.std.specs.Prelude.{◌≡◌, ◌⊎◌, ℕ, true, false, List, Option, None, Some, IsSomeAnd}
 use Rattle.sqlite.specs.Files.{HoldsDatabase, file_state}
 use Rattle.sqlite.specs.Held.{Held}
 use Rattle.sqlite.specs.State.{State, HasCleanDisk}
@@ -19,10 +19,14 @@ abbrev pub WhereHeld : Image → (List ℕ → Content → Type 0) → Type 0
 WhereHeld image P = (society : List ℕ) (c : Content) (t : Trees) → HoldsDatabase image t
     → IsArchive society c t → P society c
 
+-- P of each such archive, and a crash leaves it
+abbrev pub OnHeld : Image → (List ℕ → Content → Type 0) → State → Type 0
+OnHeld image P s = HasCleanDisk s
+    → WhereHeld image (λ society c. P society c × LeavesArchive s society (λ found. found ≡ c))
+
 -- the connection has the archive, and a crash leaves it
 abbrev pub IsTakenUp : Image → State → Type 0
-IsTakenUp image s = HasCleanDisk s
-    → WhereHeld image (λ society c. HasArchive society c s × LeavesArchive s society (λ found. found ≡ c))
+IsTakenUp image s = OnHeld image (λ society c. HasArchive society c s) s
 
 -- why no file was opened: 82, there is none; 80, it cannot be opened
 abbrev pub IsUnopened : RefusalKind → Type 0
@@ -31,8 +35,7 @@ IsUnopened kind = (kind ≡ NotAnArchive) ⊎ (kind ≡ Storage)
 -- the file was opened, and an archive that it held is not taken up: only for want of memory, or because the database
 -- failed. A crash leaves it
 abbrev pub IsLeft : Image → RefusalKind → State → Type 0
-IsLeft image kind s = HasCleanDisk s
-    → WhereHeld image (λ society c. IsFailure kind × LeavesArchive s society (λ found. found ≡ c))
+IsLeft image kind s = OnHeld image (λ _ _. IsFailure kind) s
 
 -- what the file with its log held is all that a crash leaves; and a store that is refused for what it is, with 82 or
 -- 83, shows that and has it committed, as it did before
@@ -42,6 +45,10 @@ IsAsHeld image kind s = HasCleanDisk s → (t : Trees) → HoldsDatabase image t
     × (is_foreign kind ≡ true → (s.now.trees ≡ t) × (s.committed.trees ≡ t))
 
 module _ {D : Type 0} {g : disk.Ghosts D} where
+  -- a file was opened, and P of the archive that it held
+  abbrev pub IsOnHeld : Image → (List ℕ → Content → Type 0) → Option (Held (FileStore D g)) → Type 0
+  IsOnHeld image P left = IsSomeAnd left (λ conn. OnHeld image P (file_state conn))
+
   -- no archive was taken up, with the connection where a file was opened
   abbrev pub Unopened : Image → RefusalKind → Option (Held (FileStore D g)) → Type 0
   Unopened image kind None = IsUnopened kind

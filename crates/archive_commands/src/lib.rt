@@ -16,5 +16,5 @@ mod running;
 pub use entering::entries;
 pub use exporting::export;
 pub use importing::import;
-pub use opening::OpenFile;
+pub use opening::{OpenFile, open};
 pub use running::{ClosedFile, apply, close, init};

@@ -24,7 +24,7 @@ pub type OpenFile<S> = Connection<FileStore<FileFrom<S>>>;
 ///
 /// 82: there is no file, or it has no archive. 83: a later program made it. 80: the file cannot be opened or is no
 /// database, or the database failed. 1: memory was refused.
-pub(crate) fn open<S: Start>(
+pub fn open<S: Start>(
     rt: &HostRuntime,
     file: &str,
     start: S,

@@ -1,8 +1,9 @@
 use Rattle.sqlite.specs.Held.{state}
 use Rattle.gedcom_export.specs.Ends.{IsWhole}
-use Rattle.archive_commands.specs.Exporting.{IsPart, export_text}
-use Rattle.archive_commands.proofs.Exported.{not_blamed, nothing_written, part_of_named, whole_of_named}
-use Rattle.archive_commands.proofs.exporting.write_archive.Goals as goal
+use Rattle.archive_exports.specs.Exporting.{IsPart, export_text}
+use Rattle.archive_exports.proofs.Exported.{nothing_written}
+use Rattle.archive_exports.proofs.Named.{not_blamed, part_of_named, whole_of_named}
+use Rattle.archive_exports.proofs.exporting.write_archive.Goals as goal
 
 pub returns-in-Ok-clause-written : goal.returns-in-Ok-clause-written
 returns-in-Ok-clause-written g c =

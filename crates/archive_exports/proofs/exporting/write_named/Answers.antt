@@ -1,9 +1,9 @@
 use Rattle.sqlite.specs.Held.{state}
 use Rattle.store_tables.proofs.Queries.{only_committed}
 use Rattle.gedcom_export.specs.Ends.{IsBegun, IsWhole}
-use Rattle.archive_commands.specs.Exporting.{IsPart, export_text}
-use Rattle.archive_commands.proofs.Exported.{on_open, stopped}
-use Rattle.archive_commands.proofs.exporting.write_named.Goals as goal
+use Rattle.archive_exports.specs.Exporting.{IsPart, export_text}
+use Rattle.archive_exports.proofs.Exported.{on_open, stopped}
+use Rattle.archive_exports.proofs.exporting.write_named.Goals as goal
 
 pub returns-in-Ok-clause-written : goal.returns-in-Ok-clause-written
 returns-in-Ok-clause-written g c =

@@ -1,0 +1,3 @@
+mod Exported
+pub mod Asked
+pub mod Named

@@ -1,0 +1,45 @@
+//! What an archive that is open is asked for.
+
+ghost use Rattle.std.specs.Prelude.{◌≡◌, false, true, IfErr, IfOk, OnOk};
+ghost use Rattle.sqlite.specs.Held.{state};
+ghost use Rattle.archive_view.specs.Looks.{is_stop};
+ghost use Rattle.store.specs.Archives.{HasArchive};
+ghost use Rattle.store_tables.specs.Looking.{IsFailure};
+ghost use Rattle.archive_exports.specs.Reading.{OnOpen};
+
+use record_text::{RefusalKind, Text};
+use sqlite::Alter;
+use std::alloc::Global;
+use store::Archive;
+
+/// The society of an archive, which is not changed. 1: memory was refused. 40: somebody else has spoilt its row. 80: the
+/// database failed.
+pub fn society_of<S: Alter>(
+    alloc: Global,
+    archive: &mut Archive<S>,
+) -> Result<Text, RefusalKind>
+    requires kept { archive.old.is_lost ≡ false }
+    ensures named { IfOk result (λ text. OnOpen (state S.Store archive.old.conn) (state S.Store archive.new.conn)
+        (λ society c. (text ≡ society) × HasArchive society c (state S.Store archive.new.conn))) }
+    ensures unnamed { IfErr result (λ kind. OnOpen (state S.Store archive.old.conn) (state S.Store archive.new.conn)
+        (λ _ _. IsFailure kind)) }
+    ensures stops { IfErr result (λ kind. is_stop kind ≡ true) }
+    ensures kept { OnOk result (archive.new.is_lost ≡ false) }
+    ensures uncounted { archive.new.failures ≡ archive.old.failures }
+{
+    match archive.society(alloc) {
+        Ok(society) => Ok(society),
+        Err(kind) => Err(read_refusal(kind)),
+    }
+}
+
+/// What a read of an archive that is not lost is refused with: 1, 40 or 80.
+pub fn read_refusal(kind: RefusalKind) -> RefusalKind
+    ensures stops { is_stop result ≡ true }
+    ensures same { is_stop kind ≡ true → result ≡ kind }
+{
+    match kind {
+        RefusalKind::OutOfMemory | RefusalKind::BadStored => kind,
+        _ => RefusalKind::Storage,
+    }
+}

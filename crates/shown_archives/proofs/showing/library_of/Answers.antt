@@ -1,0 +1,26 @@
+use Rattle.std.proofs.Common.{w32}
+use Rattle.std.proofs.lemmas.Int.{to_z-of_z}
+use Rattle.sqlite.specs.Held.{state}
+use Rattle.archive_state.specs.Content.{Content}
+use Rattle.store.specs.Archives.{HasArchive}
+use Rattle.archive_exports.specs.Reading.{OnOpen}
+use Rattle.shown_archives.specs.Showing.{IsShown}
+use Rattle.shown_archives.proofs.Masked.{of_day, same_of, want_fails, want_stops}
+use Rattle.shown_archives.proofs.showing.library_of.Goals as goal
+
+pub returns-in-Ok-clause-shown : goal.returns-in-Ok-clause-shown
+returns-in-Ok-clause-shown g c =
+    let old = state g.S.Store c.args.archive.now.conn in
+    let new = state g.S.Store c.shown_of.new.archive.conn in
+    same_of c.shelved.result c.in-Ok.shown
+    (λ (l : Content). OnOpen old new (λ society of. IsShown of c.args.today l × HasArchive society of new))
+    c.shelved.ensures.same
+    (of_day old new _ c.args.today c.in-Ok.shown (to_z-of_z w32 c.args.today c.ranges.today) c.in-Ok.ensures.shown)
+
+pub returns-in-Ok-clause-unshown : goal.returns-in-Ok-clause-unshown
+returns-in-Ok-clause-unshown g c =
+    want_fails c.shelved.result (state g.S.Store c.args.archive.now.conn)
+    (state g.S.Store c.shown_of.new.archive.conn) _ c.in-Ok.ensures.shown c.shelved.ensures.refused
+
+pub returns-in-Ok-clause-stops : goal.returns-in-Ok-clause-stops
+returns-in-Ok-clause-stops g c = want_stops c.shelved.result c.shelved.ensures.refused

@@ -1,0 +1,81 @@
+//! An archive that is open, masked for a day.
+
+ghost use Rattle.std.specs.Prelude.{◌≡◌, false, true, IfErr, IfOk};
+ghost use Rattle.sqlite.specs.Held.{state};
+ghost use Rattle.archive_state.specs.Sound.{IsSound};
+ghost use Rattle.archive_view.specs.Looks.{is_stop};
+ghost use Rattle.record_text.specs.declared.refusal.RefusalKind.TheVariants.{OutOfMemory};
+ghost use Rattle.store.specs.Archives.{HasArchive};
+ghost use Rattle.store_tables.specs.Looking.{IsFailure};
+ghost use Rattle.archive_exports.specs.Reading.{OnOpen};
+ghost use Rattle.shown_archives.specs.Showing.{IsShown};
+
+use archive_exports::read_refusal;
+use archive_state::State;
+use record_text::RefusalKind;
+use sheets::Library;
+use shown_state::{Shown, shown};
+use sqlite::Alter;
+use std::alloc::Global;
+use store::Archive;
+
+/// What may be shown of an archive on a day, counted from 1970-01-01, day 0. The archive is read whole, and not changed.
+/// 1: memory was refused. 40: somebody else has spoilt what is stored. 80: the database failed.
+pub fn shown_of<S: Alter>(
+    alloc: Global,
+    archive: &mut Archive<S>,
+    today: i32,
+) -> Result<Shown, RefusalKind>
+    requires kept { archive.old.is_lost ≡ false }
+    ensures shown { IfOk result (λ s. OnOpen (state S.Store archive.old.conn) (state S.Store archive.new.conn)
+        (λ society c. IsShown c today s × HasArchive society c (state S.Store archive.new.conn))) }
+    ensures unshown { IfErr result (λ kind. OnOpen (state S.Store archive.old.conn) (state S.Store archive.new.conn)
+        (λ _ _. IsFailure kind)) }
+    ensures stops { IfErr result (λ kind. is_stop kind ≡ true) }
+{
+    match archive.state(alloc) {
+        Ok(state) => masked(alloc, &state, today),
+        Err(kind) => Err(read_refusal(kind)),
+    }
+}
+
+/// What may be shown of a state. Refused only for want of memory.
+fn masked(alloc: Global, state: &State, today: i32) -> Result<Shown, RefusalKind>
+    ensures shown { IsSound state.now → IfOk result (λ s. IsShown state.now today s) }
+    ensures refused { IfErr result (λ kind. kind ≡ OutOfMemory) }
+{
+    match shown(alloc, state, today) {
+        Ok(shown) => Ok(shown),
+        Err(refusal) => Err(refusal.kind),
+    }
+}
+
+/// The same with the index of what is shown, for many sheets: what a reading room has. Refusals as of `shown_of`.
+pub fn library_of<S: Alter>(
+    alloc: Global,
+    archive: &mut Archive<S>,
+    today: i32,
+) -> Result<Library, RefusalKind>
+    requires kept { archive.old.is_lost ≡ false }
+    ensures shown { IfOk result (λ l. OnOpen (state S.Store archive.old.conn) (state S.Store archive.new.conn)
+        (λ society c. IsShown c today l × HasArchive society c (state S.Store archive.new.conn))) }
+    ensures unshown { IfErr result (λ kind. OnOpen (state S.Store archive.old.conn) (state S.Store archive.new.conn)
+        (λ _ _. IsFailure kind)) }
+    ensures stops { IfErr result (λ kind. is_stop kind ≡ true) }
+{
+    match shown_of(alloc, archive, today) {
+        Ok(shown) => shelved(alloc, shown),
+        Err(kind) => Err(kind),
+    }
+}
+
+/// What is shown, with its index. Refused only for want of memory.
+fn shelved(alloc: Global, shown: Shown) -> Result<Library, RefusalKind>
+    ensures same { IfOk result (λ l. l ≡ shown) }
+    ensures refused { IfErr result (λ kind. kind ≡ OutOfMemory) }
+{
+    match Library::new(alloc, shown) {
+        Ok(library) => Ok(library),
+        Err(_) => Err(RefusalKind::OutOfMemory),
+    }
+}
