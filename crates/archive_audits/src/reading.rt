@@ -21,10 +21,7 @@ use store_rows::read_state;
 pub fn audit<S: Alter>(
     alloc: Global,
     archive: Archive<S>,
-) -> (
-    Result<usize, (RefusalKind, Option<Fault>)>,
-    Connection<S>,
-)
+) -> (Result<usize, (RefusalKind, Option<Fault>)>, Connection<S>)
     ensures judged { HasCleanDisk (state S.Store result.1) → archive.is_lost ≡ false
         → Judges (state S.Store archive.conn) result.0 }
     ensures kept { HasCleanDisk (state S.Store result.1) → archive.is_lost ≡ false
@@ -41,10 +38,7 @@ fn audit_on<S: Alter>(
     alloc: Global,
     mut conn: Connection<S>,
     is_lost: bool,
-) -> (
-    Result<usize, (RefusalKind, Option<Fault>)>,
-    Connection<S>,
-)
+) -> (Result<usize, (RefusalKind, Option<Fault>)>, Connection<S>)
     requires autocommit { conn.in_transaction ≡ false }
     ensures judged { HasCleanDisk (state S.Store result.1) → is_lost ≡ false → Judges (state S.Store conn) result.0 }
     ensures kept { HasCleanDisk (state S.Store result.1) → is_lost ≡ false

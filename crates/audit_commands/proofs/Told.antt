@@ -49,7 +49,7 @@ module _ {D : Type 0} {g : disk.Ghosts D} (image : Image) (taken conn : Held (Fi
     audited (Ok n) judges keeps = (
       λ clean. (taken, up, judges clean, keeps clean),
       kept_of image (file_state taken) (file_state conn) _ up keeps
-      (λ clean society c has. count_of (file_state taken) n society c (judges clean) has),
+          (λ clean society c has. count_of (file_state taken) n society c (judges clean) has),
     )
     audited (Err e) judges keeps = tt
 
@@ -60,5 +60,5 @@ module _ {D : Type 0} {g : disk.Ghosts D} (image : Image) (taken conn : Held (Fi
     refused (Err e) judges keeps = inr (
       λ clean. (taken, up, judges clean, keeps clean),
       kept_of image (file_state taken) (file_state conn) _ up keeps
-      (λ clean society c has. failure_of (file_state taken) e society c (judges clean) has),
+          (λ clean society c has. failure_of (file_state taken) e society c (judges clean) has),
     )
