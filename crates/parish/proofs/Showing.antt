@@ -106,7 +106,7 @@ module _ {D : Type 0} {g : disk.Ghosts D} (image : Image) where
   room_by (Err why) port count today status room left e stands shut shelved unshelved = record {
     bound = omega (arith, e);
     done = λ zero. absurd (omega (arith, e, zero));
-    refused = λ one. (shut, why, unshelved);
+    refused = λ one. (shut, (why, unshelved));
   }
 
   pub room_ends : (outcome : Result Content RefusalKind) (port count : ℕ) (today : ℤ) (status : ℕ)

@@ -1,3 +1,4 @@
+use Rattle.std.proofs.Common.{◌∙◌}
 use Rattle.std.specs.Prelude.{is_ok}
 use Rattle.parish.proofs.Entered.{at_most, told_at, untold_at}
 use Rattle.parish.proofs.audits.audited.Goals as goal
@@ -13,4 +14,7 @@ returns-clause-untold g c = λ one. let u = untold_at c.tell.result _ c.status_o
     one in u
 
 pub returns-clause-done : goal.returns-clause-done
-returns-clause-done g c = told_at c.tell.result _ c.status_of.ensures.status c.status_of.ensures.done
+returns-clause-done g c = λ zero.
+    let status = c.status_of.ensures.status in
+    told_at c.tell.result _ status c.status_of.ensures.done zero ∙ told_at c.tell.result _ status c.tell.ensures.quiet
+    zero
