@@ -20,6 +20,7 @@ from __future__ import annotations
 import argparse
 import collections
 import csv
+import functools
 import io
 import os
 import random
@@ -29,7 +30,7 @@ import tempfile
 
 sys.dont_write_bytecode = True
 
-from archives import generated, killed_and_run_again  # noqa: E402
+from archives import killed_and_run_again  # noqa: E402
 from harness import ROOT, Failed, Tools, difference, run  # noqa: E402
 from lineages import drawn as drawn_file  # noqa: E402
 from loaded import Loaded  # noqa: E402
@@ -39,6 +40,17 @@ BATCHES = 12  # of an archive
 SIZES = [0, 1, 2, 3, 5, 8]  # rows of a batch
 TOKENS = ["b1", "b2", "b3", "b4", "b5", "b6", "b7", "b8", "b 9"]
 PARISH = os.path.join(ROOT, "crates/parish/out/parish")
+
+
+@functools.cache
+def generator():
+    """The generator of rows, loaded once."""
+    return Loaded((sys.executable, os.path.join(ROOT, "tests/requests/generate.py")))
+
+
+def generated(seed, count):
+    """Rows of all verbs for a new archive."""
+    return generator().run((str(seed), str(count))).out
 
 
 def started(command):
