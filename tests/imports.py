@@ -298,7 +298,7 @@ PROGRAMS = ("gramps", "geneweb", "webtrees", "ancestral_quest", "paf", "legacy",
 
 
 def of_program(name):
-    """A file in the manner of a program, what is told of it in a new archive, and the records that are exported then."""
+    """A file in the manner of a program, what is told of it in a new archive, and the records of its export."""
     for ending in (".ged", ".report.txt", ".records.ged"):
         with open(os.path.join(ROOT, "tests/programs", name + ending), "rb") as file:
             yield file.read()

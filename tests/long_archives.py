@@ -215,7 +215,8 @@ def main():
         compare, most = COMPARED[given.what]
         count, seed = [*map(int, numbers), *(most, 1)[len(numbers) :]]
         command = tuple(shlex.split(second))
-        passed, failed = compare(started(parish), Loaded(command).run if given.loaded else started(command), count, seed)
+        other = Loaded(command).run if given.loaded else started(command)
+        passed, failed = compare(started(parish), other, count, seed)
     print(f"{passed} passed, {failed} failed")
     return 1 if failed or not passed else 0
 
