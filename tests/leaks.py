@@ -12,7 +12,6 @@ failed`.
 from __future__ import annotations
 
 import argparse
-import datetime
 import os
 import re
 import shlex
@@ -23,15 +22,14 @@ sys.dont_write_bytecode = True
 from harness import ROOT, Case, Failed, Tools, demand  # noqa: E402
 from rooms import Room  # noqa: E402
 from sheet_commands import KINDS, Shown  # noqa: E402
-from shown.drawn import TODAY, archive  # noqa: E402
+from shown.drawn import TODAY, archive, date_of  # noqa: E402
 from shown.gedcom import exported  # noqa: E402
 from shown.masked import shown  # noqa: E402
 from shown.records import Person  # noqa: E402
 from visits import request  # noqa: E402
 
 WORD = re.compile(rb"zq\d{4}|\d\d [A-Z]{3} \d{4}")
-DAYS = (-300, 0, 1, 200)  # from TODAY
-DAY_0 = datetime.date(1970, 1, 1)
+DAYS = (-1, 0, 1, 200)  # from TODAY
 
 
 def hidden_words(drawn, left: dict) -> list[bytes]:
@@ -81,7 +79,7 @@ def searched(tools, seed: int, number: int) -> int:
         if not words:
             return 0
         hidden = re.compile(b"|".join(map(re.escape, words)))
-        for what, text in told_of(at, drawn, (DAY_0 + datetime.timedelta(days=day)).isoformat()):
+        for what, text in told_of(at, drawn, date_of(day).isoformat()):
             found = hidden.search(text)
             demand(not found, f"archive {number} of seed {seed}: {what} has {found and found[0]!r}, which is hidden")
     return len(words)

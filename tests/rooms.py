@@ -15,7 +15,7 @@ from archives import lines
 from harness import Case, Outcome, Tools, demand, difference, expect, refused, run
 from sheet_commands import ASHBY, LEES, SMITHS, TODAY, Shown
 from shown.drawn import TODAY as DAY
-from shown.drawn import archive
+from shown.drawn import archive, date_of
 from shown.masked import shown
 from shown.records import Person
 from shown.sheets import Sheets
@@ -211,7 +211,7 @@ def drawn_archives(tools, first, count):
             drawn = archive(2, number)
             demand(at.made().import_(drawn.file).status == 0, "the file is refused")
             targets = targets_of(drawn.records, shown(drawn.records, DAY))
-            with Room(at, len(targets)) as room:
+            with Room(at, len(targets), date_of(DAY).isoformat()) as room:
                 for target, page in targets:
                     is_refused = page.startswith(("50 ", "51 "))
                     wanted = answer(404) if is_refused else answer(200, page)
@@ -241,7 +241,7 @@ def archives_that_show_the_same(tools):
         for given in (drawn.file, other):
             with Shown(tools) as at:
                 demand(at.made().import_(given).status == 0, "the file is refused")
-                with Room(at, len(targets)) as room:
+                with Room(at, len(targets), date_of(DAY).isoformat()) as room:
                     told.append([room.asked(request(target)) for target in targets])
         demand(told[0] == told[1], f"archive {number}: what is hidden shows")
 

@@ -13,13 +13,13 @@ from exports import HEADER, TRAILER
 from harness import Case, Outcome, Tools, demand, difference, expect, pipe_without_reader, refused, run, written
 from imports import Imported
 from memory import apart, built, refusing
-from shown.drawn import archive
+from shown.drawn import TODAY as DAY
+from shown.drawn import archive, date_of
 from shown.gedcom import exported
 from shown.masked import shown
 from shown.sheets import Sheets
 
 TODAY = "2024-01-01"
-DAY_0 = datetime.date(1970, 1, 1)
 KINDS = ("person", "family", "pedigree", "register")
 
 # Rows of a new archive, and sheets of its records on that day, by hand.
@@ -188,8 +188,8 @@ def drawn_archives(tools, first, count):
             told = f"imported {len(drawn.records)} records, first 1\n".encode()
             expect(at.made().import_(drawn.file), written(told))
             before = at.tables()
-            today = (DAY_0 + datetime.timedelta(days=19_723 + number % 3 * 200)).isoformat()
-            left = shown(drawn.records, 19_723 + number % 3 * 200)
+            day = DAY + number % 3 - 1
+            today, left = date_of(day).isoformat(), shown(drawn.records, day)
             sheets = Sheets(left)
             for place in range(1, len(drawn.records) + 2):
                 generations = place % 5 + 1

@@ -16,7 +16,7 @@ from shown.records import (
     Citation, Entry, Event, Family, Mention, Other, Person, Place, Repo, Source, When,
 )
 
-TODAY = 19_723  # 2024-01-01
+TODAY = 19_889  # 2024-06-15: in the middle of a month, so that the days about it have two digits
 DAY_0 = datetime.date(1970, 1, 1)
 MONTHS = "JAN FEB MAR APR MAY JUN JUL AUG SEP OCT NOV DEC".split()
 PERSON_TAGS = ("BIRT", "DEAT", "BURI", "CREM", "OCCU", "RESI", "BAPM", "EVEN")
@@ -52,17 +52,18 @@ class Drawing:
     def more(self) -> tuple[str, ...]:
         return tuple(self.word() for _ in range(self.draw.choice((0, 0, 0, 1, 2))))
 
-    def day(self) -> int:
-        """A day near one at which a rule turns, which no other date of this archive has, of two digits in its month."""
+    def day(self, age: int) -> int:
+        """A day near one at which a rule turns, mostly that of this age, which no other date of this archive has, of
+        two digits in its month."""
         while True:
-            turn = TODAY - self.draw.choice((rules.LONG_AGO, *rules.CLOSED_FOR.values()))
-            day = turn + self.draw.choice((-1, 0, 1, *range(-4_000, 4_000, 97)))
-            if day not in self.days and (DAY_0 + datetime.timedelta(days=day)).day > 9:
+            turn = TODAY - self.draw.choice((age, age, age, rules.LONG_AGO, *rules.CLOSED_FOR.values()))
+            day = turn + self.draw.choice((-1, 0, 1) if self.some(0.5) else range(-4_000, 4_000, 97))
+            if day not in self.days and date_of(day).day > 9:
                 self.days.add(day)
                 return day
 
-    def when(self) -> When | None:
-        day = self.day()
+    def when(self, age: int = rules.LONG_AGO) -> When | None:
+        day = self.day(age)
         spelt, form = spelling(day), self.draw.randrange(10)
         match form:
             case 0:
@@ -116,7 +117,8 @@ class Drawing:
             mentions.append(Mention(self.text(0.9), self.draw.choice(ROLES[kind]), person, reason))
         place = self.draw.choice((None, *self.places))
         source = self.draw.choice(self.sources)
-        self.add(Entry(source, kind, self.word(), item, self.when(), place, self.word(), tuple(mentions)))
+        when = self.when(rules.CLOSED_FOR[kind])
+        self.add(Entry(source, kind, self.word(), item, when, place, self.word(), tuple(mentions)))
 
     def all_records(self) -> dict:
         above = self.add(Place(self.word(), None, self.more()))
@@ -143,9 +145,13 @@ class Drawing:
         return self.made
 
 
+def date_of(day: int) -> datetime.date:
+    return DAY_0 + datetime.timedelta(days=day)
+
+
 def spelling(day: int) -> str:
     """The date of a day, as GEDCOM spells it."""
-    date = DAY_0 + datetime.timedelta(days=day)
+    date = date_of(day)
     return f"{date.day} {MONTHS[date.month - 1]} {date.year}"
 
 
