@@ -24,7 +24,8 @@ KINDS = ("person", "family", "pedigree", "register")
 
 # Rows of a new archive, and sheets of its records on that day, by hand.
 SMITHS = (
-    "a,person,John /Smith/,M", "b,person,Ann /Lee/,", "c,family,1,2", "d,event,3,MARR,,1 JAN 2000,", "e,event,1,BURI,,,",
+    "a,person,John /Smith/,M", "b,person,Ann /Lee/,", "c,family,1,2", "d,event,3,MARR,,1 JAN 2000,",
+    "e,event,1,BURI,,,",
 )
 ASHBY = (
     "a,source,Ashby,,,,", "b,entry,1,BAPTISM,f. 3,1,1 JAN 1900,,John of Tom,child,John",
@@ -84,7 +85,7 @@ WORDS = (
     *(("sheet", "FILE", kind, "1", "--today", TODAY) for kind in ("people", "Person", "", "index", "surname")),
     *(("sheet", "FILE", "person", no, "--today", TODAY) for no in ("0", "x", "", "4294967296", "1.0", "99999999999")),
     *(("sheet", "FILE", "pedigree", "1", "--today", TODAY, "--generations", g) for g in ("0", "13", "x", "", "-1")),
-    *(("sheet", "FILE", "person", "1", "--today", day) for day in ("yesterday", "2024-02-30", "2023-02-29", "", "2024")),
+    *(("sheet", "FILE", "person", "1", "--today", day) for day in ("soon", "2024-02-30", "2023-02-29", "", "2024")),
     ("export", "FILE", "--public"),
     ("export", "FILE", "--today", TODAY),
     *(("export", "FILE", "--public", "--today", day) for day in ("2024-13-01", "2024-00-10", "x", "01.01.2024")),

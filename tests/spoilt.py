@@ -52,13 +52,15 @@ class Tables:
         self.conn.execute(text, values)
 
     def lines(self, number: int) -> list[Line]:
-        return self.conn.execute("SELECT depth, tag, text, dst FROM line WHERE no = ? ORDER BY id", (number,)).fetchall()
+        text = "SELECT depth, tag, text, dst FROM line WHERE no = ? ORDER BY id"
+        return self.conn.execute(text, (number,)).fetchall()
 
     def put(self, number: int, lines: list[Line]) -> None:
         """The record of a number has these lines now."""
         self.run("DELETE FROM line WHERE no = ?", number)
         for place, line in enumerate(lines):
-            self.run("INSERT INTO line (no, pos, depth, tag, text, dst) VALUES (?, ?, ?, ?, ?, ?)", number, place, *line)
+            text = "INSERT INTO line (no, pos, depth, tag, text, dst) VALUES (?, ?, ?, ?, ?, ?)"
+            self.run(text, number, place, *line)
 
     def changed(self, number: int, place: int, line: Line) -> None:
         """One line is another."""
@@ -161,7 +163,8 @@ OLD = [(0, "person", None, None), (1, "name", "Tom /Leigh/", None), (1, "sex", "
 PAIRS = (
     # what a number names
     names("the source of a citation", 10, "source", 1, (1, "source", "f. 3", 5), (1, "source", "f. 5", 4)),
-    names("the owner of a citation", 11, "person, family or event", 0, (0, "citation", None, 12), (0, "citation", None, 8)),
+    names("the owner of a citation", 11, "person, family or event", 0, (0, "citation", None, 12),
+          (0, "citation", None, 8)),
     names("the owner of an event", 9, "person or family", 0, (0, "event", None, 4), (0, "event", None, 6)),
     names("the place of an event", 9, "place", 2, (1, "date", "1 JAN 1800", 5), (1, "date", "1 JAN 1800", 2)),
     names("who took part", 9, "person", 3, (1, "participant", "witness", 8), (1, "participant", "witness", 6)),
