@@ -1,5 +1,5 @@
-"""Visitors of the reading room of all manners: who leave, send a byte at a time, say nothing, come too late; and how the
-room is opened and ends."""
+"""Visitors of the reading room of all manners: who leave, send a byte at a time, say nothing, come too late; and how
+the room is opened and ends."""
 
 from __future__ import annotations
 
