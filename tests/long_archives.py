@@ -10,9 +10,9 @@ rows again: each answer has to be that of a run that was not stopped, and so hav
 (5,000), in archives of 200 rows each, to `apply` and to a second program, which takes the same words, then drawn
 batches to `entries`, and their rows one by one to `apply`, and compares what is told. `exports` gives the rows of
 ARCHIVES archives (500) to both, and compares what they export. `imports` gives FILES drawn files (2,000) to both, each
-into an archive of 20 rows and again, and compares what is told and what is exported then. `--loaded`: the second
-program is one of Python, as `python3 PROGRAM.py`, and is loaded once (loaded.py), so that a file takes a tenth of a
-second and not a whole one. TMPDIR=/dev/shm spares the disk. The last line is `N passed, M failed`.
+into an archive of 20 rows, each tenth twice, and compares what is told and what is exported then. `--loaded`: the second
+program is one of Python, as `python3 PROGRAM.py`, and is loaded once (loaded.py), so that a file takes a twentieth
+of a second and not a whole one. TMPDIR=/dev/shm spares the disk. The last line is `N passed, M failed`.
 """
 
 from __future__ import annotations
@@ -36,6 +36,7 @@ from lineages import drawn as drawn_file  # noqa: E402
 from loaded import Loaded  # noqa: E402
 
 EACH = 200  # rows of an archive
+ALIKE = 50  # files that are imported into the same rows
 BATCHES = 12  # of an archive
 SIZES = [0, 1, 2, 3, 5, 8]  # rows of a batch
 TOKENS = ["b1", "b2", "b3", "b4", "b5", "b6", "b7", "b8", "b 9"]
@@ -156,14 +157,26 @@ def exports_compared(parish, second, archives, seed):
     return passed, failed
 
 
-def imported_by(program, seed, given):
-    """What is told of a file that is imported twice into an archive with some rows, and what is exported then."""
+@functools.lru_cache(maxsize=4)
+def with_rows(program, seed):
+    """The file of an archive with some rows."""
     with tempfile.TemporaryDirectory() as folder:
         file = os.path.join(folder, "ashby.db")
         program(("init", file, "--society", "Ashby"))
         program(("apply", file), generated(seed, 20))
-        words = ("import", file, "--token", "file")
-        return [program(words, given), program(words, given), program(("export", file))]
+        with open(file, "rb") as made:
+            return made.read()
+
+
+def imported_by(program, seed, given, times):
+    """What is told of a file that is imported so many times into an archive with some rows, and what is exported
+    then."""
+    with tempfile.TemporaryDirectory() as folder:
+        path = os.path.join(folder, "ashby.db")
+        with open(path, "wb") as file:
+            file.write(with_rows(program, seed))
+        told = [program(("import", path, "--token", "file"), given) for _ in range(times)]
+        return [*told, program(("export", path))]
 
 
 def imports_compared(parish, second, files, seed):
@@ -172,7 +185,8 @@ def imports_compared(parish, second, files, seed):
     found: collections.Counter = collections.Counter()
     for number in range(files):
         given = drawn_file(seed, number)
-        ours, theirs = (imported_by(program, seed * 1_000 + number, given) for program in (parish, second))
+        rows, times = seed * 1_000 + number // ALIKE, 1 if number % 10 else 2
+        ours, theirs = (imported_by(program, rows, given, times) for program in (parish, second))
         same = list(map(said, ours)) == list(map(said, theirs))
         passed += same
         failed += not same
@@ -181,7 +195,7 @@ def imports_compared(parish, second, files, seed):
         if not same:
             one, other = next(both for both in zip(ours, theirs, strict=True) if said(both[0]) != said(both[1]))
             print(f"file {number}: {difference(other.out, one.out)} {one.err!r} {other.err!r}")
-        if (number + 1) % 1_000 == 0:
+        if (number + 1) % 500 == 0:
             print(f"{passed} of {number + 1} files agree", flush=True)
     print(", ".join(f"{count} {what}" for what, count in sorted(found.items())))
     return passed, failed
