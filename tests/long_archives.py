@@ -10,9 +10,9 @@ rows again: each answer has to be that of a run that was not stopped, and so hav
 (5,000), in archives of 200 rows each, to `apply` and to a second program, which takes the same words, then drawn
 batches to `entries`, and their rows one by one to `apply`, and compares what is told. `exports` gives the rows of
 ARCHIVES archives (500) to both, and compares what they export. `imports` gives FILES drawn files (2,000) to both, each
-into an archive of 20 rows, each tenth twice, and compares what is told and what is exported then. `--loaded`: the second
-program is one of Python, as `python3 PROGRAM.py`, and is loaded once (loaded.py), so that a file takes a twentieth
-of a second and not a whole one. TMPDIR=/dev/shm spares the disk. The last line is `N passed, M failed`.
+into an archive of 20 rows, each tenth twice, and compares what is told and what is exported then. `--loaded`: the
+second program is one of Python, as `python3 PROGRAM.py`, and is loaded once (loaded.py), so that a file takes a
+twentieth of a second and not a whole one. TMPDIR=/dev/shm spares the disk. The last line is `N passed, M failed`.
 """
 
 from __future__ import annotations
