@@ -27,7 +27,6 @@ ROLES = {
     "BAPTISM": ("child", "father", "mother", "godparent"),
     "MARRIAGE": ("groom", "bride", "father-of-groom", "father-of-bride", "witness"),
     "BURIAL": ("buried", "spouse", "father", "mother"),
-    "baptism": ("child",),
 }
 NO_ROLES = ("", "Child", "witness", "mother-of-bride")
 ITEMS = ("1", "1", "2", "2", "999999", "1000000", "0", "01", "+1", "1 ")
@@ -42,7 +41,10 @@ LAST = 4_294_967_295
 class File:
     def __init__(self, draw: random.Random):
         self.draw, self.lines, self.marks = draw, [], 0
-        self.pool = {letter: [f"@{letter}{n}@" for n in range(1, draw.choice((2, 3, 4)))] for letter in "IFSRPEX"}
+        self.pool = {letter: [f"@{letter}{n}@" for n in range(1, draw.choice((2, 3, 4)))] for letter in "IFSRP"}
+        self.pool["E"] = [f"@E{n}@" for n in range(1, 7)]
+        self.pool["X"] = [f"@X{n}@" for n in range(1, draw.choice((2, 4, 7)))]
+        self.kind = draw.choice(list(ROLES))
         self.free = [name for names in self.pool.values() for name in names]
 
     def some(self, chance: float) -> bool:
@@ -86,7 +88,10 @@ class File:
         return self.text(level, tag, self.any_of(TEXTS))
 
     def stray(self, level: int):
-        """A line of any tag, with lines below it."""
+        """A line of any tag, with lines below it, seldom down to the last level."""
+        for deeper in range(level, 98 if self.some(0.003) else level):
+            self.line(deeper, "NOTE")
+            level = deeper + 1
         self.value(level, self.any_of(TAGS))
         while self.some(0.3) and level < 6:
             self.stray(level + 1)
@@ -99,7 +104,8 @@ class File:
 
     def path(self) -> str:
         if self.some(0.02):
-            return ", ".join(str(k) for k in range(self.any_of((31, 32, 33))))
+            return self.any_of((", ".join(map(str, range(31))), "a," * 31, "a," * 32, "é" * 2_048, "é" * 2_048 + "a",
+                                "a" * 4_089, "a" * 4_090))
         if self.some(0.6):
             return self.any_of(("Ashby", "Ashby", "Kent", "Ashby, Kent"))
         comma = self.any_of((", ", ",", " , "))
@@ -195,14 +201,14 @@ class File:
         """A register entry, and at times one line that is left out, said twice, moved, or has another value or one
         below it."""
         kept, self.lines = self.lines, []
-        kind = self.any_of(list(ROLES))
-        self.line(0, "_REG", kind, name)
+        kind = self.kind if self.some(0.6) else self.any_of(list(ROLES))
+        self.line(0, "_REG", kind if self.some(0.95) else self.any_of(("baptism", "", "@I1@")), name)
         self.line(1, "SOUR", self.any_of(self.pool["S"]))
         self.text(1, "PAGE", self.any_of(("f. 3", "")))
         self.line(1, "_ITEM", self.any_of(ITEMS[:5] if self.some(0.9) else ITEMS))
         if self.some(0.3):
             self.line(1, "DATE", self.any_of(("11 FEB 1731/32", "in harvest", "abt 1731/32", "")))
-        if self.some(0.4):
+        if self.some(0.3):
             self.text(1, "PLAC", self.path())
             self.line(2, "_LOC", self.pointer("P"))
         self.text(1, "TEXT", self.any_of(TEXTS))
@@ -250,7 +256,7 @@ class File:
     def whole(self) -> str:
         writers = {"I": self.person, "F": self.family, "S": self.source, "R": self.repo, "P": self.location,
                    "E": self.entry, "X": self.other}
-        subject = self.any_of(("IIFF", "IP", "ES", "EESPI", "X", "IS", "SR", "IFSRPEX"))
+        subject = self.any_of(("IF", "IF", "IP", "PI", "ES", "ES", "ESPI", "X", "IS", "SR", "IFSRPEX"))
         self.line(0, "HEAD")
         self.lines += self.any_of(([], ["1 CHAR UTF-8"], ["0 @SOCIETY@ SUBM", "1 NAME @I1@"], ["0 @U@ SUBM"]))
         names = [name for name in self.free if name[1] in subject or self.some(0.1)]
