@@ -45,6 +45,7 @@ class File:
         self.pool["E"] = [f"@E{n}@" for n in range(1, 7)]
         self.pool["X"] = [f"@X{n}@" for n in range(1, draw.choice((2, 4, 7)))]
         self.kind = draw.choice(list(ROLES))
+        self.paths = {name: draw.choice(("Ashby", "Kent", "Kent", "Ashby, Kent", "Ross")) for name in self.pool["P"]}
         self.free = [name for names in self.pool.values() for name in names]
 
     def some(self, chance: float) -> bool:
@@ -112,10 +113,11 @@ class File:
         return comma.join(self.any_of(PARTS) for _ in range(self.any_of((1, 1, 2, 2, 3))))
 
     def place(self, level: int):
-        self.text(level, "PLAC", self.path())
+        """A line PLAC, mostly of the path of a place of the file, and lines _LOC below it."""
+        self.text(level, "PLAC", self.any_of(list(self.paths.values())) if self.some(0.5) else self.path())
         for _ in range(self.any_of((0, 0, 1, 1, 2))):
             self.line(level + 1, "_LOC", self.pointer("P"))
-            self.strays(level + 2, 0.05)
+            self.strays(level + 2, 0.1)
         self.strays(level + 1)
 
     def citation(self, level: int):
@@ -133,7 +135,7 @@ class File:
         self.value(level, "_PART", "I")
         for _ in range(self.draw.randrange(3)):
             self.text(level + 1, "_ROLE", self.any_of((*ROLES["MARRIAGE"], *NO_ROLES)))
-            self.strays(level + 1)
+            self.strays(level + self.any_of((1, 2)))
 
     def event(self, level: int, tags):
         self.text(level, self.any_of(tags), self.any_of(("", "", "Y", "two\nlines")))
@@ -151,6 +153,7 @@ class File:
                 self.strays(2)
             elif part == 1:
                 self.line(1, "SEX", self.any_of(("M", "F", "U", "X", "")))
+                self.strays(2, 0.2)
             elif part == 2:
                 self.event(1, ("BIRT", "DEAT", "EVEN", "RESI", "TITL", "MARR"))
             elif part == 3:
@@ -190,9 +193,10 @@ class File:
     def location(self, name: str):
         self.dropped("_LOC", name)
         for _ in range(self.any_of((0, 1, 1, 1, 2))):
-            self.text(1, "NAME", self.path())
+            path = self.paths.get(name, "Kent") if self.some(0.6) else self.path()
+            self.text(1, "NAME", path.split(",")[0] if self.some(0.3) else path)
             self.strays(2, 0.05)
-        for _ in range(self.any_of((0, 1, 1, 2))):
+        for _ in range(self.any_of((0, 0, 1, 2))):
             self.line(1, "_LOC", self.pointer("P"))
             self.strays(2, 0.05)
         self.strays(1)
@@ -209,8 +213,9 @@ class File:
         if self.some(0.3):
             self.line(1, "DATE", self.any_of(("11 FEB 1731/32", "in harvest", "abt 1731/32", "")))
         if self.some(0.3):
-            self.text(1, "PLAC", self.path())
-            self.line(2, "_LOC", self.pointer("P"))
+            name = self.any_of(self.pool["P"])
+            self.text(1, "PLAC", self.paths[name] if self.some(0.8) else self.path())
+            self.line(2, "_LOC", name)
         self.text(1, "TEXT", self.any_of(TEXTS))
         for _ in range(self.any_of((1, 1, 2, 3))):
             self.mention(kind)
@@ -258,7 +263,8 @@ class File:
                    "E": self.entry, "X": self.other}
         subject = self.any_of(("IF", "IF", "IP", "PI", "ES", "ES", "ESPI", "X", "IS", "SR", "IFSRPEX"))
         self.line(0, "HEAD")
-        self.lines += self.any_of(([], ["1 CHAR UTF-8"], ["0 @SOCIETY@ SUBM", "1 NAME @I1@"], ["0 @U@ SUBM"]))
+        self.lines += self.any_of(([], ["1 CHAR UTF-8"], ["0 @SOCIETY@ SUBM", "1 NAME @I1@"], ["0 @U@ SUBM"],
+                                   ["0 @SOCIETY@ NOTE"]))
         names = [name for name in self.free if name[1] in subject or self.some(0.1)]
         self.draw.shuffle(names)
         size = self.draw.randrange(10, 60)
@@ -289,7 +295,7 @@ def archive(seed) -> tuple[dict, int]:
         name = draw.choice(("Ashby", "Kent", "Mill Field", "", "Ashby, Kent", "Ross"))
         made[number] = Place(name, above) if draw.random() < 0.8 else draw.choice((Person(), Source("Register")))
     after = max(made, default=0) + draw.choice((1, 1, 7))
-    return made, after if draw.random() < 0.95 else LAST - draw.randrange(30)
+    return made, after if draw.random() < 0.93 else LAST - draw.randrange(15)
 
 
 if __name__ == "__main__":

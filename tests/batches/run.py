@@ -20,8 +20,8 @@ from plain import stored  # noqa: E402
 from rows import Ask, Case, row  # noqa: E402
 
 PROGRAM = HERE.parents[1] / "crates/state_rows/out/state_rows"
-FILES = 300
-AT_ONCE = 50
+FILES = 2_000
+AT_ONCE = 100
 
 
 def by_hand():
