@@ -33,8 +33,8 @@ ITEMS = ("1", "1", "2", "2", "999999", "1000000", "0", "01", "+1", "1 ")
 PARTS = ("Ashby", "Kent", "Mill Field", "", " Ross ", "two\nlines")
 TEXTS = ("f. 3", "two\nlines", "j@x", "@I1@ and more", "", " x ", "a long text " * 20, "@N9@ ")
 TAGS = ("NOTE", "NAME", "SEX", "BIRT", "MARR", "EVEN", "RESI", "TITL", "DATE", "PLAC", "_LOC", "_PART", "_ROLE", "SOUR",
-        "PAGE", "QUAY", "HUSB", "CHIL", "FAMC", "FAMS", "REPO", "CALN", "AUTH", "PUBL", "TEXT", "_MENT", "_LINK", "INDI",
-        "birt", "HEAD", "TRLR", "SUBM", "_REG", "_ITEM")
+        "PAGE", "QUAY", "HUSB", "CHIL", "FAMC", "FAMS", "REPO", "CALN", "AUTH", "PUBL", "TEXT", "_MENT", "_LINK",
+        "INDI", "birt", "HEAD", "TRLR", "SUBM", "_REG", "_ITEM")
 LAST = 4_294_967_295
 
 
@@ -229,7 +229,7 @@ class File:
             self.line(3, "_WHY", self.any_of(("same farm", "")))
 
     def spoilt(self, lines: list[str]) -> list[str]:
-        """One line of them with all below it, but the first, is left out, said twice or put last; or has a line more."""
+        """One line of them, but the first, with all below it: it is left out, said twice or put last, or has one more."""
         level = self.draw.randrange(1, 4)
         heads = [k for k in range(1, len(lines)) if lines[k].startswith(f"{level} ") and " CON" not in lines[k]]
         if not heads:
@@ -238,7 +238,7 @@ class File:
         end = next((k for k in range(at + 1, len(lines)) if int(lines[k].split()[0]) <= level), len(lines))
         part, rest = lines[at:end], lines[:at] + lines[end:]
         last = int(part[-1].split()[0])
-        more = f"{level + 1} {self.any_of(TAGS[:6])} @N9@" if self.some(0.5) else f"{level + 1} {self.any_of(TAGS[:6])} x"
+        more = f"{level + 1} {self.any_of(TAGS[:6])} {self.any_of(('@N9@', 'x'))}"
         again = [re.sub(" @M[0-9]+@ ", " ", line, count=1) for line in part]
         return self.any_of((rest, lines[:end] + again + lines[end:], rest + part if last == level else rest,
                             lines[:end] + [more] + lines[end:]))

@@ -35,6 +35,14 @@ def none(name, given, kind: str | int = "BURIAL", said=()):
     return entry(f"no entry: {name}", [first, *given], wanted, said)
 
 
+def mentions(*roles: str) -> list[str]:
+    return [line for n, role in enumerate(roles) for line in (f"1 _MENT Lee {n}", f"2 _ROLE {role}")]
+
+
+def mentioned(*roles: str) -> tuple[Mention, ...]:
+    return tuple(Mention(role, f"Lee {n}") for n, role in enumerate(roles))
+
+
 def changed(lines, at: int, *others: str) -> list[str]:
     """The lines with others in the place of one."""
     return [*lines[:at], *others, *lines[at + 1 :]]
@@ -67,30 +75,32 @@ FILES = (
         burial(link=(3, "kin")),
     ),
     entry(
-        "a page of more than 1,000 bytes", ["0 _REG BURIAL", *changed(PLAIN, 1, "1 PAGE " + "é" * 501)], burial("é" * 501),
+        "a page of more than 1,000 bytes",
+        ["0 _REG BURIAL", *changed(PLAIN, 1, "1 PAGE " + "é" * 501)],
+        burial("é" * 501),
     ),
     entry(
         "a baptism with all its roles",
-        ["0 _REG BAPTISM", *PLAIN[:4], *(line for role in ("child", "father", "mother", "godparent", "godparent")
-                                          for line in (f"1 _MENT {role} Lee", f"2 _ROLE {role}"))],
-        Entry(1, "BAPTISM", "f. 3", 1, "Ann", tuple(Mention(role, f"{role} Lee") for role in
-                                                  ("child", "father", "mother", "godparent", "godparent"))),
+        ["0 _REG BAPTISM", *PLAIN[:4], *mentions("child", "father", "mother", "godparent", "godparent")],
+        Entry(1, "BAPTISM", "f. 3", 1, "Ann", mentioned("child", "father", "mother", "godparent", "godparent")),
     ),
     entry(
         "a marriage with all its roles",
-        ["0 _REG MARRIAGE", *PLAIN[:4], *(line for role in ("witness", "groom", "bride", "father-of-groom",
-                                                            "father-of-bride")
-                                           for line in ("1 _MENT Lee", f"2 _ROLE {role}", "2 _LINK @I@", "3 _WHY kin"))],
-        Entry(1, "MARRIAGE", "f. 3", 1, "Ann", tuple(
-            Mention(role, "Lee", 3, "kin") for role in ("witness", "groom", "bride", "father-of-groom",
-                                                        "father-of-bride"))),
+        ["0 _REG MARRIAGE", *PLAIN[:4], *mentions("witness", "groom", "bride", "father-of-groom", "father-of-bride")],
+        Entry(1, "MARRIAGE", "f. 3", 1, "Ann",
+              mentioned("witness", "groom", "bride", "father-of-groom", "father-of-bride")),
     ),
     entry(
         "a burial with all its roles, and 100 mentions",
-        ["0 _REG BURIAL", *PLAIN[:4], *(line for role in ("spouse", "father", "mother", "buried") * 25
-                                         for line in ("1 _MENT Lee", f"2 _ROLE {role}"))],
-        Entry(1, "BURIAL", "f. 3", 1, "Ann", tuple(Mention(role, "Lee") for role in
-                                                   ("spouse", "father", "mother", "buried") * 25)),
+        ["0 _REG BURIAL", *PLAIN[:4], *mentions(*("spouse", "father", "mother", "buried") * 25)],
+        Entry(1, "BURIAL", "f. 3", 1, "Ann", mentioned(*("spouse", "father", "mother", "buried") * 25)),
+    ),
+    entry(
+        "mentions that are linked, and one that is not",
+        ["0 _REG BURIAL", *PLAIN, "2 _LINK @I@", "3 _WHY kin", *mentions("father"), "2 _LINK @I@", "3 _WHY",
+         *mentions("mother")],
+        Entry(1, "BURIAL", "f. 3", 1, "Ann", (Mention("buried", "Ann Lee", 3, "kin"),
+                                              Mention("father", "Lee 0", 3, ""), Mention("mother", "Lee 0"))),
     ),
     entry(
         "lines that dangle are gone before it is judged",

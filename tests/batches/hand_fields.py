@@ -199,8 +199,8 @@ FILES = (
     ),
     makes(
         "a line is bare where what is below it dangles",
-        ["0 INDI", "1 SEX F", "2 SOUR @S9@", "1 BIRT", "2 DATE 1700", "3 NOTE @N9@", "0 REPO", "1 NAME x", "2 NOTE @N9@",
-         "0 SOUR", "1 TITL y", "2 NOTE @N9@", "2 NOTE z", "0 _LOC", "1 NAME Kent", "2 NOTE @N9@"],
+        ["0 INDI", "1 SEX F", "2 SOUR @S9@", "1 BIRT", "2 DATE 1700", "3 NOTE @N9@", "0 REPO", "1 NAME x",
+         "2 NOTE @N9@", "0 SOUR", "1 TITL y", "2 NOTE @N9@", "2 NOTE z", "0 _LOC", "1 NAME Kent", "2 NOTE @N9@"],
         [Person((), "F"), Event(1, "BIRT", "", "1700"), Repo("x"),
          Source(None, None, None, (), under("1 TITL y", "2 NOTE z")), Place("Kent")],
         ["4 dangling", "7 dangling", "10 dangling", "13 dangling", "17 dangling"],

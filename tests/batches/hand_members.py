@@ -9,8 +9,8 @@ FILES = (
     makes(
         "both sides, each with lines below",
         ["0 @I1@ INDI", "1 FAMS @F1@", "2 NOTE his", "0 @I2@ INDI", "1 FAMS @F1@", "0 @I3@ INDI", "1 FAMC @F1@",
-         "2 PEDI birth", "3 ASSO @I1@", "0 @F1@ FAM", "1 HUSB @I1@", "2 NOTE the family's", "1 WIFE @I2@", "1 CHIL @I3@",
-         "2 _FREL Natural"],
+         "2 PEDI birth", "3 ASSO @I1@", "0 @F1@ FAM", "1 HUSB @I1@", "2 NOTE the family's", "1 WIFE @I2@",
+         "1 CHIL @I3@", "2 _FREL Natural"],
         [
             Person(), Person(), Person(),
             Family(
@@ -73,8 +73,8 @@ FILES = (
     ),
     makes(
         "FAMS and FAMC a second time",
-        ["0 @I1@ INDI", "1 FAMS @F1@", "1 FAMS @F1@", "2 NOTE x", "1 FAMC @F2@", "2 NOTE y", "1 FAMC @F2@", "1 FAMC @F3@",
-         "1 FAMC @F3@", "0 @F1@ FAM", "1 WIFE @I1@", "0 @F2@ FAM", "1 CHIL @I1@", "0 @F3@ FAM"],
+        ["0 @I1@ INDI", "1 FAMS @F1@", "1 FAMS @F1@", "2 NOTE x", "1 FAMC @F2@", "2 NOTE y", "1 FAMC @F2@",
+         "1 FAMC @F3@", "1 FAMC @F3@", "0 @F1@ FAM", "1 WIFE @I1@", "0 @F2@ FAM", "1 CHIL @I1@", "0 @F3@ FAM"],
         [
             Person(), Family((Member("wife", 1),)), Family((), (Member("child", 1, (), under("2 NOTE y")),)),
             Family((), (Member("child", 1),)),

@@ -7,7 +7,8 @@ from plain import Citation, Event, Family, Other, Person, Place, Source
 
 BORN = ["0 @I1@ INDI", "1 BIRT", "2 PLAC Ashby, Kent"]
 KENT = Place("Kent")
-CHAIN = [it for n in range(1, 34) for it in (f"0 @P{n}@ _LOC", f"1 NAME {n}", *([f"1 _LOC @P{n - 1}@"] if n > 1 else []))]
+CHAIN = ["0 @P1@ _LOC", "1 NAME 1"]
+CHAIN += [line for n in range(2, 34) for line in (f"0 @P{n}@ _LOC", f"1 NAME {n}", f"1 _LOC @P{n - 1}@")]
 
 
 def at(place: int, owner: int = 1, tag: str = "BIRT", **more) -> Event:
@@ -87,8 +88,8 @@ FILES = (
     # ---- the form of a PLAC
     makes(
         "lines PLAC that are not in form, and the first that is",
-        ["0 @I1@ INDI", "1 BIRT", "2 PLAC", "2 PLAC  , ,", "2 PLAC @I1@", "2 PLAC " + "a," * 32, "2 PLAC " + "a" * 4_097,
-         "2 PLAC Kent", "3 NOTE x", "2 PLAC Ross", "3 NOTE y", "1 PLAC Lee", "1 NOTE", "2 PLAC Lee"],
+        ["0 @I1@ INDI", "1 BIRT", "2 PLAC", "2 PLAC  , ,", "2 PLAC @I1@", "2 PLAC " + "a," * 32,
+         "2 PLAC " + "a" * 4_097, "2 PLAC Kent", "3 NOTE x", "2 PLAC Ross", "3 NOTE y", "1 PLAC Lee", "1 NOTE", "2 PLAC Lee"],
         [
             Person((), None, under("1 PLAC Lee", "1 NOTE", "2 PLAC Lee")),
             at(3, at=under("3 NOTE x"), carried=(
