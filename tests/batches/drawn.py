@@ -229,7 +229,7 @@ class File:
             self.line(3, "_WHY", self.any_of(("same farm", "")))
 
     def spoilt(self, lines: list[str]) -> list[str]:
-        """One line of them, but the first, with all below it: it is left out, said twice or put last, or has one more."""
+        """One line of them, but the first, with all below it: it is left out, said twice or put last, or has more."""
         level = self.draw.randrange(1, 4)
         heads = [k for k in range(1, len(lines)) if lines[k].startswith(f"{level} ") and " CON" not in lines[k]]
         if not heads:

@@ -89,7 +89,8 @@ FILES = (
     makes(
         "lines PLAC that are not in form, and the first that is",
         ["0 @I1@ INDI", "1 BIRT", "2 PLAC", "2 PLAC  , ,", "2 PLAC @I1@", "2 PLAC " + "a," * 32,
-         "2 PLAC " + "a" * 4_097, "2 PLAC Kent", "3 NOTE x", "2 PLAC Ross", "3 NOTE y", "1 PLAC Lee", "1 NOTE", "2 PLAC Lee"],
+         "2 PLAC " + "a" * 4_097, "2 PLAC Kent", "3 NOTE x", "2 PLAC Ross", "3 NOTE y", "1 PLAC Lee", "1 NOTE",
+         "2 PLAC Lee"],
         [
             Person((), None, under("1 PLAC Lee", "1 NOTE", "2 PLAC Lee")),
             at(3, at=under("3 NOTE x"), carried=(
