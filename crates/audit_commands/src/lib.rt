@@ -2,8 +2,8 @@
 //!
 //! It uses `archive_commands`, which opens the file, and `archive_audits`, which reads and judges the tables.
 //!
-//! Callers may rely on: the file's tables are not changed, and the connection over the file is handed back where one was
-//! opened; the caller closes it.
+//! Callers may rely on: the file's tables are not changed, and the connection over the file is handed back where one
+//! was opened; the caller closes it.
 #![tactic(auto)]
 
 mod auditing;
