@@ -19,13 +19,15 @@ fn refusal(answer: Result<Asked, Refused>) -> Option<String> {
 /// The kind, the number, the generations and the day of the sheet that is asked for.
 fn sheet_asked(words: &[String], alloc: Global) -> Option<(SheetKind, u32, u32, i32)> {
     match read_words(alloc, words) {
-        Ok(Asked::Sheet {
-            kind,
-            number,
-            generations,
-            today,
-            ..
-        }) => Some((kind, number, generations, today)),
+        Ok(
+            Asked::Sheet {
+                kind,
+                number,
+                generations,
+                today,
+                ..
+            },
+        ) => Some((kind, number, generations, today)),
         _ => None,
     }
 }
@@ -42,9 +44,14 @@ fn day_of_export(words: &[String], alloc: Global) -> Option<Option<i32>> {
 /// The port, the number of visitors and the day of the room that is asked for.
 fn room_asked(words: &[String], alloc: Global) -> Option<(u16, u32, i32)> {
     match read_words(alloc, words) {
-        Ok(Asked::Serve {
-            port, count, today, ..
-        }) => Some((port, count, today)),
+        Ok(
+            Asked::Serve {
+                port,
+                count,
+                today,
+                ..
+            },
+        ) => Some((port, count, today)),
         _ => None,
     }
 }
@@ -69,9 +76,18 @@ fn no_word_at_all_is_refused_with_the_usage(rt: HostRuntime) {
 fn a_sheet_has_four_generations_where_none_are_given(rt: HostRuntime) -> Result<(), AllocError> {
     let alloc = rt.alloc();
     let words = split(alloc, "parish sheet a.db pedigree 17 --today 2024-01-01")?;
-    assert_eq!(rt; sheet_asked(&words, alloc), Some((SheetKind::Pedigree, 17, 4, 19723)));
-    let words = split(alloc, "parish sheet a.db register 4294967295 --today 1969-12-31 --generations 12")?;
-    assert_eq!(rt; sheet_asked(&words, alloc), Some((SheetKind::Register, 4_294_967_295, 12, -1)));
+    assert_eq!(rt;
+        sheet_asked(&words, alloc),
+        Some((SheetKind::Pedigree, 17, 4, 19723))
+    );
+    let words = split(
+        alloc,
+        "parish sheet a.db register 4294967295 --today 1969-12-31 --generations 12",
+    )?;
+    assert_eq!(rt;
+        sheet_asked(&words, alloc),
+        Some((SheetKind::Register, 4_294_967_295, 12, -1))
+    );
     Ok(())
 }
 
@@ -90,7 +106,10 @@ fn an_export_for_the_public_has_a_day(rt: HostRuntime) -> Result<(), AllocError>
 #[test]
 fn a_room_has_a_port_and_a_day(rt: HostRuntime) -> Result<(), AllocError> {
     let alloc = rt.alloc();
-    let words = split(alloc, "parish serve a.db --port 65535 --count 0 --today 9999-12-31")?;
+    let words = split(
+        alloc,
+        "parish serve a.db --port 65535 --count 0 --today 9999-12-31",
+    )?;
     assert_eq!(rt; room_asked(&words, alloc), Some((65535, 0, 2_932_896)));
     Ok(())
 }

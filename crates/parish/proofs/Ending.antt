@@ -1,5 +1,5 @@
--- How a command ends that did nothing for want of memory, and how `init` and `apply` end.
-use Rattle.std.proofs.Common.{◌≡◌, ℕ, List, refl, sym, subst, inl, inr, arith, Ok, Err}
+-- How `init`, `apply` and `export` end.
+use Rattle.std.proofs.Common.{◌≡◌, ℕ, List, refl, sym, subst, arith, Ok, Err}
 use Rattle.std.specs.Prelude.{Option, Some, None, Result, IfErr, OnOk, is_ok, if◌then◌else◌}
 use Rattle.std.specs.Io.KnownBytes.{Keeps}
 use Rattle.sqlite.specs.Held.{Held}
@@ -9,59 +9,14 @@ use Rattle.sqlite_wal.specs.Recovery.{Image}
 use Rattle.archive_commands.specs.Applying.{Answered, Unanswered}
 use Rattle.archive_commands.specs.Exporting.{Exported, Unexported}
 use Rattle.archive_commands.specs.Made.{IsMadeIn, Unmade}
-use Rattle.gedcom_rules.specs.Faults.{Fault}
-use Rattle.gedcom_rules.specs.declared.fault.TreeKind.TheVariants.{OutOfMemory}
 use Rattle.record_text.specs.declared.refusal.RefusalKind.{RefusalKind}
-use Rattle.record_text.specs.declared.refusal.RefusalKind.TheVariants as refusal
-use Rattle.parish.specs.Ends.{ApplyEnds, CheckEnds, ExportEnds, InitEnds, NormEnds}
+use Rattle.parish.specs.Ends.{ApplyEnds, ExportEnds, InitEnds}
 
 pub keeps : (old : Option (List ℕ)) → Keeps old old
 keeps None = tt
 keeps (Some bytes) = refl
 
-abbrev wanting : Fault
-wanting = record { kind = OutOfMemory; at = None }
-
-pub norm_wanting : (status : ℕ) (known old : Option (List ℕ)) (ReaderFailed WriterFailed : Type 0) → status ≡ 1
-    → NormEnds status known old old ReaderFailed WriterFailed
-norm_wanting status known old ReaderFailed WriterFailed e = record {
-  bound = omega arith;
-  done = λ none. absurd (omega arith);
-  refused = λ _. (wanting, inl (inl (refl, refl), keeps old));
-}
-
-pub check_wanting : (status : ℕ) (known old : Option (List ℕ)) (ReaderFailed WriterFailed : Type 0) → status ≡ 1
-    → CheckEnds status known old old ReaderFailed WriterFailed
-check_wanting status known old ReaderFailed WriterFailed e = record {
-  bound = omega arith;
-  done = λ none. absurd (omega arith);
-  refused = λ _. (wanting, inl (inl (refl, refl), keeps old));
-}
-
 module _ {D : Type 0} {g : disk.Ghosts D} (image : Image) where
-  pub init_wanting : (society : List ℕ) (status : ℕ) → status ≡ 1 → InitEnds {D = D} {g = g} image society status None
-  init_wanting society status e = record {
-    bound = omega (arith, e);
-    done = λ none. absurd (omega (arith, e, none));
-    refused = λ _. (refusal.OutOfMemory, inr (inl refl));
-  }
-
-  pub apply_wanting : (status : ℕ) (input old quiet told : Option (List ℕ)) (ReaderFailed WriterFailed : Type 0)
-      → status ≡ 1 → ApplyEnds {D = D} {g = g} image status input old old quiet told ReaderFailed WriterFailed None
-  apply_wanting status input old quiet told ReaderFailed WriterFailed e = record {
-    bound = omega (arith, e);
-    done = λ none. absurd (omega (arith, e, none));
-    refused = λ _. (refusal.OutOfMemory, inl (refl, refl, keeps old));
-  }
-
-  pub export_wanting : (status : ℕ) (old : Option (List ℕ)) (WriterFailed : Type 0) → status ≡ 1
-      → ExportEnds {D = D} {g = g} image status old old WriterFailed None
-  export_wanting status old WriterFailed e = record {
-    bound = omega (arith, e);
-    done = λ none. absurd (omega (arith, e, none));
-    refused = λ _. (refusal.OutOfMemory, inl (refl, refl, keeps old));
-  }
-
   init_by : {A : Type 0} (r : Result A RefusalKind) (society : List ℕ) (status : ℕ)
       (left : Option (Held (FileStore D g))) → status ≡ (if is_ok r then 0 else 1)
       → OnOk r (IsMadeIn image society left) → IfErr r (λ kind. Unmade image society kind left)
@@ -90,17 +45,17 @@ module _ {D : Type 0} {g : disk.Ghosts D} (image : Image) where
   apply_by (Err kind) status input old new quiet told ReaderFailed WriterFailed left e all part = record {
     bound = omega (arith, e);
     done = λ zero. absurd (omega (arith, e, zero));
-    refused = λ one. (kind, inr part);
+    refused = λ one. (kind, part);
   }
 
-  -- the same of the society that the words name, and of the connection as it is handed on
-  pub init_ends : {A : Type 0} (r : Result A RefusalKind) (given named : List ℕ) (status : ℕ)
-      (left back : Option (Held (FileStore D g))) → given ≡ named → back ≡ left
-      → status ≡ (if is_ok r then 0 else 1) → OnOk r (IsMadeIn image given left)
-      → IfErr r (λ kind. Unmade image given kind left) → InitEnds image named status back
-  init_ends r given named status left back is same e made unmade =
-      subst (λ (x : Option (Held (FileStore D g))). InitEnds image named status x) (sym same)
-      (subst (λ (x : List ℕ). InitEnds image x status left) is (init_by r given status left e made unmade))
+  -- the same of the connection as it is handed on
+  pub init_ends : {A : Type 0} (r : Result A RefusalKind) (society : List ℕ) (status : ℕ)
+      (left back : Option (Held (FileStore D g))) → back ≡ left
+      → status ≡ (if is_ok r then 0 else 1) → OnOk r (IsMadeIn image society left)
+      → IfErr r (λ kind. Unmade image society kind left) → InitEnds image society status back
+  init_ends r society status left back same e made unmade =
+      subst (λ (x : Option (Held (FileStore D g))). InitEnds image society status x) (sym same)
+      (init_by r society status left e made unmade)
 
   -- what ends with 0 tells no more
   still_told : {A F : Type 0} (r : Result A RefusalKind) (input old new : Option (List ℕ)) (told : F → Option (List ℕ))
@@ -138,7 +93,7 @@ module _ {D : Type 0} {g : disk.Ghosts D} (image : Image) where
   export_by (Err kind) status old new WriterFailed left e whole part = record {
     bound = omega (arith, e);
     done = λ zero. absurd (omega (arith, e, zero));
-    refused = λ one. (kind, inr part);
+    refused = λ one. (kind, part);
   }
 
   pub export_ends : {A : Type 0} (r : Result A RefusalKind) (status : ℕ) (old new : Option (List ℕ))

@@ -6,12 +6,9 @@ use Rattle.sqlite_disk.specs.declared.Disk as disk
 use Rattle.sqlite_store.specs.declared.store.FileStore.{FileStore}
 use Rattle.sqlite_wal.specs.Recovery.{Image}
 use Rattle.archive_commands.specs.Entering.{Entered, Unentered}
-use Rattle.batch_reading.specs.Batches.{placeless}
 use Rattle.record_text.specs.declared.refusal.Refusal.{Refusal}
-use Rattle.record_text.specs.declared.refusal.RefusalKind.TheVariants.{OutOfMemory}
 use Rattle.store.specs.Histories.{Outcome}
 use Rattle.parish.specs.Ends.{EntriesEnds, IsToldBatch, IsUntoldBatch}
-use Rattle.parish.proofs.Ending.{keeps}
 
 -- ---- the status, by what was told
 pub told_at : {A E P : Type 0} (r : Result A E) (status : ℕ) → status ≡ (if is_ok r then 0 else 1) → OnOk r P
@@ -29,22 +26,13 @@ at_most true status e = omega (arith, e)
 at_most false status e = omega (arith, e)
 
 -- ---- what was entered
-if_ok_of : {A E : Type 0} (P : A → Type 0) (r : Result A E) (a : A) → r ≡ Ok a → IfOk r P → P a
+pub if_ok_of : {A E : Type 0} (P : A → Type 0) (r : Result A E) (a : A) → r ≡ Ok a → IfOk r P → P a
 if_ok_of P r a is h = subst (λ x. IfOk x P) is h
 
-if_err_of : {A E : Type 0} (P : E → Type 0) (r : Result A E) (e : E) → r ≡ Err e → IfErr r P → P e
+pub if_err_of : {A E : Type 0} (P : E → Type 0) (r : Result A E) (e : E) → r ≡ Err e → IfErr r P → P e
 if_err_of P r e is h = subst (λ x. IfErr x P) is h
 
 module _ {D : Type 0} {g : disk.Ghosts D} (image : Image) where
-  pub entries_wanting : (token : List ℕ) (source status : ℕ) (input old : Option (List ℕ))
-      (ReaderFailed WriterFailed : Type 0) → status ≡ 1
-      → EntriesEnds {D = D} {g = g} image token source status input old old ReaderFailed WriterFailed None
-  entries_wanting token source status input old ReaderFailed WriterFailed e = record {
-    bound = omega (arith, e);
-    done = λ none. absurd (omega (arith, e, none));
-    refused = λ _. (placeless OutOfMemory, inl (inl (refl, inl refl), keeps old));
-  }
-
   entries_by : (o : Outcome) (token : List ℕ) (source status : ℕ) (input old new : Option (List ℕ))
       (ReaderFailed WriterFailed : Type 0) (left : Option (Held (FileStore D g)))
       → status ≤ 1 → IfOk o (λ a. Entered image token source input (Ok a) left)
@@ -64,18 +52,15 @@ module _ {D : Type 0} {g : disk.Ghosts D} (image : Image) where
         );
   }
 
-  -- the same of the token and the source that the words name, and of the connection as it is handed on
-  pub entries_ends : (o : Outcome) (token named : List ℕ) (source numbered status : ℕ) (input old new : Option (List ℕ))
-      (ReaderFailed WriterFailed : Type 0) (left back : Option (Held (FileStore D g)))
-      → token ≡ named → source ≡ numbered → back ≡ left → status ≤ 1
+  -- the same of the connection as it is handed on
+  pub entries_ends : (o : Outcome) (token : List ℕ) (source status : ℕ) (input old new : Option (List ℕ))
+      (ReaderFailed WriterFailed : Type 0) (left back : Option (Held (FileStore D g))) → back ≡ left → status ≤ 1
       → IfOk o (λ a. Entered image token source input (Ok a) left)
       → IfErr o (λ e. Unentered image token source input e ReaderFailed left)
       → (status ≡ 0 → IsToldBatch o old new) → (status ≡ 1 → (e : Refusal) × IsUntoldBatch o e old new WriterFailed)
-      → EntriesEnds image named numbered status input old new ReaderFailed WriterFailed back
-  entries_ends o token named source numbered status input old new ReaderFailed WriterFailed left back is number same
-      bound made unmade told untold =
-      subst (λ (x : Option (Held (FileStore D g))). EntriesEnds image named numbered status input old new ReaderFailed
+      → EntriesEnds image token source status input old new ReaderFailed WriterFailed back
+  entries_ends o token source status input old new ReaderFailed WriterFailed left back same bound made unmade told
+      untold =
+      subst (λ (x : Option (Held (FileStore D g))). EntriesEnds image token source status input old new ReaderFailed
       WriterFailed x) (sym same)
-      (subst (λ (n : ℕ). EntriesEnds image named n status input old new ReaderFailed WriterFailed left) number
-      (subst (λ (t : List ℕ). EntriesEnds image t source status input old new ReaderFailed WriterFailed left) is
-      (entries_by o token source status input old new ReaderFailed WriterFailed left bound made unmade told untold)))
+      (entries_by o token source status input old new ReaderFailed WriterFailed left bound made unmade told untold)

@@ -6,24 +6,12 @@ use Rattle.sqlite_disk.specs.declared.Disk as disk
 use Rattle.sqlite_store.specs.declared.store.FileStore.{FileStore}
 use Rattle.sqlite_wal.specs.Recovery.{Image}
 use Rattle.archive_commands.specs.Importing.{ImportedAll, Unimported}
-use Rattle.batch_reading.specs.Batches.{placeless}
 use Rattle.receipts.specs.declared.answer.Answer.{Answer}
 use Rattle.receipts.specs.declared.report.ReportLine.{ReportLine}
 use Rattle.record_text.specs.declared.refusal.Refusal.{Refusal}
-use Rattle.record_text.specs.declared.refusal.RefusalKind.TheVariants.{OutOfMemory}
 use Rattle.parish.specs.Ends.{ImportEnds, IsToldImport, IsUntoldImport, Reported}
-use Rattle.parish.proofs.Ending.{keeps}
 
 module _ {D : Type 0} {g : disk.Ghosts D} (image : Image) where
-  pub import_wanting : (token : List ℕ) (status : ℕ) (input old : Option (List ℕ))
-      (ReaderFailed WriterFailed : Type 0) → status ≡ 1
-      → ImportEnds {D = D} {g = g} image token status input old old ReaderFailed WriterFailed None
-  import_wanting token status input old ReaderFailed WriterFailed e = record {
-    bound = omega (arith, e);
-    done = λ none. absurd (omega (arith, e, none));
-    refused = λ _. (placeless OutOfMemory, inl (inl (refl, inl refl), keeps old));
-  }
-
   all_of : (o : Reported) (token : List ℕ) (input : Option (List ℕ)) (left : Option (Held (FileStore D g)))
       (answer : Answer) (said : List ReportLine) → o ≡ Ok (answer, said)
       → IfOk o (λ done. ImportedAll image token input done.0 done.1 left)
@@ -57,17 +45,14 @@ module _ {D : Type 0} {g : disk.Ghosts D} (image : Image) where
         );
   }
 
-  -- the same of the token that the words name, and of the connection as it is handed on
-  pub import_ends : (o : Reported) (token named : List ℕ) (status : ℕ) (input old new : Option (List ℕ))
-      (ReaderFailed WriterFailed : Type 0) (left back : Option (Held (FileStore D g)))
-      → token ≡ named → back ≡ left → status ≤ 1
+  -- the same of the connection as it is handed on
+  pub import_ends : (o : Reported) (token : List ℕ) (status : ℕ) (input old new : Option (List ℕ))
+      (ReaderFailed WriterFailed : Type 0) (left back : Option (Held (FileStore D g))) → back ≡ left → status ≤ 1
       → IfOk o (λ done. ImportedAll image token input done.0 done.1 left)
       → IfErr o (λ e. Unimported image token input e ReaderFailed left)
       → (status ≡ 0 → IsToldImport o old new) → (status ≡ 1 → (e : Refusal) × IsUntoldImport o e old new WriterFailed)
-      → ImportEnds image named status input old new ReaderFailed WriterFailed back
-  import_ends o token named status input old new ReaderFailed WriterFailed left back is same bound made unmade told
-      untold =
-      subst (λ (x : Option (Held (FileStore D g))). ImportEnds image named status input old new ReaderFailed
+      → ImportEnds image token status input old new ReaderFailed WriterFailed back
+  import_ends o token status input old new ReaderFailed WriterFailed left back same bound made unmade told untold =
+      subst (λ (x : Option (Held (FileStore D g))). ImportEnds image token status input old new ReaderFailed
       WriterFailed x) (sym same)
-      (subst (λ (t : List ℕ). ImportEnds image t status input old new ReaderFailed WriterFailed left) is
-      (import_by o token status input old new ReaderFailed WriterFailed left bound made unmade told untold))
+      (import_by o token status input old new ReaderFailed WriterFailed left bound made unmade told untold)

@@ -1,3 +1,6 @@
+mod Audited
 mod Ending
 mod Entered
 mod Imported
+mod Showing
+mod Untaken

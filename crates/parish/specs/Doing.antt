@@ -1,6 +1,6 @@
 -- How the commands end on their streams: by the bytes of the reader and of the writer before and after, and by their
 -- counts of failures.
-use Rattle.std.specs.Prelude.{ℕ, List, Option}
+use Rattle.std.specs.Prelude.{◌≡◌, ℕ, ℤ, List, Option, None}
 use Rattle.std.specs.declared.io.Read as read
 use Rattle.std.specs.declared.io.Write as write
 use Rattle.sqlite.specs.Held.{Held}
@@ -10,7 +10,27 @@ use Rattle.sqlite_wal.specs.Recovery.{Image}
 use Rattle.devices.specs.Devices.{Rose}
 use Rattle.devices.specs.declared.device.Device as device
 use Rattle.batch_reading.specs.Input.{row_bytes}
-use Rattle.parish.specs.Ends.{ApplyEnds, CheckEnds, EntriesEnds, ExportEnds, ImportEnds, NormEnds}
+use Rattle.command_line.specs.Asking.{Asks}
+use Rattle.command_line.specs.declared.tasks.Asked.{Asked}
+use Rattle.command_line.specs.declared.tasks.Asked.TheVariants.{
+  Apply,
+  Audit,
+  Check,
+  Entries,
+  Export,
+  ExportPublic,
+  Import,
+  Init,
+  Norm,
+  Serve,
+  Sheet,
+  Show,
+}
+use Rattle.command_line.specs.declared.tasks.SheetKind.{SheetKind}
+use Rattle.parish.specs.Auditing.{AuditEnds}
+use Rattle.parish.specs.Ends.{ApplyEnds, CheckEnds, EntriesEnds, ExportEnds, ImportEnds, InitEnds, NormEnds}
+use Rattle.parish.specs.Shown.{PublicEnds, RoomEnds, SheetEnds}
+use Rattle.parish.specs.declared.visits.Visits.{Visits}
 
 module _ {R W : Type 0} (reader : read.Ghosts R) (reads : device.Ghosts R) (writer : write.Ghosts W)
     (writes : device.Ghosts W) where
@@ -55,3 +75,58 @@ module _ {R W : Type 0} (reader : read.Ghosts R) (reads : device.Ghosts R) (writ
   ImportsFile image token status input rest output written left =
       ImportEnds image token status (reader.remaining input) (writer.contents output) (writer.contents written)
       (HasReadFailed input rest) (HasWriteFailed output written) left
+
+  -- what may be shown on that day
+  abbrev pub Publishes : {D : Type 0} {g : disk.Ghosts D} → Image → ℤ → ℕ → W → W → Option (Held (FileStore D g))
+      → Type 0
+  Publishes image today status output written left = PublicEnds image today status (writer.contents output)
+      (writer.contents written) (HasWriteFailed output written) left
+
+  -- a sheet of that kind and number, with so many generations
+  abbrev pub PrintsSheet : {D : Type 0} {g : disk.Ghosts D} → Image → SheetKind → ℕ → ℕ → ℤ → ℕ → W → W
+      → Option (Held (FileStore D g)) → Type 0
+  PrintsSheet image which number generations today status output written left =
+      SheetEnds image which number generations today status (writer.contents output) (writer.contents written)
+      (HasWriteFailed output written) left
+
+  abbrev pub Audits : {D : Type 0} {g : disk.Ghosts D} → Image → ℕ → W → W → Option (Held (FileStore D g)) → Type 0
+  Audits image status output written left =
+      AuditEnds image status (writer.contents output) (writer.contents written) (HasWriteFailed output written) left
+
+  -- ---- each task
+  module _ {D : Type 0} {g : disk.Ghosts D} (image : Image) (status : ℕ) (input rest : R) (output written : W)
+      (quiet told : Option (List ℕ)) (left : Option (Held (FileStore D g))) (room : Option Visits) where
+    -- no file was opened, and no room
+    abbrev pub OpensNothing : Type 0
+    OpensNothing = (left ≡ None) × (room ≡ None)
+
+    -- what was asked for was done, or refused for a reason: how the input, the output, the faults' texts, the
+    -- connection over the file, and the room are then
+    abbrev pub Does : Asked → Type 0
+    Does Norm = Normalises status input rest output written × OpensNothing
+    Does Check = Checks status input rest output written × OpensNothing
+    Does (Init file society) = InitEnds image society.now status left × (rest ≡ input) × (written ≡ output)
+        × (room ≡ None)
+    Does (Apply file) = Applies image status input rest output written quiet told left × (room ≡ None)
+    Does (Entries file source token) = EntersBatch image token.now source status input rest output written left
+        × (room ≡ None)
+    Does (Import file token) = ImportsFile image token.now status input rest output written left × (room ≡ None)
+    Does (Export file) = Exports image status output written left × (rest ≡ input) × (room ≡ None)
+    Does (ExportPublic file today) = Publishes image today status output written left × (rest ≡ input) × (room ≡ None)
+    Does (Sheet file which number generations today) =
+        PrintsSheet image which number generations today status output written left × (rest ≡ input) × (room ≡ None)
+    Does (Serve file port count today) = RoomEnds image port count today status room left × (rest ≡ input)
+        × (written ≡ output)
+    Does (Audit file) = Audits image status output written left × (rest ≡ input) × (room ≡ None)
+    Does (Show text) = (rest ≡ input) × OpensNothing
+
+    -- no memory was found to read the words, and nothing is done
+    pub record IsWanting : Type 0 where
+      pub refused : status ≡ 1
+      pub unread : rest ≡ input
+      pub unwritten : written ≡ output
+      pub unopened : OpensNothing
+
+    -- what the words ask for was done
+    abbrev pub DoesWords : List (List ℕ) → Type 0
+    DoesWords words = (asked : Asked) × Asks words asked × Does asked

@@ -19,7 +19,6 @@ use Rattle.std.specs.Prelude.{
 }
 use Rattle.std.specs.Fmt.{decimal}
 use Rattle.std.specs.Io.KnownBytes.{Appends, Keeps}
-use Rattle.clap.specs.Words.{subcommand_of}
 use Rattle.sqlite.specs.Held.{Held}
 use Rattle.sqlite_disk.specs.declared.Disk as disk
 use Rattle.sqlite_store.specs.declared.store.FileStore.{FileStore}
@@ -29,7 +28,7 @@ use Rattle.archive_commands.specs.Entering.{Entered, Unentered}
 use Rattle.archive_commands.specs.Exporting.{Exported, Unexported}
 use Rattle.archive_commands.specs.Importing.{ImportedAll, Unimported}
 use Rattle.archive_commands.specs.Made.{IsMadeIn, Unmade}
-use Rattle.command_line.specs.Commands.{IsTaken, command_named, number_of, program, word_in}
+use Rattle.command_line.specs.Asking.{IsTaken, command_named}
 use Rattle.devices.specs.Devices.{AppendsBeginning}
 use Rattle.gedcom_rules.specs.Faults.{Fault}
 use Rattle.gedcom_tree.specs.File.{ReadsFile}
@@ -48,17 +47,6 @@ use Rattle.store.specs.Histories.{Outcome}
 -- the words are those of this command, with nothing that it does not take
 abbrev pub AreOf : List (List ℕ) → List ℕ → Type 0
 AreOf words name = IsTaken words × (command_named words ≡ Some name)
-
--- the society that the words name for `init`
-abbrev pub society_in : List (List ℕ) → List ℕ
-society_in words = word_in (subcommand_of program words) (codes "society")
-
--- the token that they name for `entries` or `import`, and the source
-abbrev pub token_in : List (List ℕ) → List ℕ
-token_in words = word_in (subcommand_of program words) (codes "token")
-
-abbrev pub source_in : List (List ℕ) → ℕ
-source_in words = number_of (word_in (subcommand_of program words) (codes "source"))
 
 -- ---- norm
 -- why it was not done: no forest was read, and nothing is written; or a beginning of its text is. The first type says
@@ -160,10 +148,6 @@ module _ {D : Type 0} {g : disk.Ghosts D} where
     pub refused : status ≡ 1 → (kind : RefusalKind) × Unmade image society kind left
 
   -- ---- apply
-  -- no memory was found to read the words: no file is opened, and nothing written
-  abbrev pub IsWanting : RefusalKind → Option (List ℕ) → Option (List ℕ) → Option (Held (FileStore D g)) → Type 0
-  IsWanting kind old new left = (kind ≡ OutOfMemory) × (left ≡ None) × Keeps old new
-
   -- 0 where all rows of the input were served on the archive that the file held, and answered, and of those that are
   -- refused alone something is told. 1 where no archive was taken up, and nothing is written, or where there is a
   -- reason why not all rows were served
@@ -172,7 +156,7 @@ module _ {D : Type 0} {g : disk.Ghosts D} where
     pub bound : status ≤ 1
     pub done : status ≡ 0 → Answered image input old new quiet told left
     pub refused : status ≡ 1 → (kind : RefusalKind)
-        × (IsWanting kind old new left ⊎ Unanswered image kind input old new ReaderFailed WriterFailed left)
+        × Unanswered image kind input old new ReaderFailed WriterFailed left
 
   -- ---- export
   -- 0 where the archive that the file held was written, 1 where there is a reason why it was not, or not all of it
@@ -180,8 +164,7 @@ module _ {D : Type 0} {g : disk.Ghosts D} where
       (left : Option (Held (FileStore D g))) : Type 0 where
     pub bound : status ≤ 1
     pub done : status ≡ 0 → Exported image old new left
-    pub refused : status ≡ 1 → (kind : RefusalKind)
-        × (IsWanting kind old new left ⊎ Unexported image kind old new WriterFailed left)
+    pub refused : status ≡ 1 → (kind : RefusalKind) × Unexported image kind old new WriterFailed left
 
   -- ---- entries
   -- 0 where the batch of the input's rows was entered on the archive that the file held, and its line was told. 1 where

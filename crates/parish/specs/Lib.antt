@@ -1,2 +1,4 @@
+pub mod Auditing
 pub mod Doing
 pub mod Ends
+pub mod Shown

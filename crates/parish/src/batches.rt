@@ -1,12 +1,13 @@
 //! What is told of a batch of register entries.
 
-ghost use Rattle.std.specs.Prelude.{◌≡◌, ◌≤◌, IfErr, IfOk, OnErr, OnOk, string_bytes};
+ghost use Rattle.std.specs.Prelude.{◌≡◌, ◌≤◌, IfErr, IfOk, None, OnErr, OnOk, string_bytes};
 ghost use Rattle.std.specs.Io.KnownBytes.{Appends};
 ghost use Rattle.devices.specs.Devices.{AppendsBeginning, Rose};
 ghost use Rattle.record_text.specs.declared.refusal.Refusal.{Refusal};
 ghost use Rattle.parish.specs.Ends.{IsToldBatch, IsUntoldBatch, IsUnwritten, made_text};
 
 use crate::telling::status_of;
+use crate::visits::Visits;
 use archive_commands::OpenFile;
 use gedcom_tree::{Device, TransferError, write_bytes};
 use receipts::Answer;
@@ -22,7 +23,7 @@ pub(crate) fn entered<S: Start, W: Write + Device, F: Write + Device>(
     done: (Result<Answer, Refusal>, Option<OpenFile<S>>),
     output: &mut W,
     faults: &mut F,
-) -> (u8, Option<OpenFile<S>>)
+) -> (u8, Option<OpenFile<S>>, Option<Visits>)
     ensures status { result.0 ≤ 1 }
     ensures told { result.0 ≡ 0 → IsToldBatch done.0 (W.contents output.old) (W.contents output.new) }
     ensures untold { result.0 ≡ 1 → (e : Refusal) × IsUntoldBatch done.0 e (W.contents output.old)
@@ -30,9 +31,10 @@ pub(crate) fn entered<S: Start, W: Write + Device, F: Write + Device>(
         (Rose (W.failed output.old) (W.failed output.new)) }
     ensures done { result.0 ≡ 0 → faults.new ≡ faults.old }
     ensures left { result.1 ≡ done.1 }
+    ensures alone { result.2 ≡ None }
 {
     let (outcome, left) = done;
-    (status_of(tell(alloc, outcome, output), faults), left)
+    (status_of(tell(alloc, outcome, output), faults), left, None)
 }
 
 /// Tells of a batch that was entered on the output, or hands on why it was not.

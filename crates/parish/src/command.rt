@@ -3,6 +3,7 @@
 ghost use Rattle.std.specs.Prelude.{
   ◌≡◌,
   ◌≢◌,
+  ◌⊎◌,
   ◌≤◌,
   codes,
   if◌then◌else◌,
@@ -18,22 +19,25 @@ ghost use Rattle.std.specs.Prelude.{
 ghost use Rattle.std.specs.Io.KnownBytes.{Appends};
 ghost use Rattle.std.specs.IoError.{error_kind};
 ghost use Rattle.sqlite_wal.specs.Files.{image_at};
-ghost use Rattle.command_line.specs.Commands.{HasWords, IsTaken, name_of, number_of, word_in};
+ghost use Rattle.command_line.specs.Asking.{HasWords, IsTaken, name_of};
 ghost use Rattle.devices.specs.Devices.{AppendsBeginning, Rose};
 ghost use Rattle.gedcom_rules.specs.Views.{fault_view};
 ghost use Rattle.gedcom_tree.specs.Streams.{NotWritten};
-ghost use Rattle.parish.specs.Doing.{Applies, Checks, EntersBatch, Exports, ImportsFile, Normalises};
-ghost use Rattle.parish.specs.Ends.{AreOf, InitEnds, Told, Untold, society_in, source_in, token_in};
+ghost use Rattle.parish.specs.Doing.{Checks, Does, DoesWords, IsWanting, Normalises};
+ghost use Rattle.parish.specs.Ends.{AreOf, Told, Untold};
 
+use crate::audits::audited;
 use crate::batches::entered;
 use crate::imports::imported;
-use crate::telling::{refuse, refuse_words, status_of};
+use crate::telling::{finished, refuse, refuse_words, status_of};
+use crate::visits::{Visits, opened, sheet_of};
 use archive_commands::{OpenFile, apply, entries, export, import, init};
+use audit_commands::audit;
 use command_line::{Asked, Refused, read_words};
 use gedcom_tree::{
     Device, TransferError, TreeFault, TreeKind, normalise, read_forest, write_bytes,
 };
-use record_text::RefusalKind;
+use shown_commands::{library, public_export, sheet};
 use sqlite::Start;
 use std::alloc::Global;
 use std::io;
@@ -51,12 +55,13 @@ const WRITE_FAILED: TreeFault = TreeFault {
 };
 
 /// Does what the words ask for, the program's name first, and gives the exit status, with the connection over the
-/// archive's file where one was opened. Who calls closes it.
+/// archive's file where one was opened, and the reading room where one is to be served. Who calls closes the file, and
+/// serves the room then.
 ///
 /// Results go to `output`, a refusal goes to `faults` as one line, and so does what is wrong with a row of `apply` that
-/// is refused. Where `faults` fails too, the status tells alone. Where the words are refused nothing is read, and
-/// nothing written elsewhere. Words that are taken are never refused: what they name is done, with 0, or 1 and a
-/// reason.
+/// is refused, and what `audit` finds wrong. Where `faults` fails too, the status tells alone. Where the words are
+/// refused nothing is read, and nothing written elsewhere. Words that are taken are never refused: what they name is
+/// done, with 0, or 1 and a reason.
 pub fn command<S: Start, R: Read + Device, W: Write + Device, F: Write + Device>(
     rt: &HostRuntime,
     words: &[String],
@@ -64,43 +69,28 @@ pub fn command<S: Start, R: Read + Device, W: Write + Device, F: Write + Device>
     input: &mut R,
     output: &mut W,
     faults: &mut F,
-) -> (u8, Option<OpenFile<S>>)
+) -> (u8, Option<OpenFile<S>>, Option<Visits>)
     ensures status { result.0 ≤ 2 }
     ensures done { result.0 ≡ 0 → ¬ (AreOf (map string_bytes words.now) (codes "apply")) → faults.new ≡ faults.old }
-    ensures words { result.0 ≡ 2 → (input.new ≡ input.old) × (output.new ≡ output.old) × (result.1 ≡ None) }
-    ensures norm { AreOf (map string_bytes words.now) (codes "norm")
-        → Normalises R.Read R.Device W.Write W.Device result.0 input.old input.new output.old output.new }
-    ensures check { AreOf (map string_bytes words.now) (codes "check")
-        → Checks R.Read R.Device W.Write W.Device result.0 input.old input.new output.old output.new }
-    ensures init { AreOf (map string_bytes words.now) (codes "init")
-        → InitEnds (image_at S.Start) (society_in (map string_bytes words.now)) result.0 result.1
-        × (input.new ≡ input.old) × (output.new ≡ output.old) }
-    ensures apply { AreOf (map string_bytes words.now) (codes "apply")
-        → Applies R.Read R.Device W.Write W.Device (image_at S.Start) result.0 input.old input.new output.old
-        output.new (F.contents faults.old) (F.contents faults.new) result.1 }
-    ensures entries { AreOf (map string_bytes words.now) (codes "entries")
-        → EntersBatch R.Read R.Device W.Write W.Device (image_at S.Start) (token_in (map string_bytes words.now))
-        (source_in (map string_bytes words.now))
-        result.0 input.old input.new output.old output.new result.1 }
-    ensures import { AreOf (map string_bytes words.now) (codes "import")
-        → ImportsFile R.Read R.Device W.Write W.Device (image_at S.Start) (token_in (map string_bytes words.now))
-        result.0 input.old input.new output.old output.new result.1 }
-    ensures export { AreOf (map string_bytes words.now) (codes "export")
-        → Exports R.Read R.Device W.Write W.Device (image_at S.Start) result.0 output.old output.new result.1
-        × (input.new ≡ input.old) }
-    ensures others { ¬ (IsTaken (map string_bytes words.now)) → (input.new ≡ input.old) × (result.1 ≡ None) }
-    ensures norm_alone { AreOf (map string_bytes words.now) (codes "norm") → result.1 ≡ None }
-    ensures check_alone { AreOf (map string_bytes words.now) (codes "check") → result.1 ≡ None }
+    ensures words { result.0 ≡ 2 → (input.new ≡ input.old) × (output.new ≡ output.old) × (result.1 ≡ None)
+        × (result.2 ≡ None) }
+    ensures does { IsTaken (map string_bytes words.now)
+        → IsWanting R.Read R.Device W.Write W.Device (image_at S.Start) result.0 input.old input.new output.old
+        output.new (F.contents faults.old) (F.contents faults.new) result.1 result.2
+        ⊎ DoesWords R.Read R.Device W.Write W.Device (image_at S.Start) result.0 input.old input.new output.old
+        output.new (F.contents faults.old) (F.contents faults.new) result.1 result.2 (map string_bytes words.now) }
+    ensures others { ¬ (IsTaken (map string_bytes words.now)) → (input.new ≡ input.old) × (result.1 ≡ None)
+        × (result.2 ≡ None) }
 {
     match read_words(rt.alloc(), words) {
         Ok(asked) => work(rt, asked, start, input, output, faults),
-        Err(Refused::Words { text }) => (refuse_words(faults, &text), None),
-        Err(Refused::OutOfMemory) => (refuse(faults, &OUT_OF_MEMORY), None),
+        Err(Refused::Words { text }) => (refuse_words(faults, &text), None, None),
+        Err(Refused::OutOfMemory) => (refuse(faults, &OUT_OF_MEMORY), None, None),
     }
 }
 
 /// Does what was asked for, and gives the exit status, with the connection over the archive's file where one was
-/// opened.
+/// opened, and the room that is to be served.
 fn work<S: Start, R: Read + Device, W: Write + Device, F: Write + Device>(
     rt: &HostRuntime,
     asked: Asked<'_>,
@@ -108,38 +98,38 @@ fn work<S: Start, R: Read + Device, W: Write + Device, F: Write + Device>(
     input: &mut R,
     output: &mut W,
     faults: &mut F,
-) -> (u8, Option<OpenFile<S>>)
+) -> (u8, Option<OpenFile<S>>, Option<Visits>)
+    requires words { (found : _) × HasWords found asked }
     ensures status { result.0 ≤ 1 }
     ensures done { result.0 ≡ 0 → ¬ (name_of asked.entry ≡ Some (codes "apply")) → faults.new ≡ faults.old }
-    ensures norm { name_of asked.entry ≡ Some (codes "norm")
-        → Normalises R.Read R.Device W.Write W.Device result.0 input.old input.new output.old output.new }
-    ensures check { name_of asked.entry ≡ Some (codes "check")
-        → Checks R.Read R.Device W.Write W.Device result.0 input.old input.new output.old output.new }
-    ensures init { (found : _) → HasWords found asked.entry → name_of asked.entry ≡ Some (codes "init")
-        → InitEnds (image_at S.Start) (word_in found (codes "society")) result.0 result.1 × (input.new ≡ input.old)
-        × (output.new ≡ output.old) }
-    ensures apply { name_of asked.entry ≡ Some (codes "apply")
-        → Applies R.Read R.Device W.Write W.Device (image_at S.Start) result.0 input.old input.new output.old
-        output.new (F.contents faults.old) (F.contents faults.new) result.1 }
-    ensures entries { (found : _) → HasWords found asked.entry → name_of asked.entry ≡ Some (codes "entries")
-        → EntersBatch R.Read R.Device W.Write W.Device (image_at S.Start) (word_in found (codes "token"))
-        (number_of (word_in found (codes "source")))
-        result.0 input.old input.new output.old output.new result.1 }
-    ensures import { (found : _) → HasWords found asked.entry → name_of asked.entry ≡ Some (codes "import")
-        → ImportsFile R.Read R.Device W.Write W.Device (image_at S.Start) (word_in found (codes "token"))
-        result.0 input.old input.new output.old output.new result.1 }
-    ensures export { name_of asked.entry ≡ Some (codes "export")
-        → Exports R.Read R.Device W.Write W.Device (image_at S.Start) result.0 output.old output.new result.1
-        × (input.new ≡ input.old) }
-    ensures text { name_of asked.entry ≡ None → (input.new ≡ input.old) × (result.1 ≡ None) }
-    ensures norm_alone { name_of asked.entry ≡ Some (codes "norm") → result.1 ≡ None }
-    ensures check_alone { name_of asked.entry ≡ Some (codes "check") → result.1 ≡ None }
+    ensures does { Does R.Read R.Device W.Write W.Device (image_at S.Start) result.0 input.old input.new output.old
+        output.new (F.contents faults.old) (F.contents faults.new) result.1 result.2 asked.entry }
 {
     match asked {
-        Asked::Norm => (norm(rt.alloc(), input, output, faults), None),
-        Asked::Check => (check(rt.alloc(), input, output, faults), None),
+        Asked::Norm => (norm(rt.alloc(), input, output, faults), None, None),
+        Asked::Check => (check(rt.alloc(), input, output, faults), None, None),
         Asked::Init { file, society } => finished(init(rt, file, society, start), faults),
         Asked::Export { file } => finished(export(rt, file, start, output), faults),
+        Asked::ExportPublic { file, today } => {
+            finished(public_export(rt, file, today, start, output), faults)
+        }
+        Asked::Sheet {
+            file,
+            kind,
+            number,
+            generations,
+            today,
+        } => {
+            let which = sheet_of(kind, number, generations);
+            finished(sheet(rt, file, which, today, start, output), faults)
+        }
+        Asked::Serve {
+            file,
+            port,
+            count,
+            today,
+        } => opened(library(rt, file, today, start), port, count, faults),
+        Asked::Audit { file } => audited(rt.alloc(), audit(rt, file, start), output, faults),
         Asked::Apply { file } => {
             let done = apply(rt, file, start, input, output, faults);
             finished(done, faults)
@@ -160,21 +150,8 @@ fn work<S: Start, R: Read + Device, W: Write + Device, F: Write + Device>(
             output,
             faults,
         ),
-        Asked::Show { text } => (status_of(show(output, &text), faults), None),
+        Asked::Show { text } => (status_of(show(output, &text), faults), None, None),
     }
-}
-
-/// The status of what was done on an archive in a file, and the line of its refusal. The connection is handed on.
-fn finished<S: Start, F: Write + Device>(
-    done: (Result<(), RefusalKind>, Option<OpenFile<S>>),
-    faults: &mut F,
-) -> (u8, Option<OpenFile<S>>)
-    ensures status { result.0 ≡ (if is_ok done.0 then 0 else 1) }
-    ensures done { OnOk done.0 (faults.new ≡ faults.old) }
-    ensures left { result.1 ≡ done.1 }
-{
-    let (outcome, left) = done;
-    (status_of(outcome, faults), left)
 }
 
 /// `norm`: the file of the input, canonical, on the output.

@@ -1,6 +1,6 @@
 //! What is told of an import.
 
-ghost use Rattle.std.specs.Prelude.{◌≡◌, ◌≤◌, IfErr, IfOk, OnErr, OnOk};
+ghost use Rattle.std.specs.Prelude.{◌≡◌, ◌≤◌, IfErr, IfOk, None, OnErr, OnOk};
 ghost use Rattle.std.specs.Io.KnownBytes.{Appends};
 ghost use Rattle.devices.specs.Devices.{AppendsBeginning, Rose};
 ghost use Rattle.file_imports.specs.Telling as telling;
@@ -8,6 +8,7 @@ ghost use Rattle.record_text.specs.declared.refusal.Refusal.{Refusal};
 ghost use Rattle.parish.specs.Ends.{IsToldImport, IsUntoldImport, IsUnwritten};
 
 use crate::telling::status_of;
+use crate::visits::Visits;
 use archive_commands::OpenFile;
 use file_imports::import_text;
 use gedcom_tree::{Device, TransferError, write_bytes};
@@ -24,7 +25,7 @@ pub(crate) fn imported<S: Start, W: Write + Device, F: Write + Device>(
     done: (Result<(Answer, Report), Refusal>, Option<OpenFile<S>>),
     output: &mut W,
     faults: &mut F,
-) -> (u8, Option<OpenFile<S>>)
+) -> (u8, Option<OpenFile<S>>, Option<Visits>)
     ensures status { result.0 ≤ 1 }
     ensures told { result.0 ≡ 0 → IsToldImport done.0 (W.contents output.old) (W.contents output.new) }
     ensures untold { result.0 ≡ 1 → (e : Refusal) × IsUntoldImport done.0 e (W.contents output.old)
@@ -32,9 +33,10 @@ pub(crate) fn imported<S: Start, W: Write + Device, F: Write + Device>(
         (Rose (W.failed output.old) (W.failed output.new)) }
     ensures done { result.0 ≡ 0 → faults.new ≡ faults.old }
     ensures left { result.1 ≡ done.1 }
+    ensures alone { result.2 ≡ None }
 {
     let (outcome, left) = done;
-    (status_of(tell(alloc, outcome, output), faults), left)
+    (status_of(tell(alloc, outcome, output), faults), left, None)
 }
 
 /// Tells of a file that was imported on the output, or hands on why it was not.

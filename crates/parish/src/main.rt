@@ -4,19 +4,28 @@
 //! whatever the file of an archive holds.
 #![tactic(auto)]
 
-ghost use Rattle.std.specs.Prelude.{◌≡◌, IsSomeAnd, MatchOption, None};
+ghost use Rattle.std.specs.Prelude.{◌≡◌, IfSome, IsSomeAnd, MatchOption, None};
 ghost use Rattle.archive_commands.specs.Closing.{IsClosedOver};
+ghost use Rattle.devices.specs.Devices.{Rose};
+ghost use Rattle.parish.specs.Shown.{VisitsEnd};
 
+mod audits;
 mod batches;
 mod command;
 mod imports;
 mod telling;
+mod visits;
 
+use crate::visits::Visits;
 use archive_commands::{ClosedFile, OpenFile, close};
-use gedcom_tree::Counted;
+use gedcom_tree::{Counted, Device};
 use sqlite::{Start, Unknown};
+use std::alloc::Global;
+use std::io::Write;
+use std::net::{Net, TcpListener, TcpStream};
 use std::process::ExitCode;
 use std::rt::Env;
+use std::time::Clock;
 use std::{env, io};
 
 /// The words of the command line, the program's name first. A word that is not UTF-8 is an error.
@@ -28,13 +37,38 @@ fn words_of(rt: &(impl Env + AllocGlobal)) -> io::Result<Vec<String>> {
     Ok(words)
 }
 
-/// The status of what was done, after the file that was opened for it is closed, and what is left of that.
-fn closed<S: Start>(done: (u8, Option<OpenFile<S>>)) -> (u8, Option<ClosedFile<S>>)
+/// The status of what was done, after the file that was opened for it is closed, what is left of that, and the room
+/// that is to be served.
+fn closed<S: Start>(
+    done: (u8, Option<OpenFile<S>>, Option<Visits>),
+) -> (u8, Option<ClosedFile<S>>, Option<Visits>)
     ensures status { result.0 ≡ done.0 }
     ensures closed { MatchOption done.1 (result.1 ≡ None) (λ conn. IsSomeAnd result.1 (IsClosedOver conn)) }
+    ensures room { result.2 ≡ done.2 }
 {
-    let (status, left) = done;
-    (status, close(left))
+    let (status, left, room) = done;
+    (status, close(left), room)
+}
+
+/// Serves the room that there is, and gives the exit status; where there is none, the status that was given.
+fn served<N, W: Write + Device, F: Write + Device>(
+    alloc: Global,
+    net: &N,
+    status: u8,
+    room: Option<Visits>,
+    output: &mut W,
+    faults: &mut F,
+) -> u8
+where
+    N: Net<Listener = TcpListener, Stream = TcpStream> + Clock,
+    ensures none { room ≡ None → (result ≡ status) × (output.new ≡ output.old) × (faults.new ≡ faults.old) }
+    ensures served { IfSome room (λ visits. VisitsEnd visits.port result (W.contents output.old)
+        (W.contents output.new) (Rose (W.failed output.old) (W.failed output.new))) }
+{
+    match room {
+        Some(visits) => visits.serve(alloc, net, output, faults),
+        None => status,
+    }
 }
 
 fn main(rt: HostRuntime) -> ExitCode {
@@ -43,7 +77,7 @@ fn main(rt: HostRuntime) -> ExitCode {
     let mut faults = Counted::new(rt.stderr());
     let status = match words_of(&rt) {
         Ok(words) => {
-            let (status, _left) = closed(command::command(
+            let (status, _left, room) = closed(command::command(
                 &rt,
                 &words,
                 Unknown,
@@ -51,7 +85,7 @@ fn main(rt: HostRuntime) -> ExitCode {
                 &mut output,
                 &mut faults,
             ));
-            status
+            served(rt.alloc(), &rt, status, room, &mut output, &mut faults)
         }
         Err(error) => command::refuse_command_line(&error, &mut faults),
     };

@@ -1,13 +1,17 @@
 //! How a command ends: its exit status, and the line of a refusal.
 
-ghost use Rattle.std.specs.Prelude.{◌≡◌, if◌then◌else◌, is_ok, OnOk};
+ghost use Rattle.std.specs.Prelude.{◌≡◌, if◌then◌else◌, is_ok, None, OnOk};
 
+use crate::visits::Visits;
+use archive_commands::OpenFile;
 use gedcom_tree::{Device, write_bytes};
+use record_text::RefusalKind;
+use sqlite::Start;
 use std::fmt;
 use std::io::{Cursor, Write};
 
 /// The work is done.
-const DONE: u8 = 0;
+pub(crate) const DONE: u8 = 0;
 
 /// A refusal, told on the stream of faults.
 const REFUSED: u8 = 1;
@@ -30,6 +34,20 @@ pub(crate) fn status_of<F: Write + Device, T: fmt::Display + Drop>(
         Ok(()) => DONE,
         Err(fault) => refuse(faults, &fault),
     }
+}
+
+/// The status of what was done on an archive in a file, and the line of its refusal. The connection is handed on.
+pub(crate) fn finished<S: Start, F: Write + Device>(
+    done: (Result<(), RefusalKind>, Option<OpenFile<S>>),
+    faults: &mut F,
+) -> (u8, Option<OpenFile<S>>, Option<Visits>)
+    ensures status { result.0 ≡ (if is_ok done.0 then 0 else 1) }
+    ensures done { OnOk done.0 (faults.new ≡ faults.old) }
+    ensures left { result.1 ≡ done.1 }
+    ensures alone { result.2 ≡ None }
+{
+    let (outcome, left) = done;
+    (status_of(outcome, faults), left, None)
 }
 
 /// Tells a refusal: `parish: <no.> <Name>`, with ` at line <n>` or ` at row <n>` where it has one. It takes no

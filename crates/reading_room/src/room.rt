@@ -69,6 +69,13 @@ impl Room {
         Ok(Room { library })
     }
 
+    /// A room where the sheets of a library lie open.
+    pub fn over(library: Library) -> Room
+        ensures { result ≡ library }
+    {
+        Room { library }
+    }
+
     /// The pedigree of a person, of so many generations. `None`: the query has no right number of them.
     fn pedigree(
         &self,

@@ -1,55 +1,112 @@
 use Rattle.std.proofs.Common.{ap, refl, subst}
 use Rattle.sqlite_wal.specs.Files.{image_at}
-use Rattle.command_line.specs.Commands.{HasWords, name_of}
+use Rattle.command_line.specs.Asking.{HasWords, name_of}
+use Rattle.parish.proofs.Audited.{audit_ends}
+use Rattle.parish.proofs.Ending.{apply_ends, export_ends, init_ends}
 use Rattle.parish.proofs.Entered.{entries_ends}
 use Rattle.parish.proofs.Imported.{import_ends}
-use Rattle.parish.proofs.Ending.{apply_ends, export_ends, init_ends}
+use Rattle.parish.proofs.Showing.{public_ends, room_ends, sheet_ends}
 use Rattle.parish.proofs.command.work.Goals as goal
 
-pub returns-in-Init-clause-init : goal.returns-in-Init-clause-init
-returns-in-Init-clause-init g c = λ found has _.
-    let words = subst (HasWords found) c.in-Init.is has in
+pub returns-in-Init-clause-does : goal.returns-in-Init-clause-does
+returns-in-Init-clause-does g c =
     let made = c.init.ensures in
-    let ended = c.finished.ensures in (
-      init_ends (image_at g.S.Start) c.init.result.0 _ _ c.finished.result.0 c.init.result.1 c.finished.result.1 words.1
+    let ended = c.finished.ensures in
+    rw c.in-Init.is (
+      init_ends (image_at g.S.Start) c.init.result.0 _ c.finished.result.0 c.init.result.1 c.finished.result.1
           ended.left ended.status made.made made.refused,
       refl,
       refl,
+      ended.alone,
     )
 
-pub returns-in-Apply-clause-apply : goal.returns-in-Apply-clause-apply
-returns-in-Apply-clause-apply g c = λ _.
+pub returns-in-Apply-clause-does : goal.returns-in-Apply-clause-does
+returns-in-Apply-clause-does g c =
     let did = c.apply-done.ensures in
     let ended = c.finished-in-Apply.ensures in
-    apply_ends (image_at g.S.Start) c.apply-done.result.0 c.finished-in-Apply.result.0 _ _ _
-    g.F.Write.contents _ _ _ _ _
-    c.apply-done.result.1 c.finished-in-Apply.result.1 ended.left ended.done ended.status did.answered did.stopped
+    rw c.in-Apply.is (
+      apply_ends (image_at g.S.Start) c.apply-done.result.0 c.finished-in-Apply.result.0 _ _ _ g.F.Write.contents
+          _ _ _ _ _ c.apply-done.result.1 c.finished-in-Apply.result.1 ended.left ended.done ended.status
+          did.answered did.stopped,
+      ended.alone,
+    )
 
 pub returns-in-Apply-clause-done : goal.returns-in-Apply-clause-done
 returns-in-Apply-clause-done g c = λ _ other. absurd (other (ap name_of c.in-Apply.is))
 
-pub returns-in-Entries-clause-entries : goal.returns-in-Entries-clause-entries
-returns-in-Entries-clause-entries g c = λ found has _.
-    let words = subst (HasWords found) c.in-Entries.is has in
+pub returns-in-Entries-clause-does : goal.returns-in-Entries-clause-does
+returns-in-Entries-clause-does g c =
     let did = c.entries.ensures in
     let ended = c.entered.ensures in
-    entries_ends (image_at g.S.Start) c.entries.result.0 _ _ _ _ c.entered.result.0 _ _ _ _ _ c.entries.result.1
-    c.entered.result.1 words.2 words.1 ended.left ended.status
-    did.entered did.refused ended.told ended.untold
+    rw c.in-Entries.is (
+      entries_ends (image_at g.S.Start) c.entries.result.0 _ _ c.entered.result.0 _ _ _ _ _ c.entries.result.1
+          c.entered.result.1 ended.left ended.status did.entered did.refused ended.told ended.untold,
+      ended.alone,
+    )
 
-pub returns-in-Import-clause-import : goal.returns-in-Import-clause-import
-returns-in-Import-clause-import g c = λ found has _.
-    let words = subst (HasWords found) c.in-Import.is has in
+pub returns-in-Import-clause-does : goal.returns-in-Import-clause-does
+returns-in-Import-clause-does g c =
     let did = c.import.ensures in
     let ended = c.imported.ensures in
-    import_ends (image_at g.S.Start) c.import.result.0 _ _ c.imported.result.0 _ _ _ _ _ c.import.result.1
-    c.imported.result.1 words.1 ended.left ended.status did.imported did.refused ended.told ended.untold
+    rw c.in-Import.is (
+      import_ends (image_at g.S.Start) c.import.result.0 _ c.imported.result.0 _ _ _ _ _ c.import.result.1
+          c.imported.result.1 ended.left ended.status did.imported did.refused ended.told ended.untold,
+      ended.alone,
+    )
 
-pub returns-in-Export-clause-export : goal.returns-in-Export-clause-export
-returns-in-Export-clause-export g c = λ _.
+pub returns-in-Export-clause-does : goal.returns-in-Export-clause-does
+returns-in-Export-clause-does g c =
     let did = c.export.ensures in
-    let ended = c.finished-in-Export.ensures in (
+    let ended = c.finished-in-Export.ensures in
+    rw c.in-Export.is (
       export_ends (image_at g.S.Start) c.export.result.0 c.finished-in-Export.result.0 _ _ _ c.export.result.1
           c.finished-in-Export.result.1 ended.left ended.status did.exported did.stopped,
       refl,
+      ended.alone,
+    )
+
+pub returns-in-ExportPublic-clause-does : goal.returns-in-ExportPublic-clause-does
+returns-in-ExportPublic-clause-does g c =
+    let did = c.public_export.ensures in
+    let ended = c.finished-in-ExportPublic.ensures in
+    rw c.in-ExportPublic.is (
+      public_ends (image_at g.S.Start) c.public_export.result.0 _ c.finished-in-ExportPublic.result.0 _ _ _
+          c.public_export.result.1 c.finished-in-ExportPublic.result.1 ended.left ended.status did.published
+          did.stopped did.unread,
+      refl,
+      ended.alone,
+    )
+
+pub returns-in-Sheet-clause-does : goal.returns-in-Sheet-clause-does
+returns-in-Sheet-clause-does g c =
+    let did = c.sheet.ensures in
+    let ended = c.finished-in-Sheet.ensures in
+    rw c.in-Sheet.is (
+      sheet_ends (image_at g.S.Start) c.sheet.result.0 _ _ _ c.sheet_of-which.result _ c.finished-in-Sheet.result.0
+          _ _ _ c.sheet.result.1 c.finished-in-Sheet.result.1 c.sheet_of-which.ensures ended.left ended.status
+          did.told did.untold did.unread,
+      refl,
+      ended.alone,
+    )
+
+pub returns-in-Serve-clause-does : goal.returns-in-Serve-clause-does
+returns-in-Serve-clause-does g c =
+    let did = c.library.ensures in
+    let ended = c.opened.ensures in
+    rw c.in-Serve.is (
+      room_ends (image_at g.S.Start) c.library.result.0 _ _ _ c.opened.result.0 c.opened.result.2 c.library.result.1
+          c.opened.result.1 ended.left ended.status ended.open ended.shut did.shelved did.unshelved,
+      refl,
+      refl,
+    )
+
+pub returns-in-Audit-clause-does : goal.returns-in-Audit-clause-does
+returns-in-Audit-clause-does g c =
+    let did = c.audit.ensures in
+    let ended = c.audited.ensures in
+    rw c.in-Audit.is (
+      audit_ends (image_at g.S.Start) c.audit.result.0 c.audited.result.0 _ _ _ c.audit.result.1 c.audited.result.1
+          ended.left ended.status did.audited did.refused ended.told ended.untold,
+      refl,
+      ended.alone,
     )
