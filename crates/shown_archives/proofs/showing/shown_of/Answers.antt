@@ -7,14 +7,14 @@ use Rattle.shown_archives.proofs.showing.shown_of.Goals as goal
 
 pub returns-in-Ok-clause-shown : goal.returns-in-Ok-clause-shown
 returns-in-Ok-clause-shown g c =
-    shown_as (state g.S.Store c.args.archive.now.conn) (state g.S.Store c.state.new.self.conn) 
+    shown_as (state g.S.Store c.args.archive.now.conn) (state g.S.Store c.state.new.self.conn)
     c.in-Ok.state (λ clean. c.in-Ok.ensures.reads clean c.requires.kept) _ c.args.today
     (to_z-of_z w32 c.args.today c.ranges.today) c.masked.result c.masked.ensures.shown
 
 pub returns-in-Ok-clause-unshown : goal.returns-in-Ok-clause-unshown
 returns-in-Ok-clause-unshown g c =
     want_fails c.masked.result (state g.S.Store c.args.archive.now.conn) (state g.S.Store c.state.new.self.conn) _
-    (read (state g.S.Store c.args.archive.now.conn) (state g.S.Store c.state.new.self.conn) 
+    (read (state g.S.Store c.args.archive.now.conn) (state g.S.Store c.state.new.self.conn)
     c.in-Ok.state (λ clean. c.in-Ok.ensures.reads clean c.requires.kept)) c.masked.ensures.refused
 
 pub returns-in-Ok-clause-stops : goal.returns-in-Ok-clause-stops
