@@ -12,12 +12,9 @@ use sqlite::Alter;
 use std::alloc::Global;
 use store::Archive;
 
-/// The society of an archive, which is not changed. 1: memory was refused. 40: somebody else has spoilt its row. 80: the
-/// database failed.
-pub fn society_of<S: Alter>(
-    alloc: Global,
-    archive: &mut Archive<S>,
-) -> Result<Text, RefusalKind>
+/// The society of an archive, which is not changed. 1: memory was refused. 40: somebody else has spoilt its row. 80:
+/// the database failed.
+pub fn society_of<S: Alter>(alloc: Global, archive: &mut Archive<S>) -> Result<Text, RefusalKind>
     requires kept { archive.old.is_lost ≡ false }
     ensures named { IfOk result (λ text. OnOpen (state S.Store archive.old.conn) (state S.Store archive.new.conn)
         (λ society c. (text ≡ society) × HasArchive society c (state S.Store archive.new.conn))) }

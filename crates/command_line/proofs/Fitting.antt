@@ -64,23 +64,29 @@ fit_of : (a : Asked) (found : Option (Text × List Row))
     → is_fit found ≡ true
 fit_of asked.Norm found e has some = fit_by asked.Norm found (codes "norm") e has (λ rows words. refl)
 fit_of asked.Check found e has some = fit_by asked.Check found (codes "check") e has (λ rows words. refl)
-fit_of (asked.Init file society) found e has some = fit_by (asked.Init file society) found (codes "init") e has (λ rows words. refl)
-fit_of (asked.Apply file) found e has some = fit_by (asked.Apply file) found (codes "apply") e has (λ rows words. refl)
-fit_of (asked.Entries file source token) found e has some = fit_by (asked.Entries file source token) found (codes "entries") e has (λ rows words. refl)
-fit_of (asked.Import file token) found e has some = fit_by (asked.Import file token) found (codes "import") e has (λ rows words. refl)
-fit_of (asked.Export file) found e has some = fit_by (asked.Export file) found (codes "export") e has
-    (λ rows words. none_there _ _ _ words.1 words.2)
+fit_of (asked.Init file society) found e has some =
+    fit_by (asked.Init file society) found (codes "init") e has (λ rows words. refl)
+fit_of (asked.Apply file) found e has some =
+    fit_by (asked.Apply file) found (codes "apply") e has (λ rows words. refl)
+fit_of (asked.Entries file source token) found e has some =
+    fit_by (asked.Entries file source token) found (codes "entries") e has (λ rows words. refl)
+fit_of (asked.Import file token) found e has some =
+    fit_by (asked.Import file token) found (codes "import") e has (λ rows words. refl)
+fit_of (asked.Export file) found e has some =
+    fit_by (asked.Export file) found (codes "export") e has (λ rows words. none_there _ _ _ words.1 words.2)
 fit_of (asked.ExportPublic file today) found e has some =
-    fit_by (asked.ExportPublic file today) found (codes "export") e has (λ rows words. day_there _ _ _ today words.1 words.2)
+    fit_by (asked.ExportPublic file today) found (codes "export") e has
+    (λ rows words. day_there _ _ _ today words.1 words.2)
 fit_of (asked.Sheet file kind number generations today) found e has some =
     fit_by (asked.Sheet file kind number generations today) found (codes "sheet") e has
     (λ rows words. both_there _ _ kind today words.1 words.5)
 fit_of (asked.Serve file port count today) found e has some =
     fit_by (asked.Serve file port count today) found (codes "serve") e has (λ rows words. there _ today words.3)
-fit_of (asked.Audit file) found e has some = fit_by (asked.Audit file) found (codes "audit") e has (λ rows words. refl)
+fit_of (asked.Audit file) found e has some =
+    fit_by (asked.Audit file) found (codes "audit") e has (λ rows words. refl)
 fit_of (asked.Show text) found e has some = absurd cc
 
--- words in which the grammar has no fault to find, and that have the name and the words of what is asked for, ask for it
+-- words in which the grammar finds no fault, and that have the name and the words of what is asked for, ask for it
 asks_of : (o : Option Text) (words : List Text) → fault_of program words ≡ []
     → IfSome o (λ n. command_named words ≡ Some n) → (IsSome o → is_fit (subcommand_of program words) ≡ true)
     → IfSome o (λ name. IsTaken words × (command_named words ≡ Some name))

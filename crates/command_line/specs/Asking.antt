@@ -1,5 +1,31 @@
 -- What a command line asks for, by the command that it names and the words that this is given.
-use Rattle.std.specs.Prelude.{◌≡◌, ◌&&◌, ℕ, ℤ, ⊤, Bool, List, [], Option, Some, None, IfSome, IsSome, MatchResult, Result, true, false, codes, is_some, nat_le, not, option_and_then, option_map, unwrap_or, if◌then◌else◌}
+use Rattle.std.specs.Prelude.{
+  ◌≡◌,
+  ◌&&◌,
+  ℕ,
+  ℤ,
+  ⊤,
+  Bool,
+  List,
+  [],
+  Option,
+  Some,
+  None,
+  IfSome,
+  IsSome,
+  MatchResult,
+  Result,
+  true,
+  false,
+  codes,
+  is_some,
+  nat_le,
+  not,
+  option_and_then,
+  option_map,
+  unwrap_or,
+  if◌then◌else◌,
+}
 use Rattle.std.specs.Int.{IsInRange}
 use Rattle.std.specs.List.{list_any}
 use Rattle.std.specs.Option.{option_map_or}

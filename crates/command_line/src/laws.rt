@@ -2,7 +2,15 @@
 
 ghost use Rattle.std.specs.Prelude.{◌≡◌, [], ◌∷◌, Some, codes, true};
 ghost use Rattle.clap.specs.Words.{Text, subcommand_of};
-ghost use Rattle.command_line.specs.Asking.{IsTaken, generations_in, is_public, kind_in, number_of, number_up_to, word_in};
+ghost use Rattle.command_line.specs.Asking.{
+  IsTaken,
+  generations_in,
+  is_public,
+  kind_in,
+  number_of,
+  number_up_to,
+  word_in,
+};
 ghost use Rattle.command_line.specs.Commands.{program};
 ghost use Rattle.command_line.specs.Examples.{batch_words, import_words, public_words, serve_words, sheet_words};
 ghost use Rattle.command_line.specs.declared.tasks.SheetKind.TheVariants.{Pedigree};

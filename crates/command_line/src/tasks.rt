@@ -40,8 +40,8 @@ pub enum Asked<'a> {
         file: &'a str,
         today: i32,
     },
-    /// `sheet`: a sheet of the archive in a file as it may be shown on a day, on standard output. A pedigree has so many
-    /// generations, 1 to 12; they are 4 where none were given.
+    /// `sheet`: a sheet of the archive in a file as it may be shown on a day, on standard output. A pedigree has so
+    /// many generations, 1 to 12; they are 4 where none were given.
     Sheet {
         file: &'a str,
         kind: SheetKind,

@@ -10,7 +10,8 @@ use Rattle.import_forest.specs.Report.{report}
 use Rattle.store.specs.Histories.{Outcome}
 use Rattle.store.specs.declared.archive.Archive.{Archive}
 use Rattle.tables.specs.Applying.{Steps}
-use Rattle.file_imports.specs.Importing.{Imports, ImportsAll, ImportsSilently, IsFileOf, IsUnreported, import_request}
+use Rattle.interchange.specs.Results.{IsUnreported}
+use Rattle.file_imports.specs.Importing.{Imports, ImportsAll, ImportsSilently, IsFileOf, import_request}
 
 module _ {S : Type 0} (g : Ghosts S) (token : List ℕ) (input : Option (List ℕ)) (old new : Archive S g)
     (forest : List Item) (read : IsFileOf input forest) where

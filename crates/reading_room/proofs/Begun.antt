@@ -1,5 +1,5 @@
 -- What has got all of some bytes has got a beginning of them.
-use Rattle.std.proofs.Common.{◌≡◌, ◌≤◌, ℕ, List, length, take, sym, subst, arith, Option}
+use Rattle.std.proofs.Common.{ℕ, List, length, sym, subst, arith, Option}
 use Rattle.std.proofs.Math.Seq.{take-length}
 use Rattle.std.specs.Io.KnownBytes.{Appends}
 use Rattle.devices.specs.Devices.{AppendsBeginning}

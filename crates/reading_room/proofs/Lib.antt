@@ -2,4 +2,3 @@ pub mod Alike
 pub mod Begun
 pub mod Few
 pub mod Missing
-pub mod Told

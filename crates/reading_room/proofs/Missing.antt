@@ -1,12 +1,12 @@
 -- Without a person there is no pedigree.
-use Rattle.std.proofs.Common.{◌≡◌, ℕ, List, Option, Some, None, Result, Ok, Err, refl, ap, ◌∙◌}
+use Rattle.std.proofs.Common.{◌≡◌, ℕ, List, Option, Some, None, Result, Err, refl}
 use Rattle.std.specs.FinMap.{get}
 use Rattle.record_kinds.specs.declared.record.Record.{Record}
 use Rattle.record_kinds.specs.declared.record.Record.TheVariants as kind
 use Rattle.record_text.specs.declared.refusal.RefusalKind.{RefusalKind}
 use Rattle.archive_state.specs.Content.{Records}
 use Rattle.sheets.specs.Gathered.{Gathered, gathered}
-use Rattle.sheets.specs.Pedigrees.{pedigree, pedigree_in}
+use Rattle.sheets.specs.Pedigrees.{pedigree_in}
 use Rattle.room_visits.specs.declared.pages.PageFound.{PageFound}
 use Rattle.room_visits.specs.declared.pages.PageFound.TheVariants as found
 use Rattle.reading_room.specs.Room.{IsPersonIn, pedigree_page, sheet_page, wrongly_asked}

@@ -1,6 +1,6 @@
 //! What a visitor is shown of an archive.
 
-ghost use Rattle.std.specs.Prelude.{◌≡◌, ◌≤◌, ℕ, List, IfOk, IfSome, Result};
+ghost use Rattle.std.specs.Prelude.{◌≡◌, ◌≤◌, ℕ, List, codes, IfOk, IfSome, Result};
 ghost use Rattle.record_text.specs.declared.refusal.RefusalKind.{RefusalKind as SpecKind};
 ghost use Rattle.archive_state.specs.Sound.{IsSound};
 ghost use Rattle.room_routes.specs.Queries.{value_of};

@@ -43,7 +43,8 @@ module _ (old new : State) (held : Content)
   shown_as given today day (Err kind) shows = tt
 
 -- the same of what was made of it
-pub same_of : (r : Result Content RefusalKind) (s : Content) (P : Content → Type 0) → IfOk r (λ l. l ≡ s) → P s → IfOk r P
+pub same_of : (r : Result Content RefusalKind) (s : Content) (P : Content → Type 0) → IfOk r (λ l. l ≡ s) → P s
+    → IfOk r P
 same_of (Ok l) s P same p = subst P (sym same) p
 same_of (Err kind) s P same p = tt
 

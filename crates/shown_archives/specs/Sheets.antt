@@ -1,5 +1,5 @@
--- The text of a sheet of what is shown, or its refusal: 50, no record that is shown has the number; 51, it is of another
--- kind. Rules of our own.
+-- The text of a sheet of what is shown, or its refusal: 50, no record that is shown has the number; 51, it is of
+-- another kind. Rules of our own.
 use Rattle.std.specs.Prelude.{ℕ, List, Result}
 use Rattle.record_text.specs.declared.refusal.RefusalKind.{RefusalKind}
 use Rattle.archive_state.specs.Content.{Records}

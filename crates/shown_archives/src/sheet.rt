@@ -23,8 +23,8 @@ pub enum Sheet {
     Pedigree(u32, Generations),
 }
 
-/// The text of a sheet of what is shown. 50: no record that is shown has the number. 51: it is of another kind. 1: memory
-/// was refused.
+/// The text of a sheet of what is shown. 50: no record that is shown has the number. 51: it is of another kind. 1:
+/// memory was refused.
 pub fn sheet_of(alloc: Global, shown: &Shown, sheet: &Sheet) -> Result<String, RefusalKind>
     ensures text { IsSound shown.now
         → IfOk result (λ s. sheet_text shown.now.records sheet.now ≡ Ok (string_bytes s)) }

@@ -19,8 +19,8 @@ use sqlite::Alter;
 use std::alloc::Global;
 use store::Archive;
 
-/// What may be shown of an archive on a day, counted from 1970-01-01, day 0. The archive is read whole, and not changed.
-/// 1: memory was refused. 40: somebody else has spoilt what is stored. 80: the database failed.
+/// What may be shown of an archive on a day, counted from 1970-01-01, day 0. The archive is read whole, and not
+/// changed. 1: memory was refused. 40: somebody else has spoilt what is stored. 80: the database failed.
 pub fn shown_of<S: Alter>(
     alloc: Global,
     archive: &mut Archive<S>,

@@ -24,8 +24,9 @@ module _ {D : Type 0} {g : disk.Ghosts D} (image : Image) (old new conn : Held (
       (λ society c. IsShown c today s × HasArchive society c (file_state new)))
       → IfOk r (λ s. OnHeld image (λ _ c. IsShown c today s) (file_state conn))
   shelved (Ok s) today did = on_held image old new conn taken same (λ _ c. IsShown c today s)
-      (follows (file_state old) (file_state new) (λ society c. IsShown c today s × HasArchive society c (file_state new))
-      (λ _ c. IsShown c today s) (λ _ _ is. is.0) did)
+      (follows (file_state old) (file_state new)
+      (λ society c. IsShown c today s × HasArchive society c (file_state new)) (λ _ c. IsShown c today s)
+      (λ _ _ is. is.0) did)
   shelved (Err kind) today did = tt
 
   pub unshelved : (r : Result Content RefusalKind)

@@ -15,8 +15,8 @@ use sqlite::Start;
 use std::io::Write;
 use std::rt::HostRuntime;
 
-/// `sheet`: a sheet of what is shown, on a day counted from 1970-01-01, of the archive in a file, on the output; and the
-/// connection over the file where one was opened. The archive is not changed.
+/// `sheet`: a sheet of what is shown, on a day counted from 1970-01-01, of the archive in a file, on the output; and
+/// the connection over the file where one was opened. The archive is not changed.
 ///
 /// 82: there is no file, or it has no archive. 83: a later program made it. 80: the file cannot be opened or is no
 /// database, or the database failed. 40: somebody else has spoilt what is stored. 50: no record that is shown has the
@@ -46,13 +46,13 @@ pub fn sheet<S: Start, W: Write + Device>(
     }
 }
 
-/// `export --public`: what is shown, on a day counted from 1970-01-01, of the archive in a file, as a GEDCOM file on the
-/// output; and the connection over the file where one was opened. The archive is not changed.
+/// `export --public`: what is shown, on a day counted from 1970-01-01, of the archive in a file, as a GEDCOM file on
+/// the output; and the connection over the file where one was opened. The archive is not changed.
 ///
 /// 82: there is no file, or it has no archive. 83: a later program made it. 80: the file cannot be opened or is no
 /// database, or the database failed. 40: somebody else has spoilt what is stored. At these nothing is written. 70: the
-/// text would have more than 67,108,864 bytes. 95: the output failed. 1: memory was refused. At these a beginning of the
-/// text may have been written.
+/// text would have more than 67,108,864 bytes. 95: the output failed. 1: memory was refused. At these a beginning of
+/// the text may have been written.
 pub fn public_export<S: Start, W: Write + Device>(
     rt: &HostRuntime,
     file: &str,

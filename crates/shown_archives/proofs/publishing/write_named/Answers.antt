@@ -15,7 +15,8 @@ returns-in-Ok-clause-written g c =
     let before = g.W.Write.contents c.args.writer.now in
     let after = g.W.Write.contents c.write_shown.new.writer in
     all_of_shown old new c.args.today c.in-Ok.shown
-    (of_day old new _ c.args.today c.in-Ok.shown (to_z-of_z w32 c.args.today c.ranges.today) c.in-Ok.ensures.shown) c.write_shown.result
+    (of_day old new _ c.args.today c.in-Ok.shown (to_z-of_z w32 c.args.today c.ranges.today) c.in-Ok.ensures.shown)
+    c.write_shown.result
     (λ s. IsWhole before after (export_text c.args.society.now s)) c.write_shown.ensures.written
 
 pub returns-in-Ok-clause-begun : goal.returns-in-Ok-clause-begun
@@ -25,7 +26,8 @@ returns-in-Ok-clause-begun g c =
     let before = g.W.Write.contents c.args.writer.now in
     let after = g.W.Write.contents c.write_shown.new.writer in
     none_of_shown old new c.args.today c.in-Ok.shown
-    (of_day old new _ c.args.today c.in-Ok.shown (to_z-of_z w32 c.args.today c.ranges.today) c.in-Ok.ensures.shown) c.write_shown.result (λ kind. IsNotBegun kind before after)
+    (of_day old new _ c.args.today c.in-Ok.shown (to_z-of_z w32 c.args.today c.ranges.today) c.in-Ok.ensures.shown)
+    c.write_shown.result (λ kind. IsNotBegun kind before after)
     (λ kind s. IsCut kind before after (export_text c.args.society.now s)) c.write_shown.ensures.begun
 
 pub returns-in-Err-clause-begun : goal.returns-in-Err-clause-begun

@@ -14,7 +14,8 @@ returns-in-Ok-clause-written g c =
     let before = g.W.Write.contents c.args.writer.now in
     let after = g.W.Write.contents c.write_shown.new.writer in
     all_of_shown old new c.args.today c.in-Ok.shown
-    (of_day old new _ c.args.today c.in-Ok.shown (to_z-of_z w32 c.args.today c.ranges.today) c.in-Ok.ensures.shown) c.write_shown.result
+    (of_day old new _ c.args.today c.in-Ok.shown (to_z-of_z w32 c.args.today c.ranges.today) c.in-Ok.ensures.shown)
+    c.write_shown.result
     (λ s. GotText before after (sheet_text s.records c.args.sheet.now)) c.write_shown.ensures.written
 
 pub returns-in-Ok-clause-refused : goal.returns-in-Ok-clause-refused
@@ -24,7 +25,8 @@ returns-in-Ok-clause-refused g c =
     let before = g.W.Write.contents c.args.writer.now in
     let after = g.W.Write.contents c.write_shown.new.writer in
     none_of_shown old new c.args.today c.in-Ok.shown
-    (of_day old new _ c.args.today c.in-Ok.shown (to_z-of_z w32 c.args.today c.ranges.today) c.in-Ok.ensures.shown) c.write_shown.result (λ kind. IsNotBegun kind before after)
+    (of_day old new _ c.args.today c.in-Ok.shown (to_z-of_z w32 c.args.today c.ranges.today) c.in-Ok.ensures.shown)
+    c.write_shown.result (λ kind. IsNotBegun kind before after)
     (λ kind s. GotNoText kind before after (sheet_text s.records c.args.sheet.now)) c.write_shown.ensures.refused
 
 pub returns-in-Err-clause-refused : goal.returns-in-Err-clause-refused

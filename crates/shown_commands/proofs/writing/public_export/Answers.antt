@@ -13,7 +13,9 @@ pub returns-in-Ok-clause-published : goal.returns-in-Ok-clause-published
 returns-in-Ok-clause-published g c =
     let before = g.W.Write.contents c.args.output.now in
     let after = g.W.Write.contents c.write_public-outcome.new.output in
-    subst (λ (t : ℤ). OnOk c.write_public-outcome.result (Published (image_at g.S.Start) t before after (Some c.into_connection.result)))
+    subst
+    (λ (t : ℤ). OnOk c.write_public-outcome.result
+    (Published (image_at g.S.Start) t before after (Some c.into_connection.result)))
     (to_z-of_z w32 c.args.today c.ranges.today)
     (all_written (image_at g.S.Start) c.in-Ok.archive.conn c.write_public-outcome.new.archive.conn
     c.into_connection.result c.in-Ok.ensures.opened.1 c.into_connection.ensures c.write_public-outcome.result
@@ -24,7 +26,9 @@ returns-in-Ok-clause-stopped g c =
     let before = g.W.Write.contents c.args.output.now in
     let after = g.W.Write.contents c.write_public-outcome.new.output in
     let Failed = Rose (g.W.Device.failed c.args.output.now) (g.W.Device.failed c.write_public-outcome.new.output) in
-    subst (λ (t : ℤ). IfErr c.write_public-outcome.result (λ kind. Unpublished (image_at g.S.Start) kind t before after Failed (Some c.into_connection.result)))
+    subst
+    (λ (t : ℤ). IfErr c.write_public-outcome.result
+    (λ kind. Unpublished (image_at g.S.Start) kind t before after Failed (Some c.into_connection.result)))
     (to_z-of_z w32 c.args.today c.ranges.today)
     (part_written (image_at g.S.Start) c.in-Ok.archive.conn c.write_public-outcome.new.archive.conn
     c.into_connection.result c.in-Ok.ensures.opened.1 c.into_connection.ensures c.write_public-outcome.result

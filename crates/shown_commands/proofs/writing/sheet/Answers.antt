@@ -13,7 +13,9 @@ pub returns-in-Ok-clause-told : goal.returns-in-Ok-clause-told
 returns-in-Ok-clause-told g c =
     let before = g.W.Write.contents c.args.output.now in
     let after = g.W.Write.contents c.write_sheet-outcome.new.output in
-    subst (λ (t : ℤ). OnOk c.write_sheet-outcome.result (SheetTold (image_at g.S.Start) c.args.sheet t before after (Some c.into_connection.result)))
+    subst
+    (λ (t : ℤ). OnOk c.write_sheet-outcome.result
+    (SheetTold (image_at g.S.Start) c.args.sheet t before after (Some c.into_connection.result)))
     (to_z-of_z w32 c.args.today c.ranges.today)
     (all_written (image_at g.S.Start) c.in-Ok.archive.conn c.write_sheet-outcome.new.archive.conn
     c.into_connection.result c.in-Ok.ensures.opened.1 c.into_connection.ensures c.write_sheet-outcome.result
@@ -24,12 +26,14 @@ returns-in-Ok-clause-untold g c =
     let before = g.W.Write.contents c.args.output.now in
     let after = g.W.Write.contents c.write_sheet-outcome.new.output in
     let Failed = Rose (g.W.Device.failed c.args.output.now) (g.W.Device.failed c.write_sheet-outcome.new.output) in
-    subst (λ (t : ℤ). IfErr c.write_sheet-outcome.result (λ kind. SheetUntold (image_at g.S.Start) kind c.args.sheet t before after Failed (Some c.into_connection.result)))
+    subst
+    (λ (t : ℤ). IfErr c.write_sheet-outcome.result
+    (λ kind. SheetUntold (image_at g.S.Start) kind c.args.sheet t before after Failed (Some c.into_connection.result)))
     (to_z-of_z w32 c.args.today c.ranges.today)
     (part_written (image_at g.S.Start) c.in-Ok.archive.conn c.write_sheet-outcome.new.archive.conn
     c.into_connection.result c.in-Ok.ensures.opened.1 c.into_connection.ensures c.write_sheet-outcome.result
-    (λ kind. λ _ of. IsSheetRefused kind before after c.args.sheet _ of) before after _ c.write_sheet-outcome.ensures.refused
-    c.write_sheet-outcome.ensures.writer)
+    (λ kind. λ _ of. IsSheetRefused kind before after c.args.sheet _ of) before after _
+    c.write_sheet-outcome.ensures.refused c.write_sheet-outcome.ensures.writer)
 
 pub returns-in-Err-clause-untold : goal.returns-in-Err-clause-untold
 returns-in-Err-clause-untold g c = inl (c.in-Err.ensures.refused, keeps _)

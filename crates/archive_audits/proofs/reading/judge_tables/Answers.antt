@@ -1,0 +1,20 @@
+use Rattle.sqlite.specs.Held.{state}
+use Rattle.archive_audits.proofs.Judged.{read_judges, unread_judges}
+use Rattle.archive_audits.proofs.reading.judge_tables.Goals as goal
+
+pub returns-in-Ok-clause-judged : goal.returns-in-Ok-clause-judged
+returns-in-Ok-clause-judged g c clean =
+    read_judges (state g.S.Store c.args.conn.now) c.in-Ok.held c.judge.result (c.in-Ok.ensures.read clean)
+    c.judge.ensures.good c.judge.ensures.bad c.judge.ensures.told
+
+pub returns-in-Ok-clause-kept : goal.returns-in-Ok-clause-kept
+returns-in-Ok-clause-kept g c clean =
+    record { crash = c.in-Ok.ensures.crash clean; clean = c.in-Ok.ensures.clean clean }
+
+pub returns-in-Err-clause-judged : goal.returns-in-Err-clause-judged
+returns-in-Err-clause-judged g c clean =
+    unread_judges (state g.S.Store c.args.conn.now) c.in-Err.kind (c.in-Err.ensures.refused clean)
+
+pub returns-in-Err-clause-kept : goal.returns-in-Err-clause-kept
+returns-in-Err-clause-kept g c clean =
+    record { crash = c.in-Err.ensures.crash clean; clean = c.in-Err.ensures.clean clean }
