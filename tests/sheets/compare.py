@@ -59,8 +59,8 @@ class Served:
             raise SystemExit(f"{command}: nothing listens")
 
     def ran(self, *words: str, given: bytes = b"") -> bytes:
-        got = subprocess.run([*self.words, *words], cwd=self.folder, input=given, capture_output=True, check=False)
-        return got.stdout
+        command = [*self.words, *words]
+        return subprocess.run(command, cwd=self.folder, input=given, capture_output=True, check=False).stdout
 
     def answer(self, given: bytes) -> bytes:
         with socket.create_connection(("127.0.0.1", self.port), timeout=60) as visitor:

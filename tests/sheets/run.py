@@ -103,8 +103,8 @@ def main() -> int:
     archives = int(sys.argv[1]) if len(sys.argv) > 1 else 100
     program = sys.argv[2] if len(sys.argv) > 2 else PROGRAM
     count, failures = 0, []
-    runs = [list(cases_by_hand()), [visits_to(scene) for scene in VISITS]]
-    runs += [[drawn_case(seed)] for seed in range(archives)]
+    by_hand = [*cases_by_hand(), *(visits_to(scene) for scene in VISITS)]
+    runs = [by_hand] + [[drawn_case(seed)] for seed in range(archives)]
     for cases in runs:
         count += len(cases)
         failures += differences(program, cases)
