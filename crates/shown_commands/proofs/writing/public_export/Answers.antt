@@ -12,7 +12,7 @@ use Rattle.shown_commands.proofs.writing.public_export.Goals as goal
 pub returns-in-Ok-clause-published : goal.returns-in-Ok-clause-published
 returns-in-Ok-clause-published g c =
     let before = g.W.Write.contents c.args.output.now in
-    let after = g.W.Write.contents c.write_public-outcome.new.output in
+    let after = g.W.Write.contents c.write_public-outcome.new.writer in
     subst
     (λ (t : ℤ). OnOk c.write_public-outcome.result
     (Published (image_at g.S.Start) t before after (Some c.into_connection.result)))
@@ -24,8 +24,8 @@ returns-in-Ok-clause-published g c =
 pub returns-in-Ok-clause-stopped : goal.returns-in-Ok-clause-stopped
 returns-in-Ok-clause-stopped g c =
     let before = g.W.Write.contents c.args.output.now in
-    let after = g.W.Write.contents c.write_public-outcome.new.output in
-    let Failed = Rose (g.W.Device.failed c.args.output.now) (g.W.Device.failed c.write_public-outcome.new.output) in
+    let after = g.W.Write.contents c.write_public-outcome.new.writer in
+    let Failed = Rose (g.W.Device.failed c.args.output.now) (g.W.Device.failed c.write_public-outcome.new.writer) in
     subst
     (λ (t : ℤ). IfErr c.write_public-outcome.result
     (λ kind. Unpublished (image_at g.S.Start) kind t before after Failed (Some c.into_connection.result)))

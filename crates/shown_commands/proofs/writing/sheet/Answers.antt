@@ -12,7 +12,7 @@ use Rattle.shown_commands.proofs.writing.sheet.Goals as goal
 pub returns-in-Ok-clause-told : goal.returns-in-Ok-clause-told
 returns-in-Ok-clause-told g c =
     let before = g.W.Write.contents c.args.output.now in
-    let after = g.W.Write.contents c.write_sheet-outcome.new.output in
+    let after = g.W.Write.contents c.write_sheet-outcome.new.writer in
     subst
     (λ (t : ℤ). OnOk c.write_sheet-outcome.result
     (SheetTold (image_at g.S.Start) c.args.sheet t before after (Some c.into_connection.result)))
@@ -24,8 +24,8 @@ returns-in-Ok-clause-told g c =
 pub returns-in-Ok-clause-untold : goal.returns-in-Ok-clause-untold
 returns-in-Ok-clause-untold g c =
     let before = g.W.Write.contents c.args.output.now in
-    let after = g.W.Write.contents c.write_sheet-outcome.new.output in
-    let Failed = Rose (g.W.Device.failed c.args.output.now) (g.W.Device.failed c.write_sheet-outcome.new.output) in
+    let after = g.W.Write.contents c.write_sheet-outcome.new.writer in
+    let Failed = Rose (g.W.Device.failed c.args.output.now) (g.W.Device.failed c.write_sheet-outcome.new.writer) in
     subst
     (λ (t : ℤ). IfErr c.write_sheet-outcome.result
     (λ kind. SheetUntold (image_at g.S.Start) kind c.args.sheet t before after Failed (Some c.into_connection.result)))
