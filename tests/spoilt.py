@@ -154,6 +154,13 @@ def other(tag, value=None, number=None, carried=()):
     return whole(15, (0, "other", None, None), (1, tag, value, number), *carried)
 
 
+def events_of_the_slip(tag):
+    """The event 18 has this tag, now and in the slip, before the merge and after it."""
+    before, after = [(0, "event", None, owner) for owner in (17, 6)]
+    line = (1, tag, "smith", None)
+    return slip(0, 18, before, line), slip(1, 18, after, line), whole(18, after, line)
+
+
 SHAPE = ((2, "SOUR", None, 4), (2, "PAGE", "f. 9", None), (2, "_ITEM", "1", None), (2, "TEXT", "x", None),
          (2, "_MENT", "Kit", None), (3, "_ROLE", "buried", None))
 PARTS = ", ".join(["a"] * 31)
@@ -243,12 +250,9 @@ PAIRS = (
     Pair("what is gone was a place", "slip 19", "what is gone was no person",
          slip(0, 17, (0, "place", "Ross", None)), nothing),
     Pair("an old record that breaks a rule", "slip 19", "before the merge",
-         both(slip(0, 18, (0, "event", None, 17), (1, "MARR", "smith", None)),
-              slip(1, 18, (0, "event", None, 6), (1, "MARR", "smith", None)),
-              whole(18, (0, "event", None, 6), (1, "MARR", "smith", None))),
-         both(slip(0, 18, (0, "event", None, 17), (1, "RESI", "smith", None)),
-              slip(1, 18, (0, "event", None, 6), (1, "RESI", "smith", None)),
-              whole(18, (0, "event", None, 6), (1, "RESI", "smith", None)))),
+         slip(0, 17, *OLD[:2], (1, "carried", None, None), (2, "SEX", "M", None)), slip(0, 17, *OLD)),
+    Pair("an event before and after a merge", "record 18", "the tag of the event is not of its owner's kind",
+         both(*events_of_the_slip("MARR")), both(*events_of_the_slip("RESI"))),
     Pair("a person merged into itself", "", "", run("UPDATE slip SET gone = 6"), nothing),
     # lines that are no record
     Pair("a tag that no field has", "", "", change(5, 2, (1, "sax", "F", None)), change(5, 2, (1, "sex", "M", None))),
