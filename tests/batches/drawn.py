@@ -11,6 +11,8 @@ import random
 import re
 import sys
 
+from plain import Person, Place, Source
+
 # dates as they are written in a file, and their canonical spelling: docs/FORMATS.md, "Dates"
 DATES = {
     "11 FEB 1731/32": "11 FEB 1731/32",
@@ -56,15 +58,14 @@ class File:
 
     # ---- lines
 
-    def line(self, level: int, tag: str, value: str = "", name: str = "") -> int:
-        """A line whose value is spelt already; seldom with a name that nothing else has. Its level is answered."""
+    def line(self, level: int, tag: str, value: str = "", name: str = ""):
+        """A line whose value is spelt already; seldom with a name that nothing else has."""
         if level and self.some(0.03):
             self.marks += 1
             name = f"@M{self.marks}@"
         self.lines.append(" ".join([str(level), *filter(None, [name, tag])]) + (f" {value}" if value else ""))
-        return level
 
-    def text(self, level: int, tag: str, value: str, name: str = "") -> int:
+    def text(self, level: int, tag: str, value: str, name: str = ""):
         """A line with a text, cut somewhere at times."""
         first, *more = [piece.replace("@", "@@") for piece in value.split("\n")]
         cut = self.draw.randrange(1, len(first)) if len(first) > 1 and self.some(0.1) else len(first)
@@ -74,7 +75,6 @@ class File:
         if first[cut:]:
             self.lines.append(f"{level + 1} CONC {first[cut:]}")
         self.lines += [f"{level + 1} CONT {piece}" for piece in more]
-        return level
 
     def pointer(self, letters: str) -> str:
         """Mostly to a record of one of these kinds, or to one of another, or to none."""
@@ -82,11 +82,12 @@ class File:
             return self.any_of(("@N9@", "@M1@", "@SOCIETY@"))
         return self.any_of(self.pool[self.any_of(letters if self.some(0.9) else "IFSRPEX")])
 
-    def value(self, level: int, tag: str, letters: str = "IFSRPEX") -> int:
+    def value(self, level: int, tag: str, letters: str = "IFSRPEX"):
         """A line with a pointer or a text."""
         if self.some(0.5):
-            return self.line(level, tag, self.pointer(letters))
-        return self.text(level, tag, self.any_of(TEXTS))
+            self.line(level, tag, self.pointer(letters))
+        else:
+            self.text(level, tag, self.any_of(TEXTS))
 
     def stray(self, level: int):
         """A line of any tag, with lines below it, seldom down to the last level."""
@@ -245,8 +246,11 @@ class File:
 
     def other(self, name: str):
         tag = self.any_of(("NOTE", "SUBM", "OBJE", "HEAD", "_X", "BIRT"))
-        value = self.pointer("X" if self.some(0.8) else "IFSRPEX")
-        self.line(0, tag, value, name) if self.some(0.6) else self.text(0, tag, self.any_of(TEXTS), name)
+        named = self.pointer("X" if self.some(0.8) else "IFSRPEX")
+        if self.some(0.6):
+            self.line(0, tag, named, name)
+        else:
+            self.text(0, tag, self.any_of(TEXTS), name)
         self.strays(1, 0.3)
 
     def dropped(self, tag: str, name: str):
@@ -286,8 +290,6 @@ def text(seed) -> str:
 
 def archive(seed) -> tuple[dict, int]:
     """The records of an archive by their numbers, places mostly, and its next number; each second is empty."""
-    from plain import Person, Place, Source
-
     draw = random.Random(f"archive {seed}")
     made: dict = {}
     for number in sorted(draw.sample(range(1, 30), draw.choice((0, 0, 0, 3, 5, 8)))):
