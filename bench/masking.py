@@ -1,7 +1,7 @@
 """Times the masked state: python3 bench/masking.py [PERSONS..].
 
 Of PERSONS persons (100,000), each with three events, half of them in a family each; and of two hubs, one person with
-50,000 events, and one event with 50,000 participants. `crates/masked_rows/out/masked_rows` reads the records as rows,
+50,000 events, and one event with 50,000 participants. `crates/state_rows/out/state_rows` reads the records as rows,
 and then makes the masked state of a day no time and five times. Told is the processor time of one masked state: the
 difference, by five. Beside it stand the time in which the same run reads and keeps the records, as the floor, and the
 most memory of both runs.
@@ -14,7 +14,7 @@ import tempfile
 
 from norm import FIRST, LAST, MONTHS, one_run
 
-PROGRAM = str(pathlib.Path(__file__).resolve().parents[1] / "crates/masked_rows/out/masked_rows")
+PROGRAM = str(pathlib.Path(__file__).resolve().parents[1] / "crates/state_rows/out/state_rows")
 TODAY = 19_723  # 2024-01-01
 TIMES = 5
 

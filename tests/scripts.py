@@ -289,7 +289,7 @@ def all_tests_with_requests(copy):
 
 
 def all_tests_with_sheets(copy):
-    all_tests_with(copy, "sheet_rows", "sheets")
+    all_tests_with(copy, "state_rows", "masking", "sheets", "batches")
 
 
 def tests_that_fail(copy):

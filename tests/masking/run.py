@@ -1,4 +1,4 @@
-"""Runs masked_rows on cases by hand and on drawn archives: python3 tests/masking/run.py.
+"""Runs state_rows on cases by hand and on drawn archives: python3 tests/masking/run.py.
 
 One line a failed case, and last `N passed, M failed`; status 0 only if none failed and one passed.
 """
@@ -19,7 +19,7 @@ from asking import differences  # noqa: E402
 from plain import lines  # noqa: E402
 from rows import Ask, Case, given, kept, row  # noqa: E402
 
-PROGRAM = HERE.parents[1] / "crates/masked_rows/out/masked_rows"
+PROGRAM = HERE.parents[1] / "crates/state_rows/out/state_rows"
 DRAWN = 2000
 AT_ONCE = 200
 

@@ -1,4 +1,4 @@
-"""Runs sheet_rows on sheets by hand and on those of drawn archives, and on requests to a reading room, by hand and
+"""Runs state_rows on sheets by hand and on those of drawn archives, and on requests to a reading room, by hand and
 drawn: python3 tests/sheets/run.py [ARCHIVES [PROGRAM]].
 
 One line a failed case, and last `N passed, M failed`; status 0 only if none failed and one passed.
@@ -24,7 +24,7 @@ from rows import Ask, Case, given, row  # noqa: E402
 from room import Room, answer  # noqa: E402
 from rules import Sheets  # noqa: E402
 
-PROGRAM = HERE.parents[1] / "crates/sheet_rows/out/sheet_rows"
+PROGRAM = HERE.parents[1] / "crates/state_rows/out/state_rows"
 TODAY = 19_723  # 2024-01-01
 HEADS = 20  # of each of 25 archives
 SURNAMES = ("Lee", "LEE", "strasse", "", "Ray", "nobody")

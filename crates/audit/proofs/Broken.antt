@@ -1,10 +1,12 @@
 -- What is found breaks the rule.
-use Rattle.std.proofs.Common.{ℕ, List, [], ◌∷◌, Bool, true, inl, inr, subst}
+use Rattle.std.proofs.Common.{◌≡◌, ℕ, List, [], ◌∷◌, Bool, true, false, refl, sym, ◌∙◌, inl, inr, subst}
+use Rattle.std.specs.Prelude.{Option, Some, None}
+use Rattle.std.specs.FinMap.{get}
 use Rattle.record_links.specs.Links.{Link, links}
 use Rattle.record_shapes.specs.Lists.{EachOf}
-use Rattle.archive_state.specs.Content.{Records}
+use Rattle.archive_state.specs.Content.{Content, Records}
 use Rattle.archive_state.specs.Slips.{Slip}
-use Rattle.archive_state.specs.Sound.{IsSoundSlip, old_records}
+use Rattle.archive_state.specs.Sound.{IsSound, IsSoundSlip, old_records}
 use Rattle.standing_links.specs.Standing.{IsOne, Meets, link_of}
 use Rattle.sound_records.specs.Parts.{AreWhole, BreaksAt, IsBreach}
 use Rattle.sound_records.specs.declared.part.Breach.{Breach}
@@ -13,6 +15,9 @@ use Rattle.sound_records.specs.declared.part.Part.TheVariants as part
 use Rattle.sound_slips.specs.Parts.{BreaksSlip}
 use Rattle.sound_slips.specs.declared.part.SlipPart.{SlipPart}
 use Rattle.sound_slips.specs.declared.part.SlipPart.TheVariants as slip_part
+use Rattle.audit.specs.Faults.{IsFault}
+use Rattle.audit.specs.declared.fault.Fault.{Fault}
+use Rattle.audit.specs.declared.fault.Fault.TheVariants as fault
 
 one_of : (may_miss : Bool) (m : Records) (P : Link → Type 0) (ls : List Link) (l : Link) → IsOne may_miss m l ls
     → EachOf P ls → P l
@@ -68,3 +73,21 @@ slip_breaks next n s slip_part.Clash fails h = fails h.joinable
 slip_breaks next n s slip_part.Merge fails h = fails h.merges
 slip_breaks next n s (slip_part.Old b) is h = breach_breaks next true (old_records s) b is
     (record { rules = h.rules; named = h.named })
+
+pub none_where : {X : Type 0} (o : Option X) → ((x : X) → o ≡ Some x → ⊥) → o ≡ None
+none_where None h = refl
+none_where (Some x) h = absurd (h x refl)
+
+-- in a sound archive no record has the number of a slip
+pub unshared : (c : Content) (n : ℕ) (s : Slip) → IsSound c → get c.slips n ≡ Some s → get c.records n ≡ None
+unshared c n s sound at = none_where (get c.records n)
+    (λ r there. let both : None ≡ Some s = sym (sound.distinct n r there) ∙ at in absurd cc)
+
+pub fault_breaks : (c : Content) (f : Fault) → IsFault c f → IsSound c → ⊥
+fault_breaks c fault.Next fails sound = fails (sound.begun, sound.bounded)
+fault_breaks c (fault.Record b) is sound = breach_breaks c.next false c.records b is
+    (record { rules = sound.rules; named = sound.named })
+fault_breaks c (fault.Shared n) (s, at, fails) sound = fails (unshared c n s sound at)
+fault_breaks c (fault.Slip n p) (s, at, is) sound = slip_breaks c.next n s p is (sound.slips n s at)
+fault_breaks c (fault.Stayed n) (s, at, fails) sound = fails (sound.stayed n s at)
+fault_breaks c (fault.Taken n) (s, at, fails) sound = fails (sound.free n s at)

@@ -1,4 +1,3 @@
-pub mod Gathered
+pub mod Keys
 pub mod Broken
-pub mod Sound
-pub mod KeptSlips
+pub mod Whole

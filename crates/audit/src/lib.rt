@@ -2,13 +2,11 @@
 //!
 //! It uses `sound_records` and `sound_slips`, and `archive_state` for the definition.
 //!
-//! Callers may rely on: what is named breaks the rule, whatever else the state holds; where nothing is named the state
-//! is sound, if nothing in it has a number beyond the next one. Each number below the next one is looked at, also one
-//! that has no record, since a state does not tell which numbers have one.
+//! Callers may rely on: what is named breaks the rule as it says; where nothing is named the state is sound. Each
+//! record and each slip is looked at once for each part.
 #![tactic(auto)]
 
 mod fault;
-mod gathering;
 mod searching;
 mod slips;
 mod words;

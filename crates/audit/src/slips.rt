@@ -1,8 +1,8 @@
 //! The slips of a state.
 
-ghost use Rattle.std.specs.Prelude.{◌≡◌, ◌+◌, ◌↔◌, IfOk, IfSome, IsTrue, None, Some, not, MatchOption};
-ghost use Rattle.std.specs.FinMap.{get};
-ghost use Rattle.archive_state.specs.Sound.{IsPerson, IsSound};
+ghost use Rattle.std.specs.Prelude.{◌≡◌, ◌↔◌, IfOk, IfSome, IsTrue, None, Some, not, MatchOption};
+ghost use Rattle.std.specs.FinMap.{get, keys};
+ghost use Rattle.archive_state.specs.Sound.{IsPerson};
 ghost use Rattle.audit.specs.Faults as faults;
 
 use crate::fault::Fault;
@@ -11,25 +11,30 @@ use record_kinds::Record;
 use sound_slips::broken_slip;
 use std::alloc::{AllocError, Global};
 
-/// What the first slip up to the last number breaks.
-pub(crate) fn first_broken(
-    alloc: Global,
-    state: &State,
-    last: u32,
-) -> Result<Option<Fault>, AllocError>
-    ensures { IfOk result (λ o. MatchOption o (faults.KeepSlips state.now (last + 1)) (λ f. ¬ (IsSound state.now))) }
+/// What the first slip breaks that breaks a part of the rule.
+pub(crate) fn first_broken(alloc: Global, state: &State) -> Result<Option<Fault>, AllocError>
+    ensures { IfOk result (λ o. MatchOption o (faults.KeepSlips state.now (keys state.now.slips))
+        (faults.IsFault state.now)) }
 {
-    'numbers: for number in 0..last {
-        if let Some(fault) = broken_at(alloc, state, number)? {
+    let numbers = state.slip_numbers(alloc)?;
+    first_of(alloc, state, numbers.as_slice())
+}
+
+/// What the first of the slips of these numbers breaks.
+fn first_of(alloc: Global, state: &State, numbers: &[u32]) -> Result<Option<Fault>, AllocError>
+    ensures { IfOk result (λ o. MatchOption o (faults.KeepSlips state.now numbers.now) (faults.IsFault state.now)) }
+{
+    'numbers: for number in numbers {
+        if let Some(fault) = broken_at(alloc, state, *number)? {
             return Ok(Some(fault));
         }
     }
-    broken_at(alloc, state, last)
+    Ok(None)
 }
 
 /// What the slip of a number breaks, where there is one.
 fn broken_at(alloc: Global, state: &State, number: u32) -> Result<Option<Fault>, AllocError>
-    ensures { IfOk result (λ o. MatchOption o (faults.KeepsSlipAt state.now number) (λ f. ¬ (IsSound state.now))) }
+    ensures { IfOk result (λ o. MatchOption o (faults.KeepsSlipAt state.now number) (faults.IsFault state.now)) }
 {
     match state.slip(number) {
         Some(slip) => broken_by(alloc, state, number, slip),
@@ -44,7 +49,7 @@ fn broken_by(
     slip: &Slip,
 ) -> Result<Option<Fault>, AllocError>
     ensures { get state.now.slips number ≡ Some slip.now → IfOk result (λ o. MatchOption o
-        (faults.KeepsSlip state.now number slip.now) (λ f. ¬ (IsSound state.now))) }
+        (faults.KeepsSlip state.now number slip.now) (faults.IsFault state.now)) }
 {
     if has_record(state, number) {
         return Ok(Some(Fault::Shared(number)));

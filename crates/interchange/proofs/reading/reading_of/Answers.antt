@@ -6,7 +6,7 @@ use Rattle.draft_reading.specs.Trees.{draft_tree}
 use Rattle.import_drawing.specs.Drafts.{SeeksByPaths}
 use Rattle.import_forest.specs.Positions.{paths, position_of}
 use Rattle.known_roots.specs.Views.{path_said}
-use Rattle.interchange.proofs.Counts.{drafts_few, drafts_same, paths_few}
+use Rattle.interchange.proofs.Counts.{drafts_few, paths_few}
 use Rattle.interchange.proofs.Parts.{reported}
 use Rattle.interchange.proofs.reading.reading_of.Goals as goal
 
@@ -23,7 +23,7 @@ returns-clause-few c =
 pub returns-clause-paths : goal.returns-clause-paths
 returns-clause-paths c =
     let ks = c.in_ok-roots.roots in
-    subst (EachOf SeeksByPaths) (sym (c.in_ok-drafts.ensures.drafts ∙ drafts_same (roots ks) 0 (roots ks)))
+    subst (EachOf SeeksByPaths) (sym c.in_ok-drafts.ensures.drafts)
     (c.the_drafts_of_a_file_seek_by_paths.ensures ks (subst AreInFile c.roots.view_is c.roots.invariant.in_file))
 
 pub returns-clause-places : goal.returns-clause-places

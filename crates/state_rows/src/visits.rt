@@ -1,22 +1,29 @@
 //! Requests to a reading room, and its answers.
 
+use crate::masked::day;
+use archive_state::State;
 use devices::Counted;
 use hex::FromHexError;
 use reading_room::{Room, serve_one};
 use records::RefusalKind;
 use room_visits::VisitError;
-use row_words::Answer;
-use shown_state::Shown;
+use row_words::{Answer, word};
+use shown_state::{Shown, shown};
 use std::alloc::Global;
 
-/// Says the bytes that a room writes to those of a request, both in hexadecimal digits. 90: the request is not.
-pub(crate) fn say_answer(
+/// Says the bytes that a room which shows what is shown that day writes to those of a request, both in hexadecimal
+/// digits. 90: the request is not.
+pub(crate) fn say_visit(
     alloc: Global,
-    masked: Shown,
-    request: &str,
+    state: &State,
+    words: &[String],
     out: &mut Answer,
 ) -> Result<(), RefusalKind> {
-    let written = answer_to(alloc, masked, request)?;
+    let masked = match shown(alloc, state, day(words, 1)) {
+        Ok(masked) => masked,
+        Err(refusal) => return Err(refusal.kind),
+    };
+    let written = answer_to(alloc, masked, word(words, 2))?;
     out.say_bytes(&written);
     out.say("\n");
     Ok(())

@@ -1,9 +1,13 @@
-//! Answers each row of standard input: records put into a state, the sheets of what of it is shown, and what a reading
-//! room answers to a request. A tool of the tests, no part of the product.
+//! Answers each row of standard input: records put into a state; who of it is living, what of it is shown, the sheets
+//! of that, and what a reading room answers to a request; what a file of lines would make of it. A tool of the tests,
+//! no part of the product.
 #![tactic(auto)]
 
 mod answering;
+mod files;
+mod masked;
 mod session;
+mod sheet;
 mod visits;
 
 use crate::answering::answer_to;
