@@ -81,7 +81,7 @@ def kinds(rows: bytes, answers: str) -> dict:
 
 
 def may_differ(given: bytes, one: bytes, other: bytes) -> bool:
-    large = len(given) >= MOST_BYTES or given.count(b"\n") > MOST_LINES
+    large = len(given) >= MOST_BYTES or given.count(b"\n") > MOST_LINES + 1
     return large and {one[9:12], other[9:12]} == EITHER
 
 
