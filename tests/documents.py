@@ -16,7 +16,9 @@ import tempfile
 
 from harness import REFUSALS, ROOT, Case, Outcome, Tools, demand, expect, run, written
 
-DOCUMENTS = ("README.md", "docs/WALK.md", "samples/README.md", "docs/FORMATS.md", "docs/REFUSALS.md")
+DOCUMENTS = (
+    "README.md", "docs/WALK.md", "docs/SHEETS.md", "samples/README.md", "docs/FORMATS.md", "docs/REFUSALS.md",
+)
 BLOCK = re.compile(r"^```console\n(.*?)^```$", re.DOTALL | re.MULTILINE)
 COMMAND = re.compile(r"^\$ (.*)\n((?:(?!\$ ).*\n)*)", re.MULTILINE)
 # (a refusal begins a row of a table, or an item of a list)

@@ -294,6 +294,27 @@ def the_samples(tools):
             expect(at.import_(given), told)
 
 
+PROGRAMS = ("gramps", "geneweb", "webtrees", "ancestral_quest", "paf", "legacy", "family_tree_maker")
+
+
+def of_program(name):
+    """A file in the manner of a program, what is told of it in a new archive, and the records of its export."""
+    for ending in (".ged", ".report.txt", ".records.ged"):
+        with open(os.path.join(ROOT, "tests/programs", name + ending), "rb") as file:
+            yield file.read()
+
+
+def files_of_other_programs(tools):
+    for name in PROGRAMS:
+        given, told, records = of_program(name)
+        with Imported(tools) as at:
+            expect(at.made().import_(given), written(told))
+            got = at.records().encode()
+            demand(got == records, f"{name}: {difference(records, got)}")
+            expect(at.import_(given), written(told))
+            demand(at.records().encode() == got, f"{name}: the same again changed something")
+
+
 def an_entry_of_a_file(tools):
     """It is an entry as those of rows are: its key is taken, and its mentions can be linked."""
     given = between("0 @S1@ SOUR", "0 @E1@ _REG BAPTISM", "1 SOUR @S1@", "1 PAGE f. 3", "1 _ITEM 1", "1 TEXT John",
@@ -319,6 +340,7 @@ TESTS = (
     an_output_that_is_full,
     an_input_that_fails,
     the_samples,
+    files_of_other_programs,
     an_entry_of_a_file,
 )
 

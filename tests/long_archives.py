@@ -1,23 +1,26 @@
 """Long tests of archives in files, which `./test` does not run:
 
-    python3 tests/long_archives.py kills [ROWS [KILLS [SEED]]]
-    python3 tests/long_archives.py compare 'COMMAND' [ROWS [SEED]]
-    python3 tests/long_archives.py exports 'COMMAND' [ARCHIVES [SEED]]
-    python3 tests/long_archives.py imports 'COMMAND' [FILES [SEED]]
+    python3 tests/long_archives.py [--parish COMMAND] kills [ROWS [KILLS [SEED]]]
+    python3 tests/long_archives.py [--parish COMMAND] [--loaded] compare 'COMMAND' [ROWS [SEED]]
+    python3 tests/long_archives.py [--parish COMMAND] [--loaded] exports 'COMMAND' [ARCHIVES [SEED]]
+    python3 tests/long_archives.py [--parish COMMAND] [--loaded] imports 'COMMAND' [FILES [SEED]]
 
 `kills` gives ROWS generated rows (2,000) to `apply`, kills it KILLS times (20) at random moments and gives the same
 rows again: each answer has to be that of a run that was not stopped, and so have the tables. `compare` gives ROWS rows
 (5,000), in archives of 200 rows each, to `apply` and to a second program, which takes the same words, then drawn
 batches to `entries`, and their rows one by one to `apply`, and compares what is told. `exports` gives the rows of
 ARCHIVES archives (500) to both, and compares what they export. `imports` gives FILES drawn files (2,000) to both, each
-into an archive of 20 rows and again, and compares what is told and what is exported then. The last line is `N passed, M
-failed`.
+into an archive of 20 rows, each tenth twice, and compares what is told and what is exported then. `--loaded`: the
+second program is one of Python, as `python3 PROGRAM.py`, and is loaded once (loaded.py), so that a file takes a
+twentieth of a second and not a whole one. TMPDIR=/dev/shm spares the disk. The last line is `N passed, M failed`.
 """
 
 from __future__ import annotations
 
+import argparse
 import collections
 import csv
+import functools
 import io
 import os
 import random
@@ -27,15 +30,33 @@ import tempfile
 
 sys.dont_write_bytecode = True
 
-from archives import generated, killed_and_run_again  # noqa: E402
+from archives import killed_and_run_again  # noqa: E402
 from harness import ROOT, Failed, Tools, difference, run  # noqa: E402
 from lineages import drawn as drawn_file  # noqa: E402
+from loaded import Loaded  # noqa: E402
 
 EACH = 200  # rows of an archive
+ALIKE = 50  # files that are imported into the same rows
 BATCHES = 12  # of an archive
 SIZES = [0, 1, 2, 3, 5, 8]  # rows of a batch
 TOKENS = ["b1", "b2", "b3", "b4", "b5", "b6", "b7", "b8", "b 9"]
-PARISH = (os.path.join(ROOT, "crates/parish/out/parish"),)
+PARISH = os.path.join(ROOT, "crates/parish/out/parish")
+
+
+@functools.cache
+def generator():
+    """The generator of rows, loaded once."""
+    return Loaded((sys.executable, os.path.join(ROOT, "tests/requests/generate.py")))
+
+
+def generated(seed, count):
+    """Rows of all verbs for a new archive."""
+    return generator().run((str(seed), str(count))).out
+
+
+def started(command):
+    """A run of a command: from its words and its input to what comes of it."""
+    return lambda words, given=b"": run(command, words, given, limit=600)
 
 
 def fields_of(rows):
@@ -69,21 +90,21 @@ def sources_of(seed):
     return {row[0] for row in fields_of(generated(seed, EACH)) if row[1:2] == ["source"]}
 
 
-def archive_of(command, seed, batches):
+def archive_of(program, seed, batches):
     """What is told of an archive: of the rows, of batches, which are drawn once where there are none, and of their rows
     one by one."""
     with tempfile.TemporaryDirectory() as folder:
         file = os.path.join(folder, "a.db")
-        made = run(command, ("init", file, "--society", "Ashby"))
+        made = program(("init", file, "--society", "Ashby"))
         if made.status or made.err:
             raise Failed(f"init: {made}")
-        told = [run(command, ("apply", file), generated(seed, EACH), limit=600)]
+        told = [program(("apply", file), generated(seed, EACH))]
         batches.extend([] if batches else drawn(seed, fields_of(told[0].out)))
         for token, source, rows in batches:
             words = ("entries", file, "--source", source, "--token", token)
-            told.append(run(command, words, written(rows)))
+            told.append(program(words, written(rows)))
         single = [[f"e{n}", "entry", source, *row] for n, (_, source, rows) in enumerate(batches) for row in rows]
-        told.append(run(command, ("apply", file), written(single), limit=600))
+        told.append(program(("apply", file), written(single)))
         return told
 
 
@@ -93,13 +114,13 @@ def said(outcome):
     return outcome.out, told, outcome.status
 
 
-def compared(command, rows, seed):
+def compared(parish, second, rows, seed):
     """How many archives had the same answers, and how many had others."""
     passed = failed = accepted = entered = 0
     for number in range((rows + EACH - 1) // EACH):
         batches: list = []
-        ours = archive_of(PARISH, seed * 1_000 + number, batches)
-        theirs = archive_of(command, seed * 1_000 + number, batches)
+        ours = archive_of(parish, seed * 1_000 + number, batches)
+        theirs = archive_of(second, seed * 1_000 + number, batches)
         accepted += ours[0].out.count(b",ok,")
         entered += sum(one.status == 0 for one in ours[1:-1])
         if list(map(said, ours)) == list(map(said, theirs)) and ours[0].status == 0:
@@ -115,17 +136,17 @@ def compared(command, rows, seed):
     return passed, failed
 
 
-def exports_compared(command, archives, seed):
+def exports_compared(parish, second, archives, seed):
     """How many archives of drawn rows are exported as a second program exports them, and how many are not."""
     passed = failed = lines = 0
     for number in range(archives):
         told = []
-        for program in (PARISH, command):
+        for program in (parish, second):
             with tempfile.TemporaryDirectory() as folder:
                 file = os.path.join(folder, "ashby.db")
-                run(program, ("init", file, "--society", "Ashby"))
-                run(program, ("apply", file), generated(seed * 1_000 + number, EACH), limit=600)
-                told.append(run(program, ("export", file), b"", limit=600))
+                program(("init", file, "--society", "Ashby"))
+                program(("apply", file), generated(seed * 1_000 + number, EACH))
+                told.append(program(("export", file)))
         same = said(told[0]) == said(told[1]) and told[0].status == 0
         passed += same
         failed += not same
@@ -136,24 +157,36 @@ def exports_compared(command, archives, seed):
     return passed, failed
 
 
-def imported_by(program, seed, given):
-    """What is told of a file that is imported twice into an archive with some rows, and what is exported then."""
+@functools.lru_cache(maxsize=4)
+def with_rows(program, seed):
+    """The file of an archive with some rows."""
     with tempfile.TemporaryDirectory() as folder:
         file = os.path.join(folder, "ashby.db")
-        run(program, ("init", file, "--society", "Ashby"))
-        run(program, ("apply", file), generated(seed, 20), limit=600)
-        words = ("import", file, "--token", "file")
-        return [run(program, words, given, limit=600), run(program, words, given, limit=600),
-                run(program, ("export", file), b"", limit=600)]
+        program(("init", file, "--society", "Ashby"))
+        program(("apply", file), generated(seed, 20))
+        with open(file, "rb") as made:
+            return made.read()
 
 
-def imports_compared(command, files, seed):
+def imported_by(program, seed, given, times):
+    """What is told of a file that is imported so many times into an archive with some rows, and what is exported
+    then."""
+    with tempfile.TemporaryDirectory() as folder:
+        path = os.path.join(folder, "ashby.db")
+        with open(path, "wb") as file:
+            file.write(with_rows(program, seed))
+        told = [program(("import", path, "--token", "file"), given) for _ in range(times)]
+        return [*told, program(("export", path))]
+
+
+def imports_compared(parish, second, files, seed):
     """How many drawn files are taken in as by a second program, and how many are not."""
     passed = failed = 0
     found: collections.Counter = collections.Counter()
     for number in range(files):
         given = drawn_file(seed, number)
-        ours, theirs = (imported_by(program, seed * 1_000 + number, given) for program in (PARISH, command))
+        rows, times = seed * 1_000 + number // ALIKE, 1 if number % 10 else 2
+        ours, theirs = (imported_by(program, rows, given, times) for program in (parish, second))
         same = list(map(said, ours)) == list(map(said, theirs))
         passed += same
         failed += not same
@@ -162,36 +195,42 @@ def imports_compared(command, files, seed):
         if not same:
             one, other = next(both for both in zip(ours, theirs, strict=True) if said(both[0]) != said(both[1]))
             print(f"file {number}: {difference(other.out, one.out)} {one.err!r} {other.err!r}")
+        if (number + 1) % 500 == 0:
+            print(f"{passed} of {number + 1} files agree", flush=True)
     print(", ".join(f"{count} {what}" for what, count in sorted(found.items())))
     return passed, failed
 
 
-def stopped(rows, kills, seed):
+def stopped(command, rows, kills, seed):
     try:
-        killed_and_run_again(Tools(PARISH, None), seed, rows, kills)
+        killed_and_run_again(Tools(command, None), seed, rows, kills)
     except Failed as failed:
         print(failed)
         return 0, 1
     return 1, 0
 
 
+COMPARED = {"compare": (compared, 5_000), "exports": (exports_compared, 500), "imports": (imports_compared, 2_000)}
+
+
 def main():
-    match sys.argv[1:]:
-        case ["kills", *numbers]:
-            rows, kills, seed = [*map(int, numbers), *(2_000, 20, 1)[len(numbers) :]]
-            passed, failed = stopped(rows, kills, seed)
-        case ["compare", command, *numbers]:
-            rows, seed = [*map(int, numbers), *(5_000, 1)[len(numbers) :]]
-            passed, failed = compared(tuple(shlex.split(command)), rows, seed)
-        case ["exports", command, *numbers]:
-            archives, seed = [*map(int, numbers), *(500, 1)[len(numbers) :]]
-            passed, failed = exports_compared(tuple(shlex.split(command)), archives, seed)
-        case ["imports", command, *numbers]:
-            files, seed = [*map(int, numbers), *(2_000, 1)[len(numbers) :]]
-            passed, failed = imports_compared(tuple(shlex.split(command)), files, seed)
-        case _:
-            print(__doc__.strip())
-            return 2
+    words = argparse.ArgumentParser(usage=__doc__.strip())
+    words.add_argument("--parish", default=PARISH)
+    words.add_argument("--loaded", action="store_true")
+    words.add_argument("what", choices=("kills", *COMPARED))
+    words.add_argument("words", nargs="*")
+    given = words.parse_args()
+    parish = tuple(shlex.split(given.parish))
+    if given.what == "kills":
+        numbers = [*map(int, given.words), *(2_000, 20, 1)[len(given.words) :]]
+        passed, failed = stopped(parish, *numbers)
+    else:
+        second, *numbers = given.words
+        compare, most = COMPARED[given.what]
+        count, seed = [*map(int, numbers), *(most, 1)[len(numbers) :]]
+        command = tuple(shlex.split(second))
+        other = Loaded(command).run if given.loaded else started(command)
+        passed, failed = compare(started(parish), other, count, seed)
     print(f"{passed} passed, {failed} failed")
     return 1 if failed or not passed else 0
 

@@ -21,19 +21,24 @@ from concurrent.futures import ThreadPoolExecutor
 sys.dont_write_bytecode = True
 
 import archives  # noqa: E402
+import audits  # noqa: E402
 import documents  # noqa: E402
 import exchanges  # noqa: E402
 import exports  # noqa: E402
 import files  # noqa: E402
 import imports  # noqa: E402
 import layout  # noqa: E402
+import leaks  # noqa: E402
 import memory  # noqa: E402
 import merges  # noqa: E402
 import properties  # noqa: E402
 import refusals  # noqa: E402
+import rooms  # noqa: E402
 import scripts  # noqa: E402
+import sheet_commands  # noqa: E402
 import sizes  # noqa: E402
 import streams  # noqa: E402
+import visitors  # noqa: E402
 import visits  # noqa: E402
 from harness import ROOT, Case, Failed, Tools  # noqa: E402
 
@@ -42,6 +47,11 @@ PARTS = (
     sizes,
     archives,
     imports,
+    leaks,
+    visitors,
+    sheet_commands,
+    rooms,
+    audits,
     merges,
     exports,
     exchanges,

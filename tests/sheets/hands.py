@@ -45,6 +45,25 @@ ROUND = {
     10: Event(1, "BIRT", "", "1 JAN 1700"),
     11: Event(1, "BIRT", "", "1 JAN 1701"),
 }
+# The pedigree of docs/FORMATS.md, and then its event of all parts.
+LEES = {
+    1: Person(("Ann /Lee/",)),
+    2: Person(("Tom /Lee/",)),
+    3: Person(("Eva /Ray/",)),
+    4: Family((("husband", 2), ("wife", 3)), (1,)),
+    5: Event(1, "DEAT"),
+    6: Event(2, "DEAT"),
+    7: Event(3, "DEAT"),
+    8: Event(2, "BIRT", "", "1850"),
+}
+AT_NIGHT = {
+    **LEES,
+    8: Event(2, "BIRT", "at night", "1850", 11, ((1, "nurse"), (3, ""))),
+    9: Source("Register"),
+    10: Place("Kent"),
+    11: Place("Ashby", 10),
+    12: Citation(8, 9, "f. 2", "0"),
+}
 PARTS = {
     1: Place("Kent"),
     2: Place("Ashby", 1),
@@ -86,6 +105,17 @@ SCENES = (
         (("pedigree", 1, 3), page(
             "   1  A, b. 1 JAN 1700, d. 1 JAN 1800", "   2  B", "   3  C",
             "   4  A, b. 1 JAN 1700, d. 1 JAN 1800", "   5  C",
+        )),
+    )),
+    Scene("a pedigree", LEES, (
+        (("pedigree", 1, 4), page("   1  Ann Lee", "   2  Tom Lee, b. 1850", "   3  Eva Ray")),
+        (("index",), page("Persons: 3", "Families: 1", "Registers: 0")),
+        (("surname", "LEE"), page("         1  Ann Lee", "         2  Tom Lee")),
+    )),
+    Scene("all that an event can have", AT_NIGHT, (
+        (("person", 2), page(
+            "Person 2", "Name: Tom Lee", "DEAT", "BIRT: at night; 1850; Ashby, Kent", "  with 1 Ann Lee (nurse)",
+            "  with 3 Eva Ray", "  source 9, page f. 2, quality 0", "Partner in: 4",
         )),
     )),
     Scene("all parts", PARTS, (

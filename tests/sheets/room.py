@@ -123,5 +123,5 @@ def unread(given: bytes):
     if head and is_text(head[2]):
         return (431,)
     # no head at all: cut or malformed, and too large where it has so many lines or bytes
-    is_large = len(given) >= MOST_BYTES or given.count(b"\n") > MOST_LINES
+    is_large = len(given) >= MOST_BYTES or given.count(b"\n") > MOST_LINES + 1
     return (400, 431) if is_large else (400,)

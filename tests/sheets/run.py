@@ -15,9 +15,10 @@ sys.path.insert(0, str(HERE.parent / "archive"))
 
 import drawn  # noqa: E402
 import hands  # noqa: E402
-from asking import answers, differences  # noqa: E402
-from by_requests import VISITS, not_shown  # noqa: E402
+from asking import answers, differences, given_to  # noqa: E402
+from by_requests import SHOWN, VISITS, not_shown  # noqa: E402
 from heads import Heads  # noqa: E402
+from memory import REFUSED, fault  # noqa: E402
 from plain import Family, Person, Source, lines  # noqa: E402
 from rows import Ask, Case, given, row  # noqa: E402
 from room import Room, answer  # noqa: E402
@@ -70,13 +71,19 @@ def visit(given: bytes) -> str:
     return row("visit", TODAY, given.hex())
 
 
-def visits_by_hand():
-    for scene in VISITS:
-        asks = []
-        for words, status, wanted in scene.requests:
-            given = f"{words} HTTP/1.1\r\nHost: a\r\n\r\n".encode()
-            asks.append(Ask(visit(given), answer(status, wanted, not words.startswith("HEAD ")).hex() + "\n"))
-        yield Case(f"requests by hand: {scene.name}", (*stored(scene.records), *asks))
+def visits_to(scene) -> Case:
+    asks = []
+    for words, status, wanted in scene.requests:
+        given = f"{words} HTTP/1.1\r\nHost: a\r\n\r\n".encode()
+        asks.append(Ask(visit(given), answer(status, wanted, not words.startswith("HEAD ")).hex() + "\n"))
+    return Case(f"requests by hand: {scene.name}", (*stored(scene.records), *asks))
+
+
+def without_memory(program):
+    """What is told of visits of which each growth in turn is refused. The room writes into memory, so that a growth of
+    what was written is a write that fails."""
+    told = fault(program, given_to([visits_to(SHOWN)]), (REFUSED, "95 WriteFailed\n"))
+    return [f"visits without memory: {told}"] if told else []
 
 
 def drawn_visits(program, seed: int):
@@ -96,12 +103,14 @@ def main() -> int:
     archives = int(sys.argv[1]) if len(sys.argv) > 1 else 100
     program = sys.argv[2] if len(sys.argv) > 2 else PROGRAM
     count, failures = 0, []
-    runs = [list(cases_by_hand()), list(visits_by_hand())] + [[drawn_case(seed)] for seed in range(archives)]
+    by_hand = [*cases_by_hand(), *(visits_to(scene) for scene in VISITS)]
+    runs = [by_hand] + [[drawn_case(seed)] for seed in range(archives)]
     for cases in runs:
         count += len(cases)
         failures += differences(program, cases)
-    count += 1
+    count += 2
     failures += [f"docs/READING-ROOM.md has not the page of {words}" for words in not_shown()]
+    failures += without_memory(program)
     for seed in range(archives // 4):
         count += HEADS
         failures += drawn_visits(program, seed)

@@ -24,7 +24,8 @@ module _ {D : Type 0} {g : disk.Ghosts D} (image : Image) where
         let u = untold one in (
           u.0,
           elim u.1 [
-            | inl (fault, is, kept) ↦ inl (fault, if_err_of (λ e. Unaudited image e.0 e.1 left) o (u.0, fault) is unsound, kept)
+            | inl (fault, is, kept) ↦
+                inl (fault, if_err_of (λ e. Unaudited image e.0 e.1 left) o (u.0, fault) is unsound, kept)
             | inr (n, is, part) ↦ inr (n, if_ok_of (λ m. Audited image m left) o n is sound, part)
           ],
         );

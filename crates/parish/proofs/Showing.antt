@@ -54,13 +54,14 @@ module _ {D : Type 0} {g : disk.Ghosts D} (image : Image) where
       → IfErr r (λ why. SheetUntold image why asked today old new WriterFailed left)
       → IfErr r (λ why. is_failure why ≡ true → Keeps old new)
       → SheetEnds image which number generations today status old new WriterFailed left
-  sheet_by (Ok a) which number generations asked today status old new WriterFailed left is e told untold unread = record {
-    bound = omega (arith, e);
-    asked = asked;
-    named = is;
-    done = λ zero. told;
-    refused = λ one. absurd (omega (arith, e, one));
-  }
+  sheet_by (Ok a) which number generations asked today status old new WriterFailed left is e told untold
+      unread = record {
+        bound = omega (arith, e);
+        asked = asked;
+        named = is;
+        done = λ zero. told;
+        refused = λ one. absurd (omega (arith, e, one));
+      }
   sheet_by (Err why) which number generations asked today status old new WriterFailed left is e told untold unread =
       record {
         bound = omega (arith, e);

@@ -59,8 +59,8 @@ module _ {D : Type 0} {g : disk.Ghosts D} where
     pub refused : status ≡ 1 → (room ≡ None) × ((why : RefusalKind) × Unshelved image why left)
 
 -- ---- serve, once the file is closed
--- 0 where it was said that the room listens; 1 where a beginning of that was said at the least, for a reason; the writer
--- is blamed only where it failed in this call, by its count
+-- 0 where it was said that the room listens; 1 where a beginning of that was said at the least, for a reason; the
+-- writer is blamed only where it failed in this call, by its count
 pub record VisitsEnd (port status : ℕ) (old new : Option (List ℕ)) (WriterFailed : Type 0) : Type 0 where
   pub bound : status ≤ 1
   pub done : status ≡ 0 → Appends old new (listening_line port)

@@ -39,7 +39,11 @@ pub(crate) fn audited<S: Start, W: Write + Device, F: Write + Device>(
     ensures alone { result.2 ≡ None }
 {
     let (outcome, left) = done;
-    (status_of(tell(alloc, outcome, output, faults), faults), left, None)
+    (
+        status_of(tell(alloc, outcome, output, faults), faults),
+        left,
+        None,
+    )
 }
 
 /// Tells that an archive is sound, or what breaks a rule, and hands on why it is not.

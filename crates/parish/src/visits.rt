@@ -53,8 +53,8 @@ pub(crate) fn sheet_of(kind: SheetKind, number: u32, generations: u32) -> Sheet
     }
 }
 
-/// A room with what is shown of the archive in a file, and the connection over that; or the status, after the line of the
-/// refusal.
+/// A room with what is shown of the archive in a file, and the connection over that; or the status, after the line of
+/// the refusal.
 pub(crate) fn opened<S: Start, F: Write + Device>(
     done: (Result<Library, RefusalKind>, Option<OpenFile<S>>),
     port: u16,

@@ -3,6 +3,7 @@
 use crate::masked::masked_on;
 use archive_state::State;
 use devices::Counted;
+use hex::FromHexError;
 use reading_room::{Room, serve_one};
 use records::RefusalKind;
 use room_visits::VisitError;
@@ -28,6 +29,7 @@ pub(crate) fn say_visit(
 fn answer_to(alloc: Global, masked: Shown, request: &str) -> Result<Vec<u8>, RefusalKind> {
     let bytes = match hex::decode(alloc, request) {
         Ok(bytes) => bytes,
+        Err(FromHexError::OutOfMemory) => return Err(RefusalKind::OutOfMemory),
         Err(_) => return Err(RefusalKind::BadRow),
     };
     let room = Room::new(alloc, masked)?;

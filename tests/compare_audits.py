@@ -1,0 +1,189 @@
+"""Compares `audit` with a second judge of archives, on drawn archives, each as it is and once spoilt.
+
+    python3 tests/compare_audits.py 'COMMAND' [COUNT [SEED]] [--parish COMMAND]
+
+COMMAND reads names of archive files, one a line, and answers each with a line: `sound` or anything else. An archive is
+drawn by tests/requests/generate.py, and a copy is spoilt by one to three changes of its tables, of which some break no
+rule. One line a difference with its seed, and a last line that counts; status 0 if there is none.
+"""
+
+from __future__ import annotations
+
+import argparse
+import os
+import random
+import shlex
+import shutil
+import sqlite3
+import subprocess
+import sys
+import tempfile
+
+sys.dont_write_bytecode = True
+
+from harness import ROOT  # noqa: E402
+
+OURS = os.path.join(ROOT, "crates", "parish", "out", "parish")
+ROWS = 60  # of an archive
+NAMES = ("Ashby", "Ashby ", " Ashby", "a,b", "a, b", ", ", "", "x" * 4_090, ", ".join(["a"] * 32))
+TAGS = ("BIRT", "MARR", "OCCU", "EVEN", "DEAT", "CONC", "CONT", "TRLR", "NAME", "SEX", "NOTE", "_UID", "SOUR", "DATE")
+
+
+class Spoiling:
+    """An archive whose tables are changed by a seed."""
+
+    def __init__(self, conn: sqlite3.Connection, rng: random.Random):
+        self.conn = conn
+        self.rng = rng
+        [(self.next,)] = self.rows("SELECT next FROM meta")
+
+    def rows(self, text, *values):
+        return self.conn.execute(text, values).fetchall()
+
+    def one(self, text, *values):
+        found = self.rows(text, *values)
+        return self.rng.choice(found) if found else None
+
+    def number(self):
+        return self.rng.randrange(1, self.next + 2)
+
+    def pointer(self):
+        """A line names another number."""
+        for table in self.rng.sample(("line", "line", "line", "slip_line"), 4):
+            found = self.one(f"SELECT id, dst FROM {table} WHERE dst IS NOT NULL")
+            if found:
+                taken = self.one(f"SELECT dst FROM {table} WHERE dst IS NOT NULL")[0]
+                number = self.rng.choice((taken, self.number()))
+                self.rows(f"UPDATE {table} SET dst = ? WHERE id = ?", number, found[0])
+                return
+
+    def place(self):
+        found = self.one("SELECT id FROM line WHERE tag = 'place' AND depth = 0")
+        if found:
+            self.rows("UPDATE line SET text = ? WHERE id = ?", self.rng.choice(NAMES), found[0])
+
+    def next_number(self):
+        numbers = (0, 1, self.next - 1, self.next + 1, 2**32, 2**32 + 1)
+        self.rows("UPDATE meta SET next = ?", self.rng.choice(numbers))
+
+    def gone(self):
+        """A record is no more."""
+        found = self.one("SELECT no FROM record")
+        if found:
+            self.rows("DELETE FROM line WHERE no = ?", *found)
+            self.rows("DELETE FROM record WHERE no = ?", *found)
+
+    def moved(self):
+        """A record gets a number that nothing has, below the next one or not."""
+        found = self.one("SELECT no FROM record")
+        number = self.rng.choice((self.next, self.number(), self.next + 5))
+        if found and not self.rows("SELECT no FROM record WHERE no = ?", number):
+            self.rows("UPDATE record SET no = ? WHERE no = ?", number, *found)
+            self.rows("UPDATE line SET no = ? WHERE no = ?", number, *found)
+
+    def copied(self):
+        """A record stands twice."""
+        found = self.one("SELECT no, kind FROM record WHERE kind = 'entry'") or self.one("SELECT no, kind FROM record")
+        if found:
+            [(free,)] = self.rows("SELECT max(next, (SELECT max(no) FROM record) + 1) FROM meta")
+            self.rows("INSERT INTO record VALUES (?, ?, 0)", free, found[1])
+            self.rows(
+                "INSERT INTO line (no, pos, depth, tag, text, dst) SELECT ?, pos, depth, tag, text, dst FROM line"
+                " WHERE no = ? ORDER BY id",
+                free, found[0],
+            )
+            self.rows("UPDATE meta SET next = ?", free + 1)
+
+    def tag(self):
+        """An event or what is carried gets another tag."""
+        found = self.one("SELECT id FROM line WHERE depth > 0 AND upper(tag) = tag")
+        if found:
+            self.rows("UPDATE line SET tag = ? WHERE id = ?", self.rng.choice(TAGS), found[0])
+
+    def carried(self):
+        """One more carried line, with a text or a number."""
+        found = self.one("SELECT no FROM record WHERE kind IN ('person', 'source', 'repo', 'place')")
+        if found:
+            [(last,)] = self.rows("SELECT max(pos) FROM line WHERE no = ?", *found)
+            text, number = self.rng.choice((("x", None), ("", None), (None, self.number())))
+            self.rows("INSERT INTO line (no, pos, depth, tag, text, dst) VALUES (?, ?, 1, 'carried', NULL, NULL)",
+                      found[0], last + 1)
+            self.rows("INSERT INTO line (no, pos, depth, tag, text, dst) VALUES (?, ?, 2, ?, ?, ?)",
+                      found[0], last + 2, self.rng.choice(TAGS), text, number)
+
+    def slip(self):
+        column = self.rng.choice(("keep", "gone", "undone"))
+        found = self.one("SELECT no FROM slip")
+        if found:
+            value = self.rng.randrange(2) if column == "undone" else self.number()
+            self.rows(f"UPDATE slip SET {column} = ? WHERE no = ?", value, *found)
+
+    def text_of_slip(self):
+        found = self.one("SELECT id FROM slip_line WHERE tag = 'name'")
+        if found:
+            self.rows("UPDATE slip_line SET text = 'Kit' WHERE id = ?", *found)
+
+    def spoil(self):
+        changes = (self.pointer, self.pointer, self.pointer, self.place, self.next_number, self.gone, self.moved,
+                   self.copied, self.tag, self.carried, self.slip, self.text_of_slip)
+        for change in self.rng.choices(changes, k=self.rng.choice((1, 1, 2, 3))):
+            change()
+
+
+def drawn(parish, file, seed):
+    subprocess.run([*parish, "init", file, "--society", "Ashby"], check=True)
+    words = ("python3", os.path.join(ROOT, "tests/requests/generate.py"), str(seed), str(ROWS))
+    rows = subprocess.run(words, stdout=subprocess.PIPE, check=True).stdout
+    subprocess.run([*parish, "apply", file], input=rows, stdout=subprocess.DEVNULL, stderr=subprocess.DEVNULL)
+
+
+def spoilt(file, copy, seed):
+    shutil.copyfile(file, copy)
+    conn = sqlite3.connect(copy)
+    Spoiling(conn, random.Random(seed)).spoil()
+    conn.commit()
+    conn.close()
+
+
+def ours(parish, file):
+    ran = subprocess.run([*parish, "audit", file], capture_output=True, check=False)
+    if ran.returncode == 0:
+        return "sound", ran.stdout
+    return ("not" if ran.stderr.endswith(b"40 BadStored\n") else "other"), ran.stderr
+
+
+def main():
+    parser = argparse.ArgumentParser(description=__doc__)
+    parser.add_argument("command")
+    parser.add_argument("count", nargs="?", type=int, default=2_000)
+    parser.add_argument("seed", nargs="?", type=int, default=1)
+    parser.add_argument("--parish", default=OURS)
+    told = parser.parse_args()
+    parish = shlex.split(told.parish)
+    judge = subprocess.Popen(shlex.split(told.command), stdin=subprocess.PIPE, stdout=subprocess.PIPE, text=True)
+    counts = {"sound": 0, "not": 0, "other": 0}
+    differences = 0
+    with tempfile.TemporaryDirectory() as folder:
+        for seed in range(told.seed, told.seed + told.count):
+            file, copy = os.path.join(folder, "a.db"), os.path.join(folder, "b.db")
+            drawn(parish, file, seed)
+            spoilt(file, copy, seed)
+            for name, path in (("as it is", file), ("spoilt", copy)):
+                judge.stdin.write(path + "\n")
+                judge.stdin.flush()
+                wanted = judge.stdout.readline().strip()
+                got, words = ours(parish, path)
+                counts[got] += 1
+                if (got == "sound") != (wanted == "sound") or got == "other":
+                    differences += 1
+                    print(f"{seed} {name}: {got} {words!r}, and the judge: {wanted}", flush=True)
+            for left in os.listdir(folder):
+                os.remove(os.path.join(folder, left))
+    judge.stdin.close()
+    print(f"{counts['sound']} sound, {counts['not']} not, {counts['other']} refused otherwise; "
+          f"{differences} differences")
+    return 1 if differences else 0
+
+
+if __name__ == "__main__":
+    sys.exit(main())

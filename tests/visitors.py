@@ -1,0 +1,154 @@
+"""Visitors of the reading room of all manners: who leave, send a byte at a time, say nothing, come too late; and how
+the room is opened and ends."""
+
+from __future__ import annotations
+
+import contextlib
+import socket
+import struct
+import time
+
+from archives import lines
+from harness import Case, Outcome, Tools, demand, difference, expect, refused, run
+from rooms import Room, read_all
+from sheet_commands import SMITHS, TODAY, Shown
+from visits import HOST, answer, request
+
+LONGEST = 30  # seconds of a visit, from docs/READING-ROOM.md
+A_LITTLE = 10  # what a busy machine may add
+
+
+def so_many_visits(tools):
+    """The room ends behind the last one, whatever the visits were, and nobody is let in then."""
+    with Shown(tools) as at:
+        at.with_rows(SMITHS)
+        with Room(at, 0):
+            pass
+        for count in (1, 3):
+            with Room(at, count) as room:
+                for _ in range(count):
+                    demand(room.asked(request("/x")) == answer(404), "another answer")
+                room.process.wait(timeout=60)
+                demand(room.is_closed(), "it still lets somebody in")
+
+
+def visitors_who_leave(tools):
+    """In the middle of a request, before it, and before the answer: each counts, and the next is served."""
+    reset = struct.pack("ii", 1, 0)
+    with Shown(tools) as at:
+        at.with_rows([*SMITHS, *(f"n{n},name,1,{'x' * 100_000}" for n in range(20))])
+        whole = answer(200, at.sheet("person", 1).out.decode())
+        with Room(at, 6) as room:
+            for given, is_rude in ((b"", False), (b"GET /per", False), (b"GET /per", True), (b"", True),
+                                   (request("/person/1"), True)):
+                with room.visit() as one:
+                    one.sendall(given)
+                    if is_rude:
+                        one.setsockopt(socket.SOL_SOCKET, socket.SO_LINGER, reset)
+            got = room.asked(request("/person/1"))
+            demand(got == whole, difference(whole, got))
+
+
+def byte_by_byte(tools):
+    with Shown(tools) as at:
+        at.with_rows(SMITHS)
+        with Room(at, 2) as room:
+            demand(room.asked(request("/person/2"), 1) == room.asked(request("/person/2")), "they differ")
+
+
+def one_after_the_other(tools):
+    """Who comes while another says nothing waits, and is answered then."""
+    with Shown(tools) as at:
+        at.with_rows(SMITHS)
+        with Room(at, 2) as room:
+            with room.visit():
+                time.sleep(0.2)
+                other = room.visit()
+                other.sendall(request("/family/3"))
+                other.settimeout(0.5)
+                try:
+                    demand(not other.recv(1), "the second visitor was served first")
+                except TimeoutError:
+                    pass
+            other.settimeout(60)
+            got, wanted = read_all(other), answer(200, "Family 3\nHusband: 1 John Smith\nWife: 2 Living\n")
+            other.close()
+            demand(got == wanted, difference(wanted, got))
+
+
+def who_says_nothing(tools):
+    """A visitor who says nothing, or a byte now and then, is let go after half a minute; who waited is answered."""
+    with Shown(tools) as at:
+        at.with_rows(SMITHS)
+        for given in (b"", request("/person/1", lines=HOST + b"x:" + b"y" * 100 + b"\r\n")):
+            with Room(at, 2) as room, room.visit() as slow:
+                begun = time.monotonic()
+                other = room.visit()
+                other.sendall(request("/family/3"))
+                other.settimeout(1)
+                got = b""
+                for place in range(LONGEST + A_LITTLE):
+                    if given:
+                        with contextlib.suppress(ConnectionError):
+                            slow.sendall(given[place : place + 1])
+                    try:
+                        got = read_all(other)
+                        break
+                    except TimeoutError:
+                        continue
+                took = time.monotonic() - begun
+                wanted = answer(200, "Family 3\nHusband: 1 John Smith\nWife: 2 Living\n")
+                demand(got == wanted, f"after {took:.0f} s: {difference(wanted, got)}")
+                demand(took > 1, "the first visitor was not waited for")
+                other.close()
+
+
+def a_port_that_is_taken(tools):
+    with Shown(tools) as at:
+        at.with_rows(SMITHS)
+        with socket.create_server(("127.0.0.1", 0)) as server:
+            port = str(server.getsockname()[1])
+            got = run(tools.parish, ("serve", at.file, "--port", port, "--count", "1", "--today", TODAY))
+            expect(got, refused(94))
+
+
+def words_that_are_refused(tools):
+    right = {"--port": "8080", "--count": "0", "--today": TODAY}
+    wrong = [(name, None) for name in right]
+    wrong += [("--port", port) for port in ("0", "65536", "x", "")]
+    wrong += [("--count", count) for count in ("-1", "x", "", "1000001")]
+    wrong += [("--today", day) for day in ("2024-02-30", "x", "")]
+    with Shown(tools) as at:
+        for name, value in wrong:
+            words = [word for pair in {**right, name: value}.items() if pair[1] is not None for word in pair]
+            got = run(tools.parish, ("serve", at.file, *words))
+            demand((got.status, got.out) == (2, b"") and got.err != b"", f"{words}: {got}")
+        words = [word for pair in right.items() for word in pair]
+        expect(run(tools.parish, ("serve", at.file, *words)), refused(82))
+
+
+def the_file_is_free(tools):
+    """While the room is open rows are taken, which it does not show."""
+    with Shown(tools) as at:
+        at.with_rows(SMITHS)
+        with Room(at, 1) as room:
+            expect(at.apply(lines(["z,person,Eva /Ray/,F"])), Outcome(b"z,ok,6,1\n", b"", 0))
+            page = "Persons: 2\nFamilies: 1\nRegisters: 0\n"
+            demand(room.asked(request("/")) == answer(200, page), "it shows what came later")
+
+
+TESTS = (
+    who_says_nothing,
+    so_many_visits,
+    visitors_who_leave,
+    byte_by_byte,
+    one_after_the_other,
+    a_port_that_is_taken,
+    words_that_are_refused,
+    the_file_is_free,
+)
+
+
+def cases(tools: Tools):
+    for test in TESTS:
+        yield Case(f"visitors: {test.__name__.replace('_', ' ')}", lambda test=test: test(tools))
