@@ -36,16 +36,17 @@ module _ {D : Type 0} {g : disk.Ghosts D} (image : Image) where
     refused = λ one. (why, part, unread);
   }
 
-  -- of the connection as it is handed on
-  pub public_ends : {A : Type 0} (r : Result A RefusalKind) (today : ℤ) (status : ℕ) (old new : Option (List ℕ))
-      (WriterFailed : Type 0) (left back : Option (Held (FileStore D g))) → back ≡ left
-      → status ≡ (if is_ok r then 0 else 1) → OnOk r (Published image today old new left)
-      → IfErr r (λ why. Unpublished image why today old new WriterFailed left)
+  -- of the connection as it is handed on, on the day that was asked for
+  pub public_ends : {A : Type 0} (r : Result A RefusalKind) (day today : ℤ) (status : ℕ) (old new : Option (List ℕ))
+      (WriterFailed : Type 0) (left back : Option (Held (FileStore D g))) → day ≡ today → back ≡ left
+      → status ≡ (if is_ok r then 0 else 1) → OnOk r (Published image day old new left)
+      → IfErr r (λ why. Unpublished image why day old new WriterFailed left)
       → IfErr r (λ why. is_failure why ≡ true → Keeps old new)
       → PublicEnds image today status old new WriterFailed back
-  public_ends r today status old new WriterFailed left back same e whole part unread =
-      subst (λ (x : Option (Held (FileStore D g))). PublicEnds image today status old new WriterFailed x) (sym same)
-      (public_by r today status old new WriterFailed left e whole part unread)
+  public_ends r day today status old new WriterFailed left back of_day same e whole part unread =
+      subst (λ (t : ℤ). PublicEnds image t status old new WriterFailed back) of_day
+      (subst (λ (x : Option (Held (FileStore D g))). PublicEnds image day status old new WriterFailed x) (sym same)
+      (public_by r day status old new WriterFailed left e whole part unread))
 
   sheet_by : {A : Type 0} (r : Result A RefusalKind) (which : SheetKind) (number generations : ℕ) (asked : Sheet)
       (today : ℤ) (status : ℕ) (old new : Option (List ℕ)) (WriterFailed : Type 0)
@@ -72,16 +73,18 @@ module _ {D : Type 0} {g : disk.Ghosts D} (image : Image) where
       }
 
   pub sheet_ends : {A : Type 0} (r : Result A RefusalKind) (which : SheetKind) (number generations : ℕ) (asked : Sheet)
-      (today : ℤ) (status : ℕ) (old new : Option (List ℕ)) (WriterFailed : Type 0)
-      (left back : Option (Held (FileStore D g))) → IsSheetOf which number generations asked → back ≡ left
-      → status ≡ (if is_ok r then 0 else 1) → OnOk r (SheetTold image asked today old new left)
-      → IfErr r (λ why. SheetUntold image why asked today old new WriterFailed left)
+      (day today : ℤ) (status : ℕ) (old new : Option (List ℕ)) (WriterFailed : Type 0)
+      (left back : Option (Held (FileStore D g))) → IsSheetOf which number generations asked → day ≡ today
+      → back ≡ left → status ≡ (if is_ok r then 0 else 1) → OnOk r (SheetTold image asked day old new left)
+      → IfErr r (λ why. SheetUntold image why asked day old new WriterFailed left)
       → IfErr r (λ why. is_failure why ≡ true → Keeps old new)
       → SheetEnds image which number generations today status old new WriterFailed back
-  sheet_ends r which number generations asked today status old new WriterFailed left back is same e told untold unread =
-      subst (λ (x : Option (Held (FileStore D g))). SheetEnds image which number generations today status old new
+  sheet_ends r which number generations asked day today status old new WriterFailed left back is of_day same e told
+      untold unread =
+      subst (λ (t : ℤ). SheetEnds image which number generations t status old new WriterFailed back) of_day
+      (subst (λ (x : Option (Held (FileStore D g))). SheetEnds image which number generations day status old new
       WriterFailed x) (sym same)
-      (sheet_by r which number generations asked today status old new WriterFailed left is e told untold unread)
+      (sheet_by r which number generations asked day status old new WriterFailed left is e told untold unread))
 
   -- ---- a room
   some_room : (room : Option Visits) (shown : Content) (port count : ℕ) (today : ℤ)
@@ -110,16 +113,17 @@ module _ {D : Type 0} {g : disk.Ghosts D} (image : Image) where
     refused = λ one. (shut, (why, unshelved));
   }
 
-  pub room_ends : (outcome : Result Content RefusalKind) (port count : ℕ) (today : ℤ) (status : ℕ)
-      (room : Option Visits) (left back : Option (Held (FileStore D g))) → back ≡ left
+  pub room_ends : (outcome : Result Content RefusalKind) (port count : ℕ) (day today : ℤ) (status : ℕ)
+      (room : Option Visits) (left back : Option (Held (FileStore D g))) → day ≡ today → back ≡ left
       → status ≡ (if is_ok outcome then 0 else 1)
       → IfOk outcome (λ shown. IsSomeAnd room (λ visits. (visits.port ≡ port) × (visits.count ≡ count)
       × (visits.room ≡ shown)))
-      → OnErr outcome (room ≡ None) → IfOk outcome (λ shown. Shelved image today shown left)
+      → OnErr outcome (room ≡ None) → IfOk outcome (λ shown. Shelved image day shown left)
       → IfErr outcome (λ kind. Unshelved image kind left) → RoomEnds image port count today status room back
-  room_ends outcome port count today status room left back same e stands shut shelved unshelved =
-      subst (λ (x : Option (Held (FileStore D g))). RoomEnds image port count today status room x) (sym same)
-      (room_by outcome port count today status room left e stands shut shelved unshelved)
+  room_ends outcome port count day today status room left back of_day same e stands shut shelved unshelved =
+      subst (λ (t : ℤ). RoomEnds image port count t status room back) of_day
+      (subst (λ (x : Option (Held (FileStore D g))). RoomEnds image port count day status room x) (sym same)
+      (room_by outcome port count day status room left e stands shut shelved unshelved))
 
 -- ---- once the file is closed
 pub visits_end : {A : Type 0} (r : Result A RefusalKind) (port status : ℕ) (old new : Option (List ℕ))

@@ -1,4 +1,5 @@
-use Rattle.std.proofs.Common.{ap, refl, subst}
+use Rattle.std.proofs.Common.{SFits, ap, refl, rules, subst, w32}
+use Rattle.std.proofs.lemmas.Int.{to_z-of_z}
 use Rattle.sqlite_wal.specs.Files.{image_at}
 use Rattle.command_line.specs.Asking.{HasWords, name_of}
 use Rattle.parish.proofs.Audited.{audit_ends}
@@ -69,10 +70,11 @@ pub returns-in-ExportPublic-clause-does : goal.returns-in-ExportPublic-clause-do
 returns-in-ExportPublic-clause-does g c =
     let did = c.public_export.ensures in
     let ended = c.finished-in-ExportPublic.ensures in
+    let fits : SFits w32 c.in-ExportPublic.today = search rules in
     rw c.in-ExportPublic.is (
-      public_ends (image_at g.S.Start) c.public_export.result.0 _ c.finished-in-ExportPublic.result.0 _ _ _
-          c.public_export.result.1 c.finished-in-ExportPublic.result.1 ended.left ended.status did.published
-          did.stopped did.unread,
+      public_ends (image_at g.S.Start) c.public_export.result.0 _ c.in-ExportPublic.today
+          c.finished-in-ExportPublic.result.0 _ _ _ c.public_export.result.1 c.finished-in-ExportPublic.result.1
+          (to_z-of_z w32 c.in-ExportPublic.today fits) ended.left ended.status did.published did.stopped did.unread,
       refl,
       ended.alone,
     )
@@ -81,10 +83,11 @@ pub returns-in-Sheet-clause-does : goal.returns-in-Sheet-clause-does
 returns-in-Sheet-clause-does g c =
     let did = c.sheet.ensures in
     let ended = c.finished-in-Sheet.ensures in
+    let fits : SFits w32 c.in-Sheet.today = search rules in
     rw c.in-Sheet.is (
-      sheet_ends (image_at g.S.Start) c.sheet.result.0 _ _ _ c.sheet_of-which.result _ c.finished-in-Sheet.result.0
-          _ _ _ c.sheet.result.1 c.finished-in-Sheet.result.1 c.sheet_of-which.ensures ended.left ended.status
-          did.told did.untold did.unread,
+      sheet_ends (image_at g.S.Start) c.sheet.result.0 _ _ _ c.sheet_of-which.result _ c.in-Sheet.today
+          c.finished-in-Sheet.result.0 _ _ _ c.sheet.result.1 c.finished-in-Sheet.result.1 c.sheet_of-which.ensures
+          (to_z-of_z w32 c.in-Sheet.today fits) ended.left ended.status did.told did.untold did.unread,
       refl,
       ended.alone,
     )
@@ -93,9 +96,11 @@ pub returns-in-Serve-clause-does : goal.returns-in-Serve-clause-does
 returns-in-Serve-clause-does g c =
     let did = c.library.ensures in
     let ended = c.opened.ensures in
+    let fits : SFits w32 c.in-Serve.today = search rules in
     rw c.in-Serve.is (
-      room_ends (image_at g.S.Start) c.library.result.0 _ _ _ c.opened.result.0 c.opened.result.2 c.library.result.1
-          c.opened.result.1 ended.left ended.status ended.open ended.shut did.shelved did.unshelved,
+      room_ends (image_at g.S.Start) c.library.result.0 _ _ _ c.in-Serve.today c.opened.result.0 c.opened.result.2
+          c.library.result.1 c.opened.result.1 (to_z-of_z w32 c.in-Serve.today fits) ended.left ended.status
+          ended.open ended.shut did.shelved did.unshelved,
       refl,
       refl,
     )
