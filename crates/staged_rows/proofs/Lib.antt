@@ -1,0 +1,6 @@
+mod Lists
+mod Alike
+mod Published
+mod Staged
+mod Removed
+mod Whole
