@@ -1,11 +1,13 @@
 -- Rows of other tables that tell the same records mean the same.
-use Rattle.std.proofs.Common.{◌≡◌, ℕ, true, false, List, subst, ◌∙◌}
-use Rattle.std.specs.Prelude.{Option, Some, None}
+use Rattle.std.proofs.Common.{◌≡◌, ℕ, true, false, not, List, [], ◌∷◌, refl, ap₂, subst, ◌∙◌}
+use Rattle.std.specs.Prelude.{◌==◌, ◌&&◌, ◌||◌, Option, Some, None}
+use Rattle.std.specs.List.{list_any}
 use Rattle.std.specs.FinMap.{get}
 use Rattle.record_kinds.specs.declared.record.Record.{Record}
 use Rattle.archive_state.specs.Content.{Content}
 use Rattle.store_tables.specs.Rows.{Rows, BatchRow, RecordRow, LineRow, lines_of}
 use Rattle.store_rows.specs.Meaning.{Means, IsRecordAt, has_record, is_closed}
+use Rattle.staged_rows.proofs.Lists.{or_first, or_second}
 
 -- the rows with these batches, rows of `record` and lines
 abbrev pub with_tables : List BatchRow → List RecordRow → List LineRow → Rows → Rows
@@ -33,3 +35,11 @@ means_alike bs rs ls rows c closed has lines was = record {
 -- a number without a record has none in the rows
 pub absent : (rows : Rows) (c : Content) (n : ℕ) → Means rows c → get c.records n ≡ None → has_record n rows ≡ false
 absent rows c n was none = subst (IsRecordAt rows n) none (was.records n)
+
+-- a batch that is not there is not closed
+pub none_closed : (n : ℕ) (xs : List BatchRow) → list_any (λ (b : BatchRow). b.no == n) xs ≡ false
+    → is_closed n xs ≡ false
+none_closed n [] none = refl
+none_closed n (x ∷ xs) none =
+    ap₂ (λ a b. (a && not x.is_open) || b) (or_first (x.no == n) (list_any (λ (b : BatchRow). b.no == n) xs) none)
+    (none_closed n xs (or_second (x.no == n) (list_any (λ (b : BatchRow). b.no == n) xs) none))

@@ -1,4 +1,5 @@
 mod Lists
+mod Fresh
 mod Alike
 mod Published
 mod Staged

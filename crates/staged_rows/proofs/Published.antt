@@ -37,7 +37,7 @@ use Rattle.store_rows.specs.Meaning.{Means, is_closed}
 use Rattle.store_rows.specs.Writing.{kind_word, with_all_lines, with_changes, with_kept_written}
 use Rattle.store_rows.proofs.Meaning.{changes_mean}
 use Rattle.staged_rows.specs.Staging.{IsFresh, closed_at, import_changes, with_published, with_whole_import}
-use Rattle.staged_rows.proofs.Alike.{means_alike}
+use Rattle.staged_rows.proofs.Alike.{means_alike, none_closed}
 use Rattle.staged_rows.proofs.Lists.{it, is_not, not_it, any_put, or_first, or_second}
 use Rattle.staged_rows.proofs.Whole.{all_lines_beside, beside, import_staged, numbers, records_put, records_written}
 
@@ -201,13 +201,6 @@ whole batch next ps answer kept rows c once fresh was =
     (λ n. any_of_alike f g n rs ss alike) (λ n has. refl) means)
   where
     -- the batch of the import is not that of the commands, which is there
-    none_closed : (n : ℕ) (xs : List BatchRow) → list_any (λ (b : BatchRow). b.no == n) xs ≡ false
-        → is_closed n xs ≡ false
-    none_closed n [] none = refl
-    none_closed n (x ∷ xs) none =
-        ap₂ (λ a b. (a && not x.is_open) || b) (or_first (x.no == n) (list_any (λ (b : BatchRow). b.no == n) xs) none)
-        (none_closed n xs (or_second (x.no == n) (list_any (λ (b : BatchRow). b.no == n) xs) none))
-
     apart : (b : ℕ) (rows : Rows) → Means rows c → IsFresh b ps rows → b ≢ 0
     apart b rows was fresh same =
         let none : is_closed 0 rows.batches ≡ false = ap (λ k. is_closed k rows.batches) (sym same)

@@ -17,7 +17,7 @@ use Rattle.std.specs.Prelude.{
   Option,
   None,
 }
-use Rattle.std.specs.List.{flat_map, list_any}
+use Rattle.std.specs.List.{AllByRecursion, flat_map, list_any}
 use Rattle.std.specs.FinMap.{get}
 use Rattle.stored_lines.specs.Line.{Label}
 use Rattle.records.specs.Stored.{stored}
@@ -37,6 +37,7 @@ use Rattle.store_tables.specs.Rows.{
   with_next,
   with_record_row,
 }
+use Rattle.store_rows.specs.Meaning.{is_closed}
 use Rattle.store_rows.specs.Writing.{kind_word, with_kept_written}
 
 -- one row of an import: of `record`, or a line of a number at a place
@@ -88,6 +89,12 @@ with_published batch changes rows = with_kept_written changes.kept (with_next ch
 abbrev pub IsOfNone : ℕ → Content → StagedRow → Type 0
 IsOfNone batch c (a_record r) = (r.batch ≡ batch) × (get c.records r.no ≡ None)
 IsOfNone batch c (a_line n at l) = get c.records n ≡ None
+
+-- each line is of a number with a row in `record`, and each such row is of a closed batch
+pub record AreClosed (rows : Rows) : Type 0 where
+  pub lines : AllByRecursion (λ (l : LineRow). list_any (λ (r : RecordRow). r.no == l.no) rows.records ≡ true)
+      rows.lines
+  pub records : AllByRecursion (λ (r : RecordRow). is_closed r.batch rows.batches ≡ true) rows.records
 
 -- nothing of an import is there: not its batch, no row of the batch, and no line of a number that it puts
 pub record IsFresh (batch : ℕ) (ps : List Numbered) (rows : Rows) : Type 0 where
