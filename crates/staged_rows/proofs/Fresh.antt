@@ -1,0 +1,79 @@
+-- Nothing of a new import is there, where every row is of a closed batch.
+use Rattle.std.proofs.Common.{◌≡◌, ℕ, Bool, true, false, List, [], ◌∷◌, refl, sym, ap, ap₂, ◌∙◌}
+use Rattle.std.specs.Prelude.{◌==◌, ◌&&◌, ◌||◌, None}
+use Rattle.std.specs.FinMap.{get}
+use Rattle.std.specs.List.{AllByRecursion, list_any}
+use Rattle.record_shapes.specs.Lists.{EachOf}
+use Rattle.archive_state.specs.Content.{Content}
+use Rattle.archive_state.specs.declared.changes.Numbered.{Numbered}
+use Rattle.store_tables.specs.Rows.{Rows, BatchRow, RecordRow, LineRow}
+use Rattle.store_rows.specs.Meaning.{Means, is_closed}
+use Rattle.staged_rows.specs.Staging.{AreClosed, IsFresh}
+use Rattle.staged_rows.proofs.Alike.{absent, none_closed}
+use Rattle.staged_rows.proofs.Lists.{it}
+
+apart : (b : ℕ) (bs : List BatchRow) (r : RecordRow) → is_closed b bs ≡ false → is_closed r.batch bs ≡ true
+    → (r.batch == b) ≡ false
+apart b bs r none closed =
+    elim (r.batch == b) as (λ t. (r.batch == b) ≡ t → t ≡ false) [
+      | true ↦ λ e.
+          let here = ap (λ k. is_closed k bs) (it r.batch b e) in
+          absurd (let both : true ≡ false = sym closed ∙ here ∙ none in cc)
+      | false ↦ λ e. refl
+    ] refl
+
+none_of_batch : (b : ℕ) (bs : List BatchRow) (rs : List RecordRow) → is_closed b bs ≡ false
+    → AllByRecursion (λ (r : RecordRow). is_closed r.batch bs ≡ true) rs
+    → list_any (λ (r : RecordRow). r.batch == b) rs ≡ false
+none_of_batch b bs [] none all = refl
+none_of_batch b bs (r ∷ rs) none all =
+    ap₂ (λ s t. s || t) (apart b bs r none all.0) (none_of_batch b bs rs none all.1)
+
+and_true : (a b : Bool) → b ≡ true → (a && b) ≡ a
+and_true true b h = h
+and_true false b h = refl
+
+any_closed : (n : ℕ) (bs : List BatchRow) (rs : List RecordRow)
+    → AllByRecursion (λ (r : RecordRow). is_closed r.batch bs ≡ true) rs
+    → list_any (λ (r : RecordRow). (r.no == n) && is_closed r.batch bs) rs ≡ list_any (λ (r : RecordRow). r.no == n) rs
+any_closed n bs [] all = refl
+any_closed n bs (r ∷ rs) all =
+    ap₂ (λ s t. s || t) (and_true (r.no == n) (is_closed r.batch bs) all.0) (any_closed n bs rs all.1)
+
+line_apart : (n : ℕ) (rs : List RecordRow) (l : LineRow) → list_any (λ (r : RecordRow). r.no == n) rs ≡ false
+    → list_any (λ (r : RecordRow). r.no == l.no) rs ≡ true → (l.no == n) ≡ false
+line_apart n rs l none has =
+    elim (l.no == n) as (λ t. (l.no == n) ≡ t → t ≡ false) [
+      | true ↦ λ e.
+          let here = ap (λ k. list_any (λ (r : RecordRow). r.no == k) rs) (it l.no n e) in
+          absurd (let both : true ≡ false = sym has ∙ here ∙ none in cc)
+      | false ↦ λ e. refl
+    ] refl
+
+none_of_number : (n : ℕ) (rs : List RecordRow) (ls : List LineRow)
+    → list_any (λ (r : RecordRow). r.no == n) rs ≡ false
+    → AllByRecursion (λ (l : LineRow). list_any (λ (r : RecordRow). r.no == l.no) rs ≡ true) ls
+    → list_any (λ (l : LineRow). l.no == n) ls ≡ false
+none_of_number n rs [] none all = refl
+none_of_number n rs (l ∷ ls) none all =
+    ap₂ (λ s t. s || t) (line_apart n rs l none all.0) (none_of_number n rs ls none all.1)
+
+no_lines : (ps : List Numbered) (rows : Rows) (c : Content) → AreClosed rows → Means rows c
+    → EachOf (λ (p : Numbered). get c.records p.number ≡ None) ps
+    → EachOf (λ (p : Numbered). list_any (λ (l : LineRow). l.no == p.number) rows.lines ≡ false) ps
+no_lines [] rows c closed was new = tt
+no_lines (p ∷ ps) rows c closed was new = (
+  none_of_number p.number rows.records rows.lines
+      (sym (any_closed p.number rows.batches rows.records closed.records) ∙ absent rows c p.number was new.0)
+      closed.lines,
+  no_lines ps rows c closed was new.1,
+)
+
+pub fresh : (batch : ℕ) (ps : List Numbered) (rows : Rows) (c : Content) → AreClosed rows
+    → list_any (λ (b : BatchRow). b.no == batch) rows.batches ≡ false
+    → EachOf (λ (p : Numbered). get c.records p.number ≡ None) ps → Means rows c → IsFresh batch ps rows
+fresh batch ps rows c closed unused new was = record {
+  unused = unused;
+  records = none_of_batch batch rows.batches rows.records (none_closed batch rows.batches unused) closed.records;
+  lines = no_lines ps rows c closed was new;
+}

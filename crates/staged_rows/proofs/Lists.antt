@@ -1,0 +1,117 @@
+-- Tests of lists into which an item is put, or of which some are taken out.
+use Rattle.std.proofs.Common.{
+  ◌≡◌,
+  ◌≢◌,
+  ℕ,
+  Bool,
+  true,
+  false,
+  List,
+  [],
+  ◌∷◌,
+  ◌++◌,
+  filter,
+  cond,
+  refl,
+  sym,
+  ap,
+  ap₂,
+  ◌∙◌,
+  arith,
+}
+use Rattle.std.specs.Prelude.{◌==◌, ◌&&◌, ◌||◌}
+use Rattle.std.specs.List.{list_any}
+use Rattle.std.specs.Ordering.{nat_cmp, match_ordering}
+use Rattle.std.specs.declared.cmp.Ordering.TheVariants.{Less, Equal, Greater}
+use Rattle.std.specs.FinMap.{nat_cmp-IsAntisymmetric}
+use Rattle.std.proofs.lemmas.Bool.Decides.{nat_tests}
+use Rattle.store_tables.specs.Rows.{put_by}
+
+pub is_not : (m n : ℕ) → m ≢ n → (m == n) ≡ false
+is_not m n off = grind (arith, nat_tests, off)
+
+pub not_it : (m n : ℕ) → (m == n) ≡ false → m ≢ n
+not_it m n e = grind (arith, nat_tests, e)
+
+pub it : (m n : ℕ) → (m == n) ≡ true → m ≡ n
+it m n e = grind (arith, nat_tests, e)
+
+pub or_first : (a b : Bool) → (a || b) ≡ false → a ≡ false
+or_first true b h = absurd cc
+or_first false b h = refl
+
+pub or_second : (a b : Bool) → (a || b) ≡ false → b ≡ false
+or_second true b h = absurd cc
+or_second false b h = h
+
+pub and_false : (a b : Bool) → b ≡ false → (a && b) ≡ false
+and_false true b h = h
+and_false false b h = refl
+
+pub any_alike : {X : Type 0} (p q : X → Bool) → ((x : X) → p x ≡ q x) → (xs : List X) → list_any p xs ≡ list_any q xs
+any_alike p q h [] = refl
+any_alike p q h (x ∷ xs) = ap₂ (λ a b. a || b) (h x) (any_alike p q h xs)
+
+module _ {X : Type 0} (key : X → ℕ) where
+  -- where the test fails of the item and of all others
+  pub none_put : (q : X → Bool) (x : X) (xs : List X) → q x ≡ false → list_any q xs ≡ false
+      → list_any q (put_by key x xs) ≡ false
+  none_put q x [] here none = ap (λ b. b || false) here
+  none_put q x (y ∷ ys) here none =
+      let first = or_first (q y) (list_any q ys) none in
+      let more = or_second (q y) (list_any q ys) none in
+      elim (nat_cmp (key y) (key x)) as (λ o. list_any q
+      (match_ordering o (y ∷ put_by key x ys) (x ∷ ys) (x ∷ y ∷ ys)) ≡ false) [
+        | Less ↦ ap₂ (λ a b. a || b) first (none_put q x ys here more)
+        | Equal ↦ ap₂ (λ a b. a || b) here more
+        | Greater ↦ ap₂ (λ a b. a || b) here none
+      ]
+
+  -- where the test is one of another number
+  pub any_put : (m : ℕ) (g : X → Bool) (x : X) (xs : List X) → key x ≢ m
+      → list_any (λ y. (key y == m) && g y) (put_by key x xs) ≡ list_any (λ y. (key y == m) && g y) xs
+  any_put m g x [] off = let apart = is_not (key x) m off in rw apart refl
+  any_put m g x (y ∷ ys) off =
+      let q = λ (y : X). (key y == m) && g y in
+      let apart = is_not (key x) m off in
+      elim (nat_cmp (key y) (key x)) as (λ o. nat_cmp (key y) (key x) ≡ o → list_any q
+      (match_ordering o (y ∷ put_by key x ys) (x ∷ ys) (x ∷ y ∷ ys)) ≡ list_any q (y ∷ ys)) [
+        | Less ↦ λ p. ap (λ b. q y || b) (any_put m g x ys off)
+        | Equal ↦ λ p. let same : key y ≡ key x = nat_cmp-IsAntisymmetric (key y) (key x) p in
+            rw (same, apart) refl
+        | Greater ↦ λ p. rw apart refl
+      ] refl
+
+module _ {X : Type 0} (q p : X → Bool) where
+  pub none_kept : (xs : List X) → list_any q xs ≡ false → list_any q (filter p xs) ≡ false
+  none_kept [] none = refl
+  none_kept (x ∷ xs) none =
+      let first = or_first (q x) (list_any q xs) none in
+      let more = none_kept xs (or_second (q x) (list_any q xs) none) in
+      elim (p x) as (λ b. list_any q (cond b (x ∷ filter p xs) (filter p xs)) ≡ false) [
+        | true ↦ ap₂ (λ a b. a || b) first more
+        | false ↦ more
+      ]
+
+  -- where all that pass the test are kept
+  pub any_kept : ((x : X) → p x ≡ false → q x ≡ false) → (xs : List X) → list_any q (filter p xs) ≡ list_any q xs
+  any_kept h [] = refl
+  any_kept h (x ∷ xs) =
+      elim (p x) as (λ b. p x ≡ b → list_any q (cond b (x ∷ filter p xs) (filter p xs)) ≡ (q x || list_any q xs)) [
+        | true ↦ λ e. ap (λ b. q x || b) (any_kept h xs)
+        | false ↦ λ e. any_kept h xs ∙ ap (λ b. b || list_any q xs) (sym (h x e))
+      ] refl
+
+  pub filter_kept : ((x : X) → p x ≡ false → q x ≡ false) → (xs : List X) → filter q (filter p xs) ≡ filter q xs
+  filter_kept h [] = refl
+  filter_kept h (x ∷ xs) =
+      elim (p x) as (λ b. p x ≡ b → filter q (cond b (x ∷ filter p xs) (filter p xs))
+      ≡ cond (q x) (x ∷ filter q xs) (filter q xs)) [
+        | true ↦ λ e. ap (λ ys. cond (q x) (x ∷ ys) ys) (filter_kept h xs)
+        | false ↦ λ e. filter_kept h xs ∙ ap (λ b. cond b (x ∷ filter q xs) (filter q xs)) (sym (h x e))
+      ] refl
+
+pub filter_behind : {X : Type 0} (q : X → Bool) (xs : List X) (x : X) → q x ≡ false
+    → filter q (xs ++ x ∷ []) ≡ filter q xs
+filter_behind q [] x off = rw off refl
+filter_behind q (y ∷ ys) x off = ap (λ zs. cond (q y) (y ∷ zs) zs) (filter_behind q ys x off)

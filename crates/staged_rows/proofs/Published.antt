@@ -1,0 +1,208 @@
+-- A published import: closing its batch gives each of its numbers the record that the other lines of rows would give.
+use Rattle.std.proofs.Common.{
+  ◌≡◌,
+  ◌≢◌,
+  ℕ,
+  Bool,
+  true,
+  false,
+  not,
+  List,
+  [],
+  ◌∷◌,
+  map,
+  cond,
+  refl,
+  sym,
+  ap,
+  ap₂,
+  subst,
+  ◌∙◌,
+  arith,
+}
+use Rattle.std.specs.Prelude.{◌==◌, ◌&&◌, ◌||◌, Option, Some, None}
+use Rattle.std.specs.List.{list_any}
+use Rattle.std.specs.Ordering.{nat_cmp, match_ordering}
+use Rattle.std.specs.declared.cmp.Ordering.TheVariants.{Less, Equal, Greater}
+use Rattle.std.proofs.lemmas.Bool.Decides.{nat_tests}
+use Rattle.archive_state.specs.Applied.{applied}
+use Rattle.archive_state.specs.Content.{Content}
+use Rattle.archive_state.specs.declared.changes.Kept.{Kept}
+use Rattle.archive_state.specs.declared.changes.Numbered.{Numbered}
+use Rattle.receipts.specs.declared.answer.Answer.{Answer}
+use Rattle.record_shapes.specs.Lists.{IsOnce}
+use Rattle.store_tables.specs.Conversion.{EachWith}
+use Rattle.store_tables.specs.Rows.{Rows, BatchRow, RecordRow, put_by, with_batch, with_next}
+use Rattle.store_rows.specs.Meaning.{Means, is_closed}
+use Rattle.store_rows.specs.Writing.{kind_word, with_all_lines, with_changes, with_kept_written}
+use Rattle.store_rows.proofs.Meaning.{changes_mean}
+use Rattle.staged_rows.specs.Staging.{IsFresh, closed_at, import_changes, with_published, with_whole_import}
+use Rattle.staged_rows.proofs.Alike.{means_alike, none_closed}
+use Rattle.staged_rows.proofs.Lists.{it, is_not, not_it, any_put, or_first, or_second}
+use Rattle.staged_rows.proofs.Whole.{all_lines_beside, beside, import_staged, numbers, records_put, records_written}
+
+-- ---- batches
+closed_one : (b m : ℕ) (x : BatchRow) → b ≢ m → ((((closed_at b x).no == m)) && not (closed_at b x).is_open)
+    ≡ ((x.no == m) && not x.is_open)
+closed_one b m x off =
+    elim (x.no == b) as (λ t. (x.no == b) ≡ t → let y : BatchRow = cond t (record x { is_open = false }) x in
+    ((y.no == m) && not y.is_open) ≡ ((x.no == m) && not x.is_open)) [
+      | true ↦ λ e.
+          let apart : (x.no == m) ≡ false = ap (λ k. k == m) (it x.no b e) ∙ is_not b m off in
+          ap (λ t. t && true) apart ∙ sym (ap (λ t. t && not x.is_open) apart)
+      | false ↦ λ e. refl
+    ] refl
+
+closed_elsewhere : (b m : ℕ) (bs : List BatchRow) → b ≢ m → is_closed m (map (closed_at b) bs) ≡ is_closed m bs
+closed_elsewhere b m [] off = refl
+closed_elsewhere b m (x ∷ xs) off = ap₂ (λ s t. s || t) (closed_one b m x off) (closed_elsewhere b m xs off)
+
+itself_closed : (b : ℕ) (x : BatchRow) → (((closed_at b x).no == b) && not (closed_at b x).is_open) ≡ (x.no == b)
+itself_closed b x =
+    elim (x.no == b) as (λ t. (x.no == b) ≡ t → let y : BatchRow = cond t (record x { is_open = false }) x in
+    ((y.no == b) && not y.is_open) ≡ t) [
+      | true ↦ λ e. ap (λ t. t && true) e
+      | false ↦ λ e. ap (λ t. t && not x.is_open) e
+    ] refl
+
+closed_here : (b : ℕ) (bs : List BatchRow) → is_closed b (map (closed_at b) bs)
+    ≡ list_any (λ (x : BatchRow). x.no == b) bs
+closed_here b [] = refl
+closed_here b (x ∷ xs) = ap₂ (λ s t. s || t) (itself_closed b x) (closed_here b xs)
+
+or_true : (a : Bool) → (a || true) ≡ true
+or_true true = refl
+or_true false = refl
+
+module _ {X : Type 0} (key : X → ℕ) where
+  is_put : (x : X) (xs : List X) → list_any (λ y. key y == key x) (put_by key x xs) ≡ true
+  is_put x [] = let same : (key x == key x) ≡ true = grind (arith, nat_tests) in ap (λ b. b || false) same
+  is_put x (y ∷ ys) =
+      let same : (key x == key x) ≡ true = grind (arith, nat_tests) in
+      let q = λ (y : X). key y == key x in
+      elim (nat_cmp (key y) (key x)) as (λ o. list_any q
+      (match_ordering o (y ∷ put_by key x ys) (x ∷ ys) (x ∷ y ∷ ys)) ≡ true) [
+        | Less ↦ ap (λ b. q y || b) (is_put x ys) ∙ or_true (q y)
+        | Equal ↦ ap (λ b. b || list_any q ys) same
+        | Greater ↦ ap (λ b. b || list_any q (y ∷ ys)) same
+      ]
+
+-- the batches of before, with that of the import, which is closed
+abbrev closed_batches : ℕ → List BatchRow → List BatchRow
+closed_batches b bs = map (closed_at b) (put_by (λ (x : BatchRow). x.no) (record { no = b; is_open = true }) bs)
+
+batch_closed : (b : ℕ) (bs : List BatchRow) → is_closed b (closed_batches b bs) ≡ true
+batch_closed b bs =
+    let row : BatchRow = record { no = b; is_open = true } in
+    closed_here b (put_by (λ (x : BatchRow). x.no) row bs) ∙ is_put (λ (x : BatchRow). x.no) row bs
+
+others_closed : (b m : ℕ) (bs : List BatchRow) → b ≢ m → is_closed m (closed_batches b bs) ≡ is_closed m bs
+others_closed b m bs off =
+    let row : BatchRow = record { no = b; is_open = true } in
+    closed_elsewhere b m (put_by (λ (x : BatchRow). x.no) row bs) off
+    ∙ any_put (λ (x : BatchRow). x.no) m (λ (x : BatchRow). not x.is_open) row bs off
+
+-- ---- rows of `record` that differ in their batch alone
+abbrev AreAlike : (ℕ → Bool) → (ℕ → Bool) → RecordRow → RecordRow → Type 0
+AreAlike f g r s = (r.no ≡ s.no) × (f r.batch ≡ g s.batch)
+
+put_alike : (f g : ℕ → Bool) (p q : RecordRow) (rs ss : List RecordRow) → AreAlike f g p q
+    → EachWith (AreAlike f g) rs ss
+    → EachWith (AreAlike f g) (put_by (λ (r : RecordRow). r.no) p rs) (put_by (λ (r : RecordRow). r.no) q ss)
+put_alike f g p q [] [] is all = (is, tt)
+put_alike f g p q [] (s ∷ ss) is all = absurd all
+put_alike f g p q (r ∷ rs) [] is all = absurd all
+put_alike f g p q (r ∷ rs) (s ∷ ss) is all =
+    let key = λ (r : RecordRow). r.no in
+    let same : nat_cmp r.no p.no ≡ nat_cmp s.no q.no = ap₂ nat_cmp all.0.0 is.0 in
+    let more = put_alike f g p q rs ss is all.1 in
+    subst (λ o. EachWith (AreAlike f g)
+    (match_ordering (nat_cmp r.no p.no) (r ∷ put_by key p rs) (p ∷ rs) (p ∷ r ∷ rs))
+    (match_ordering o (s ∷ put_by key q ss) (q ∷ ss) (q ∷ s ∷ ss))) same
+    (elim (nat_cmp r.no p.no) as (λ o. EachWith (AreAlike f g)
+    (match_ordering o (r ∷ put_by key p rs) (p ∷ rs) (p ∷ r ∷ rs))
+    (match_ordering o (s ∷ put_by key q ss) (q ∷ ss) (q ∷ s ∷ ss))) [
+      | Less ↦ (all.0, more)
+      | Equal ↦ (is, all.1)
+      | Greater ↦ (is, all)
+    ])
+
+all_put_alike : (f g : ℕ → Bool) (a b : ℕ) (ps : List Numbered) (rs ss : List RecordRow) → f a ≡ g b
+    → EachWith (AreAlike f g) rs ss → EachWith (AreAlike f g) (records_put a ps rs) (records_put b ps ss)
+all_put_alike f g a b [] rs ss is all = all
+all_put_alike f g a b (p ∷ ps) rs ss is all =
+    all_put_alike f g a b ps _ _ is (put_alike f g (record { no = p.number; kind = kind_word p.«record»; batch = a })
+    (record { no = p.number; kind = kind_word p.«record»; batch = b }) rs ss (refl, is) all)
+
+any_of_alike : (f g : ℕ → Bool) (n : ℕ) (rs ss : List RecordRow) → EachWith (AreAlike f g) rs ss
+    → list_any (λ (r : RecordRow). (r.no == n) && f r.batch) rs
+    ≡ list_any (λ (s : RecordRow). (s.no == n) && g s.batch) ss
+any_of_alike f g n [] [] all = refl
+any_of_alike f g n [] (s ∷ ss) all = absurd all
+any_of_alike f g n (r ∷ rs) [] all = absurd all
+any_of_alike f g n (r ∷ rs) (s ∷ ss) all =
+    ap₂ (λ a b. a || b) (ap₂ (λ k t. (k == n) && t) all.0.0 all.0.1) (any_of_alike f g n rs ss all.1)
+
+-- the rows of before are of other batches
+of_others : (b : ℕ) (bs : List BatchRow) (rs : List RecordRow) → list_any (λ (r : RecordRow). r.batch == b) rs ≡ false
+    → EachWith (AreAlike (λ k. is_closed k (closed_batches b bs)) (λ k. is_closed k bs)) rs rs
+of_others b bs [] none = tt
+of_others b bs (r ∷ rs) none =
+    let off = or_first (r.batch == b) (list_any (λ (r : RecordRow). r.batch == b) rs) none in
+    let more = or_second (r.batch == b) (list_any (λ (r : RecordRow). r.batch == b) rs) none in (
+      (refl, others_closed b r.batch bs (λ same. not_it r.batch b off (sym same))),
+      of_others b bs rs more,
+    )
+
+-- ---- the whole
+-- what is kept and the next number are beside the tables of records
+published_beside : (kept : Option Kept) (next : ℕ) (bs : List BatchRow) (rs : List RecordRow) (rows : Rows)
+    → with_kept_written kept (with_next next (beside bs rs rows))
+    ≡ beside bs rs (with_kept_written kept (with_next next rows))
+published_beside None next bs rs rows = refl
+published_beside (Some k) next bs rs rows = refl
+
+kept_batches : (kept : Option Kept) (next : ℕ) (rows : Rows)
+    → (with_kept_written kept (with_next next rows)).batches ≡ rows.batches
+kept_batches None next rows = refl
+kept_batches (Some k) next rows = refl
+
+pub whole : (batch next : ℕ) (ps : List Numbered) (answer : Answer) (kept : Option Kept) (rows : Rows) (c : Content)
+    → IsOnce (numbers ps) → IsFresh batch ps rows → Means rows c
+    → Means (with_whole_import batch (import_changes ps next answer kept) rows)
+    (applied c (import_changes ps next answer kept))
+whole batch next ps answer kept rows c once fresh was =
+    let changes = import_changes ps next answer kept in
+    let bs = closed_batches batch rows.batches in
+    let opened = (with_batch batch true rows).batches in
+    let rs = records_put batch ps rows.records in
+    let ss = records_put 0 ps rows.records in
+    let all : Rows = with_all_lines ps rows in
+    let after : Rows = with_kept_written kept (with_next next all) in
+    let f = λ (k : ℕ). is_closed k bs in
+    let g = λ (k : ℕ). is_closed k rows.batches in
+    let written : with_changes changes rows ≡ beside rows.batches ss after =
+    ap (λ (r : Rows). with_kept_written kept (with_next next (with_all_lines ps r))) (records_written ps rows)
+    ∙ ap (λ (r : Rows). with_kept_written kept (with_next next r))
+    (all_lines_beside ps rows.batches ss rows)
+    ∙ published_beside kept next rows.batches ss all in
+    let staged : with_whole_import batch changes rows ≡ beside bs rs after =
+    ap (λ (r : Rows). with_published batch changes r) (import_staged batch ps opened rows once fresh.lines)
+    ∙ published_beside kept next bs rs all in
+    let means : Means (beside rows.batches ss after) (applied c changes) =
+    subst (λ (r : Rows). Means r (applied c changes)) written (changes_mean changes rows c was) in
+    let first : f batch ≡ g 0 = batch_closed batch rows.batches ∙ sym was.batch in
+    let alike = all_put_alike f g batch 0 ps rows.records rows.records first
+    (of_others batch rows.batches rows.records fresh.records) in
+    let zero_closed : is_closed 0 bs ≡ true = others_closed batch 0 rows.batches (apart batch rows was fresh)
+    ∙ was.batch in
+    subst (λ (r : Rows). Means r (applied c changes)) (sym staged)
+    (means_alike bs rs after.lines (beside rows.batches ss after) (applied c changes) zero_closed
+    (λ n. any_of_alike f g n rs ss alike) (λ n has. refl) means)
+  where
+    -- the batch of the import is not that of the commands, which is there
+    apart : (b : ℕ) (rows : Rows) → Means rows c → IsFresh b ps rows → b ≢ 0
+    apart b rows was fresh same =
+        let none : is_closed 0 rows.batches ≡ false = ap (λ k. is_closed k rows.batches) (sym same)
+        ∙ none_closed b rows.batches fresh.unused in
+        let both : true ≡ false = sym was.batch ∙ none in cc

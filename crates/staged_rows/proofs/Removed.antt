@@ -1,0 +1,76 @@
+-- Rows of an open batch that are taken out.
+use Rattle.std.proofs.Common.{◌≡◌, ℕ, Bool, true, false, not, filter, map, refl, sym, ap, ◌∙◌}
+use Rattle.std.specs.Prelude.{◌==◌, ◌&&◌}
+use Rattle.archive_state.specs.Content.{Content}
+use Rattle.store_tables.specs.Rows.{Rows, BatchRow, RecordRow, LineRow, without_record_row}
+use Rattle.store_rows.specs.Meaning.{Means, has_record, is_closed}
+use Rattle.staged_rows.proofs.Alike.{means_alike}
+use Rattle.staged_rows.proofs.Lists.{it, any_alike, any_kept, none_kept, filter_kept}
+
+-- a test that holds of no other number fails where that one is left out
+fails_of : (a b : Bool) → (a ≡ true → b ≡ false) → (b && a) ≡ false
+fails_of true b h = ap (λ t. t && true) (h refl)
+fails_of false true h = refl
+fails_of false false h = refl
+
+unlike : (l : LineRow) (stays : LineRow → Bool) (m : ℕ) (rows : Rows)
+    → (stays l ≡ false → has_record l.no rows ≡ false) → has_record m rows ≡ true → stays l ≡ false
+    → (l.no == m) ≡ false
+unlike l stays m rows h has gone =
+    elim (l.no == m) as (λ b. (l.no == m) ≡ b → b ≡ false) [
+      | true ↦ λ e.
+          let here = ap (λ n. has_record n rows) (sym (it l.no m e)) in
+          absurd (let both : true ≡ false = sym has ∙ here ∙ h gone in cc)
+      | false ↦ λ e. refl
+    ] refl
+
+pub lines_gone : (stays : LineRow → Bool) (rows : Rows) (c : Content)
+    → ((l : LineRow) → stays l ≡ false → has_record l.no rows ≡ false) → Means rows c
+    → Means (record rows { lines = filter stays rows.lines }) c
+lines_gone stays rows c h was =
+    means_alike rows.batches rows.records (filter stays rows.lines) rows c was.batch (λ n. refl)
+    (λ m has. ap (map (λ (l : LineRow). l.line)) (filter_kept (λ (l : LineRow). l.no == m) stays
+    (λ l. unlike l stays m rows (h l) has) rows.lines)) was
+
+-- a row that is left out is of that number
+left_out : (k n : ℕ) → not (k == n) ≡ false → k ≡ n
+left_out k n e = it k n (flip (k == n) e)
+  where
+    flip : (b : Bool) → not b ≡ false → b ≡ true
+    flip true h = refl
+    flip false h = absurd cc
+
+pub record_gone : (n : ℕ) (rows : Rows) (c : Content) → has_record n rows ≡ false → Means rows c
+    → Means (without_record_row n rows) c
+record_gone n rows c none was =
+    let kept = λ (r : RecordRow). not (r.no == n) in
+    let q = λ (m : ℕ) (r : RecordRow). (r.no == m) && is_closed r.batch rows.batches in
+    means_alike rows.batches (filter kept rows.records) rows.lines rows c was.batch
+    (λ m. elim (n == m) as (λ b. (n == m) ≡ b → has_record m (without_record_row n rows) ≡ has_record m rows) [
+      | true ↦ λ e.
+          let gone : has_record m rows ≡ false = ap (λ k. has_record k rows) (sym (it n m e)) ∙ none in
+          none_kept (q m) kept rows.records gone ∙ sym gone
+      | false ↦ λ e. any_kept (q m) kept
+          (λ r out. ap (λ k. (k == m) && is_closed r.batch rows.batches) (left_out r.no n out)
+          ∙ ap (λ b. b && is_closed r.batch rows.batches) e) rows.records
+    ] refl) (λ m has. refl) was
+
+pub batch_gone : (n : ℕ) (rows : Rows) (c : Content) → is_closed n rows.batches ≡ false → Means rows c
+    → Means (record rows { batches = filter (λ (b : BatchRow). not (b.no == n)) rows.batches }) c
+batch_gone n rows c none was =
+    let kept = λ (b : BatchRow). not (b.no == n) in
+    let bs = filter kept rows.batches in
+    let q = λ (m : ℕ) (b : BatchRow). (b.no == m) && not b.is_open in
+    let closed : (m : ℕ) → is_closed m bs ≡ is_closed m rows.batches =
+    λ m. elim (n == m) as (λ b. (n == m) ≡ b → is_closed m bs ≡ is_closed m rows.batches) [
+      | true ↦ λ e.
+          let gone : is_closed m rows.batches ≡ false = ap (λ k. is_closed k rows.batches) (sym (it n m e)) ∙ none in
+          none_kept (q m) kept rows.batches gone ∙ sym gone
+      | false ↦ λ e. any_kept (q m) kept
+          (λ b out. ap (λ k. (k == m) && not b.is_open) (left_out b.no n out) ∙ ap (λ t. t && not b.is_open) e)
+          rows.batches
+    ] refl in
+    means_alike bs rows.records rows.lines rows c (closed 0 ∙ was.batch)
+    (λ m. any_alike (λ (r : RecordRow). (r.no == m) && is_closed r.batch bs)
+    (λ (r : RecordRow). (r.no == m) && is_closed r.batch rows.batches)
+    (λ r. ap (λ b. (r.no == m) && b) (closed r.batch)) rows.records) (λ m has. refl) was

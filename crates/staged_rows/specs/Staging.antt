@@ -1,0 +1,113 @@
+-- The rows of an import that is staged: they are of a batch that is open, until all of them are there and it is closed.
+-- Rules of our own.
+use Rattle.std.specs.Prelude.{
+  ℕ,
+  ◌≡◌,
+  ◌+◌,
+  ◌==◌,
+  true,
+  false,
+  List,
+  [],
+  ◌∷◌,
+  ◌++◌,
+  map,
+  take,
+  cond,
+  Option,
+  None,
+}
+use Rattle.std.specs.List.{AllByRecursion, flat_map, list_any}
+use Rattle.std.specs.FinMap.{get}
+use Rattle.stored_lines.specs.Line.{Label}
+use Rattle.records.specs.Stored.{stored}
+use Rattle.archive_state.specs.Changes.{Changes}
+use Rattle.archive_state.specs.Content.{Content}
+use Rattle.archive_state.specs.declared.changes.Kept.{Kept}
+use Rattle.archive_state.specs.declared.changes.Numbered.{Numbered}
+use Rattle.receipts.specs.declared.answer.Answer.{Answer}
+use Rattle.record_shapes.specs.Lists.{EachOf}
+use Rattle.store_tables.specs.Rows.{
+  Rows,
+  BatchRow,
+  RecordRow,
+  LineRow,
+  with_batch,
+  with_line,
+  with_next,
+  with_record_row,
+}
+use Rattle.store_rows.specs.Meaning.{is_closed}
+use Rattle.store_rows.specs.Writing.{kind_word, with_kept_written}
+
+-- one row of an import: of `record`, or a line of a number at a place
+pub data StagedRow : Type 0 where
+  a_record : RecordRow → StagedRow
+  a_line : ℕ → ℕ → ℕ × Label → StagedRow
+
+abbrev pub record_of : ℕ → Numbered → StagedRow
+record_of batch p = a_record (record { no = p.number; kind = kind_word p.«record»; batch = batch })
+
+-- lines of a number from a place on
+abbrev pub lines_from : ℕ → ℕ → List (ℕ × Label) → List StagedRow
+lines_from n at [] = []
+lines_from n at (l ∷ ls) = a_line n at l ∷ lines_from n (at + 1) ls
+
+abbrev pub lines_of_put : Numbered → List StagedRow
+lines_of_put p = lines_from p.number 0 (stored p.«record»)
+
+-- the rows of an import in their order: those of `record`, and then all lines, since a line may name any record
+abbrev pub rows_of_import : ℕ → List Numbered → List StagedRow
+rows_of_import batch ps = map (record_of batch) ps ++ flat_map lines_of_put ps
+
+-- ---- what staging makes of the rows of an archive
+abbrev pub with_staged_row : StagedRow → Rows → Rows
+with_staged_row (a_record r) rows = with_record_row r.no r.kind r.batch rows
+with_staged_row (a_line n at l) rows = with_line n at l rows
+
+abbrev pub with_staged : List StagedRow → Rows → Rows
+with_staged [] rows = rows
+with_staged (r ∷ rs) rows = with_staged rs (with_staged_row r rows)
+
+-- an import is open, and the first so many of its rows are there
+abbrev pub with_open_import : ℕ → List Numbered → ℕ → Rows → Rows
+with_open_import batch ps count rows = with_staged (take count (rows_of_import batch ps)) (with_batch batch true rows)
+
+-- the batch is closed, where it is there
+abbrev pub closed_at : ℕ → BatchRow → BatchRow
+closed_at n b = cond (b.no == n) (record b { is_open = false }) b
+
+abbrev pub with_closed : ℕ → Rows → Rows
+with_closed n rows = record rows { batches = map (closed_at n) rows.batches }
+
+-- an import is published: its batch is closed, the next number is behind its numbers, and its answer is kept
+abbrev pub with_published : ℕ → Changes → Rows → Rows
+with_published batch changes rows = with_kept_written changes.kept (with_next changes.next (with_closed batch rows))
+
+-- ---- what is asked of an import
+-- the row is of that batch, and of a number that has no record
+abbrev pub IsOfNone : ℕ → Content → StagedRow → Type 0
+IsOfNone batch c (a_record r) = (r.batch ≡ batch) × (get c.records r.no ≡ None)
+IsOfNone batch c (a_line n at l) = get c.records n ≡ None
+
+-- each line is of a number with a row in `record`, and each such row is of a closed batch
+pub record AreClosed (rows : Rows) : Type 0 where
+  pub lines : AllByRecursion (λ (l : LineRow). list_any (λ (r : RecordRow). r.no == l.no) rows.records ≡ true)
+      rows.lines
+  pub records : AllByRecursion (λ (r : RecordRow). is_closed r.batch rows.batches ≡ true) rows.records
+
+-- nothing of an import is there: not its batch, no row of the batch, and no line of a number that it puts
+pub record IsFresh (batch : ℕ) (ps : List Numbered) (rows : Rows) : Type 0 where
+  pub unused : list_any (λ (b : BatchRow). b.no == batch) rows.batches ≡ false
+  pub records : list_any (λ (r : RecordRow). r.batch == batch) rows.records ≡ false
+  pub lines : EachOf (λ (p : Numbered). list_any (λ (l : LineRow). l.no == p.number) rows.lines ≡ false) ps
+
+-- what an import changes: it puts records, and takes none out
+abbrev pub import_changes : List Numbered → ℕ → Answer → Option Kept → Changes
+import_changes ps next answer kept =
+    record { puts = ps; removals = []; next = next; answer = answer; kept = kept; slip = None }
+
+-- an import, staged to its end and published
+abbrev pub with_whole_import : ℕ → Changes → Rows → Rows
+with_whole_import batch changes rows = with_published batch changes
+    (with_staged (rows_of_import batch changes.puts) (with_batch batch true rows))
