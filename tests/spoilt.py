@@ -77,11 +77,15 @@ class Tables:
         self.run("UPDATE meta SET next = max(next, ?)", number + 1)
 
     def put_slip(self, side: int, number: int, lines: list[Line]) -> None:
-        """What slip 19 has of a number before the merge (0) or after it (1)."""
-        self.run("DELETE FROM slip_line WHERE side = ? AND no = ?", side, number)
-        for place, line in enumerate(lines):
-            text = "INSERT INTO slip_line (slip, side, no, pos, depth, tag, text, dst) VALUES (19, ?, ?, ?, ?, ?, ?, ?)"
-            self.run(text, side, number, place, *line)
+        """What slip 19 has of a number before the merge (0) or after it (1). The rows stay in the order of numbers."""
+        columns = "slip, side, no, pos, depth, tag, text, dst"
+        kept = self.conn.execute(f"SELECT {columns} FROM slip_line ORDER BY id").fetchall()
+        first = next(at for at, row in enumerate(kept) if row[1:3] == (side, number))
+        rows = [row for row in kept if row[1:3] != (side, number)]
+        rows[first:first] = [(19, side, number, place, *line) for place, line in enumerate(lines)]
+        self.run("DELETE FROM slip_line")
+        for row in rows:
+            self.run(f"INSERT INTO slip_line ({columns}) VALUES (?, ?, ?, ?, ?, ?, ?, ?)", *row)
 
 
 class Pair(NamedTuple):

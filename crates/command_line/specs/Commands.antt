@@ -82,7 +82,7 @@ port_rule = needed_number_rule (codes "port") 1 65535
 
 -- `--count N`
 abbrev pub count_rule : Rule
-count_rule = needed_number_rule (codes "count") 0 4294967295
+count_rule = needed_number_rule (codes "count") 0 1000000
 
 abbrev pub init_shape : Shape
 init_shape = record (new_shape (codes "init")) { rules = file_rule ∷ society_rule ∷ [] }

@@ -41,7 +41,7 @@ const GENERATIONS_HELP: &str = "The generations of a pedigree, 1 to 12 [default:
 
 const PORT_HELP: &str = "The port, 1 to 65535";
 
-const COUNT_HELP: &str = "How many visitors are answered, 0 to 4294967295";
+const COUNT_HELP: &str = "How many visitors are answered, 0 to 1000000";
 
 /// The most that the number of a record can be.
 const MOST_NUMBER: u64 = 4_294_967_295;
@@ -189,5 +189,5 @@ pub(crate) fn count_arg<'a>(alloc: Global) -> Arg<'a>
         .help(COUNT_HELP)
         .required(true)
         .action(ArgAction::Set)
-        .value_parser(ValueParser::unsigned(0, MOST_NUMBER))
+        .value_parser(ValueParser::unsigned(0, 1_000_000))
 }

@@ -77,7 +77,7 @@ fn main(rt: HostRuntime) -> ExitCode {
     let mut faults = Counted::new(rt.stderr());
     let status = match words_of(&rt) {
         Ok(words) => {
-            let (status, _left, room) = closed(command::command(
+            let (status, left, room) = closed(command::command(
                 &rt,
                 &words,
                 Unknown,
@@ -85,6 +85,8 @@ fn main(rt: HostRuntime) -> ExitCode {
                 &mut output,
                 &mut faults,
             ));
+            // The file is free for others while a room is served.
+            drop(left);
             served(rt.alloc(), &rt, status, room, &mut output, &mut faults)
         }
         Err(error) => command::refuse_command_line(&error, &mut faults),
