@@ -40,6 +40,15 @@ ARCHIVES = {
 3 _LOC @P1@
 """,
     ),
+    "a French Republican date": (
+        ("t1,person,Anne /Leroy/,F", "t2,event,1,BIRT,,@#dfrench r@ 18 brum 8,"),
+        """0 @I1@ INDI
+1 NAME Anne /Leroy/
+1 SEX F
+1 BIRT
+2 DATE @#DFRENCH R@ 18 BRUM 8
+""",
+    ),
     "places within places, unused ones and two of one name": (
         ("a,place,Kent,", "b,place,Ashby,1", "c,place,Ashby,", "d,place,Ashby,", "e,place,\"Hill, The\",2"),
         """0 @P1@ _LOC

@@ -66,6 +66,8 @@ SPELT = (
     ("date", "(a\r)", None),
     ("date", " @#djulian@ 11  feb 1731/32", "@#DJULIAN@ 11 FEB 1731/32"),
     ("date", "15 apr 1699/00", "15 APR 1699/00"),
+    ("date", "@#dfrench r@ 18 brum 8", "@#DFRENCH R@ 18 BRUM 8"),
+    ("date", "@#dfrench r@ 15", "@#dfrench r@ 15"),
     ("date", "in harvest", "in harvest"),
     ("date", "(a\0)", None),
     ("date", "a\rb", None),

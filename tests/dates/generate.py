@@ -4,6 +4,7 @@ import random
 import sys
 
 MONTHS = "JAN FEB MAR APR MAY JUN JUL AUG SEP OCT NOV DEC".split()
+REPUBLICAN_MONTHS = "VEND BRUM FRIM NIVO PLUV VENT GERM FLOR PRAI MESS THER FRUC COMP".split()
 ESCAPES = ["", "", "", "@#DJULIAN@", "@#DGREGORIAN@"]
 BEFORE_A_DATE = ["ABT", "CAL", "EST", "BEF", "AFT", "FROM", "TO"]
 PHRASES = ["", "about", "x", " two words ", "(", ")", "a (b) c", "@#DFRENCH R@ 8", "é", "INT 1700 (x)"]
@@ -32,7 +33,21 @@ def month(rng):
     return rng.choice(["VEND", "JANUARY", "MARZ", "XYZ"])
 
 
+def republican_date(rng):
+    """A French Republican date, or one nearly."""
+    year = str(rng.choice([rng.randint(1, 14), rng.randint(1, 14), 3, 7, 11, rng.randint(0, 16)]))
+    if rng.random() < 0.1:
+        year = rng.choice([year.zfill(2), year.zfill(4), year + "/" + str(rng.randint(1, 15)).zfill(2)])
+    month = rng.choice(REPUBLICAN_MONTHS * 2 + ["COMP"] * 6 + ["JAN", "VENDE"])
+    day = str(rng.choice([rng.randint(1, 5), rng.randint(1, 30), rng.randint(1, 30), 6, 30, rng.randint(0, 31)]))
+    words = rng.choice([[year], [month, year], [day, month, year], [day, month, year]])
+    escape = rng.choice(["@#DFRENCH R@"] * 20 + ["@#DFRENCHR@", "@#DFRENCH", "R@", "@#DJULIAN@", "@#DFRENCH  R@"])
+    return [escape] + words
+
+
 def date(rng):
+    if rng.random() < 0.2:
+        return republican_date(rng)
     words = [rng.choice(ESCAPES)]
     form = rng.random()
     if form < 0.15:

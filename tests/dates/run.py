@@ -8,6 +8,8 @@ import pathlib
 import subprocess
 import sys
 
+import republican
+
 HERE = pathlib.Path(__file__).resolve().parent
 PROGRAM = HERE.parents[1] / "crates/date_lines/out/date_lines"
 
@@ -31,6 +33,9 @@ def cases():
             yield name + ", written again", written, "\t".join([written, lo, hi])
     for text, lo, hi, source in rows("published.tsv"):
         yield source, text, "\t".join([text, lo, hi])
+    for name, text, span in republican.cases():
+        first, last = ("-", "-") if span is None else span
+        yield name, text, f"{text}\t{first}\t{last}"
 
 
 def long_cases():

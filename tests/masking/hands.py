@@ -51,6 +51,7 @@ DEATHS = tuple((f"an undated {tag}", alone(None, tag), TODAY, alone(None, tag)) 
 
 OLD = on(TODAY - 40_178)
 NEW = on(TODAY - 40_177)
+REPUBLICAN = When("@#DFRENCH R@ 18 BRUM 8", -62_144)
 BEFORE = When(f"BEF {spelt(TODAY - 40_177)}", TODAY - 40_178)
 COUPLE = {1: ANN, 2: TOM, 3: Family((("wife", 1, False), ("husband", 2, False)))}
 BOTH_LIVING = {1: NOBODY, 2: NOBODY, 3: COUPLE[3]}
@@ -62,6 +63,9 @@ SHOWN = (
     *DEATHS,
     ("the year 1913 was over", alone(When("1913", TODAY - 40_178)), TODAY, alone(When("1913", TODAY - 40_178))),
     ("before a day", alone(BEFORE), TODAY, alone(BEFORE)),
+    ("a French Republican day", alone(REPUBLICAN), TODAY, alone(REPUBLICAN)),
+    ("a French Republican day, 40,178 days ago", alone(REPUBLICAN), -21_966, alone(REPUBLICAN)),
+    ("a French Republican day, 40,177 days ago", alone(REPUBLICAN), -21_967, {1: NOBODY}),
     ("before the next day", alone(When(f"BEF {spelt(TODAY - 40_176)}", None)), TODAY, {1: NOBODY}),
     ("after a day long ago", alone(When("AFT 1 JAN 1700", None)), TODAY, {1: NOBODY}),
     ("from a day long ago", alone(When("FROM 1 JAN 1700", None)), TODAY, {1: NOBODY}),

@@ -39,9 +39,11 @@ use Rattle.calendar_days.specs.Calendars.{
   day_number,
   HasDay,
 }
-use Rattle.calendar_days.specs.Laws.{IsNext, IsReckoned, julian_formula}
+use Rattle.std.specs.Int.{IsInRange}
+use Rattle.jiff_core.specs.Calendar.{days_from_civil}
+use Rattle.calendar_days.specs.Laws.{IsNext, IsReckoned, julian_formula, republican_formula}
 use Rattle.calendar_days.specs.declared.calendar.Calendar.{Calendar}
-use Rattle.calendar_days.specs.declared.calendar.Calendar.TheVariants.{Julian}
+use Rattle.calendar_days.specs.declared.calendar.Calendar.TheVariants.{Gregorian, Julian, Republican}
 use Rattle.calendar_days.proofs.Counts.{
   month_days_bounds,
   some_month,
@@ -53,6 +55,7 @@ use Rattle.calendar_days.proofs.Counts.{
   days_of_years-suc,
 }
 use Rattle.calendar_days.proofs.Julians.{years_closed, zero_closed, julian_floor}
+use Rattle.calendar_days.proofs.Civil.{civil_number}
 
 -- a year from -10000 on, counted from there
 whole : (z : ℤ) → pos 0 ≤ℤ z → z ≡ pos (unsigned_abs z)
@@ -285,3 +288,35 @@ julian_rule y m d h k =
 pub julian_rule_both_ways : (y : ℤ) (m d : ℕ) → IsReckoned y → 1 ≤ d → day_number Julian y m d
     ≡ julian_formula y (days_of_months Julian y (m - 1) + d)
 julian_rule_both_ways y m d r k = julian_floor y (unsigned_abs (y +ℤ pos 10000)) m d (shift y r) k
+
+-- a Republican day is a Gregorian one
+-- December alone has 31 days
+years_many : (n : ℕ) → 31 * n ≤ days_of_years Gregorian n
+years_many zero = omega arith
+years_many (suc n) =
+    let y = pos n -ℤ pos 10000 in
+    let december : month_days Gregorian y 12 ≡ 31 = refl in
+    omega (
+      arith,
+      years_many n,
+      days_of_years-suc Gregorian n,
+      days_of_months_more Gregorian y 12 (omega arith),
+      december,
+    )
+
+first_before : (n m d : ℕ) → day_number Gregorian (negsuc 9999) 1 1 ≤ℤ republican_formula n m d
+unfolding day_number day_zero
+first_before n m d = omega (
+  arith,
+  signed_arith,
+  first_count Gregorian,
+  day_count-first Gregorian (pos 1970) 11970 refl,
+  years_many 11970,
+)
+
+pub republican_civil : (n m d : ℕ) → IsInRange 1 14 n → HasDay Republican (pos n) m d
+    → (y : ℤ) × (k : ℕ) × (e : ℕ) × HasDay Gregorian y k e × (republican_formula n m d ≡ days_from_civil y k e)
+republican_civil n m d range has =
+    let low : day_number Gregorian (negsuc 9999) 1 1 ≤ℤ republican_formula n m d = first_before n m d in
+    let at = number_every Gregorian (republican_formula n m d) low in
+    (at.0, at.1, at.2, at.4, at.5 ∙ sym (civil_number at.0 at.1 at.2 at.4.1.0))

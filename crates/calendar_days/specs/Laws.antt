@@ -1,10 +1,10 @@
 -- The laws of days.
 use Rattle.std.specs.Prelude.{◌≡◌, ◌⊎◌, ℕ, ◌+◌, ◌-◌, ◌*◌, ◌/◌, ◌≤◌, ℤ, pos, negsuc, ◌+ℤ◌, ◌-ℤ◌, ◌*ℤ◌, ◌≤ℤ◌}
-use Rattle.std.specs.Int.{int_div_euclid}
+use Rattle.std.specs.Int.{IsInRange, int_div_euclid}
 use Rattle.jiff_core.specs.Calendar.{days_from_civil}
 use Rattle.calendar_days.specs.Calendars.{HasDay, last_month, month_days, days_of_months, day_number}
 use Rattle.calendar_days.specs.declared.calendar.Calendar.{Calendar}
-use Rattle.calendar_days.specs.declared.calendar.Calendar.TheVariants.{Gregorian, Julian}
+use Rattle.calendar_days.specs.declared.calendar.Calendar.TheVariants.{Gregorian, Julian, Republican}
 
 -- the day d of the month m of the year y follows the day e of the month k of the year x: it is the next of the
 -- same month, or the first of the next month after the last of a month, or of the next year after the last of a year
@@ -58,3 +58,20 @@ abbrev pub JulianCountsBothWays : Type 0
 JulianCountsBothWays =
     (y : ℤ) (m d : ℕ) → IsReckoned y → 1 ≤ d
     → day_number Julian y m d ≡ julian_formula y (days_of_months Julian y (m - 1) + d)
+
+-- The number of the day d of the month m, 1 to 13, of the French Republican year n:
+-- -64748 + 365(n - 1) + n / 4 + 30(m - 1) + d - 1, where the division rounds down.
+abbrev pub republican_formula : ℕ → ℕ → ℕ → ℤ
+republican_formula n m d = pos (365 * (n - 1) + n / 4 + 30 * (m - 1) + (d - 1)) -ℤ pos 64748
+
+-- the formula is the count in the years that the calendar has
+abbrev pub RepublicanCounts : Type 0
+RepublicanCounts =
+    (n m d : ℕ) → IsInRange 1 14 n → HasDay Republican (pos n) m d
+    → day_number Republican (pos n) m d ≡ republican_formula n m d
+
+-- each day of these years is a Gregorian day, by the formula of the one calendar and the civil count of `jiff`
+abbrev pub RepublicanDaysAreCivil : Type 0
+RepublicanDaysAreCivil =
+    (n m d : ℕ) → IsInRange 1 14 n → HasDay Republican (pos n) m d
+    → (y : ℤ) × (k : ℕ) × (e : ℕ) × HasDay Gregorian y k e × (republican_formula n m d ≡ days_from_civil y k e)

@@ -13,6 +13,9 @@ pub enum Calendar {
     Gregorian,
     /// Each fourth year is leap.
     Julian,
+    /// The French Republican calendar: the years 1 to 14, of twelve months of thirty days and five
+    /// or six days more.
+    Republican,
 }
 
 /// A year of our era, as it is written.

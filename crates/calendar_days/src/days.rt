@@ -17,6 +17,7 @@ ghost use Rattle.std.specs.Prelude.{
   pos,
   negsuc,
   ℤ,
+  ℕ,
 };
 ghost use Rattle.jiff_core.specs.Calendar.{days_from_civil};
 ghost use Rattle.calendar_days.specs.Bounds.{IsLeast, IsGreatest};
@@ -31,8 +32,12 @@ ghost use Rattle.calendar_days.specs.Calendars.{
   counted,
   opening,
   days_before_month,
+  roman_days,
+  republican_days,
+  sextile_years,
 };
-ghost use Rattle.calendar_days.specs.Laws.{julian_formula};
+ghost use Rattle.calendar_days.specs.Laws.{julian_formula, republican_formula};
+ghost use Rattle.std.specs.Int.{IsInRange};
 ghost use Rattle.calendar_days.specs.Told.{told};
 ghost use Rattle.calendar_days.specs.Within.{IsIn};
 
@@ -123,6 +128,7 @@ fn is_leap(calendar: Calendar, year: i16) -> bool
     match calendar {
         Calendar::Gregorian => year % 4 == 0 && (year % 100 != 0 || year % 400 == 0),
         Calendar::Julian => year % 4 == 0,
+        Calendar::Republican => year == 3 || year == 7 || year == 11,
     }
 }
 
@@ -132,11 +138,33 @@ pub(crate) fn last_of_month(calendar: Calendar, year: i16, month: u8) -> u8
     requires high { year ≤ℤ pos 9999 }
     ensures { result ≡ month_days calendar year month }
 {
+    let leap = is_leap(calendar, year);
+    match calendar {
+        Calendar::Gregorian | Calendar::Julian => roman_days(leap, month),
+        Calendar::Republican => republican_days(leap, month),
+    }
+}
+
+/// The number of days of a month of the Roman year.
+fn roman_days(leap: bool, month: u8) -> u8
+    ensures { result ≡ roman_days leap month }
+{
     match month {
-        2 if is_leap(calendar, year) => 29,
+        2 if leap => 29,
         2 => 28,
         4 | 6 | 9 | 11 => 30,
         _ => 31,
+    }
+}
+
+/// The number of days of a month of the Republican year: the thirteenth is the complementary days.
+fn republican_days(leap: bool, month: u8) -> u8
+    ensures { result ≡ republican_days leap month }
+{
+    match month {
+        13 if leap => 6,
+        13 => 5,
+        _ => 30,
     }
 }
 
@@ -146,6 +174,7 @@ pub(crate) fn last_month(calendar: Calendar) -> u8
 {
     match calendar {
         Calendar::Gregorian | Calendar::Julian => 12,
+        Calendar::Republican => 13,
     }
 }
 
@@ -174,6 +203,7 @@ fn number(calendar: Calendar, year: i16, month: u8, day: u8) -> i32
     match calendar {
         Calendar::Gregorian => gregorian_number(year, month, day),
         Calendar::Julian => julian_number(year, month, day),
+        Calendar::Republican => republican_number(year, month, day),
     }
 }
 
@@ -207,6 +237,38 @@ fn julian_number(year: i16, month: u8, day: u8) -> i32
     let days = 365 * years + (years + 3) / 4;
     let days = days + days_before(month) + leap_day_before(years, month) + day as u32 - 1;
     days as i32 - 4_372_030
+}
+
+/// The number of a day of the French Republican calendar.
+fn republican_number(year: i16, month: u8, day: u8) -> i32
+    requires low { negsuc 9998 ≤ℤ year }
+    requires high { year ≤ℤ pos 9999 }
+    requires day { HasDay Calendar.Republican year month day }
+    ensures value { result ≡ day_number Calendar.Republican year month day }
+    ensures formula { (n : ℕ) → year ≡ pos n → IsInRange 1 14 n
+        → result ≡ republican_formula n month day }
+    ensures low { negsuc 4999999 ≤ℤ result }
+    ensures high { result ≤ℤ pos 5000000 }
+{
+    let days = 365 * years_before(year) + sextile_years(year);
+    let days = days + 30 * (month as u32 - 1) + day as u32 - 1;
+    days as i32 - 3_715_113
+}
+
+/// How many sextile years of the French Republican calendar lie before the year.
+fn sextile_years(year: i16) -> u32
+    ensures value { result ≡ sextile_years year }
+    ensures high { result ≤ 3 }
+{
+    if year <= 3 {
+        0
+    } else if year <= 7 {
+        1
+    } else if year <= 11 {
+        2
+    } else {
+        3
+    }
 }
 
 /// The years from the year -10000 on.

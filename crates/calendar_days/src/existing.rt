@@ -1,7 +1,13 @@
 //! Which days, months and years a calendar has.
 
 ghost use Rattle.std.specs.Prelude.{◌↔◌, ◌≤ℤ◌, IsTrue, pos, negsuc};
-ghost use Rattle.calendar_days.specs.Calendars.{HasDay, IsCounted, IsExtent};
+ghost use Rattle.calendar_days.specs.Calendars.{
+  HasDay,
+  HasYearsBefore,
+  IsCounted,
+  IsExtent,
+  IsYearOf,
+};
 
 use crate::calendar::{Calendar, Extent, Year};
 use crate::days::{counted_year, last_month, last_of_month};
@@ -12,12 +18,42 @@ pub(crate) fn has_extent(calendar: Calendar, extent: Extent) -> bool
     ensures { IsTrue result ↔ IsExtent calendar extent }
 {
     match extent {
-        Extent::BeforeChrist(year) => 1 <= year && year <= 9999,
-        Extent::Whole(year) => has_year(year),
-        Extent::Month(month, year) => has_year(year) && 1 <= month && month <= last_month(calendar),
-        Extent::Day(day, month, year) => {
-            has_year(year) && has_day(calendar, counted_year(year), month, day)
+        Extent::BeforeChrist(year) => 1 <= year && year <= 9999 && has_years_before(calendar),
+        Extent::Whole(year) => has_year(year) && is_year_of(calendar, year),
+        Extent::Month(month, year) => {
+            has_year(year)
+                && 1 <= month
+                && month <= last_month(calendar)
+                && is_year_of(calendar, year)
         }
+        Extent::Day(day, month, year) => {
+            has_year(year)
+                && has_day(calendar, counted_year(year), month, day)
+                && is_year_of(calendar, year)
+        }
+    }
+}
+
+/// Whether the calendar has years before Christ.
+fn has_years_before(calendar: Calendar) -> bool
+    ensures { IsTrue result ↔ HasYearsBefore calendar }
+{
+    match calendar {
+        Calendar::Gregorian | Calendar::Julian => true,
+        Calendar::Republican => false,
+    }
+}
+
+/// Whether the calendar has such a year.
+fn is_year_of(calendar: Calendar, year: Year) -> bool
+    ensures { IsTrue result ↔ IsYearOf calendar year }
+{
+    match calendar {
+        Calendar::Gregorian | Calendar::Julian => true,
+        Calendar::Republican => match year {
+            Year::Single(year) => year <= 14,
+            Year::Double(_) => false,
+        },
     }
 }
 
@@ -43,6 +79,9 @@ fn has_day(calendar: Calendar, year: i16, month: u8, day: u8) -> bool
         }
         Calendar::Julian => {
             1 <= month && month <= 12 && 1 <= day && day <= last_of_month(calendar, year, month)
+        }
+        Calendar::Republican => {
+            1 <= month && month <= 13 && 1 <= day && day <= last_of_month(calendar, year, month)
         }
     }
 }

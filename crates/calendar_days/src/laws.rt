@@ -7,6 +7,8 @@ ghost use Rattle.calendar_days.specs.Laws.{
   CivilCounts,
   JulianCounts,
   JulianCountsBothWays,
+  RepublicanCounts,
+  RepublicanDaysAreCivil,
 };
 ghost use Rattle.calendar_days.specs.declared.calendar.Calendar.{Calendar};
 
@@ -19,9 +21,12 @@ pub fn each_day_has_one_number()
 {}
 
 /// The fast formulas are the count: `jiff`'s of the Gregorian calendar, and ours of the Julian one, for the
-/// years of our era and, with a division that rounds down, for each year from -10000 on.
+/// years of our era and, with a division that rounds down, for each year from -10000 on; of the French
+/// Republican calendar the formula is the count in its years 1 to 14, and each of their days is a Gregorian one.
 pub fn the_formulas_count()
     ensures gregorian { CivilCounts }
     ensures julian { JulianCounts }
     ensures both_ways { JulianCountsBothWays }
+    ensures republican { RepublicanCounts }
+    ensures civil { RepublicanDaysAreCivil }
 {}

@@ -9,8 +9,8 @@
 //! beside the calendars' own are in docs/FORMATS.md.
 //!
 //! A further calendar is one more variant of `Calendar` and one more clause where a definition goes
-//! by calendars: `leap`, `month_days`, `last_month`, `day_zero`. The laws hold for each calendar, so
-//! the check asks for its proof.
+//! by calendars: `leap`, `month_days`, `last_month`, `day_zero`, `IsYearOf`, `HasYearsBefore`. The laws
+//! hold for each calendar, so the check asks for its proof.
 #![tactic(auto)]
 
 mod calendar;

@@ -62,6 +62,8 @@ use Rattle.gedcom_date.specs.Form.{
 }
 use Rattle.gedcom_date.specs.Spelling.{
   month_name,
+  roman_name,
+  republican_name,
   two_digits,
   year_text,
   extent_text,
@@ -83,9 +85,10 @@ use Rattle.gedcom_date.specs.Grammar.{
   IsOfForm,
   IsGood,
   month_names,
+  republican_names,
 }
 use Rattle.calendar_days.specs.declared.calendar.Calendar.{Calendar}
-use Rattle.calendar_days.specs.declared.calendar.Calendar.TheVariants.{Gregorian, Julian}
+use Rattle.calendar_days.specs.declared.calendar.Calendar.TheVariants.{Gregorian, Julian, Republican}
 use Rattle.calendar_days.specs.declared.calendar.Year.{Year}
 use Rattle.calendar_days.specs.declared.calendar.Year.TheVariants.{Single, Double}
 use Rattle.calendar_days.specs.declared.calendar.Extent.{Extent}
@@ -259,7 +262,7 @@ year_word (Double n) h =
     )
 
 -- months
-roman_back : (m : ℕ) → IsInRange 1 12 m → slice_get month_names (m - 1) ≡ Some (month_name Gregorian m)
+roman_back : (m : ℕ) → IsInRange 1 12 m → slice_get month_names (m - 1) ≡ Some (roman_name m)
 roman_back zero h = absurd (omega (arith, h.0))
 roman_back (suc zero) h = refl
 roman_back (suc (suc zero)) h = refl
@@ -276,11 +279,30 @@ roman_back (suc (suc (suc (suc (suc (suc (suc (suc (suc (suc (suc (suc zero)))))
 roman_back (suc (suc (suc (suc (suc (suc (suc (suc (suc (suc (suc (suc (suc n))))))))))))) h =
     absurd (omega (arith, h.1))
 
+republican_back : (m : ℕ) → IsInRange 1 13 m → slice_get republican_names (m - 1) ≡ Some (republican_name m)
+republican_back zero h = absurd (omega (arith, h.0))
+republican_back (suc zero) h = refl
+republican_back (suc (suc zero)) h = refl
+republican_back (suc (suc (suc zero))) h = refl
+republican_back (suc (suc (suc (suc zero)))) h = refl
+republican_back (suc (suc (suc (suc (suc zero))))) h = refl
+republican_back (suc (suc (suc (suc (suc (suc zero)))))) h = refl
+republican_back (suc (suc (suc (suc (suc (suc (suc zero))))))) h = refl
+republican_back (suc (suc (suc (suc (suc (suc (suc (suc zero)))))))) h = refl
+republican_back (suc (suc (suc (suc (suc (suc (suc (suc (suc zero))))))))) h = refl
+republican_back (suc (suc (suc (suc (suc (suc (suc (suc (suc (suc zero)))))))))) h = refl
+republican_back (suc (suc (suc (suc (suc (suc (suc (suc (suc (suc (suc zero))))))))))) h = refl
+republican_back (suc (suc (suc (suc (suc (suc (suc (suc (suc (suc (suc (suc zero)))))))))))) h = refl
+republican_back (suc (suc (suc (suc (suc (suc (suc (suc (suc (suc (suc (suc (suc zero))))))))))))) h = refl
+republican_back (suc (suc (suc (suc (suc (suc (suc (suc (suc (suc (suc (suc (suc (suc n)))))))))))))) h =
+    absurd (omega (arith, h.1))
+
 month_back : (c : Calendar) (m : ℕ) → IsInRange 1 (last_month c) m → IsMonthWord c (month_name c m) m
 month_back Gregorian m h = (month_name Gregorian m, h.0, roman_back m h, refl)
 month_back Julian m h = (month_name Julian m, h.0, roman_back m h, refl)
+month_back Republican m h = (month_name Republican m, h.0, republican_back m h, refl)
 
-roman_word : (m : ℕ) → IsInRange 1 12 m → IsWord (month_name Gregorian m)
+roman_word : (m : ℕ) → IsInRange 1 12 m → IsWord (roman_name m)
 roman_word zero h = absurd (omega (arith, h.0))
 roman_word (suc zero) h = (omega arith, refl)
 roman_word (suc (suc zero)) h = (omega arith, refl)
@@ -297,9 +319,29 @@ roman_word (suc (suc (suc (suc (suc (suc (suc (suc (suc (suc (suc (suc zero)))))
 roman_word (suc (suc (suc (suc (suc (suc (suc (suc (suc (suc (suc (suc (suc n))))))))))))) h =
     absurd (omega (arith, h.1))
 
+republican_word : (m : ℕ) → IsInRange 1 13 m → IsWord (republican_name m)
+republican_word zero h = absurd (omega (arith, h.0))
+republican_word (suc zero) h = (omega arith, refl)
+republican_word (suc (suc zero)) h = (omega arith, refl)
+republican_word (suc (suc (suc zero))) h = (omega arith, refl)
+republican_word (suc (suc (suc (suc zero)))) h = (omega arith, refl)
+republican_word (suc (suc (suc (suc (suc zero))))) h = (omega arith, refl)
+republican_word (suc (suc (suc (suc (suc (suc zero)))))) h = (omega arith, refl)
+republican_word (suc (suc (suc (suc (suc (suc (suc zero))))))) h = (omega arith, refl)
+republican_word (suc (suc (suc (suc (suc (suc (suc (suc zero)))))))) h = (omega arith, refl)
+republican_word (suc (suc (suc (suc (suc (suc (suc (suc (suc zero))))))))) h = (omega arith, refl)
+republican_word (suc (suc (suc (suc (suc (suc (suc (suc (suc (suc zero)))))))))) h = (omega arith, refl)
+republican_word (suc (suc (suc (suc (suc (suc (suc (suc (suc (suc (suc zero))))))))))) h = (omega arith, refl)
+republican_word (suc (suc (suc (suc (suc (suc (suc (suc (suc (suc (suc (suc zero)))))))))))) h = (omega arith, refl)
+republican_word (suc (suc (suc (suc (suc (suc (suc (suc (suc (suc (suc (suc (suc zero))))))))))))) h =
+    (omega arith, refl)
+republican_word (suc (suc (suc (suc (suc (suc (suc (suc (suc (suc (suc (suc (suc (suc n)))))))))))))) h =
+    absurd (omega (arith, h.1))
+
 month_word : (c : Calendar) (m : ℕ) → IsInRange 1 (last_month c) m → IsWord (month_name c m)
 month_word Gregorian m h = roman_word m h
 month_word Julian m h = roman_word m h
+month_word Republican m h = republican_word m h
 
 -- a month has less than a hundred days
 day_short : (c : Calendar) (y : Year) (d m : ℕ) → HasDay c (counted y) m d → d < 100
@@ -308,11 +350,11 @@ day_short c y d m h = omega (arith, month_days_bounds c (counted y) m, h.1.1)
 -- dates
 extent_back : (c : Calendar) (e : Extent) → IsExtent c e → IsExtentOf c (words (extent_text c e)) e
 extent_back c (BeforeChrist n) h =
-    let is = year_number_of n h.0 (omega (arith, h.1)) in
+    let is = year_number_of n h.0.0 (omega (arith, h.0.1)) in
     let e = word_more (decimal n) (codes "B.C.") (number_word 4 (decimal n) n is)
     ∙ ap (λ (l : List (List ℕ)). decimal n ∷ l) (one_word (codes "B.C.") (omega arith, refl)) in
     (decimal n, codes "B.C.", inl e, is, refl)
-extent_back c (Whole y) h = (year_text y, one_word (year_text y) (year_word y h), year_back y h)
+extent_back c (Whole y) h = (year_text y, one_word (year_text y) (year_word y h.0), year_back y h.0)
 extent_back c (Month m y) h =
     let e = word_more (month_name c m) (year_text y) (month_word c m h.1)
     ∙ ap (λ (l : List (List ℕ)). month_name c m ∷ l) (one_word (year_text y) (year_word y h.0)) in
@@ -326,6 +368,10 @@ extent_back c (Day d m y) h =
     ∙ ap (λ (l : List (List ℕ)). decimal d ∷ month_name c m ∷ l) (one_word (year_text y) (year_word y h.0)) in
     (decimal d, month_name c m, year_text y, whole, is, month_back c m h.1.0, year_back y h.0)
 
+escape_words : words (codes "@#DFRENCH R@") ≡ codes "@#DFRENCH" ∷ codes "R@" ∷ []
+unfolding words
+escape_words = refl
+
 date_back : (c : Calendar) (e : Extent) → IsExtent c e → IsDateOf (words (date_text c e))
     (record { calendar = c; extent = e })
 date_back Gregorian e h = (words (extent_text Gregorian e), inl refl, extent_back Gregorian e h)
@@ -333,6 +379,18 @@ date_back Julian e h = (
   words (extent_text Julian e),
   (codes "@#DJULIAN@", word_more (codes "@#DJULIAN@") (extent_text Julian e) (omega arith, refl), refl),
   extent_back Julian e h,
+)
+date_back Republican e h = (
+  words (extent_text Republican e),
+  (
+    codes "@#DFRENCH",
+    codes "R@",
+    words_append (codes "@#DFRENCH R@") (extent_text Republican e)
+        ∙ ap (λ (l : List (List ℕ)). l ++ words (extent_text Republican e)) escape_words,
+    refl,
+    refl,
+  ),
+  extent_back Republican e h,
 )
 
 told_back : (d : Told) → Exists d → IsDateOf (words (told_text d)) d

@@ -33,7 +33,16 @@ use Rattle.std.proofs.Common.{
 use Rattle.std.specs.Int.{IsInRange}
 use Rattle.std.specs.List.{list_all}
 use Rattle.jiff_core.proofs.SignedLemmas.{signed_arith}
-use Rattle.calendar_days.specs.Calendars.{HasDay, IsCounted, IsExtent, counted, last_month, month_days}
+use Rattle.calendar_days.specs.Calendars.{
+  HasDay,
+  HasYearsBefore,
+  IsCounted,
+  IsExtent,
+  IsYearOf,
+  counted,
+  last_month,
+  month_days,
+}
 use Rattle.gedcom_date.specs.Words.{words, is_space, Without}
 use Rattle.calendar_days.specs.Told.{Told, Exists}
 use Rattle.gedcom_date.specs.Order.{IsOrdered}
@@ -55,6 +64,7 @@ use Rattle.gedcom_date.specs.Spelling.{spelling}
 use Rattle.gedcom_date.specs.Grammar.{IsPhrased, IsOfForm, IsShort, IsGood, Says}
 use Rattle.gedcom_date.specs.Reading.{word_form, phrase_form}
 use Rattle.calendar_days.specs.declared.calendar.Calendar.{Calendar}
+use Rattle.calendar_days.specs.declared.calendar.Calendar.TheVariants.{Gregorian, Julian, Republican}
 use Rattle.calendar_days.specs.declared.calendar.Year.{Year}
 use Rattle.calendar_days.specs.declared.calendar.Year.TheVariants.{Single, Double}
 use Rattle.calendar_days.specs.declared.calendar.Extent.{Extent}
@@ -84,14 +94,33 @@ year_decided : (y : Year) → Decided (IsCounted y)
 year_decided (Single n) = in_range 1 9999 n
 year_decided (Double n) = in_range 1 9998 n
 
+of_decided : (c : Calendar) (y : Year) → Decided (IsYearOf c y)
+of_decided Gregorian y = inl tt
+of_decided Julian y = inl tt
+of_decided Republican (Single n) = at_most n 14
+of_decided Republican (Double n) = inr (λ h. h)
+
+before_decided : (c : Calendar) → Decided (HasYearsBefore c)
+before_decided Gregorian = inl tt
+before_decided Julian = inl tt
+before_decided Republican = inr (λ h. h)
+
+all_three : (P Q R : Type 0) → Decided P → Decided Q → Decided R → Decided (P × Q × R)
+all_three P Q R (inl p) (inl q) (inl r) = inl (p, q, r)
+all_three P Q R (inl p) (inl q) (inr lacks) = inr (λ h. lacks h.2)
+all_three P Q R (inl p) (inr lacks) r = inr (λ h. lacks h.1)
+all_three P Q R (inr lacks) q r = inr (λ h. lacks h.0)
+
 extent_decided : (c : Calendar) (e : Extent) → Decided (IsExtent c e)
-extent_decided c (BeforeChrist n) = in_range 1 9999 n
-extent_decided c (Whole y) = year_decided y
-extent_decided c (Month m y) = both (IsCounted y) (IsInRange 1 (last_month c) m) (year_decided y)
-    (in_range 1 (last_month c) m)
-extent_decided c (Day d m y) = both (IsCounted y) (HasDay c (counted y) m d) (year_decided y)
+extent_decided c (BeforeChrist n) = both (IsInRange 1 9999 n) (HasYearsBefore c) (in_range 1 9999 n)
+    (before_decided c)
+extent_decided c (Whole y) = both (IsCounted y) (IsYearOf c y) (year_decided y) (of_decided c y)
+extent_decided c (Month m y) = all_three (IsCounted y) (IsInRange 1 (last_month c) m) (IsYearOf c y)
+    (year_decided y) (in_range 1 (last_month c) m) (of_decided c y)
+extent_decided c (Day d m y) = all_three (IsCounted y) (HasDay c (counted y) m d) (IsYearOf c y)
+    (year_decided y)
     (both (IsInRange 1 (last_month c) m) (IsInRange 1 (month_days c (counted y) m) d) (in_range 1 (last_month c) m)
-    (in_range 1 (month_days c (counted y) m) d))
+    (in_range 1 (month_days c (counted y) m) d)) (of_decided c y)
 
 exists_decided : (d : Told) → Decided (Exists d)
 exists_decided d = extent_decided d.calendar d.extent

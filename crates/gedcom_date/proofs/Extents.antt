@@ -47,17 +47,19 @@ use Rattle.gedcom_date.specs.Reading.{
   joined_before_christ,
   extent_of,
   escape_of,
+  republican_of,
   told_of,
   ◌>>=◌,
 }
 use Rattle.calendar_days.specs.declared.calendar.Calendar.{Calendar}
-use Rattle.calendar_days.specs.declared.calendar.Calendar.TheVariants.{Gregorian, Julian}
+use Rattle.calendar_days.specs.declared.calendar.Calendar.TheVariants.{Gregorian, Julian, Republican}
 use Rattle.calendar_days.specs.declared.calendar.Year.{Year}
 use Rattle.calendar_days.specs.declared.calendar.Year.TheVariants.{Single, Double}
 use Rattle.calendar_days.specs.declared.calendar.Extent.{Extent}
 use Rattle.calendar_days.specs.declared.calendar.Extent.TheVariants.{BeforeChrist, Whole, Month, Day}
 use Rattle.gedcom_date.proofs.Numbers.{number_only, number_is}
-use Rattle.gedcom_date.proofs.Names.{reads_is, reads_only, reads_as, month_only, month_is}
+use Rattle.gedcom_date.proofs.Names.{reads_is, reads_only, reads_as}
+use Rattle.gedcom_date.proofs.Months.{month_only, month_is}
 use Rattle.gedcom_date.proofs.Years.{year_only, year_is, day_only, day_is, joined_only, joined_is}
 use Rattle.gedcom_date.proofs.Quiet.{AllQuiet, extent_quiet, digit_reads}
 
@@ -181,19 +183,32 @@ extent_is c (w ∷ x ∷ y ∷ z ∷ more) e h = absurd cc
 -- escapes
 escape_as : (w name : List ℕ) (ws : List (List ℕ)) → Reads w name → escape_of (w ∷ ws) ≡ cond
     (reads name (codes "@#DGREGORIAN@")) (Gregorian, ws)
-    (cond (reads name (codes "@#DJULIAN@")) (Julian, ws) (Gregorian, w ∷ ws))
+    (cond (reads name (codes "@#DJULIAN@")) (Julian, ws) (republican_of (w ∷ ws)))
 unfolding escape_of
 escape_as w name ws h = rw (reads_as w name (codes "@#DGREGORIAN@") h, reads_as w name (codes "@#DJULIAN@") h) refl
+
+no_republican : (w : List ℕ) (ws : List (List ℕ)) → reads w (codes "@#DFRENCH") ≡ false
+    → republican_of (w ∷ ws) ≡ (Gregorian, w ∷ ws)
+unfolding republican_of
+no_republican w [] h = refl
+no_republican w (x ∷ ws) h = rw h refl
 
 no_escape : (ws : List (List ℕ)) → AllQuiet ws → escape_of ws ≡ (Gregorian, ws)
 unfolding escape_of
 no_escape [] q = refl
-no_escape (w ∷ ws) q = rw (q.0.gregorian, q.0.julian) refl
+no_escape (w ∷ ws) q = rw (q.0.gregorian, q.0.julian) (no_republican w ws q.0.republican)
+
+republican_only : (w x : List ℕ) (ws : List (List ℕ)) → Reads w (codes "@#DFRENCH") → Reads x (codes "R@")
+    → escape_of (w ∷ x ∷ ws) ≡ (Republican, ws)
+unfolding republican_of
+republican_only w x ws h k = escape_as w (codes "@#DFRENCH") (x ∷ ws) h
+    ∙ rw (reads_only w (codes "@#DFRENCH") h, reads_only x (codes "R@") k) refl
 
 escape_only : (c : Calendar) (ws rest : List (List ℕ)) → IsEscape c ws rest → AllQuiet rest → escape_of ws ≡ (c, rest)
 escape_only Gregorian ws rest (inl e) q = ap escape_of e ∙ no_escape rest q
 escape_only Gregorian ws rest (inr h) q = ap escape_of h.1 ∙ escape_as h.0 (codes "@#DGREGORIAN@") rest h.2
 escape_only Julian ws rest h q = ap escape_of h.1 ∙ escape_as h.0 (codes "@#DJULIAN@") rest h.2
+escape_only Republican ws rest h q = ap escape_of h.2 ∙ republican_only h.0 h.1 rest h.3 h.4
 
 told_by : (ws : List (List ℕ)) (p : Calendar × List (List ℕ)) (e : Extent) → escape_of ws ≡ p
     → extent_of p.0 p.1 ≡ Some e → told_of ws ≡ Some (record { calendar = p.0; extent = e })
@@ -205,15 +220,33 @@ told_only ws d h =
     told_by ws (d.calendar, h.0) d.extent (escape_only d.calendar ws h.0 h.1 (extent_quiet d.calendar h.0 d.extent h.2))
     (extent_only d.calendar h.0 d.extent h.2)
 
+republican_cons : (w x : List ℕ) (ws : List (List ℕ)) (a b : Bool) → reads w (codes "@#DFRENCH") ≡ a
+    → reads x (codes "R@") ≡ b → (p : Calendar × List (List ℕ)) → p ≡ cond (a && b) (Republican, ws)
+    (Gregorian, w ∷ x ∷ ws) → IsEscape p.0 (w ∷ x ∷ ws) p.1
+republican_cons w x ws true true f g p e =
+    subst (λ (p : Calendar × List (List ℕ)). IsEscape p.0 (w ∷ x ∷ ws) p.1) (sym e)
+    (w, x, refl, reads_is w (codes "@#DFRENCH") f, reads_is x (codes "R@") g)
+republican_cons w x ws true false f g p e =
+    subst (λ (p : Calendar × List (List ℕ)). IsEscape p.0 (w ∷ x ∷ ws) p.1) (sym e) (inl refl)
+republican_cons w x ws false b f g p e =
+    subst (λ (p : Calendar × List (List ℕ)). IsEscape p.0 (w ∷ x ∷ ws) p.1) (sym e) (inl refl)
+
+republican_is : (ws : List (List ℕ)) → IsEscape (republican_of ws).0 ws (republican_of ws).1
+unfolding republican_of
+republican_is [] = inl refl
+republican_is (w ∷ []) = inl refl
+republican_is (w ∷ x ∷ ws) = republican_cons w x ws (reads w (codes "@#DFRENCH")) (reads x (codes "R@")) refl refl
+    (republican_of (w ∷ x ∷ ws)) refl
+
 escape_cons : (w : List ℕ) (ws : List (List ℕ)) (a b : Bool) → reads w (codes "@#DGREGORIAN@") ≡ a
     → reads w (codes "@#DJULIAN@") ≡ b → (p : Calendar × List (List ℕ)) → p ≡ cond a (Gregorian, ws)
-    (cond b (Julian, ws) (Gregorian, w ∷ ws)) → IsEscape p.0 (w ∷ ws) p.1
+    (cond b (Julian, ws) (republican_of (w ∷ ws))) → IsEscape p.0 (w ∷ ws) p.1
 escape_cons w ws true b f g p e = subst (λ (p : Calendar × List (List ℕ)). IsEscape p.0 (w ∷ ws) p.1) (sym e)
     (inr (w, refl, reads_is w (codes "@#DGREGORIAN@") f))
 escape_cons w ws false true f g p e = subst (λ (p : Calendar × List (List ℕ)). IsEscape p.0 (w ∷ ws) p.1) (sym e)
     (w, refl, reads_is w (codes "@#DJULIAN@") g)
 escape_cons w ws false false f g p e = subst (λ (p : Calendar × List (List ℕ)). IsEscape p.0 (w ∷ ws) p.1)
-    (sym e) (inl refl)
+    (sym e) (republican_is (w ∷ ws))
 
 escape_is : (ws : List (List ℕ)) → IsEscape (escape_of ws).0 ws (escape_of ws).1
 unfolding escape_of

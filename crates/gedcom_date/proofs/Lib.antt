@@ -5,8 +5,10 @@ pub mod Numbers
 pub mod Parts
 pub mod Phrases
 pub mod Dates
+pub mod Earlier
 pub mod Behind
 pub mod Names
+pub mod Months
 pub mod Years
 pub mod Quiet
 pub mod Extents

@@ -8,7 +8,6 @@ use Rattle.std.proofs.Common.{
   suc,
   zero,
   ◌-◌,
-  ◌≤◌,
   Bool,
   true,
   false,
@@ -22,6 +21,9 @@ use Rattle.std.proofs.Common.{
   ◌++◌,
   map,
   codes,
+  not,
+  ◌&&◌,
+  Option,
   Some,
   None,
   refl,
@@ -37,15 +39,26 @@ use Rattle.std.proofs.lemmas.Bool.Decides.{nat_tests}
 use Rattle.std.proofs.lemmas.Bool.{and_parts}
 use Rattle.gedcom_date.specs.Words.{Reads}
 use Rattle.calendar_days.specs.Told.{Told}
-use Rattle.gedcom_date.specs.Grammar.{IsNumber, IsYearWord, IsMonthWord, IsExtentOf, IsEscape, IsDateOf, month_names}
+use Rattle.gedcom_date.specs.Grammar.{
+  IsNumber,
+  IsYearWord,
+  IsMonthWord,
+  IsExtentOf,
+  IsEscape,
+  IsDateOf,
+  months,
+  month_names,
+  republican_names,
+}
 use Rattle.gedcom_date.specs.Reading.{reads, keyword_of, is_and, is_to}
 use Rattle.calendar_days.specs.declared.calendar.Calendar.{Calendar}
-use Rattle.calendar_days.specs.declared.calendar.Calendar.TheVariants.{Gregorian, Julian}
+use Rattle.calendar_days.specs.declared.calendar.Calendar.TheVariants.{Gregorian, Julian, Republican}
 use Rattle.calendar_days.specs.declared.calendar.Year.{Year}
 use Rattle.calendar_days.specs.declared.calendar.Year.TheVariants.{Single, Double}
 use Rattle.calendar_days.specs.declared.calendar.Extent.{Extent}
 use Rattle.calendar_days.specs.declared.calendar.Extent.TheVariants.{BeforeChrist, Whole, Month, Day}
-use Rattle.gedcom_date.proofs.Names.{reads_as, keyword_as, beyond}
+use Rattle.gedcom_date.specs.declared.keyword.Keyword.{Keyword}
+use Rattle.gedcom_date.proofs.Names.{reads_as, keyword_as}
 
 abbrev pub is_bracket : ℕ → Bool
 is_bracket b = b == 40
@@ -62,6 +75,7 @@ pub record Quiet (w : List ℕ) : Type 0 where
   pub key : keyword_of w ≡ None
   pub gregorian : reads w (codes "@#DGREGORIAN@") ≡ false
   pub julian : reads w (codes "@#DJULIAN@") ≡ false
+  pub republican : reads w (codes "@#DFRENCH") ≡ false
   pub joining : is_and w ≡ false
   pub closing : is_to w ≡ false
   pub bare : list_any is_bracket w ≡ false
@@ -86,6 +100,7 @@ quiet_as w name h q = record {
   key = keyword_as w name h ∙ q.key;
   gregorian = reads_as w name (codes "@#DGREGORIAN@") h ∙ q.gregorian;
   julian = reads_as w name (codes "@#DJULIAN@") h ∙ q.julian;
+  republican = reads_as w name (codes "@#DFRENCH") h ∙ q.republican;
   joining = reads_as w name (codes "AND") h ∙ q.joining;
   closing = reads_as w name (codes "TO") h ∙ q.closing;
   bare = bare_as w name h ∙ q.bare;
@@ -130,6 +145,7 @@ digit_quiet d ds h bare = record {
   key = digit_key d ds h;
   gregorian = digit_reads d ds 64 (codes "#DGREGORIAN@") h refl;
   julian = digit_reads d ds 64 (codes "#DJULIAN@") h refl;
+  republican = digit_reads d ds 64 (codes "#DFRENCH") h refl;
   joining = digit_reads d ds 65 (codes "ND") h refl;
   closing = digit_reads d ds 84 (codes "O") h refl;
   bare = bare;
@@ -174,54 +190,6 @@ year_quiet w (Single n) h = number_quiet 4 w n h
 year_quiet w (Double n) h = subst Quiet (sym h.3)
     (behind_quiet 4 h.0 (47 ∷ h.1 ∷ h.2 ∷ []) n h.4 (digits_bare (h.1 ∷ h.2 ∷ []) h.6))
 
-pub mark_quiet : (w : List ℕ) → Reads w (codes "B.C.") → Quiet w
-unfolding keyword_of
-mark_quiet w h = quiet_as w (codes "B.C.") h
-    (record { key = refl; gregorian = refl; julian = refl; joining = refl; closing = refl; bare = refl })
-
-named_quiet : (w name k : List ℕ) → Some k ≡ Some name → Quiet k → Reads w name → Quiet w
-named_quiet w name k e q h = let n : k ≡ name = cc in quiet_as w name h (subst Quiet n q)
-
-abbrev Named : List ℕ → ℕ → Type 0
-Named w m = (name : List ℕ) × (1 ≤ m) × (slice_get month_names (m - 1) ≡ Some name) × Reads w name
-
-roman_quiet : (w : List ℕ) (m : ℕ) → Named w m → Quiet w
-unfolding keyword_of
-roman_quiet w zero h = absurd (omega (arith, h.1))
-roman_quiet w (suc zero) h = named_quiet w h.0 (codes "JAN") h.2
-    (record { key = refl; gregorian = refl; julian = refl; joining = refl; closing = refl; bare = refl }) h.3
-roman_quiet w (suc (suc zero)) h = named_quiet w h.0 (codes "FEB") h.2
-    (record { key = refl; gregorian = refl; julian = refl; joining = refl; closing = refl; bare = refl }) h.3
-roman_quiet w (suc (suc (suc zero))) h = named_quiet w h.0 (codes "MAR") h.2
-    (record { key = refl; gregorian = refl; julian = refl; joining = refl; closing = refl; bare = refl }) h.3
-roman_quiet w (suc (suc (suc (suc zero)))) h = named_quiet w h.0 (codes "APR") h.2
-    (record { key = refl; gregorian = refl; julian = refl; joining = refl; closing = refl; bare = refl }) h.3
-roman_quiet w (suc (suc (suc (suc (suc zero))))) h = named_quiet w h.0 (codes "MAY") h.2
-    (record { key = refl; gregorian = refl; julian = refl; joining = refl; closing = refl; bare = refl }) h.3
-roman_quiet w (suc (suc (suc (suc (suc (suc zero)))))) h = named_quiet w h.0 (codes "JUN") h.2
-    (record { key = refl; gregorian = refl; julian = refl; joining = refl; closing = refl; bare = refl }) h.3
-roman_quiet w (suc (suc (suc (suc (suc (suc (suc zero))))))) h = named_quiet w h.0 (codes "JUL") h.2
-    (record { key = refl; gregorian = refl; julian = refl; joining = refl; closing = refl; bare = refl }) h.3
-roman_quiet w (suc (suc (suc (suc (suc (suc (suc (suc zero)))))))) h = named_quiet w h.0 (codes "AUG") h.2
-    (record { key = refl; gregorian = refl; julian = refl; joining = refl; closing = refl; bare = refl }) h.3
-roman_quiet w (suc (suc (suc (suc (suc (suc (suc (suc (suc zero))))))))) h = named_quiet w h.0 (codes "SEP") h.2
-    (record { key = refl; gregorian = refl; julian = refl; joining = refl; closing = refl; bare = refl }) h.3
-roman_quiet w (suc (suc (suc (suc (suc (suc (suc (suc (suc (suc zero)))))))))) h =
-    named_quiet w h.0 (codes "OCT") h.2
-    (record { key = refl; gregorian = refl; julian = refl; joining = refl; closing = refl; bare = refl }) h.3
-roman_quiet w (suc (suc (suc (suc (suc (suc (suc (suc (suc (suc (suc zero))))))))))) h =
-    named_quiet w h.0 (codes "NOV") h.2
-    (record { key = refl; gregorian = refl; julian = refl; joining = refl; closing = refl; bare = refl }) h.3
-roman_quiet w (suc (suc (suc (suc (suc (suc (suc (suc (suc (suc (suc (suc zero)))))))))))) h =
-    named_quiet w h.0 (codes "DEC") h.2
-    (record { key = refl; gregorian = refl; julian = refl; joining = refl; closing = refl; bare = refl }) h.3
-roman_quiet w (suc (suc (suc (suc (suc (suc (suc (suc (suc (suc (suc (suc (suc n))))))))))))) h =
-    absurd (let e : None ≡ Some h.0 = sym (beyond n) ∙ h.2 in cc)
-
-pub month_quiet : (c : Calendar) (w : List ℕ) (m : ℕ) → IsMonthWord c w m → Quiet w
-month_quiet Gregorian w m h = roman_quiet w m h
-month_quiet Julian w m h = roman_quiet w m h
-
 -- all words of a list
 abbrev pub AllQuiet : List (List ℕ) → Type 0
 AllQuiet [] = Unit {0}
@@ -230,6 +198,70 @@ AllQuiet (w ∷ ws) = Quiet w × AllQuiet ws
 abbrev pub AllSilent : List (List ℕ) → Type 0
 AllSilent [] = Unit {0}
 AllSilent (w ∷ ws) = Silent w × AllSilent ws
+
+-- words that are written out: a test, and what it says
+abbrev is_none : Option Keyword → Bool
+is_none None = true
+is_none (Some k) = false
+
+none_is : (o : Option Keyword) → is_none o ≡ true → o ≡ None
+none_is None h = refl
+none_is (Some k) h = absurd cc
+
+abbrev is_quiet : List ℕ → Bool
+is_quiet w =
+    is_none (keyword_of w) && (not (reads w (codes "@#DGREGORIAN@")) && not (reads w (codes "@#DJULIAN@")) && not
+    (reads w (codes "@#DFRENCH")) && not (is_and w) && not (is_to w) && not (list_any is_bracket w))
+
+six_false : (a b c d e f : Bool) → (not a && not b && not c && not d && not e && not f) ≡ true → (a ≡ false)
+    × (b ≡ false) × (c ≡ false) × (d ≡ false) × (e ≡ false) × (f ≡ false)
+six_false false false false false false false h = (refl, refl, refl, refl, refl, refl)
+six_false false false false false false true h = absurd cc
+six_false false false false false true f h = absurd cc
+six_false false false false true e f h = absurd cc
+six_false false false true d e f h = absurd cc
+six_false false true c d e f h = absurd cc
+six_false true b c d e f h = absurd cc
+
+quiet_if : (w : List ℕ) → is_quiet w ≡ true → Quiet w
+quiet_if w h =
+    let at = and_parts (is_none (keyword_of w)) _ h in
+    let is = six_false (reads w (codes "@#DGREGORIAN@")) (reads w (codes "@#DJULIAN@")) (reads w (codes "@#DFRENCH"))
+    (is_and w) (is_to w) (list_any is_bracket w) at.1 in
+    record {
+      key = none_is (keyword_of w) at.0;
+      gregorian = is.0;
+      julian = is.1;
+      republican = is.2;
+      joining = is.3;
+      closing = is.4;
+      bare = is.5;
+    }
+
+all_quiet_if : (ws : List (List ℕ)) → list_all is_quiet ws ≡ true → AllQuiet ws
+all_quiet_if [] h = tt
+all_quiet_if (w ∷ ws) h =
+    let at = and_parts (is_quiet w) (list_all is_quiet ws) h in (quiet_if w at.0, all_quiet_if ws at.1)
+
+pub mark_quiet : (w : List ℕ) → Reads w (codes "B.C.") → Quiet w
+unfolding keyword_of
+mark_quiet w h = quiet_as w (codes "B.C.") h (quiet_if (codes "B.C.") refl)
+
+-- names of months
+names_quiet : (c : Calendar) → AllQuiet (months c)
+unfolding keyword_of
+names_quiet Gregorian = all_quiet_if month_names refl
+names_quiet Julian = all_quiet_if month_names refl
+names_quiet Republican = all_quiet_if republican_names refl
+
+one_quiet : (names : List (List ℕ)) (i : ℕ) (name : List ℕ) → AllQuiet names → slice_get names i ≡ Some name
+    → Quiet name
+one_quiet [] i name q h = absurd cc
+one_quiet (n ∷ names) zero name q h = let s : n ≡ name = cc in subst Quiet s q.0
+one_quiet (n ∷ names) (suc i) name q h = one_quiet names i name q.1 h
+
+pub month_quiet : (c : Calendar) (w : List ℕ) (m : ℕ) → IsMonthWord c w m → Quiet w
+month_quiet c w m h = quiet_as w h.0 h.3 (one_quiet (months c) (m - 1) h.0 (names_quiet c) h.2)
 
 all_silent : (ws : List (List ℕ)) → AllQuiet ws → AllSilent ws
 all_silent [] q = tt
@@ -260,6 +292,10 @@ escape_silent Gregorian ws rest (inr h) q = subst AllSilent (sym h.1)
     (silent_as h.0 (codes "@#DGREGORIAN@") h.2 (record { key = refl; joining = refl; closing = refl; bare = refl }), q)
 escape_silent Julian ws rest h q = subst AllSilent (sym h.1)
     (silent_as h.0 (codes "@#DJULIAN@") h.2 (record { key = refl; joining = refl; closing = refl; bare = refl }), q)
+escape_silent Republican ws rest h q = subst AllSilent (sym h.2) (
+  silent_as h.0 (codes "@#DFRENCH") h.3 (record { key = refl; joining = refl; closing = refl; bare = refl }),
+  (silent_as h.1 (codes "R@") h.4 (record { key = refl; joining = refl; closing = refl; bare = refl }), q),
+)
 
 pub date_silent : (ws : List (List ℕ)) (d : Told) → IsDateOf ws d → AllSilent ws
 date_silent ws d h = escape_silent d.calendar ws h.0 h.1 (all_silent h.0 (extent_quiet d.calendar h.0 d.extent h.2))

@@ -40,7 +40,7 @@ use Rattle.gedcom_date.specs.Form.{
 }
 use Rattle.gedcom_date.specs.Spelling.{spelling, approximation_text}
 use Rattle.calendar_days.specs.declared.calendar.Calendar.{Calendar}
-use Rattle.calendar_days.specs.declared.calendar.Calendar.TheVariants.{Gregorian, Julian}
+use Rattle.calendar_days.specs.declared.calendar.Calendar.TheVariants.{Gregorian, Julian, Republican}
 use Rattle.calendar_days.specs.declared.calendar.Year.{Year}
 use Rattle.calendar_days.specs.declared.calendar.Year.TheVariants.{Single, Double}
 use Rattle.calendar_days.specs.declared.calendar.Extent.{Extent}
@@ -64,16 +64,23 @@ IsYearWord word (Double n) =
     × IsNumber 4 front n × (n ≤ 9998)
     × (list_all is_ascii_digit (tens ∷ ones ∷ []) ≡ true) × (value_from 0 (tens ∷ ones ∷ []) ≡ (n + 1) % 100)
 
--- the names of the months of our calendars
+-- the names of the months of the Gregorian and the Julian year
 abbrev pub month_names : List (List ℕ)
 month_names =
     codes "JAN" ∷ codes "FEB" ∷ codes "MAR" ∷ codes "APR" ∷ codes "MAY" ∷ codes "JUN"
     ∷ codes "JUL" ∷ codes "AUG" ∷ codes "SEP" ∷ codes "OCT" ∷ codes "NOV" ∷ codes "DEC" ∷ []
 
+-- the names of the months of the French Republican year, the last that of its complementary days
+abbrev pub republican_names : List (List ℕ)
+republican_names =
+    codes "VEND" ∷ codes "BRUM" ∷ codes "FRIM" ∷ codes "NIVO" ∷ codes "PLUV" ∷ codes "VENT" ∷ codes "GERM"
+    ∷ codes "FLOR" ∷ codes "PRAI" ∷ codes "MESS" ∷ codes "THER" ∷ codes "FRUC" ∷ codes "COMP" ∷ []
+
 -- the names of the calendar's months
 abbrev pub months : Calendar → List (List ℕ)
 months Gregorian = month_names
 months Julian = month_names
+months Republican = republican_names
 
 -- the word names the month m, from 1
 abbrev pub IsMonthWord : Calendar → List ℕ → ℕ → Type 0
@@ -91,10 +98,14 @@ IsExtentOf c ws (Day d m year) =
     (day : List ℕ) × (month : List ℕ) × (word : List ℕ) × (ws ≡ day ∷ month ∷ word ∷ []) × IsNumber 2 day d
     × IsMonthWord c month m × IsYearWord word year
 
--- the words begin with the escape of the calendar, and rest follows; the Gregorian one may be left out
+-- the words begin with the escape of the calendar, and rest follows; the Gregorian one may be left out, and the
+-- French Republican one is two words
 abbrev pub IsEscape : Calendar → List (List ℕ) → List (List ℕ) → Type 0
 IsEscape Gregorian ws rest = (ws ≡ rest) ⊎ ((mark : List ℕ) × (ws ≡ mark ∷ rest) × Reads mark (codes "@#DGREGORIAN@"))
 IsEscape Julian ws rest = (mark : List ℕ) × (ws ≡ mark ∷ rest) × Reads mark (codes "@#DJULIAN@")
+IsEscape Republican ws rest =
+    (mark : List ℕ) × (end : List ℕ) × (ws ≡ mark ∷ end ∷ rest) × Reads mark (codes "@#DFRENCH")
+    × Reads end (codes "R@")
 
 -- the words are a date: an escape and how much of the date is told
 abbrev pub IsDateOf : List (List ℕ) → Told → Type 0

@@ -4,6 +4,7 @@ pub mod Spelling
 pub mod Words
 pub mod Grammar
 pub mod Facts
+pub mod Before
 pub mod View
 pub mod Found
 pub mod Days

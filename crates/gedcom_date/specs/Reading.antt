@@ -30,7 +30,7 @@ use Rattle.std.specs.Option.{option_map_or}
 use Rattle.std.specs.Str.{bytes_eq}
 use Rattle.std.specs.List.{position_or_len, before_first, after_first}
 use Rattle.calendar_days.specs.declared.calendar.Calendar.{Calendar}
-use Rattle.calendar_days.specs.declared.calendar.Calendar.TheVariants.{Gregorian, Julian}
+use Rattle.calendar_days.specs.declared.calendar.Calendar.TheVariants.{Gregorian, Julian, Republican}
 use Rattle.calendar_days.specs.declared.calendar.Year.{Year}
 use Rattle.calendar_days.specs.declared.calendar.Year.TheVariants.{Single, Double}
 use Rattle.calendar_days.specs.declared.calendar.Extent.{Extent}
@@ -120,10 +120,34 @@ late_month w =
     else if reads w (codes "DEC") then Some 12
     else None
 
+-- the number of a month from VEND to GERM
+unfoldable pub early_republican : List ℕ → Option ℕ
+early_republican w =
+    if reads w (codes "VEND") then Some 1
+    else if reads w (codes "BRUM") then Some 2
+    else if reads w (codes "FRIM") then Some 3
+    else if reads w (codes "NIVO") then Some 4
+    else if reads w (codes "PLUV") then Some 5
+    else if reads w (codes "VENT") then Some 6
+    else if reads w (codes "GERM") then Some 7
+    else None
+
+-- the number of a month from FLOR to COMP
+unfoldable pub late_republican : List ℕ → Option ℕ
+late_republican w =
+    if reads w (codes "FLOR") then Some 8
+    else if reads w (codes "PRAI") then Some 9
+    else if reads w (codes "MESS") then Some 10
+    else if reads w (codes "THER") then Some 11
+    else if reads w (codes "FRUC") then Some 12
+    else if reads w (codes "COMP") then Some 13
+    else None
+
 -- the number of a month, from 1
 unfoldable pub month_of : Calendar → List ℕ → Option ℕ
 month_of Gregorian w = option_map_or Some (early_month w) (late_month w)
 month_of Julian w = option_map_or Some (early_month w) (late_month w)
+month_of Republican w = option_map_or Some (early_republican w) (late_republican w)
 
 -- the day of a month: one or two digits
 unfoldable pub day_of : List ℕ → Option ℕ
@@ -160,13 +184,20 @@ extent_of c (a ∷ b ∷ []) = if reads b (codes "B.C.") then option_map BeforeC
 extent_of c (d ∷ m ∷ y ∷ []) = day_month_year c d m y
 extent_of c (w ∷ x ∷ y ∷ z ∷ more) = None
 
+-- the French Republican calendar, and what follows the two words of its escape; else the Gregorian one
+unfoldable pub republican_of : List (List ℕ) → Calendar × List (List ℕ)
+republican_of [] = (Gregorian, [])
+republican_of (w ∷ []) = (Gregorian, w ∷ [])
+republican_of (w ∷ x ∷ ws) =
+    if reads w (codes "@#DFRENCH") && reads x (codes "R@") then (Republican, ws) else (Gregorian, w ∷ x ∷ ws)
+
 -- the calendar of the words, and what follows its escape
 unfoldable pub escape_of : List (List ℕ) → Calendar × List (List ℕ)
 escape_of [] = (Gregorian, [])
 escape_of (w ∷ ws) =
     if reads w (codes "@#DGREGORIAN@") then (Gregorian, ws)
     else if reads w (codes "@#DJULIAN@") then (Julian, ws)
-    else (Gregorian, w ∷ ws)
+    else republican_of (w ∷ ws)
 
 -- the date that the words tell
 unfoldable pub told_of : List (List ℕ) → Option Told

@@ -17,7 +17,7 @@ use Rattle.gedcom_date.specs.Form.{
   VerbatimText,
 }
 use Rattle.calendar_days.specs.declared.calendar.Calendar.{Calendar}
-use Rattle.calendar_days.specs.declared.calendar.Calendar.TheVariants.{Gregorian, Julian}
+use Rattle.calendar_days.specs.declared.calendar.Calendar.TheVariants.{Gregorian, Julian, Republican}
 use Rattle.calendar_days.specs.declared.calendar.Year.{Year}
 use Rattle.calendar_days.specs.declared.calendar.Year.TheVariants.{Single, Double}
 use Rattle.calendar_days.specs.declared.calendar.Extent.{Extent}
@@ -25,9 +25,9 @@ use Rattle.calendar_days.specs.declared.calendar.Extent.TheVariants.{BeforeChris
 use Rattle.gedcom_date.specs.declared.approximation.Approximation.{Approximation}
 use Rattle.gedcom_date.specs.declared.approximation.Approximation.TheVariants.{About, Calculated, Estimated}
 
--- the name of the month m, from 1, in the calendar
-abbrev pub month_name : Calendar → ℕ → List ℕ
-month_name c m =
+-- the name of the month m, from 1, of the Gregorian and the Julian year
+abbrev pub roman_name : ℕ → List ℕ
+roman_name m =
     if m == 1 then codes "JAN"
     else if m == 2 then codes "FEB"
     else if m == 3 then codes "MAR"
@@ -40,6 +40,29 @@ month_name c m =
     else if m == 10 then codes "OCT"
     else if m == 11 then codes "NOV"
     else codes "DEC"
+
+-- the name of the month m, from 1, of the French Republican year
+abbrev pub republican_name : ℕ → List ℕ
+republican_name m =
+    if m == 1 then codes "VEND"
+    else if m == 2 then codes "BRUM"
+    else if m == 3 then codes "FRIM"
+    else if m == 4 then codes "NIVO"
+    else if m == 5 then codes "PLUV"
+    else if m == 6 then codes "VENT"
+    else if m == 7 then codes "GERM"
+    else if m == 8 then codes "FLOR"
+    else if m == 9 then codes "PRAI"
+    else if m == 10 then codes "MESS"
+    else if m == 11 then codes "THER"
+    else if m == 12 then codes "FRUC"
+    else codes "COMP"
+
+-- the name of the month m, from 1, in the calendar
+abbrev pub month_name : Calendar → ℕ → List ℕ
+month_name Gregorian m = roman_name m
+month_name Julian m = roman_name m
+month_name Republican m = republican_name m
 
 -- the last two digits of a number
 abbrev pub two_digits : ℕ → List ℕ
@@ -61,6 +84,7 @@ extent_text c (Day d m year) = decimal d ++ 32 ∷ month_name c m ++ 32 ∷ year
 abbrev pub date_text : Calendar → Extent → List ℕ
 date_text Gregorian extent = extent_text Gregorian extent
 date_text Julian extent = codes "@#DJULIAN@" ++ 32 ∷ extent_text Julian extent
+date_text Republican extent = codes "@#DFRENCH R@" ++ 32 ∷ extent_text Republican extent
 
 -- the same of what a date tells
 abbrev pub told_text : Told → List ℕ

@@ -9,6 +9,7 @@
 #![tactic(auto)]
 
 mod approximation;
+mod before;
 mod days;
 mod fault;
 mod forms;
@@ -24,6 +25,7 @@ mod words;
 mod writing;
 
 pub use approximation::Approximation;
+pub use before::read_date_before;
 pub use calendar_days::{Calendar, CalendarDate, Extent, Year};
 pub use days::span;
 pub use fault::{DateFault, DateKind};

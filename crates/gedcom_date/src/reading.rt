@@ -6,6 +6,9 @@ ghost use Rattle.gedcom_date.specs.Reading.{
   year_of,
   early_month,
   late_month,
+  early_republican,
+  late_republican,
+  republican_of,
   month_of,
   day_of,
   month_year,
@@ -113,7 +116,66 @@ pub(crate) fn month(calendar: Calendar, word: &str) -> Option<u8>
             Some(month) => Some(month),
             None => late(word),
         },
+        Calendar::Republican => match early_republican(word) {
+            Some(month) => Some(month),
+            None => late_republican(word),
+        },
     }
+}
+
+/// The number of a month from VEND to GERM.
+#[tactic(auto, unfolding(crate::specs::Reading::early_republican))]
+fn early_republican(word: &str) -> Option<u8>
+    ensures { result ≡ early_republican word.now }
+{
+    if is_word(word, "VEND") {
+        return Some(1);
+    }
+    if is_word(word, "BRUM") {
+        return Some(2);
+    }
+    if is_word(word, "FRIM") {
+        return Some(3);
+    }
+    if is_word(word, "NIVO") {
+        return Some(4);
+    }
+    if is_word(word, "PLUV") {
+        return Some(5);
+    }
+    if is_word(word, "VENT") {
+        return Some(6);
+    }
+    if is_word(word, "GERM") {
+        return Some(7);
+    }
+    None
+}
+
+/// The number of a month from FLOR to FRUC, and of COMP, the complementary days.
+#[tactic(auto, unfolding(crate::specs::Reading::late_republican))]
+fn late_republican(word: &str) -> Option<u8>
+    ensures { result ≡ late_republican word.now }
+{
+    if is_word(word, "FLOR") {
+        return Some(8);
+    }
+    if is_word(word, "PRAI") {
+        return Some(9);
+    }
+    if is_word(word, "MESS") {
+        return Some(10);
+    }
+    if is_word(word, "THER") {
+        return Some(11);
+    }
+    if is_word(word, "FRUC") {
+        return Some(12);
+    }
+    if is_word(word, "COMP") {
+        return Some(13);
+    }
+    None
 }
 
 /// The day of a month.
@@ -228,10 +290,29 @@ fn escape<'a, 'b>(words: &'a [&'b str]) -> (Calendar, &'a [&'b str])
             } else if is_word(first, "@#DJULIAN@") {
                 (Calendar::Julian, rest)
             } else {
-                (Calendar::Gregorian, words)
+                republican_escape(words)
             }
         }
         [] => (Calendar::Gregorian, words),
+    }
+}
+
+/// The French Republican calendar and what follows the two words of its escape; the Gregorian one and
+/// all words where it does not stand there.
+#[tactic(auto, unfolding(crate::specs::Reading::republican_of))]
+fn republican_escape<'a, 'b>(words: &'a [&'b str]) -> (Calendar, &'a [&'b str])
+    ensures calendar { result.0 ≡ (republican_of (views words.now)).0 }
+    ensures rest { views result.1.now ≡ (republican_of (views words.now)).1 }
+{
+    match words {
+        [first, second, rest @ ..] => {
+            if is_word(first, "@#DFRENCH") && is_word(second, "R@") {
+                (Calendar::Republican, rest)
+            } else {
+                (Calendar::Gregorian, words)
+            }
+        }
+        _ => (Calendar::Gregorian, words),
     }
 }
 

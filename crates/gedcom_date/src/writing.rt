@@ -7,6 +7,8 @@ ghost use Rattle.gedcom_date.specs.View.{view};
 ghost use Rattle.gedcom_date.specs.Grammar.{Says};
 ghost use Rattle.gedcom_date.specs.Spelling.{
   month_name,
+  roman_name,
+  republican_name,
   year_text,
   extent_text,
   told_text,
@@ -127,11 +129,26 @@ fn push_date(out: &mut String, date: &CalendarDate) -> Result<(), AllocError>
 {
     match date.calendar {
         Calendar::Gregorian => push_extent(out, Calendar::Gregorian, date.extent),
-        Calendar::Julian => {
-            out.push_str("@#DJULIAN@ ")?;
-            push_extent(out, Calendar::Julian, date.extent)
+        Calendar::Julian => push_escaped(out, "@#DJULIAN@", Calendar::Julian, date.extent),
+        Calendar::Republican => {
+            push_escaped(out, "@#DFRENCH R@", Calendar::Republican, date.extent)
         }
     }
+}
+
+/// Appends an escape and how much of a date is told.
+fn push_escaped(
+    out: &mut String,
+    escape: &str,
+    calendar: Calendar,
+    extent: Extent,
+) -> Result<(), AllocError>
+    requires { IsExtent calendar extent }
+    ensures { OnOk result (Appends (string_bytes out.old) (string_bytes out.new)
+        (escape.now ++ 32 ∷ extent_text calendar extent)) }
+{
+    write!(out, "{escape} ")?;
+    push_extent(out, calendar, extent)
 }
 
 /// Appends how much of a date is told.
@@ -178,12 +195,13 @@ fn month_word(calendar: Calendar, month: u8) -> &'static str
 {
     match calendar {
         Calendar::Gregorian | Calendar::Julian => roman_month(month),
+        Calendar::Republican => republican_month(month),
     }
 }
 
-/// The name of a month of the Roman year, from 1.
+/// The name of a month of the Gregorian and the Julian year, from 1.
 fn roman_month(month: u8) -> &'static str
-    ensures { result.now ≡ month_name Calendar.Gregorian month }
+    ensures { result.now ≡ roman_name month }
 {
     match month {
         1 => "JAN",
@@ -198,5 +216,26 @@ fn roman_month(month: u8) -> &'static str
         10 => "OCT",
         11 => "NOV",
         _ => "DEC",
+    }
+}
+
+/// The name of a month of the French Republican year, from 1.
+fn republican_month(month: u8) -> &'static str
+    ensures { result.now ≡ republican_name month }
+{
+    match month {
+        1 => "VEND",
+        2 => "BRUM",
+        3 => "FRIM",
+        4 => "NIVO",
+        5 => "PLUV",
+        6 => "VENT",
+        7 => "GERM",
+        8 => "FLOR",
+        9 => "PRAI",
+        10 => "MESS",
+        11 => "THER",
+        12 => "FRUC",
+        _ => "COMP",
     }
 }

@@ -36,7 +36,7 @@ use Rattle.std.proofs.lemmas.Str.Parse.{digit_from_value}
 use Rattle.calendar_days.specs.Calendars.{IsCounted, IsExtent, counted}
 use Rattle.calendar_days.specs.Told.{Exists, Told}
 use Rattle.calendar_days.specs.declared.calendar.Calendar.{Calendar}
-use Rattle.calendar_days.specs.declared.calendar.Calendar.TheVariants.{Gregorian, Julian}
+use Rattle.calendar_days.specs.declared.calendar.Calendar.TheVariants.{Gregorian, Julian, Republican}
 use Rattle.calendar_days.specs.declared.calendar.Year.{Year}
 use Rattle.calendar_days.specs.declared.calendar.Year.TheVariants.{Double, Single}
 use Rattle.calendar_days.specs.declared.calendar.Extent.{Extent}
@@ -66,6 +66,8 @@ use Rattle.gedcom_date.specs.Spelling.{
   date_text as told_date,
   extent_text,
   month_name,
+  republican_name,
+  roman_name,
   phrase_text,
   spelling,
   told_text,
@@ -161,37 +163,62 @@ year_short (Double n) h =
     (record { bytes = two.bytes; short = omega arith })
 
 -- one of two
-chosen : (b : Bool) (x y : List ℕ) → IsShortText 3 x → IsShortText 3 y → IsShortText 3 (cond b x y)
+chosen : (b : Bool) (x y : List ℕ) → IsShortText 4 x → IsShortText 4 y → IsShortText 4 (cond b x y)
 chosen true x y h g = h
 chosen false x y h g = g
 
-three : (a b c : ℕ) → list_all is_plain (a ∷ b ∷ c ∷ []) ≡ true → IsShortText 3 (a ∷ b ∷ c ∷ [])
-three a b c h = record { bytes = h; short = omega arith }
+named : (w : List ℕ) → list_all is_plain w ≡ true → length w ≤ 4 → IsShortText 4 w
+named w h e = record { bytes = h; short = e }
 
-month_short : (c : Calendar) (m : ℕ) → IsShortText 3 (month_name c m)
-month_short c m =
-    chosen (m == 1) _ _ (three 74 65 78 refl) (chosen (m == 2) _ _ (three 70 69 66 refl)
-    (chosen (m == 3) _ _ (three 77 65 82 refl) (chosen (m == 4) _ _ (three 65 80 82 refl)
-    (chosen (m == 5) _ _ (three 77 65 89 refl) (chosen (m == 6) _ _ (three 74 85 78 refl)
-    (chosen (m == 7) _ _ (three 74 85 76 refl) (chosen (m == 8) _ _ (three 65 85 71 refl)
-    (chosen (m == 9) _ _ (three 83 69 80 refl) (chosen (m == 10) _ _ (three 79 67 84 refl)
-    (chosen (m == 11) _ _ (three 78 79 86 refl) (three 68 69 67 refl)))))))))))
+roman_short : (m : ℕ) → IsShortText 4 (roman_name m)
+roman_short m =
+    chosen (m == 1) _ _ (named (codes "JAN") refl (omega arith))
+    (chosen (m == 2) _ _ (named (codes "FEB") refl (omega arith))
+    (chosen (m == 3) _ _ (named (codes "MAR") refl (omega arith))
+    (chosen (m == 4) _ _ (named (codes "APR") refl (omega arith))
+    (chosen (m == 5) _ _ (named (codes "MAY") refl (omega arith))
+    (chosen (m == 6) _ _ (named (codes "JUN") refl (omega arith))
+    (chosen (m == 7) _ _ (named (codes "JUL") refl (omega arith))
+    (chosen (m == 8) _ _ (named (codes "AUG") refl (omega arith))
+    (chosen (m == 9) _ _ (named (codes "SEP") refl (omega arith))
+    (chosen (m == 10) _ _ (named (codes "OCT") refl (omega arith))
+    (chosen (m == 11) _ _ (named (codes "NOV") refl (omega arith)) (named (codes "DEC") refl (omega arith))))))))))))
+
+republican_short : (m : ℕ) → IsShortText 4 (republican_name m)
+republican_short m =
+    chosen (m == 1) _ _ (named (codes "VEND") refl (omega arith))
+    (chosen (m == 2) _ _ (named (codes "BRUM") refl (omega arith))
+    (chosen (m == 3) _ _ (named (codes "FRIM") refl (omega arith))
+    (chosen (m == 4) _ _ (named (codes "NIVO") refl (omega arith))
+    (chosen (m == 5) _ _ (named (codes "PLUV") refl (omega arith))
+    (chosen (m == 6) _ _ (named (codes "VENT") refl (omega arith))
+    (chosen (m == 7) _ _ (named (codes "GERM") refl (omega arith))
+    (chosen (m == 8) _ _ (named (codes "FLOR") refl (omega arith))
+    (chosen (m == 9) _ _ (named (codes "PRAI") refl (omega arith))
+    (chosen (m == 10) _ _ (named (codes "MESS") refl (omega arith))
+    (chosen (m == 11) _ _ (named (codes "THER") refl (omega arith))
+    (chosen (m == 12) _ _ (named (codes "FRUC") refl (omega arith)) (named (codes "COMP") refl (omega arith)))))))))))))
+
+month_short : (c : Calendar) (m : ℕ) → IsShortText 4 (month_name c m)
+month_short Gregorian m = roman_short m
+month_short Julian m = roman_short m
+month_short Republican m = republican_short m
 
 -- ---- dates
-extent_short : (c : Calendar) (e : Extent) → IsExtent c e → IsShortText 16 (extent_text c e)
-extent_short c (BeforeChrist n) h = short_both 4 5 16 (omega arith) (decimal n) (32 ∷ codes "B.C.")
-    (four_short n h.1) (record { bytes = refl; short = omega arith })
-extent_short c (Whole y) h = let one = year_short y h in
+extent_short : (c : Calendar) (e : Extent) → IsExtent c e → IsShortText 17 (extent_text c e)
+extent_short c (BeforeChrist n) h = short_both 4 5 17 (omega arith) (decimal n) (32 ∷ codes "B.C.")
+    (four_short n h.0.1) (record { bytes = refl; short = omega arith })
+extent_short c (Whole y) h = let one = year_short y h.0 in
     let short : length (year_text y) ≤ 7 = one.short in
     record { bytes = one.bytes; short = omega arith }
-extent_short c (Month m y) h = short_both 3 8 16 (omega arith) (month_name c m) (32 ∷ year_text y) (month_short c m)
+extent_short c (Month m y) h = short_both 4 8 17 (omega arith) (month_name c m) (32 ∷ year_text y) (month_short c m)
     (short_space 7 8 (omega arith) (year_text y) (year_short y h.0))
 extent_short c (Day d m y) h =
     let day : d ≤ 31 = omega (arith, h.1.1.1, month_days_bounds c (counted y) m) in
-    let front : IsShortText 8 (decimal d ++ 32 ∷ month_name c m) = short_both 4 4 8 (omega arith) (decimal d)
-    (32 ∷ month_name c m) (four_short d (omega arith)) (short_space 3 4 (omega arith) (month_name c m)
+    let front : IsShortText 9 (decimal d ++ 32 ∷ month_name c m) = short_both 4 5 9 (omega arith) (decimal d)
+    (32 ∷ month_name c m) (four_short d (omega arith)) (short_space 4 5 (omega arith) (month_name c m)
     (month_short c m)) in
-    short_both 8 8 16 (omega arith) (decimal d ++ 32 ∷ month_name c m) (32 ∷ year_text y) front
+    short_both 9 8 17 (omega arith) (decimal d ++ 32 ∷ month_name c m) (32 ∷ year_text y) front
     (short_space 7 8 (omega arith) (year_text y) (year_short y h.0))
 
 told_short : (d : Told) → Exists d → IsShortText 30 (told_text d)
@@ -199,11 +226,14 @@ told_short d h = by d.calendar d.extent h
   where
     by : (c : Calendar) (e : Extent) → IsExtent c e → IsShortText 30 (told_date c e)
     by Gregorian e h = let one = extent_short Gregorian e h in
-        let short : length (extent_text Gregorian e) ≤ 16 = one.short in
+        let short : length (extent_text Gregorian e) ≤ 17 = one.short in
         record { bytes = one.bytes; short = omega arith }
-    by Julian e h = short_both 11 17 30 (omega arith) (codes "@#DJULIAN@") (32 ∷ extent_text Julian e)
+    by Julian e h = short_both 11 18 30 (omega arith) (codes "@#DJULIAN@") (32 ∷ extent_text Julian e)
         (record { bytes = refl; short = omega arith })
-        (short_space 16 17 (omega arith) (extent_text Julian e) (extent_short Julian e h))
+        (short_space 17 18 (omega arith) (extent_text Julian e) (extent_short Julian e h))
+    by Republican e h = short_both 12 18 30 (omega arith) (codes "@#DFRENCH R@") (32 ∷ extent_text Republican e)
+        (record { bytes = refl; short = omega arith })
+        (short_space 17 18 (omega arith) (extent_text Republican e) (extent_short Republican e h))
 
 after_short : (k : List ℕ) (d : Told) → IsShortText 4 k → Exists d → IsShortText 35 (after_text k d)
 after_short k d h e = short_both 4 31 35 (omega arith) k (32 ∷ told_text d) h
@@ -216,13 +246,10 @@ pair_short k j d e h g one two =
     (short_both 35 5 40 (omega arith) (k ++ 32 ∷ told_text d) (32 ∷ j) (after_short k d h one)
     (short_space 4 5 (omega arith) j g)) (short_space 30 31 (omega arith) (told_text e) (told_short e two))
 
-word_short : (w : List ℕ) → list_all is_plain w ≡ true → length w ≤ 4 → IsShortText 4 w
-word_short w h e = record { bytes = h; short = e }
-
 near_short : (how : Approximation) → IsShortText 4 (approximation_text how)
-near_short About = word_short (codes "ABT") refl (omega arith)
-near_short Calculated = word_short (codes "CAL") refl (omega arith)
-near_short Estimated = word_short (codes "EST") refl (omega arith)
+near_short About = named (codes "ABT") refl (omega arith)
+near_short Calculated = named (codes "CAL") refl (omega arith)
+near_short Estimated = named (codes "EST") refl (omega arith)
 
 -- ---- phrases
 phrase_clean : (text front phrase : List ℕ) → IsPhrased text front phrase → IsClean text → IsClean (phrase_text phrase)
@@ -242,20 +269,20 @@ form_text text (OnDate d) t h g = short_is_text 30 (omega arith) (told_text d) (
 form_text text (NearDate how d) t h g = short_is_text 35 (omega arith) _
     (after_short (approximation_text how) d (near_short how) g)
 form_text text (BeforeDate d) t h g = short_is_text 35 (omega arith) _
-    (after_short (codes "BEF") d (word_short (codes "BEF") refl (omega arith)) g)
+    (after_short (codes "BEF") d (named (codes "BEF") refl (omega arith)) g)
 form_text text (AfterDate d) t h g = short_is_text 35 (omega arith) _
-    (after_short (codes "AFT") d (word_short (codes "AFT") refl (omega arith)) g)
+    (after_short (codes "AFT") d (named (codes "AFT") refl (omega arith)) g)
 form_text text (BetweenDates d e) t h g = short_is_text 71 (omega arith) _ (pair_short (codes "BET") (codes "AND") d e
-    (word_short (codes "BET") refl (omega arith)) (word_short (codes "AND") refl (omega arith)) g.0 g.1)
+    (named (codes "BET") refl (omega arith)) (named (codes "AND") refl (omega arith)) g.0 g.1)
 form_text text (SinceDate d) t h g = short_is_text 35 (omega arith) _
-    (after_short (codes "FROM") d (word_short (codes "FROM") refl (omega arith)) g)
+    (after_short (codes "FROM") d (named (codes "FROM") refl (omega arith)) g)
 form_text text (UntilDate d) t h g = short_is_text 35 (omega arith) _
-    (after_short (codes "TO") d (word_short (codes "TO") refl (omega arith)) g)
+    (after_short (codes "TO") d (named (codes "TO") refl (omega arith)) g)
 form_text text (FromToDates d e) t h g = short_is_text 71 (omega arith) _ (pair_short (codes "FROM") (codes "TO") d e
-    (word_short (codes "FROM") refl (omega arith)) (word_short (codes "TO") refl (omega arith)) g.0 g.1)
+    (named (codes "FROM") refl (omega arith)) (named (codes "TO") refl (omega arith)) g.0 g.1)
 form_text text (InterpretedDate d phrase) t h g =
     let front : IsShortText 35 (after_text (codes "INT") d) =
-    after_short (codes "INT") d (word_short (codes "INT") refl (omega arith)) g.0 in
+    after_short (codes "INT") d (named (codes "INT") refl (omega arith)) g.0 in
     clean_text (after_text (codes "INT") d ++ 32 ∷ phrase_text phrase)
     (clean_both (after_text (codes "INT") d) (32 ∷ phrase_text phrase)
     (clean_short 35 (after_text (codes "INT") d) front)

@@ -62,9 +62,10 @@ use Rattle.std.proofs.lemmas.Str.{
 }
 use Rattle.std.proofs.lemmas.Str.Ascii.{IsAscii-cons, IsAscii-nil}
 use Rattle.calendar_days.specs.Told.{Told, Exists}
-use Rattle.calendar_days.specs.Calendars.{IsCounted, IsExtent, counted, leap, month_days}
+use Rattle.calendar_days.specs.Calendars.{IsCounted, IsExtent, counted}
+use Rattle.calendar_days.proofs.Counts.{month_days_bounds}
 use Rattle.calendar_days.specs.declared.calendar.Calendar.{Calendar}
-use Rattle.calendar_days.specs.declared.calendar.Calendar.TheVariants.{Gregorian, Julian}
+use Rattle.calendar_days.specs.declared.calendar.Calendar.TheVariants.{Gregorian, Julian, Republican}
 use Rattle.calendar_days.specs.declared.calendar.Year.{Year}
 use Rattle.calendar_days.specs.declared.calendar.Year.TheVariants.{Single, Double}
 use Rattle.calendar_days.specs.declared.calendar.Extent.{Extent}
@@ -90,6 +91,8 @@ use Rattle.gedcom_date.specs.Spelling.{
   date_text,
   extent_text,
   month_name,
+  republican_name,
+  roman_name,
   phrase_text,
   spelling,
   told_text,
@@ -192,7 +195,7 @@ year_printed (Double n) h =
     joins 4 3 (decimal n) (47 ∷ two_digits (n + 1)) (number_printed n (omega (arith, h.1)))
     (joins 1 2 (47 ∷ []) (two_digits (n + 1)) (record { printed = refl; short = omega arith }) (two_printed (n + 1)))
 
-either : (b : Bool) (x y : List ℕ) → Printed 3 x → Printed 3 y → Printed 3 (if b then x else y)
+either : (b : Bool) (x y : List ℕ) → Printed 4 x → Printed 4 y → Printed 4 (if b then x else y)
 either true x y h k = h
 either false x y h k = k
 
@@ -205,68 +208,79 @@ word n bs h =
     at_most : (a b : ℕ) → nat_le a b ≡ true → a ≤ b
     at_most a b e = grind (arith, nat_tests)
 
-month_printed : (c : Calendar) (m : ℕ) → Printed 3 (month_name c m)
-month_printed c m =
-    either (m == 1) _ _ (word 3 (codes "JAN") refl)
-    (either (m == 2) _ _ (word 3 (codes "FEB") refl)
-    (either (m == 3) _ _ (word 3 (codes "MAR") refl)
-    (either (m == 4) _ _ (word 3 (codes "APR") refl)
-    (either (m == 5) _ _ (word 3 (codes "MAY") refl)
-    (either (m == 6) _ _ (word 3 (codes "JUN") refl)
-    (either (m == 7) _ _ (word 3 (codes "JUL") refl)
-    (either (m == 8) _ _ (word 3 (codes "AUG") refl)
-    (either (m == 9) _ _ (word 3 (codes "SEP") refl)
-    (either (m == 10) _ _ (word 3 (codes "OCT") refl)
-    (either (m == 11) _ _ (word 3 (codes "NOV") refl) (word 3 (codes "DEC") refl)))))))))))
+roman_printed : (m : ℕ) → Printed 4 (roman_name m)
+roman_printed m =
+    either (m == 1) _ _ (word 4 (codes "JAN") refl)
+    (either (m == 2) _ _ (word 4 (codes "FEB") refl)
+    (either (m == 3) _ _ (word 4 (codes "MAR") refl)
+    (either (m == 4) _ _ (word 4 (codes "APR") refl)
+    (either (m == 5) _ _ (word 4 (codes "MAY") refl)
+    (either (m == 6) _ _ (word 4 (codes "JUN") refl)
+    (either (m == 7) _ _ (word 4 (codes "JUL") refl)
+    (either (m == 8) _ _ (word 4 (codes "AUG") refl)
+    (either (m == 9) _ _ (word 4 (codes "SEP") refl)
+    (either (m == 10) _ _ (word 4 (codes "OCT") refl)
+    (either (m == 11) _ _ (word 4 (codes "NOV") refl) (word 4 (codes "DEC") refl)))))))))))
+
+republican_printed : (m : ℕ) → Printed 4 (republican_name m)
+republican_printed m =
+    either (m == 1) _ _ (word 4 (codes "VEND") refl)
+    (either (m == 2) _ _ (word 4 (codes "BRUM") refl)
+    (either (m == 3) _ _ (word 4 (codes "FRIM") refl)
+    (either (m == 4) _ _ (word 4 (codes "NIVO") refl)
+    (either (m == 5) _ _ (word 4 (codes "PLUV") refl)
+    (either (m == 6) _ _ (word 4 (codes "VENT") refl)
+    (either (m == 7) _ _ (word 4 (codes "GERM") refl)
+    (either (m == 8) _ _ (word 4 (codes "FLOR") refl)
+    (either (m == 9) _ _ (word 4 (codes "PRAI") refl)
+    (either (m == 10) _ _ (word 4 (codes "MESS") refl)
+    (either (m == 11) _ _ (word 4 (codes "THER") refl)
+    (either (m == 12) _ _ (word 4 (codes "FRUC") refl) (word 4 (codes "COMP") refl))))))))))))
+
+month_printed : (c : Calendar) (m : ℕ) → Printed 4 (month_name c m)
+month_printed Gregorian m = roman_printed m
+month_printed Julian m = roman_printed m
+month_printed Republican m = republican_printed m
 
 -- space and a text behind it
 spaced : (n : ℕ) (bs : List ℕ) → Printed n bs → Printed (1 + n) (32 ∷ bs)
 spaced n bs h = joins 1 n (32 ∷ []) bs (word 1 (32 ∷ []) refl) h
 
-month_days_few : (c : Calendar) (y : ℤ) (m : ℕ) → month_days c y m ≤ 31
-month_days_few c y m = elim (m == 2) as (λ b. (if b then (if leap c y then 29 else 28)
-    else (if (m == 4) || (m == 6) || (m == 9) || (m == 11) then 30 else 31)) ≤ 31) [
-      | true ↦ few (leap c y) 29 28 (omega arith) (omega arith)
-      | false ↦ few ((m == 4) || (m == 6) || (m == 9) || (m == 11)) 30 31 (omega arith) (omega arith)
-    ]
-  where
-    few : (b : Bool) (x y : ℕ) → x ≤ 31 → y ≤ 31 → (if b then x else y) ≤ 31
-    few true x y h k = h
-    few false x y h k = k
-
 extent_printed : (c : Calendar) (e : Extent) → IsExtent c e → Printed 17 (extent_text c e)
 extent_printed c (BeforeChrist n) h = fewer 9 17 (decimal n ++ 32 ∷ codes "B.C.") (omega arith)
-    (joins 4 5 (decimal n) (32 ∷ codes "B.C.") (number_printed n h.1) (word 5 (32 ∷ codes "B.C.") refl))
-extent_printed c (Whole y) h = fewer 7 17 (year_text y) (omega arith) (year_printed y h)
-extent_printed c (Month m y) h = fewer 11 17 (month_name c m ++ 32 ∷ year_text y) (omega arith)
-    (joins 3 8 (month_name c m) (32 ∷ year_text y) (month_printed c m) (spaced 7 (year_text y) (year_printed y h.0)))
+    (joins 4 5 (decimal n) (32 ∷ codes "B.C.") (number_printed n h.0.1) (word 5 (32 ∷ codes "B.C.") refl))
+extent_printed c (Whole y) h = fewer 7 17 (year_text y) (omega arith) (year_printed y h.0)
+extent_printed c (Month m y) h = fewer 12 17 (month_name c m ++ 32 ∷ year_text y) (omega arith)
+    (joins 4 8 (month_name c m) (32 ∷ year_text y) (month_printed c m) (spaced 7 (year_text y) (year_printed y h.0)))
 extent_printed c (Day d m y) h =
-    let day : d ≤ 9999 = omega (arith, h.1.1.1, month_days_few c (counted y) m) in
-    fewer 16 17 (decimal d ++ 32 ∷ month_name c m ++ 32 ∷ year_text y) (omega arith)
-    (joins 8 8 (decimal d ++ 32 ∷ month_name c m) (32 ∷ year_text y)
-    (joins 4 4 (decimal d) (32 ∷ month_name c m) (number_printed d day)
-    (spaced 3 (month_name c m) (month_printed c m))) (spaced 7 (year_text y) (year_printed y h.0)))
+    let day : d ≤ 9999 = omega (arith, h.1.1.1, month_days_bounds c (counted y) m) in
+    joins 9 8 (decimal d ++ 32 ∷ month_name c m) (32 ∷ year_text y)
+    (joins 4 5 (decimal d) (32 ∷ month_name c m) (number_printed d day)
+    (spaced 4 (month_name c m) (month_printed c m))) (spaced 7 (year_text y) (year_printed y h.0))
 
-date_printed : (c : Calendar) (e : Extent) → IsExtent c e → Printed 29 (date_text c e)
-date_printed Gregorian e h = fewer 17 29 (extent_text Gregorian e) (omega arith) (extent_printed Gregorian e h)
-date_printed Julian e h =
-    joins 11 18 (codes "@#DJULIAN@") (32 ∷ extent_text Julian e) (word 11 (codes "@#DJULIAN@") refl)
-    (spaced 17 (extent_text Julian e) (extent_printed Julian e h))
+date_printed : (c : Calendar) (e : Extent) → IsExtent c e → Printed 30 (date_text c e)
+date_printed Gregorian e h = fewer 17 30 (extent_text Gregorian e) (omega arith) (extent_printed Gregorian e h)
+date_printed Julian e h = fewer 28 30 (date_text Julian e) (omega arith)
+    (joins 10 18 (codes "@#DJULIAN@") (32 ∷ extent_text Julian e) (word 10 (codes "@#DJULIAN@") refl)
+    (spaced 17 (extent_text Julian e) (extent_printed Julian e h)))
+date_printed Republican e h =
+    joins 12 18 (codes "@#DFRENCH R@") (32 ∷ extent_text Republican e) (word 12 (codes "@#DFRENCH R@") refl)
+    (spaced 17 (extent_text Republican e) (extent_printed Republican e h))
 
-told_printed : (d : Told) → Exists d → Printed 29 (told_text d)
+told_printed : (d : Told) → Exists d → Printed 30 (told_text d)
 told_printed d h = date_printed d.calendar d.extent h
 
-after_printed : (keyword : List ℕ) (d : Told) → Printed 4 keyword → Exists d → Printed 34 (after_text keyword d)
-after_printed keyword d k h = joins 4 30 keyword (32 ∷ told_text d) k (spaced 29 (told_text d) (told_printed d h))
+after_printed : (keyword : List ℕ) (d : Told) → Printed 4 keyword → Exists d → Printed 35 (after_text keyword d)
+after_printed keyword d k h = joins 4 31 keyword (32 ∷ told_text d) k (spaced 30 (told_text d) (told_printed d h))
 
 two_printed_dates : (opening joining : List ℕ) (d e : Told) → Printed 4 opening → Printed 4 joining → Exists d
     → Exists e
-    → Printed 69 (two_text opening joining d e)
+    → Printed 71 (two_text opening joining d e)
 two_printed_dates opening joining d e k j h i =
-    joins 39 30 (opening ++ 32 ∷ told_text d ++ 32 ∷ joining) (32 ∷ told_text e)
-    (joins 34 5 (opening ++ 32 ∷ told_text d) (32 ∷ joining)
+    joins 40 31 (opening ++ 32 ∷ told_text d ++ 32 ∷ joining) (32 ∷ told_text e)
+    (joins 35 5 (opening ++ 32 ∷ told_text d) (32 ∷ joining)
     (after_printed opening d k h) (spaced 4 joining j))
-    (spaced 29 (told_text e) (told_printed e i))
+    (spaced 30 (told_text e) (told_printed e i))
 
 how_printed : (how : Approximation) → Printed 4 (approximation_text how)
 how_printed About = word 4 (codes "ABT") refl
@@ -350,28 +364,28 @@ bracketed front phrase = sym (append_assoc (front ++ 32 ∷ []) (40 ∷ phrase) 
 -- ---- all forms
 form_is_text : (text : List ℕ) (f : Form) → IsOfForm text f → IsGood f → IsText text → IsText (spelling f)
 unfolding spelling IsOfForm IsShort
-form_is_text text (OnDate d) is h t = text_of_printed 29 (told_text d) (omega arith) (told_printed d h)
-form_is_text text (NearDate how d) is h t = text_of_printed 34 (after_text (approximation_text how) d) (omega arith)
+form_is_text text (OnDate d) is h t = text_of_printed 30 (told_text d) (omega arith) (told_printed d h)
+form_is_text text (NearDate how d) is h t = text_of_printed 35 (after_text (approximation_text how) d) (omega arith)
     (after_printed (approximation_text how) d (how_printed how) h)
-form_is_text text (BeforeDate d) is h t = text_of_printed 34 (after_text (codes "BEF") d) (omega arith)
+form_is_text text (BeforeDate d) is h t = text_of_printed 35 (after_text (codes "BEF") d) (omega arith)
     (after_printed (codes "BEF") d (word 4 (codes "BEF") refl) h)
-form_is_text text (AfterDate d) is h t = text_of_printed 34 (after_text (codes "AFT") d) (omega arith)
+form_is_text text (AfterDate d) is h t = text_of_printed 35 (after_text (codes "AFT") d) (omega arith)
     (after_printed (codes "AFT") d (word 4 (codes "AFT") refl) h)
-form_is_text text (BetweenDates d e) is h t = text_of_printed 69 (two_text (codes "BET") (codes "AND") d e)
+form_is_text text (BetweenDates d e) is h t = text_of_printed 71 (two_text (codes "BET") (codes "AND") d e)
     (omega arith)
     (two_printed_dates (codes "BET") (codes "AND") d e (word 4 (codes "BET") refl) (word 4 (codes "AND") refl) h.0 h.1)
-form_is_text text (SinceDate d) is h t = text_of_printed 34 (after_text (codes "FROM") d) (omega arith)
+form_is_text text (SinceDate d) is h t = text_of_printed 35 (after_text (codes "FROM") d) (omega arith)
     (after_printed (codes "FROM") d (word 4 (codes "FROM") refl) h)
-form_is_text text (UntilDate d) is h t = text_of_printed 34 (after_text (codes "TO") d) (omega arith)
+form_is_text text (UntilDate d) is h t = text_of_printed 35 (after_text (codes "TO") d) (omega arith)
     (after_printed (codes "TO") d (word 4 (codes "TO") refl) h)
-form_is_text text (FromToDates d e) is h t = text_of_printed 69 (two_text (codes "FROM") (codes "TO") d e) (omega arith)
+form_is_text text (FromToDates d e) is h t = text_of_printed 71 (two_text (codes "FROM") (codes "TO") d e) (omega arith)
     (two_printed_dates (codes "FROM") (codes "TO") d e (word 4 (codes "FROM") refl) (word 4 (codes "TO") refl) h.0 h.1)
 form_is_text text (InterpretedDate d phrase) is h t =
     let front : List ℕ = after_text (codes "INT") d in
     let whole : front ++ 32 ∷ phrase_text phrase ≡ (front ++ 32 ∷ []) ++ 40 ∷ phrase ++ 41 ∷ [] =
     bracketed front phrase in
-    subst IsText (sym whole) (phrase_is_text 35 (front ++ 32 ∷ []) phrase is.0 is.1.after
-    (joins 34 1 front (32 ∷ []) (after_printed (codes "INT") d (word 4 (codes "INT") refl) h.0)
+    subst IsText (sym whole) (phrase_is_text 36 (front ++ 32 ∷ []) phrase is.0 is.1.after
+    (joins 35 1 front (32 ∷ []) (after_printed (codes "INT") d (word 4 (codes "INT") refl) h.0)
     (word 1 (32 ∷ []) refl)) (subst (λ (l : List ℕ). length l ≤ 1048576) whole h.1) (subst IsText is.1.parts t))
 form_is_text text (PhraseAlone phrase) is h t =
     phrase_is_text 0 [] phrase is.0 is.1.after (record { printed = refl; short = omega arith }) h

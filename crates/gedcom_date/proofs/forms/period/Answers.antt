@@ -1,8 +1,6 @@
 use Rattle.std.proofs.Common.{◌≡◌, ◌∙◌, sym}
 use Rattle.std.proofs.lemmas.Option.{same_Some}
-use Rattle.gedcom_date.specs.Words.{views}
 use Rattle.calendar_days.specs.Told.{told}
-use Rattle.gedcom_date.specs.Reading.{told_of}
 use Rattle.gedcom_date.proofs.Dates.{ordered_same}
 use Rattle.gedcom_date.proofs.forms.period.Goals as goal
 
