@@ -3,7 +3,6 @@ use Rattle.std.proofs.Common.{◌≡◌, ◌⊎◌, ℕ, List, [], ◌∷◌, fa
 use Rattle.std.specs.Prelude.{Option, None, Some, Result, IfErr, IfOk}
 use Rattle.sqlite.specs.Files.{file_state, over_files}
 use Rattle.sqlite.specs.Held.{Held}
-use Rattle.sqlite.specs.State.{State}
 use Rattle.sqlite_disk.specs.declared.Disk as disk
 use Rattle.sqlite_store.specs.declared.store.FileStore.{FileStore}
 use Rattle.sqlite_wal.specs.Recovery.{Image}
@@ -17,7 +16,6 @@ use Rattle.store.specs.Histories.{Outcome}
 use Rattle.store.specs.declared.archive.Archive.{Archive}
 use Rattle.batch_reading.specs.Batches.{placeless}
 use Rattle.file_imports.specs.Importing.{Imports, ImportsAll, ImportsSilently, IsNoFile, import_request}
-use Rattle.archive_commands.specs.Applying.{PerformsOn}
 use Rattle.archive_commands.specs.Importing.{Imported, ImportedAll, Unimported}
 use Rattle.archive_commands.specs.Opening.{IsTakenUp}
 use Rattle.archive_commands.proofs.Answering.{performed_on}

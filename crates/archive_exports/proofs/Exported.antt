@@ -1,7 +1,6 @@
 -- What is said of an export of an archive that is open, from what `gedcom_export` says of a view.
 use Rattle.std.proofs.Common.{
   ◌≡◌,
-  ◌⊎◌,
   ◌∙◌,
   arith,
   inl,
@@ -28,7 +27,7 @@ use Rattle.archive_view.specs.Looks.{is_failure, is_stop}
 use Rattle.devices.specs.Devices.{AppendsBeginning, Rose}
 use Rattle.gedcom_export.specs.Ends.{IsBegun, IsReason}
 use Rattle.record_text.specs.declared.refusal.RefusalKind.{RefusalKind}
-use Rattle.record_text.specs.declared.refusal.RefusalKind.TheVariants.{BadStored, OutOfMemory, Storage}
+use Rattle.record_text.specs.declared.refusal.RefusalKind.TheVariants.{BadStored, Storage}
 use Rattle.store_tables.specs.Calls.{LeavesOnly, Settled}
 use Rattle.store_tables.specs.Looking.{IsFailure}
 use Rattle.store_tables.specs.Rows.{Rows}

@@ -1,6 +1,6 @@
 -- What an audit tells of the archive that a file held, from what it tells of the tables of a connection.
-use Rattle.std.proofs.Common.{◌≡◌, ◌∙◌, inl, inr, ℕ, List, length, Ok, Err, refl, sym, ap}
-use Rattle.std.specs.Prelude.{Option, Some, None, Result, IfErr, IfOk}
+use Rattle.std.proofs.Common.{◌≡◌, ◌∙◌, inl, inr, ℕ, List, length, Ok, Err, refl, ap}
+use Rattle.std.specs.Prelude.{Option, Some, IfErr, IfOk}
 use Rattle.std.specs.FinMap.{keys}
 use Rattle.sqlite.specs.Files.{file_state}
 use Rattle.sqlite.specs.Held.{Held}

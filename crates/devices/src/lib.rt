@@ -11,4 +11,4 @@ mod device;
 mod transfer;
 
 pub use device::{Counted, Device, has_risen};
-pub use transfer::{TransferError, read_up_to, write_bytes};
+pub use transfer::{TransferError, read_up_to, write_bytes, write_flushed};

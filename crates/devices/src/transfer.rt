@@ -1,7 +1,7 @@
 //! The bytes of a reader, and bytes to a writer.
 
 ghost use Rattle.std.specs.Prelude.{◌≡◌, ◌≤◌, ◌<◌, Err, length, take, OnOk, OnErr, IfOk, IfSome};
-ghost use Rattle.std.specs.Io.KnownBytes.{Appends, Consumes};
+ghost use Rattle.std.specs.Io.KnownBytes.{Appends, Consumes, Keeps};
 ghost use Rattle.devices.specs.Devices.{Rose, AppendsBeginning, Gave};
 
 use crate::device::{Device, has_risen};
@@ -114,4 +114,34 @@ pub fn write_bytes<W: Write + Device>(
         }
     }
     Ok(())
+}
+
+/// Writes all of the bytes, and flushes them. At an error the writer has taken a beginning of them.
+///
+/// `before` is the count of failures at the start of the call that asks, and `Failed` says that it has
+/// risen since.
+pub fn write_flushed<W: Write + Device>(
+    writer: &mut W,
+    before: u64,
+    bytes: &[u8],
+) -> Result<(), TransferError>
+    ensures ok { OnOk result (Appends (W.contents writer.old) (W.contents writer.new) bytes.now) }
+    ensures err { OnErr result
+        (AppendsBeginning (W.contents writer.old) (W.contents writer.new) bytes.now) }
+    ensures failed { result ≡ Err TransferError.Failed → Rose before (W.failed writer.new) }
+{
+    match write_bytes(writer, before, bytes) {
+        Ok(()) => flush(writer, before),
+        Err(e) => Err(e),
+    }
+}
+
+fn flush<W: Write + Device>(writer: &mut W, before: u64) -> Result<(), TransferError>
+    ensures kept { Keeps (W.contents writer.old) (W.contents writer.new) }
+    ensures failed { result ≡ Err TransferError.Failed → Rose before (W.failed writer.new) }
+{
+    match writer.flush() {
+        Ok(()) => Ok(()),
+        Err(e) => Err(meaning(e, before, writer.failures())),
+    }
 }

@@ -1,7 +1,7 @@
 //! A room that listens, and serves one visitor after the other.
 
-ghost use Rattle.std.specs.Prelude.{◌≡◌, ◌⊎◌, Err, IfErr, IfOk, OnErr, OnOk, string_bytes};
-ghost use Rattle.std.specs.Io.KnownBytes.{Appends, Keeps};
+ghost use Rattle.std.specs.Prelude.{◌≡◌, Err, IfErr, IfOk, OnErr, OnOk, string_bytes};
+ghost use Rattle.std.specs.Io.KnownBytes.{Appends};
 ghost use Rattle.devices.specs.Devices.{AppendsBeginning, Rose};
 ghost use Rattle.record_text.specs.declared.refusal.RefusalKind.TheVariants as refusal;
 ghost use Rattle.reading_room.specs.Listening.{listening_line};
@@ -9,11 +9,11 @@ ghost use Rattle.reading_room.specs.Listening.{listening_line};
 use crate::connection::{Timed, take_leave};
 use crate::room::Room;
 use crate::visit::serve_one;
-use devices::{Counted, Device, TransferError, has_risen, write_bytes};
+use devices::{Counted, Device, TransferError, write_flushed};
 use record_text::RefusalKind;
 use std::alloc::{AllocError, Global};
 use std::io;
-use std::io::{ErrorKind, Write};
+use std::io::Write;
 use std::net::{Net, SocketAddr, TcpListener, TcpStream};
 use std::time::Clock;
 
@@ -97,8 +97,8 @@ fn say_listening<W: Write + Device>(
         Ok(line) => line,
         Err(_) => return Err(RefusalKind::OutOfMemory),
     };
-    match write_bytes(output, before, line.as_bytes()) {
-        Ok(()) => flush(output, before),
+    match write_flushed(output, before, line.as_bytes()) {
+        Ok(()) => Ok(()),
         Err(TransferError::Failed) => Err(RefusalKind::WriteFailed),
         Err(TransferError::OutOfMemory) => Err(RefusalKind::OutOfMemory),
     }
@@ -108,22 +108,4 @@ fn listening_line(alloc: Global, port: u16) -> Result<String, AllocError>
     ensures { IfOk result (λ line. string_bytes line ≡ listening_line port) }
 {
     format!(in alloc; "listening on 127.0.0.1:{port}\n")
-}
-
-/// Flushes a writer. 95: its count of failures has risen. 1: memory was refused, or the writer did not count its error.
-fn flush<W: Write + Device>(output: &mut W, before: u64) -> Result<(), RefusalKind>
-    ensures kept { Keeps (W.contents output.old) (W.contents output.new) }
-    ensures kind { IfErr result (λ kind. (kind ≡ refusal.OutOfMemory) ⊎ (kind ≡ refusal.WriteFailed)) }
-    ensures failed { result ≡ Err refusal.WriteFailed → Rose before (W.failed output.new) }
-{
-    match output.flush() {
-        Ok(()) => Ok(()),
-        Err(e) => {
-            if e.kind() != ErrorKind::OutOfMemory && has_risen(before, output.failures()) {
-                Err(RefusalKind::WriteFailed)
-            } else {
-                Err(RefusalKind::OutOfMemory)
-            }
-        }
-    }
 }

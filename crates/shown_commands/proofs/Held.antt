@@ -1,5 +1,5 @@
 -- What is said of the archive in a file, from what is said of one that is open, of which a library was made.
-use Rattle.std.proofs.Common.{◌≡◌, inr, ℕ, ℤ, List, Ok, Err}
+use Rattle.std.proofs.Common.{◌≡◌, inr, ℤ, Ok, Err}
 use Rattle.std.specs.Prelude.{Some, Result, IfErr, IfOk}
 use Rattle.sqlite.specs.Files.{file_state}
 use Rattle.sqlite.specs.Held.{Held}

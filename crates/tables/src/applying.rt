@@ -1,6 +1,6 @@
 //! All rows of an input, applied to an archive.
 
-ghost use Rattle.std.specs.Prelude.{◌≡◌, ◌≢◌, ◌⊎◌, true, Err, IfErr, IsTrue, OnOk};
+ghost use Rattle.std.specs.Prelude.{◌≡◌, ◌⊎◌, true, Err, IfErr, IsTrue, OnOk};
 ghost use Rattle.csv.specs.Reading.{
   Ready,
   default_config,

@@ -1,7 +1,7 @@
 //! One row served: its request is performed, and its answer written.
 
 ghost use Rattle.std.specs.Prelude.{◌≡◌, ◌⊎◌, false, Ok, Err, IfErr, IfOk, MatchBool, OnErr, OnOk, Some};
-ghost use Rattle.std.specs.Io.KnownBytes.{Appends, Keeps};
+ghost use Rattle.std.specs.Io.KnownBytes.{Appends};
 ghost use Rattle.commands.specs.Rows.{is_want};
 ghost use Rattle.csv.specs.Records.{fields_of};
 ghost use Rattle.devices.specs.Devices.{Rose};
@@ -17,12 +17,12 @@ use crate::request::read_request;
 use crate::telling::tell_fault;
 use archive_core::Request;
 use csv::ByteRecord;
-use devices::{Device, TransferError, has_risen, write_bytes};
+use devices::{Device, TransferError, write_flushed};
 use receipts::Answer;
 use record_text::{Refusal, RefusalKind};
 use sqlite::Alter;
 use std::alloc::Global;
-use std::io::{ErrorKind, Write};
+use std::io::Write;
 use store::Archive;
 
 /// Serves the row of this number: performs its request, writes its answer and flushes it, and tells on the faults why
@@ -206,27 +206,9 @@ fn write_answer<W: Write + Device>(
     ensures part { IfErr result (λ kind. WritesPart kind (W.contents output.old) (W.contents output.new) text.now) }
     ensures failed { result ≡ Err refusal.WriteFailed → Rose before (W.failed output.new) }
 {
-    match write_bytes(output, before, text) {
-        Ok(()) => flush(output, before),
+    match write_flushed(output, before, text) {
+        Ok(()) => Ok(()),
         Err(TransferError::Failed) => Err(RefusalKind::WriteFailed),
         Err(TransferError::OutOfMemory) => Err(RefusalKind::OutOfMemory),
-    }
-}
-
-/// Flushes a writer. 95: its count of failures has risen. 1: memory was refused, or the writer did not count its error.
-fn flush<W: Write + Device>(output: &mut W, before: u64) -> Result<(), RefusalKind>
-    ensures kept { Keeps (W.contents output.old) (W.contents output.new) }
-    ensures kind { IfErr result (λ kind. (kind ≡ refusal.OutOfMemory) ⊎ (kind ≡ refusal.WriteFailed)) }
-    ensures failed { result ≡ Err refusal.WriteFailed → Rose before (W.failed output.new) }
-{
-    match output.flush() {
-        Ok(()) => Ok(()),
-        Err(e) => {
-            if e.kind() != ErrorKind::OutOfMemory && has_risen(before, output.failures()) {
-                Err(RefusalKind::WriteFailed)
-            } else {
-                Err(RefusalKind::OutOfMemory)
-            }
-        }
     }
 }
