@@ -12,6 +12,7 @@ pub mod Preparing
 pub mod Queries
 pub mod ReadingRows
 pub mod Reopening
+pub mod Showing
 mod Statements
 mod Texts
 mod Typed
