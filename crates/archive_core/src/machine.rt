@@ -66,7 +66,7 @@ pub fn decide<V: View>(alloc: Global, view: &mut V, request: &Request) -> Result
 }
 
 /// The kept answer, where the command is the same.
-fn answer_again<V: View>(
+pub(crate) fn answer_again<V: View>(
     alloc: Global,
     view: &mut V,
     receipt: &Receipt,
@@ -130,7 +130,7 @@ fn decide_command<V: View>(
 }
 
 /// The changes, with the receipt of their answer.
-fn with_receipt(changes: Changes, token: Token, digest: [u8; 32]) -> Changes
+pub(crate) fn with_receipt(changes: Changes, token: Token, digest: [u8; 32]) -> Changes
     ensures { result ≡ record changes {
       kept = Some (record { token = token; receipt = record { digest = digest; answer = changes.answer } });
     } }

@@ -12,4 +12,4 @@ mod state;
 mod writing;
 
 pub use reading::read_state;
-pub use writing::write_changes;
+pub use writing::{kind_word, remove_lines, remove_rows, write_changes, write_kept};

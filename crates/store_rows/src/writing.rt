@@ -16,6 +16,7 @@ ghost use Rattle.store_rows.specs.Shallow.{AreShallowChanges};
 ghost use Rattle.store_rows.specs.Writing.{with_changes, with_kept_written};
 
 use archive_state::{Changes, Kept};
+pub use record_rows::{kind_word, remove_lines, remove_rows};
 use record_text::RefusalKind;
 use sqlite::{Alter, Error, Transaction};
 use std::alloc::{AllocError, Global};
@@ -101,7 +102,7 @@ fn write_all<S: Alter>(
 }
 
 /// What is kept of the request under its token, where something is.
-fn write_kept<S: Alter>(tx: &mut Transaction<'_, S>, kept: &Option<Kept>) -> Result<(), Error>
+pub fn write_kept<S: Alter>(tx: &mut Transaction<'_, S>, kept: &Option<Kept>) -> Result<(), Error>
     ensures same_reference { tx.new.conn.ghost_name ≡ tx.old.conn.ghost_name }
     ensures ok { HasCleanDisk (state S.Store tx.new.conn.now)
         → OnOk result (Follows (state S.Store tx.old.conn.now) (state S.Store tx.new.conn.now)

@@ -1,4 +1,7 @@
 pub mod Asking
+mod BatchQueries
+mod BatchStatements
+mod BatchTexts
 pub mod Calls
 mod Changing
 pub mod Coded
@@ -8,6 +11,7 @@ mod Finding
 mod KeyedQueries
 mod KeyedTexts
 pub mod Loops
+mod Owning
 pub mod Preparing
 pub mod Queries
 pub mod ReadingRows

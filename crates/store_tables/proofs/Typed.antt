@@ -29,6 +29,10 @@ use Rattle.store_tables.specs.Rows.{
   SlipRow,
   put_by,
   with_batch,
+  closed_at,
+  with_closed,
+  without_batch_row,
+  without_lines_from,
   with_record_row,
   record_at,
   without_record_row,
@@ -78,6 +82,48 @@ typed_batch n is_open low rows t =
       slips = t.slips;
       slip_lines = t.slip_lines;
     }
+
+closed_all : (n : ℕ) (bs : List BatchRow) → AllByRecursion (λ (b : BatchRow). IsU32 b.no) bs
+    → AllByRecursion (λ (b : BatchRow). IsU32 b.no) (map (closed_at n) bs)
+closed_all n [] h = tt
+closed_all n (b ∷ bs) h = (go (b.no == n), closed_all n bs h.1)
+  where
+    go : (is : Bool) → let it : BatchRow = cond is (record b { is_open = false }) b in IsU32 it.no
+    go true = h.0
+    go false = h.0
+
+pub typed_closed : (n : ℕ) (rows : Rows) → AreTyped rows → AreTyped (with_closed n rows)
+typed_closed n rows t = record {
+  society = t.society;
+  batches = closed_all n rows.batches t.batches;
+  records = t.records;
+  lines = t.lines;
+  receipts = t.receipts;
+  slips = t.slips;
+  slip_lines = t.slip_lines;
+}
+
+pub typed_less_batch : (n : ℕ) (rows : Rows) → AreTyped rows → AreTyped (without_batch_row n rows)
+typed_less_batch n rows t = record {
+  society = t.society;
+  batches = kept_by _ _ rows.batches t.batches;
+  records = t.records;
+  lines = t.lines;
+  receipts = t.receipts;
+  slips = t.slips;
+  slip_lines = t.slip_lines;
+}
+
+pub typed_less_lines_from : (n at : ℕ) (rows : Rows) → AreTyped rows → AreTyped (without_lines_from n at rows)
+typed_less_lines_from n at rows t = record {
+  society = t.society;
+  batches = t.batches;
+  records = t.records;
+  lines = kept_by _ _ rows.lines t.lines;
+  receipts = t.receipts;
+  slips = t.slips;
+  slip_lines = t.slip_lines;
+}
 
 pub typed_record : (n : ℕ) (kind : List ℕ) (batch : ℕ) → IsU32 n → IsU32 batch → (rows : Rows) → AreTyped rows
     → AreTyped (with_record_row n kind batch rows)

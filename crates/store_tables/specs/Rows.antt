@@ -2,6 +2,7 @@
 use Rattle.std.specs.Prelude.{
   ◌<◌,
   ◌==◌,
+  ◌&&◌,
   ◌+◌,
   not,
   true,
@@ -15,6 +16,7 @@ use Rattle.std.specs.Prelude.{
   filter,
   fold,
   cond,
+  nat_lt,
   Some,
   None,
   Option,
@@ -152,6 +154,16 @@ abbrev pub with_batch : ℕ → Bool → Rows → Rows
 with_batch n is_open rows =
     record rows { batches = put_by (λ (b : BatchRow). b.no) (record { no = n; is_open = is_open }) rows.batches }
 
+-- a batch, closed where it has this number
+abbrev pub closed_at : ℕ → BatchRow → BatchRow
+closed_at n b = cond (b.no == n) (record b { is_open = false }) b
+
+abbrev pub with_closed : ℕ → Rows → Rows
+with_closed n rows = record rows { batches = map (closed_at n) rows.batches }
+
+abbrev pub without_batch_row : ℕ → Rows → Rows
+without_batch_row n rows = record rows { batches = filter (λ (b : BatchRow). not (b.no == n)) rows.batches }
+
 abbrev pub with_record_row : ℕ → List ℕ → ℕ → Rows → Rows
 with_record_row n kind batch rows =
     record rows {
@@ -183,6 +195,13 @@ with_line n at line rows =
 
 abbrev pub without_lines : ℕ → Rows → Rows
 without_lines n rows = record rows { lines = filter (λ (l : LineRow). not (l.no == n)) rows.lines }
+
+-- a line of a number, at a place or behind it
+abbrev pub is_line_from : ℕ → ℕ → LineRow → Bool
+is_line_from n at l = (l.no == n) && not (nat_lt l.at at)
+
+abbrev pub without_lines_from : ℕ → ℕ → Rows → Rows
+without_lines_from n at rows = record rows { lines = filter (λ l. not (is_line_from n at l)) rows.lines }
 
 abbrev pub with_receipt : List ℕ → Receipt → Rows → Rows
 with_receipt token receipt rows =

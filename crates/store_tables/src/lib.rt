@@ -1,6 +1,7 @@
 //! The tables of an archive in one SQLite file: made, written a row at a time inside a transaction, and read.
 #![tactic(auto)]
 
+pub mod batches;
 pub mod connection;
 mod creating;
 pub mod keyed;
@@ -14,6 +15,6 @@ mod typing;
 mod version;
 
 pub use creating::create;
-pub use reading::{read_rows, society};
+pub use reading::{read_batches, read_rows, society};
 pub use stored::{BatchRow, LineRow, ReceiptRow, RecordRow, SlipLineRow, SlipRow, StoredRows};
 pub use version::{check_tables, check_version};

@@ -169,7 +169,8 @@ fn read_meta_rows<S: Alter>(
     read_all(alloc, conn, SELECT_META, &[])
 }
 
-fn read_batches<S: Alter>(
+/// The batches, in the order of their numbers. Errors as of `read_rows`.
+pub fn read_batches<S: Alter>(
     alloc: Global,
     conn: &mut Connection<S>,
 ) -> Result<Vec<BatchRow>, RefusalKind>

@@ -68,7 +68,7 @@ pub fn set_next<S: Alter>(tx: &mut Transaction<'_, S>, next: u64) -> Result<(), 
 }
 
 /// A new row of `record`.
-pub(crate) fn insert_record<S: Alter>(
+pub fn insert_record<S: Alter>(
     tx: &mut Transaction<'_, S>,
     number: u32,
     kind: &str,
@@ -100,7 +100,7 @@ pub fn delete_record<S: Alter>(tx: &mut Transaction<'_, S>, number: u32) -> Resu
 }
 
 /// The stored line of a record at a place.
-pub(crate) fn insert_line<S: Alter>(
+pub fn insert_line<S: Alter>(
     tx: &mut Transaction<'_, S>,
     number: u32,
     at: u32,

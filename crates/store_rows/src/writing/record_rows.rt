@@ -67,7 +67,7 @@ fn put_rows<S: Alter>(tx: &mut Transaction<'_, S>, puts: &[Numbered]) -> Result<
 }
 
 /// The word of a record's kind.
-fn kind_word(record: &Record) -> &'static str
+pub fn kind_word(record: &Record) -> &'static str
     ensures { result.now ≡ kind_word «record».now }
 {
     match record {
@@ -122,7 +122,7 @@ fn put_lines_of<S: Alter>(
 }
 
 /// Takes the lines of these numbers out. All of them go before any row in `record`, since a line may name each.
-fn remove_lines<S: Alter>(tx: &mut Transaction<'_, S>, numbers: &[u32]) -> Result<(), Error>
+pub fn remove_lines<S: Alter>(tx: &mut Transaction<'_, S>, numbers: &[u32]) -> Result<(), Error>
     ensures same_reference { tx.new.conn.ghost_name ≡ tx.old.conn.ghost_name }
     ensures ok { HasCleanDisk (state S.Store tx.new.conn.now)
         → OnOk result (Follows (state S.Store tx.old.conn.now) (state S.Store tx.new.conn.now)
@@ -136,7 +136,7 @@ fn remove_lines<S: Alter>(tx: &mut Transaction<'_, S>, numbers: &[u32]) -> Resul
 }
 
 /// Takes the rows of these numbers out of `record`.
-fn remove_rows<S: Alter>(tx: &mut Transaction<'_, S>, numbers: &[u32]) -> Result<(), Error>
+pub fn remove_rows<S: Alter>(tx: &mut Transaction<'_, S>, numbers: &[u32]) -> Result<(), Error>
     ensures same_reference { tx.new.conn.ghost_name ≡ tx.old.conn.ghost_name }
     ensures ok { HasCleanDisk (state S.Store tx.new.conn.now)
         → OnOk result (Follows (state S.Store tx.old.conn.now) (state S.Store tx.new.conn.now)

@@ -1,0 +1,266 @@
+-- What the statements on a batch and its rows make of the rows that the tables hold.
+use Rattle.std.proofs.Common.{
+  ◌≡◌,
+  ℕ,
+  ◌==◌,
+  ◌&&◌,
+  pos,
+  Bool,
+  true,
+  false,
+  List,
+  [],
+  ◌∷◌,
+  ◌++◌,
+  map,
+  filter,
+  not,
+  if◌then◌else◌,
+  nat_lt,
+  Ok,
+  Some,
+  None,
+  refl,
+  sym,
+  ap,
+  ap₂,
+  subst,
+  ◌∙◌,
+  inl,
+  inr,
+  length,
+  arith,
+}
+use Rattle.std.specs.Ordering.{is_ge}
+use Rattle.std.specs.List.{list_all, AllByRecursion, cons_option}
+use Rattle.std.specs.List.Sorted.{IsPermutation}
+use Rattle.std.proofs.lemmas.Bool.Decides.{nat_tests}
+use Rattle.std.proofs.lemmas.List.Sorted.{IsPermutation-map, length_permutation}
+use Rattle.sqlite_rules.specs.Edit.{without_all}
+use Rattle.sqlite.specs.declared.types.Value.TheVariants.{Null, Int}
+use Rattle.sqlite.specs.Order.{Row, value_cmp}
+use Rattle.sqlite.specs.Ops.{is_true, from_truth, binary}
+use Rattle.sqlite.specs.Term.{holds, eval_all, col, lit}
+use Rattle.sqlite.specs.Tree.{rowid, put_row}
+use Rattle.sqlite_schema.specs.Names.{same_name}
+use Rattle.sqlite_value.specs.Keys.{joined}
+use Rattle.sqlite.specs.Command.TheVariants.{Delete, Update}
+use Rattle.sqlite_schema.specs.declared.program.Program.{Program}
+use Rattle.sqlite.specs.Program.{overlay}
+use Rattle.sqlite_schema.specs.declared.schema.Keys.TheVariants.{Enforced}
+use Rattle.sqlite.specs.Rowids.TheVariants.{Given}
+use Rattle.sqlite.specs.Edit.{edit_of, edited, id_in, taken_by}
+use Rattle.sqlite_rules.specs.Calls.{ids_of}
+use Rattle.sqlite_rules.specs.Action.{works, Work, Writes}
+use Rattle.sqlite.specs.State.{State, Executes}
+use Rattle.sqlite.proofs.Callers.{runs_as, one_step, one_permutation, statement_of}
+use Rattle.sqlite.specs.Listing.{understood}
+use Rattle.store_tables.specs.Schema.{archive_schema, batches, lines}
+use Rattle.store_tables.specs.Rows.{
+  Rows,
+  BatchRow,
+  LineRow,
+  Holds,
+  Keeps,
+  batch_values,
+  line_values,
+  with_closed,
+  without_batch_row,
+  is_line_from,
+  without_lines_from,
+}
+use Rattle.store_tables.proofs.BatchTexts.{
+  close_batch,
+  close_batch_is,
+  close_batch_plain,
+  delete_batch,
+  delete_batch_is,
+  delete_batch_plain,
+  delete_lines_from,
+  delete_lines_from_is,
+  delete_lines_from_plain,
+  from_place,
+}
+use Rattle.store_tables.proofs.Texts.{with_key}
+use Rattle.store_tables.proofs.Writing.{updates, deletes, cast_int, cast_null, Restrict, restricted_step}
+use Rattle.store_tables.proofs.Finding.{simple, answered, map_twice}
+use Rattle.store_tables.proofs.Coded.{same_int, int_order, keeps_less, keeps_on}
+use Rattle.store_tables.proofs.Changing.{at_key, none_changed, keeps_changed}
+use Rattle.store_tables.proofs.Statements.{Becomes, becomes, others_of, truth_of}
+
+permutation_none : {X : Type 0} (ys : List X) → IsPermutation [] ys → ys ≡ []
+permutation_none [] h = refl
+permutation_none (y ∷ ys) h = absurd (let e : length (y ∷ ys) ≡ 0 = length_permutation [] (y ∷ ys) h in cc)
+
+-- a row that keeps its key sets off nothing
+no_work_1 : (olds : List Row) (row : Row) → works archive_schema Enforced 0 1 olds (row ∷ []) ≡ []
+unfolding same_name joined
+no_work_1 olds row = refl
+
+one_refuses : (b : Bool) (v : Work) → Restrict v → AllByRecursion Restrict
+    (cons_option (if b then Some v else None) [] ++ [])
+one_refuses true v p = (p, tt)
+one_refuses false v p = tt
+
+-- what refers to a batch restricts its deletion
+only_restricted : (olds : List Row) → AllByRecursion Restrict (works archive_schema Enforced 0 1 olds [])
+unfolding same_name joined
+only_restricted olds = one_refuses _ _ refl
+
+passes_1 : (n : ℕ) (x : BatchRow) → list_all (holds ((Int (pos n) ∷ []) ∷ batch_values x ∷ [])) (with_key 0)
+    ≡ (x.no == n)
+unfolding binary
+passes_1 n x = ap (λ b. is_true (from_truth (Some b)) && true) (same_int x.no n) ∙ truth_of (x.no == n)
+
+pub closes_batch : (old new : State) (n count : ℕ) → old.now.schema ≡ archive_schema
+    → Executes close_batch (Int (pos n) ∷ []) old new (Ok count) → Becomes old new (with_closed n)
+closes_batch old new n count has h =
+    let params = Int (pos n) ∷ [] in
+    let project = col 1 0 ∷ col 1 0 ∷ lit Null ∷ lit (Int (pos 0)) ∷ [] in
+    let q : Program = record { lets = []; body = simple 1 (with_key 0) project [] } in
+    let w = runs_as close_batch params old new archive_schema has (Update 1 q) close_batch_is close_batch_plain
+    count h in
+    let did = updates archive_schema batches 1 refl refl old new.now w.tally params
+    (statement_of close_batch (understood archive_schema close_batch)) q has w.changed in
+    let read = did.1 in
+    let db = old.now.trees in
+    let now = new.now.trees in
+    let key = (λ (x : BatchRow). x.no) in
+    let g = (λ (b : BatchRow). record b { is_open = false }) in
+    let shown = (λ (x : BatchRow). eval_all project (params ∷ batch_values x ∷ [])) in
+    let found = (λ (rows : Rows) (was : Holds rows db). answered batch_values params (with_key 0) (λ x. x.no == n)
+    (passes_1 n) 1 project [] (overlay db []) rows.batches read was.batches.is (did.2.answer Null)) in
+    becomes old new w.sound did.0 (λ rows was.
+    elim (at_key key n rows.batches was.batches.rise) [
+      | inl none ↦
+          let empty : read ≡ [] = permutation_none read
+          (subst (λ xs. IsPermutation (map shown xs) read) none (found rows was)) in
+          let edit = edit_of db batches [] Given 1 [] in
+          let applied = restricted_step archive_schema Enforced db now edit (only_restricted (taken_by db edit))
+          (subst (λ rs. Writes archive_schema Enforced db (edit_of db batches (ids_of rs) Given 1 rs) (Ok now))
+          empty did.3) in
+          let same = others_of db now edit applied in
+          record {
+            meta = same 0 (omega arith) (omega arith) ∙ was.meta;
+            batches = subst (λ xs. Keeps batch_values key xs (now 1))
+                (sym (none_changed key n g rows.batches none)) (keeps_on _ _ (now 1) applied.rows was.batches);
+            records = keeps_on _ _ _ (same 2 (omega arith) (omega arith)) was.records;
+            lines = keeps_on _ _ _ (same 3 (omega arith) (omega arith)) was.lines;
+            receipts = keeps_on _ _ _ (same 4 (omega arith) (omega arith)) was.receipts;
+            slips = keeps_on _ _ _ (same 5 (omega arith) (omega arith)) was.slips;
+            slip_lines = keeps_on _ _ _ (same 6 (omega arith) (omega arith)) was.slip_lines;
+          }
+      | inr (x, one, here) ↦
+          let single : read ≡ shown x ∷ [] = one_permutation _ read
+          (subst (λ xs. IsPermutation (map shown xs) read) one (found rows was)) in
+          let edit = edit_of db batches (pos x.no ∷ []) Given 1 (shown x ∷ []) in
+          let applied = one_step archive_schema Enforced db now edit
+          (no_work_1 (taken_by db edit) (batch_values (g x)))
+          (subst (λ rs. Writes archive_schema Enforced db (edit_of db batches (ids_of rs) Given 1 rs) (Ok now))
+          single did.3) in
+          let same = others_of db now edit applied in
+          let row : edited db edit ≡ put_row (batch_values (g x)) (without_all (db 1) (pos x.no ∷ [])) = rw
+          (cast_null, cast_int (pos x.no), cast_int (pos 0)) refl in
+          let away = ap (λ k. put_row (batch_values (g x)) (without_all (db 1) (pos k ∷ []))) here in
+          record {
+            meta = same 0 (omega arith) (omega arith) ∙ was.meta;
+            batches = keeps_on _ _ (now 1) (applied.rows ∙ row ∙ away)
+                (keeps_changed batch_values key (λ _. refl) n g x rows.batches (db 1) one here here was.batches);
+            records = keeps_on _ _ _ (same 2 (omega arith) (omega arith)) was.records;
+            lines = keeps_on _ _ _ (same 3 (omega arith) (omega arith)) was.lines;
+            receipts = keeps_on _ _ _ (same 4 (omega arith) (omega arith)) was.receipts;
+            slips = keeps_on _ _ _ (same 5 (omega arith) (omega arith)) was.slips;
+            slip_lines = keeps_on _ _ _ (same 6 (omega arith) (omega arith)) was.slip_lines;
+          }
+    ])
+
+pub deletes_batch : (old new : State) (n count : ℕ) → old.now.schema ≡ archive_schema
+    → Executes delete_batch (Int (pos n) ∷ []) old new (Ok count) → Becomes old new (without_batch_row n)
+deletes_batch old new n count has h =
+    let params = Int (pos n) ∷ [] in
+    let q : Program = record { lets = []; body = simple 1 (with_key 0) (col 1 0 ∷ []) [] } in
+    let w = runs_as delete_batch params old new archive_schema has (Delete 1 q) delete_batch_is delete_batch_plain
+    count h in
+    let did = deletes archive_schema batches 1 refl refl old new.now w.tally params
+    (statement_of delete_batch (understood archive_schema delete_batch)) q has w.changed in
+    let found = did.1 in
+    let db = old.now.trees in
+    let now = new.now.trees in
+    let edit = edit_of db batches (ids_of found) Given 0 [] in
+    let applied = restricted_step archive_schema Enforced db now edit (only_restricted (taken_by db edit)) did.3 in
+    let same = others_of db now edit applied in
+    becomes old new w.sound did.0 (λ rows was.
+    let all = answered batch_values params (with_key 0) (λ x. x.no == n) (passes_1 n) 1 (col 1 0 ∷ []) []
+    (overlay db []) rows.batches found was.batches.is (did.2.answer Null) in
+    let ids : IsPermutation
+    (map (λ x. pos ((λ (b : BatchRow). b.no) x)) (filter (λ (x : BatchRow). x.no == n) rows.batches))
+    (ids_of found) =
+    subst (λ k. IsPermutation k (ids_of found)) (map_twice _ _ (filter (λ (x : BatchRow). x.no == n) rows.batches))
+    (IsPermutation-map (λ r. id_in (rowid r)) _ _ all) in
+    record {
+      meta = same 0 (omega arith) (omega arith) ∙ was.meta;
+      batches = keeps_on _ _ (now 1) applied.rows
+          (keeps_less batch_values (λ (b : BatchRow). b.no) (λ _. refl) (λ x. x.no == n) rows.batches (db 1)
+          (ids_of found) ids was.batches);
+      records = keeps_on _ _ _ (same 2 (omega arith) (omega arith)) was.records;
+      lines = keeps_on _ _ _ (same 3 (omega arith) (omega arith)) was.lines;
+      receipts = keeps_on _ _ _ (same 4 (omega arith) (omega arith)) was.receipts;
+      slips = keeps_on _ _ _ (same 5 (omega arith) (omega arith)) was.slips;
+      slip_lines = keeps_on _ _ _ (same 6 (omega arith) (omega arith)) was.slip_lines;
+    })
+
+-- ---- the lines of a number from a place on
+
+not_below : (m n : ℕ) → is_ge (value_cmp (Int (pos m)) (Int (pos n))) ≡ not (nat_lt m n)
+not_below m n = ap is_ge (int_order m n) ∙ grind (arith, nat_tests)
+
+both_true : (a b : Bool) → (is_true (from_truth (Some a)) && (is_true (from_truth (Some b)) && true)) ≡ (a && b)
+both_true true true = refl
+both_true true false = refl
+both_true false b = refl
+
+passes_3 : (n at : ℕ) (x : LineRow) → list_all (holds ((Int (pos n) ∷ Int (pos at) ∷ []) ∷ line_values x ∷ []))
+    from_place ≡ is_line_from n at x
+unfolding binary
+passes_3 n at x =
+    ap₂ (λ a b. is_true (from_truth (Some a)) && (is_true (from_truth (Some b)) && true)) (same_int x.no n)
+    (not_below x.at at) ∙ both_true (x.no == n) (not (nat_lt x.at at))
+
+no_work_3 : (olds : List Row) → works archive_schema Enforced 0 3 olds [] ≡ []
+unfolding same_name joined
+no_work_3 olds = refl
+
+pub deletes_lines_from : (old new : State) (n at count : ℕ) → old.now.schema ≡ archive_schema
+    → Executes delete_lines_from (Int (pos n) ∷ Int (pos at) ∷ []) old new (Ok count)
+    → Becomes old new (without_lines_from n at)
+deletes_lines_from old new n at count has h =
+    let params = Int (pos n) ∷ Int (pos at) ∷ [] in
+    let q : Program = record { lets = []; body = simple 3 from_place (col 1 0 ∷ []) [] } in
+    let w = runs_as delete_lines_from params old new archive_schema has (Delete 3 q) delete_lines_from_is
+    delete_lines_from_plain count h in
+    let did = deletes archive_schema lines 3 refl refl old new.now w.tally params
+    (statement_of delete_lines_from (understood archive_schema delete_lines_from)) q has w.changed in
+    let found = did.1 in
+    let db = old.now.trees in
+    let now = new.now.trees in
+    let edit = edit_of db lines (ids_of found) Given 0 [] in
+    let applied = one_step archive_schema Enforced db now edit (no_work_3 (taken_by db edit)) did.3 in
+    let same = others_of db now edit applied in
+    becomes old new w.sound did.0 (λ rows was.
+    let all = answered line_values params from_place (is_line_from n at) (passes_3 n at) 3 (col 1 0 ∷ []) []
+    (overlay db []) rows.lines found was.lines.is (did.2.answer Null) in
+    let ids : IsPermutation
+    (map (λ x. pos ((λ (l : LineRow). l.id) x)) (filter (is_line_from n at) rows.lines)) (ids_of found) =
+    subst (λ k. IsPermutation k (ids_of found)) (map_twice _ _ (filter (is_line_from n at) rows.lines))
+    (IsPermutation-map (λ r. id_in (rowid r)) _ _ all) in
+    record {
+      meta = same 0 (omega arith) (omega arith) ∙ was.meta;
+      batches = keeps_on _ _ _ (same 1 (omega arith) (omega arith)) was.batches;
+      records = keeps_on _ _ _ (same 2 (omega arith) (omega arith)) was.records;
+      lines = keeps_on _ _ (now 3) applied.rows
+          (keeps_less line_values (λ (l : LineRow). l.id) (λ _. refl) (is_line_from n at) rows.lines (db 3)
+          (ids_of found) ids was.lines);
+      receipts = keeps_on _ _ _ (same 4 (omega arith) (omega arith)) was.receipts;
+      slips = keeps_on _ _ _ (same 5 (omega arith) (omega arith)) was.slips;
+      slip_lines = keeps_on _ _ _ (same 6 (omega arith) (omega arith)) was.slip_lines;
+    })

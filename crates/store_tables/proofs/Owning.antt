@@ -1,0 +1,85 @@
+-- The foreign keys of good tables, said of the rows that they hold.
+use Rattle.std.proofs.Common.{◌≡◌, ◌==◌, ◌&&◌, Bool, true, false, List, [], ◌∷◌, map, Some, refl, sym, ap, subst, ◌∙◌}
+use Rattle.std.specs.List.{AllByRecursion, list_any}
+use Rattle.sqlite.specs.Order.{Row}
+use Rattle.sqlite.specs.Ops.{is_true, from_truth, binary}
+use Rattle.sqlite.specs.Tree.{Trees}
+use Rattle.sqlite_schema.specs.Names.{same_name}
+use Rattle.sqlite_schema.specs.Rules.{passes, agree}
+use Rattle.sqlite_schema.specs.declared.schema.Constraint.TheVariants.{ForeignKey}
+use Rattle.sqlite_value.specs.Keys.{joined, first_key, plain}
+use Rattle.store_tables.specs.Batches.{AreOwned}
+use Rattle.store_tables.specs.Calls.{Good}
+use Rattle.store_tables.specs.Rows.{Rows, BatchRow, RecordRow, LineRow, batch_values, record_values, line_values}
+use Rattle.store_tables.specs.Schema.{archive_schema, records, lines}
+use Rattle.store_tables.proofs.Coded.{same_int, list_any_same}
+use Rattle.store_tables.proofs.Statements.{truth_of}
+
+any_mapped : {X Y : Type 0} (p : Y → Bool) (f : X → Y) (xs : List X) → list_any p (map f xs)
+    ≡ list_any (λ x. p (f x)) xs
+any_mapped p f [] = refl
+any_mapped p f (x ∷ xs) = rw (any_mapped p f xs) refl
+
+all_mapped : {X Y : Type 0} (P : Y → Type 0) (Q : X → Type 0) (f : X → Y) → ((x : X) → P (f x) → Q x) → (xs : List X)
+    → AllByRecursion P (map f xs) → AllByRecursion Q xs
+all_mapped P Q f h [] all = tt
+all_mapped P Q f h (x ∷ xs) all = (h x all.0, all_mapped P Q f h xs all.1)
+
+first_of : (a b : Bool) → (a && b) ≡ true → a ≡ true
+first_of true b h = refl
+first_of false b h = absurd cc
+
+-- a row agrees with what it refers to where the numbers are the same
+agrees_batch : (r : RecordRow) (b : BatchRow) → agree plain (0 ∷ []) (batch_values b) (3 ∷ []) (record_values r)
+    ≡ (b.no == r.batch)
+unfolding binary first_key
+agrees_batch r b = ap (λ t. is_true (from_truth (Some t)) && true) (same_int b.no r.batch) ∙ truth_of (b.no == r.batch)
+
+agrees_record : (l : LineRow) (r : RecordRow) → agree plain (0 ∷ []) (record_values r) (2 ∷ []) (line_values l)
+    ≡ (r.no == l.no)
+unfolding binary first_key
+agrees_record l r = ap (λ t. is_true (from_truth (Some t)) && true) (same_int r.no l.no) ∙ truth_of (r.no == l.no)
+
+record_refers : (db : Trees) (r : RecordRow) → passes ForeignKey archive_schema db records (record_values r) ≡ true
+    → list_any (λ parent. agree plain (0 ∷ []) parent (3 ∷ []) (record_values r)) (db 1) ≡ true
+unfolding same_name joined
+record_refers db r h = first_of _ _ h
+
+line_refers : (db : Trees) (l : LineRow) → passes ForeignKey archive_schema db lines (line_values l) ≡ true
+    → list_any (λ parent. agree plain (0 ∷ []) parent (2 ∷ []) (line_values l)) (db 2) ≡ true
+unfolding same_name joined
+line_refers db l h = first_of _ _ h
+
+batch_there : (db : Trees) (bs : List BatchRow) → db 1 ≡ map batch_values bs → (r : RecordRow)
+    → passes ForeignKey archive_schema db records (record_values r) ≡ true
+    → list_any (λ (b : BatchRow). b.no == r.batch) bs ≡ true
+batch_there db bs is r h =
+    let test = (λ (parent : Row). agree plain (0 ∷ []) parent (3 ∷ []) (record_values r)) in
+    sym (ap (list_any test) is ∙ any_mapped test batch_values bs
+    ∙ list_any_same (λ b. test (batch_values b)) (λ (b : BatchRow). b.no == r.batch) (agrees_batch r) bs)
+    ∙ record_refers db r h
+
+record_there : (db : Trees) (rs : List RecordRow) → db 2 ≡ map record_values rs → (l : LineRow)
+    → passes ForeignKey archive_schema db lines (line_values l) ≡ true
+    → list_any (λ (r : RecordRow). r.no == l.no) rs ≡ true
+record_there db rs is l h =
+    let test = (λ (parent : Row). agree plain (0 ∷ []) parent (2 ∷ []) (line_values l)) in
+    sym (ap (list_any test) is ∙ any_mapped test record_values rs
+    ∙ list_any_same (λ r. test (record_values r)) (λ (r : RecordRow). r.no == l.no) (agrees_record l) rs)
+    ∙ line_refers db l h
+
+pub owned : (rows : Rows) (t : Trees) → Good rows t → AreOwned rows
+owned rows t good =
+    let keys = good.sound.obeys.rules ForeignKey in
+    record {
+      lines = all_mapped (λ row. passes ForeignKey archive_schema t lines row ≡ true)
+          (λ (l : LineRow). list_any (λ (r : RecordRow). r.no == l.no) rows.records ≡ true) line_values
+          (record_there t rows.records good.holds.records.is) rows.lines
+          (subst (AllByRecursion (λ row. passes ForeignKey archive_schema t lines row ≡ true)) good.holds.lines.is
+          keys.1.1.1.0);
+      records = all_mapped (λ row. passes ForeignKey archive_schema t records row ≡ true)
+          (λ (r : RecordRow). list_any (λ (b : BatchRow). b.no == r.batch) rows.batches ≡ true) record_values
+          (batch_there t rows.batches good.holds.batches.is) rows.records
+          (subst (AllByRecursion (λ row. passes ForeignKey archive_schema t records row ≡ true)) good.holds.records.is
+          keys.1.1.0);
+    }

@@ -1,0 +1,14 @@
+use Rattle.sqlite.specs.Held.{state}
+use Rattle.store_tables.specs.Rows.{with_closed}
+use Rattle.store_tables.proofs.BatchStatements.{closes_batch}
+use Rattle.store_tables.proofs.Calls.{followed}
+use Rattle.store_tables.proofs.Typed.{typed_closed}
+use Rattle.store_tables.proofs.batches.close_batch.Goals as goal
+
+pub returns-clause-ok : goal.returns-clause-ok
+returns-clause-ok g c clean rows inside =
+    let old = state g.S.Store c.args.tx.now.conn.now in
+    let new = state g.S.Store c.execute.new.self.conn.now in
+    let ran = rw (c.params-to_sql.ensures) at (c.in_ok-execute.ensures.runs clean inside.inside) in
+    followed _ _ old new _ (with_closed c.args.number) (closes_batch old new c.args.number c.in_ok-execute.field-0)
+    (typed_closed c.args.number) ran rows inside
