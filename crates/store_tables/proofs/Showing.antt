@@ -127,15 +127,15 @@ module _ {A B C : Type 0} (first second third : List ℕ) (plain : IsPlain (unde
       let kept_one = unchanged_each first plain.0 First old one xs has a in
       let has_one = has_after old one kept_one has in
       let shows_two = b has_one in
-      let kept_two = unchanged_each second plain.1.0 Second one two ys has_one shows_two in
+      let kept_two = unchanged_each second plain.1 Second one two ys has_one shows_two in
       let has_two = has_after one two kept_two has_one in
       let shows_last = c has_two in
-      let kept_last = unchanged_each third plain.1.1 Third two new zs has_two shows_last in
+      let kept_last = unchanged_each third plain.2 Third two new zs has_two shows_last in
       let rest = unchanged_then one two new kept_two kept_last in
       let two_steps = unchanged_then old one two kept_one kept_two in (
         each_between first plain.0 First old old one new xs has (seen_before old one kept_one) rest a,
-        each_between second plain.1.0 Second old one two new ys has_one kept_one kept_last shows_two,
-        each_between third plain.1.1 Third old two new new zs has_two two_steps (seen_after two new kept_last)
+        each_between second plain.1 Second old one two new ys has_one kept_one kept_last shows_two,
+        each_between third plain.2 Third old two new new zs has_two two_steps (seen_after two new kept_last)
         shows_last,
       )
 
@@ -147,9 +147,9 @@ pub shows_records : (old one two new : State) (batches : List BatchRow) (records
     → ShowsRecords batches records lines old new
 shows_records old one two new batches records lines has a b c =
     let all = shows_three batch_query record_query line_query
-    (select_batches_plain, (select_records_plain, select_lines_plain)) ShowsBatch ShowsRecord ShowsLine old one two new
+    (select_batches_plain, select_records_plain, select_lines_plain) ShowsBatch ShowsRecord ShowsLine old one two new
     batches records lines has a b c in
-    record { batches_shown = all.0; records_shown = all.1.0; lines_shown = all.1.1 }
+    record { batches_shown = all.0; records_shown = all.1; lines_shown = all.2 }
 
 pub shows_history : (old one two new : State) (receipts : List (List ℕ × Receipt)) (slips : List SlipRow)
     (slip_lines : List (ℕ × (Bool × (ℕ × (ℕ × Label))))) → old.now.schema ≡ archive_schema
@@ -159,9 +159,9 @@ pub shows_history : (old one two new : State) (receipts : List (List ℕ × Rece
     → ShowsHistory receipts slips slip_lines old new
 shows_history old one two new receipts slips slip_lines has a b c =
     let all = shows_three receipt_query slip_query slip_line_query
-    (select_receipts_plain, (select_slips_plain, select_slip_lines_plain)) ShowsReceipt ShowsSlip ShowsSlipLine old one
+    (select_receipts_plain, select_slips_plain, select_slip_lines_plain) ShowsReceipt ShowsSlip ShowsSlipLine old one
     two new receipts slips slip_lines has a b c in
-    record { receipts_shown = all.0; slips_shown = all.1.0; slip_lines_shown = all.1.1 }
+    record { receipts_shown = all.0; slips_shown = all.1; slip_lines_shown = all.2 }
 
 -- records between two states are so between two others that see the same
 records_between : (x a b y : State) (batches : List BatchRow) (records : List (ℕ × ℕ))

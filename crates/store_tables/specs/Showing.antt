@@ -16,8 +16,8 @@ use Rattle.store_tables.specs.Prepared.{
   slip_query,
   slip_line_query,
 }
-use Rattle.store_tables.specs.Reading.{ReadRows}
-use Rattle.store_tables.specs.Rows.{BatchRow, SlipRow}
+use Rattle.store_tables.specs.Reading.{ReadRows, read_of}
+use Rattle.store_tables.specs.Rows.{BatchRow, Rows, SlipRow}
 
 -- ---- that a row shows an item
 -- the columns from a place on: a number is a flag, which is set where it is not 0
@@ -72,3 +72,7 @@ pub record ShowsRead (read : ReadRows) (old new : State) : Type 0 where
   pub meta : (society : List ℕ) × ShowsEach meta_query ShowsMeta old new ((read.next, society) ∷ [])
   pub records : ShowsRecords read.batches read.records read.lines old new
   pub history : ShowsHistory read.receipts read.slips read.slip_lines old new
+
+-- whoever reads the tables is shown these rows
+abbrev pub ShowsRows : Rows → State → Type 0
+ShowsRows rows s = (new : State) × ShowsRead (read_of rows) s new

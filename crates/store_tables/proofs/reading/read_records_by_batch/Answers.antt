@@ -19,6 +19,6 @@ returns-clause-shown g c clean has =
     let clean_two = c.in_ok-lines.ensures.looks.clean clean in
     let clean_one = c.in_ok-records.ensures.looks.clean clean_two in
     shows_records (state g.S.Store c.args.conn.now) (state g.S.Store c.read_batches.new.conn)
-    (state g.S.Store c.read_records.new.conn) (state g.S.Store c.read_lines.new.conn) c.batches.items c.records.items
-    c.lines.items has (c.in_ok-batches.ensures.shown clean_one has) (c.in_ok-records.ensures.shown clean_two)
+    (state g.S.Store c.read_records.new.conn) (state g.S.Store c.read_lines.new.conn) _ _
+    _ has (c.in_ok-batches.ensures.shown clean_one has) (c.in_ok-records.ensures.shown clean_two)
     (c.in_ok-lines.ensures.shown clean)
