@@ -57,7 +57,8 @@ read_back read =
     ) refl in
     same
 
-pub shown_rows : (old new : State) (read : ReadRows) (c : Content) → ((rows : Rows) → read_of rows ≡ read → Means rows c)
+pub shown_rows : (old new : State) (read : ReadRows) (c : Content) → ((rows : Rows) → read_of rows ≡ read → Means rows
+    c)
     → ShowsRead read old new → (rows : Rows) × ShowsRows rows old × Means rows c
 shown_rows old new read c means shown =
     let same = read_back read in

@@ -6,7 +6,6 @@ use Rattle.sqlite.specs.Clock.{timed}
 use Rattle.sqlite.specs.Effect.{Database}
 use Rattle.sqlite.specs.Listing.{IsSourceOf, reads_listing, understood}
 use Rattle.sqlite.specs.Order.{Row}
-
 use Rattle.sqlite.specs.State.{IsUnchanged, Shown, ShowsRows, State}
 use Rattle.sqlite.proofs.Callers.{IsPlain, unchanged_then}
 use Rattle.store_tables.specs.Conversion.{EachWith, IsReadAs}
@@ -136,7 +135,7 @@ module _ {A B C : Type 0} (first second third : List ℕ) (plain : IsPlain (unde
         each_between first plain.0 First old old one new xs has (seen_before old one kept_one) rest a,
         each_between second plain.1 Second old one two new ys has_one kept_one kept_last shows_two,
         each_between third plain.2 Third old two new new zs has_two two_steps (seen_after two new kept_last)
-        shows_last,
+            shows_last,
       )
 
 pub shows_records : (old one two new : State) (batches : List BatchRow) (records : List (ℕ × ℕ))

@@ -40,6 +40,14 @@ ShowsRecord row r = IsNumberAt row 0 r.0 × IsNumberAt row 1 r.1
 abbrev pub ShowsLine : Row → ℕ × (ℕ × Label) → Type 0
 ShowsLine row l = IsNumberAt row 0 l.0 × IsLineAt row 1 l.1
 
+-- the columns of a stored line alone
+abbrev pub ShowsFields : Row → ℕ × Label → Type 0
+ShowsFields row l = IsLineAt row 0 l
+
+-- a number alone
+abbrev pub ShowsNumber : Row → ℕ → Type 0
+ShowsNumber row n = IsNumberAt row 0 n
+
 abbrev pub ShowsReceipt : Row → List ℕ × Receipt → Type 0
 ShowsReceipt row r = (column row 0 ≡ Words r.0) × (column row 1 ≡ Blob r.1.digest)
     × IsNumberAt row 2 r.1.answer.first × IsNumberAt row 3 r.1.answer.count

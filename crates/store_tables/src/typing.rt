@@ -43,10 +43,11 @@ ghost use Rattle.store_tables.specs.Reading.{
   read_slip_line,
 };
 ghost use Rattle.store_tables.specs.Showing.{
-  IsNumberAt,
   ShowsBatch,
+  ShowsFields,
   ShowsLine,
   ShowsMeta,
+  ShowsNumber,
   ShowsReceipt,
   ShowsRecord,
   ShowsSlip,
@@ -254,7 +255,7 @@ impl FromRow for LineRow {
 }
 
 impl FromRow for StoredLine {
-    ghost reads_as = { IsReadAs (λ (l : rows.LineRow). line_fields l.line) (λ (l : rows.LineRow). l.line) (λ row l. IsLineAt row 0 l) };
+    ghost reads_as = { IsReadAs (λ (l : rows.LineRow). line_fields l.line) (λ (l : rows.LineRow). l.line) ShowsFields };
 
     ghost is_readable = { ShowsTyped (λ (l : rows.LineRow). line_fields l.line)
         (λ (l : rows.LineRow). IsTypedLine l.line) };
@@ -265,7 +266,7 @@ impl FromRow for StoredLine {
 }
 
 impl FromRow for u32 {
-    ghost reads_as = { IsReadAs (λ (l : rows.LineRow). Int (pos l.no) ∷ []) (λ (l : rows.LineRow). l.no) (λ row n. IsNumberAt row 0 n) };
+    ghost reads_as = { IsReadAs (λ (l : rows.LineRow). Int (pos l.no) ∷ []) (λ (l : rows.LineRow). l.no) ShowsNumber };
 
     ghost is_readable = { ShowsTyped (λ (l : rows.LineRow). Int (pos l.no) ∷ []) (λ (l : rows.LineRow). IsU32 l.no) };
 

@@ -20,7 +20,8 @@ returns-clause-looks g c =
     let new = state g.S.Store c.read_all.new.conn in
     let did = c.read_all.ensures in
     looks_as c.read_all.result (λ rows items is. is ∙ map_same rows.batches) (
-    looks_all shown_batch (λ (b : BatchRow). b) ShowsBatch (λ (b : BatchRow). IsU32 b.no) (λ items. items.items) select_batches
+    looks_all shown_batch (λ (b : BatchRow). b) ShowsBatch (λ (b : BatchRow). IsU32 b.no) (λ items. items.items)
+    select_batches
     [] old new c.read_all.result (λ rows. rows.batches)
     (λ rows was all shown. reads_batches old new all rows was.schema was.good.holds shown)
     (λ rows t. t.batches) did.read did.refused did.same did.crash did.clean)

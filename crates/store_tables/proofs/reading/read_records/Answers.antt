@@ -19,7 +19,8 @@ returns-clause-looks g c =
     let old = state g.S.Store c.args.conn.now in
     let new = state g.S.Store c.read_all.new.conn in
     let did = c.read_all.ensures in
-    looks_all shown_record read_record ShowsRecord (λ (r : RecordRow). IsU32 r.no × IsU32 r.batch) (λ items. items.items)
+    looks_all shown_record read_record ShowsRecord (λ (r : RecordRow). IsU32 r.no × IsU32 r.batch) (λ items.
+    items.items)
     select_records [] old new c.read_all.result (λ rows. rows.records)
     (λ rows was all shown. reads_records old new all rows was.schema was.good.holds shown)
     (λ rows t. t.records) did.read did.refused did.same did.crash did.clean
