@@ -57,9 +57,9 @@ read_back read =
     ) refl in
     same
 
-pub shown_rows : (old new : State) (read : ReadRows) (c : Content) → ((rows : Rows) → read_of rows ≡ read → Means rows
+pub shown_rows : (old : State) (read : ReadRows) (c : Content) → ((rows : Rows) → read_of rows ≡ read → Means rows
     c)
-    → ShowsRead read old new → (rows : Rows) × ShowsRows rows old × Means rows c
-shown_rows old new read c means shown =
+    → ShowsRead read old old → (rows : Rows) × ShowsRows rows old × Means rows c
+shown_rows old read c means shown =
     let same = read_back read in
-    (rows_of read, (new, subst (λ r. ShowsRead r old new) (sym same) shown), means (rows_of read) same)
+    (rows_of read, subst (λ r. ShowsRead r old old) (sym same) shown, means (rows_of read) same)

@@ -213,3 +213,32 @@ shows_read old one two new read society has a b c =
       history = history_between old two new new read.receipts read.slips read.slip_lines has_two two_steps
           (seen_after two new kept_last) shows_last;
     }
+
+unchanged_back : (old new : State) → IsUnchanged old new → IsUnchanged new old
+unchanged_back old new h = (
+  record {
+    was_open = h.0.is_open;
+    is_open = h.0.was_open;
+    now_is = sym h.0.now_is;
+    committed_is = sym h.0.committed_is;
+    mode = sym h.0.mode;
+  },
+  record { changes = sym h.1.changes; last_rowid = sym h.1.last_rowid },
+  sym h.2,
+)
+
+-- what the queries show until the last, they show of the tables as they are
+pub read_at : (old new : State) (read : ReadRows) → old.now.schema ≡ archive_schema → ShowsRead read old new
+    → ShowsRead read old old
+read_at old new read has h =
+    let kept = unchanged_each line_query select_lines_plain ShowsLine old new read.lines has h.records.lines_shown in
+    let back = unchanged_back old new kept in
+    let same = seen_before old new kept in
+    record {
+      meta = (
+        h.meta.0,
+        each_between meta_query select_meta_plain ShowsMeta old old new old _ has same back h.meta.1,
+      );
+      records = records_between old old new old read.batches read.records read.lines has same back h.records;
+      history = history_between old old new old read.receipts read.slips read.slip_lines has same back h.history;
+    }

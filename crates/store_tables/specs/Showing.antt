@@ -81,6 +81,6 @@ pub record ShowsRead (read : ReadRows) (old new : State) : Type 0 where
   pub records : ShowsRecords read.batches read.records read.lines old new
   pub history : ShowsHistory read.receipts read.slips read.slip_lines old new
 
--- whoever reads the tables is shown these rows
+-- whoever reads the tables is shown these rows, and leaves the tables as they are
 abbrev pub ShowsRows : Rows → State → Type 0
-ShowsRows rows s = (new : State) × ShowsRead (read_of rows) s new
+ShowsRows rows s = ShowsRead (read_of rows) s s
