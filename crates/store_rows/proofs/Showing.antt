@@ -39,6 +39,12 @@ back : {X Y : Type 0} (make : Y → X) (read : X → Y) (same : (y : Y) → read
 back make read same [] = refl
 back make read same (y ∷ ys) = rw (same y, back make read same ys) refl
 
+pair : {A B : Type 0} (p : A × B) → (p.0, p.1) ≡ p
+pair (a, b) = refl
+
+nested : {A B C D : Type 0} (p : A × (B × (C × D))) → (p.0, (p.1.0, (p.1.1.0, p.1.1.1))) ≡ p
+nested (a, (b, (c, d))) = refl
+
 read_back : (read : ReadRows) → read_of (rows_of read) ≡ read
 read_back read =
     let same : read_of (rows_of read) ≡ record {
@@ -50,16 +56,15 @@ read_back read =
       slips = read.slips;
       slip_lines = read.slip_lines;
     } = rw (
-      back record_of read_record (λ _. refl) read.records,
-      back line_of read_line (λ _. refl) read.lines,
-      back receipt_of read_receipt (λ _. refl) read.receipts,
-      back slip_line_row read_slip_line (λ _. refl) read.slip_lines,
+      back record_of read_record pair read.records,
+      back line_of read_line pair read.lines,
+      back receipt_of read_receipt pair read.receipts,
+      back slip_line_row read_slip_line nested read.slip_lines,
     ) refl in
     same
 
-pub shown_rows : (old : State) (read : ReadRows) (c : Content) → ((rows : Rows) → read_of rows ≡ read → Means rows
-    c)
-    → ShowsRead read old old → (rows : Rows) × ShowsRows rows old × Means rows c
+pub shown_rows : (old : State) (read : ReadRows) (c : Content) → ((rows : Rows) → read_of rows ≡ read
+    → Means rows c) → ShowsRead read old old → (rows : Rows) × ShowsRows rows old × Means rows c
 shown_rows old read c means shown =
     let same = read_back read in
     (rows_of read, subst (λ r. ShowsRead r old old) (sym same) shown, means (rows_of read) same)
