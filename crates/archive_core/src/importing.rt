@@ -4,7 +4,7 @@ ghost use Rattle.std.specs.Prelude.{◌≡◌, Some, IfOk};
 ghost use Rattle.archive_view.specs.Looks.{CountsStops};
 ghost use Rattle.archive_view.specs.Views.{On};
 ghost use Rattle.gedcom_tree.specs.Text.{IsForest};
-ghost use Rattle.import_steps.specs.Imports.{import_step};
+ghost use Rattle.import_steps.specs.Imports.{OnlyAdds, import_step};
 ghost use Rattle.archive_core.specs.Applied.{Decides};
 ghost use Rattle.archive_core.specs.Exact.{IsExactFor};
 ghost use Rattle.archive_core.specs.Machine.{import_of, kept_under, outcome};
@@ -31,6 +31,7 @@ pub fn decide_import<V: View>(
         (λ c. Decides c result (outcome c (import_of token.now forest.now))) }
     ensures exact { On V.View view.old view.new
         (λ c. IfOk result (IsExactFor c (import_of token.now forest.now))) }
+    ensures adds { On V.View view.old view.new (λ c. IfOk result (OnlyAdds c)) }
     ensures counts { CountsStops (V.failed view.old) (V.failed view.new) result }
     ensures words { IsForest forest.now }
 {
@@ -53,6 +54,7 @@ fn import_anew<V: View>(
     ensures decides { On V.View view.old view.new
         (λ c. Decides c result (kept_under token.now digest (import_step c forest.now))) }
     ensures exact { On V.View view.old view.new (λ c. IfOk result (IsExact c)) }
+    ensures adds { On V.View view.old view.new (λ c. IfOk result (OnlyAdds c)) }
     ensures keeps { IfOk result (λ changes. changes.kept ≡ Some (record {
       token = token.now;
       receipt = record { digest = digest; answer = changes.answer };
