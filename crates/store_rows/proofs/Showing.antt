@@ -10,19 +10,19 @@ use Rattle.store_tables.specs.Showing.{ShowsRead, ShowsRows}
 use Rattle.store_rows.specs.Meaning.{Means}
 
 -- what no reader looks at is left empty: the kinds, the keys and the places of lines
-record_of : ℕ × ℕ → RecordRow
+abbrev record_of : ℕ × ℕ → RecordRow
 record_of r = record { no = r.0; kind = []; batch = r.1 }
 
-line_of : ℕ × (ℕ × Label) → LineRow
+abbrev line_of : ℕ × (ℕ × Label) → LineRow
 line_of l = record { id = 0; no = l.0; at = 0; line = l.1 }
 
-receipt_of : List ℕ × Receipt → ReceiptRow
+abbrev receipt_of : List ℕ × Receipt → ReceiptRow
 receipt_of r = record { id = 0; token = r.0; receipt = r.1 }
 
-slip_line_row : ℕ × (Bool × (ℕ × (ℕ × Label))) → SlipLineRow
+abbrev slip_line_row : ℕ × (Bool × (ℕ × (ℕ × Label))) → SlipLineRow
 slip_line_row s = record { id = 0; slip = s.0; is_new = s.1.0; no = s.1.1.0; at = 0; line = s.1.1.1 }
 
-rows_of : ReadRows → Rows
+abbrev rows_of : ReadRows → Rows
 rows_of read = record {
   next = read.next;
   society = [];
