@@ -1,5 +1,5 @@
-"""An archive of all that is awkward, exported, imported into an empty one, and compared with it record by record; and
-an export that is cut anywhere."""
+"""An archive of all that is awkward, exported, imported into an empty one, and compared with it record by record;
+and an export that is cut anywhere."""
 
 from __future__ import annotations
 
@@ -88,7 +88,7 @@ def it_comes_back(tools):
 
 
 def cut_anywhere(tools):
-    """Each beginning of an export but the one that lacks the last line end alone is refused, and nothing is taken in."""
+    """Each beginning of an export is refused, but the one without the last line end, and nothing is taken in."""
     with Imported(tools) as first, Imported(tools) as second:
         text = first.with_rows(ARCHIVES["a place and a person"][0]).export().out
         before = second.made().tables()

@@ -74,8 +74,8 @@ fn number_or_dash(alloc: Global, number: Option<u32>) -> Result<String, AllocErr
     }
 }
 
-/// What is kept of the merge at a number, or `none`: both persons and whether it was undone, and for each number that it
-/// changed the lines of before and of after.
+/// What is kept of the merge at a number, or `none`: both persons and whether it was undone, and for each number that
+/// it changed the lines of before and of after.
 fn show_slip(alloc: Global, state: &State, fields: &[&str]) -> Result<Vec<u8>, AllocError> {
     let [number] = fields else {
         return refused(alloc, "", RefusalKind::FieldCount);
