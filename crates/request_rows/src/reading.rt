@@ -24,13 +24,20 @@ pub(crate) fn fields_of<'a>(
     Ok(Some(fields))
 }
 
-/// The command of a verb with its fields. The tests have two verbs of their own beside those of rows.
+/// The command of a verb with its fields.
 pub(crate) fn command_of(alloc: Global, fields: &[&str]) -> Result<Command, RefusalKind> {
     match fields {
-        ["! batch", source, rows @ ..] => batch_of(alloc, source, rows),
-        ["! import", text] => import_of(alloc, text),
-        [verb, rest @ ..] => Ok(Command::Row(RowCommand::of_row(alloc, verb, rest)?)),
+        [verb, rest @ ..] => command_of_verb(alloc, verb, rest),
         [] => Err(RefusalKind::FieldCount),
+    }
+}
+
+/// The same. The tests have two verbs of their own beside those of rows.
+fn command_of_verb(alloc: Global, verb: &str, fields: &[&str]) -> Result<Command, RefusalKind> {
+    match (verb, fields) {
+        ("! batch", [source, rows @ ..]) => batch_of(alloc, source, rows),
+        ("! import", [text]) => import_of(alloc, text),
+        _ => Ok(Command::Row(RowCommand::of_row(alloc, verb, fields)?)),
     }
 }
 
