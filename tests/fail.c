@@ -21,7 +21,6 @@
 #include <sys/stat.h>
 #include <sys/syscall.h>
 #include <sys/types.h>
-#include <sys/uio.h>
 #include <unistd.h>
 
 enum { LONGEST = 4096 };
@@ -132,38 +131,17 @@ ssize_t write(int fd, const void *from, size_t size)
     return done;
 }
 
-/* A call that takes several parts may take the first alone. */
-ssize_t writev(int fd, const struct iovec *parts, int count)
+ssize_t send(int fd, const void *from, size_t size, int flags)
 {
-    for (int i = 0; i < count; i++)
-        if (parts[i].iov_len)
-            return write(fd, parts[i].iov_base, parts[i].iov_len);
-    return 0;
-}
-
-ssize_t sendmsg(int fd, const struct msghdr *message, int flags)
-{
-    if (fails(fd))
-        return -1;
-    for (size_t i = 0; i < message->msg_iovlen; i++) {
-        struct iovec part = message->msg_iov[i];
-        if (part.iov_len)
-            return syscall(SYS_sendto, fd, part.iov_base, piece(fd, part.iov_len), flags, NULL, 0);
-    }
-    return 0;
-}
-
-ssize_t pread64(int fd, void *to, size_t size, off64_t at)
-{
-    return fails(fd) ? -1 : syscall(SYS_pread64, fd, to, size, at);
+    return fails(fd) ? -1 : syscall(SYS_sendto, fd, from, piece(fd, size), flags, NULL, 0);
 }
 
 ssize_t pread(int fd, void *to, size_t size, off_t at)
 {
-    return pread64(fd, to, size, at);
+    return fails(fd) ? -1 : syscall(SYS_pread64, fd, to, size, at);
 }
 
-ssize_t pwrite64(int fd, const void *from, size_t size, off64_t at)
+ssize_t pwrite(int fd, const void *from, size_t size, off_t at)
 {
     if (fails(fd))
         return -1;
@@ -173,12 +151,7 @@ ssize_t pwrite64(int fd, const void *from, size_t size, off64_t at)
     return done;
 }
 
-ssize_t pwrite(int fd, const void *from, size_t size, off_t at)
-{
-    return pwrite64(fd, from, size, at);
-}
-
-int ftruncate64(int fd, off64_t size)
+int ftruncate(int fd, off_t size)
 {
     if (fails(fd))
         return -1;
@@ -188,37 +161,30 @@ int ftruncate64(int fd, off64_t size)
     return done;
 }
 
-int ftruncate(int fd, off_t size)
+static int synced(int fd, long number)
 {
-    return ftruncate64(fd, size);
+    if (fails(fd))
+        return -1;
+    int done = (int)syscall(number, fd);
+    if (done == 0)
+        note(fd, NULL, 0, "s\n");
+    return done;
 }
 
 int fsync(int fd)
 {
-    if (fails(fd))
-        return -1;
-    int done = (int)syscall(SYS_fsync, fd);
-    if (done == 0)
-        note(fd, NULL, 0, "s\n");
-    return done;
+    return synced(fd, SYS_fsync);
 }
 
 int fdatasync(int fd)
 {
-    if (fails(fd))
+    return synced(fd, SYS_fdatasync);
+}
+
+/* Of a descriptor that is open; a file that is named is not counted. */
+int statx(int fd, const char *path, int flags, unsigned mask, struct statx *to)
+{
+    if (fd >= 0 && !*path && fails(fd))
         return -1;
-    int done = (int)syscall(SYS_fdatasync, fd);
-    if (done == 0)
-        note(fd, NULL, 0, "s\n");
-    return done;
-}
-
-int fstat(int fd, struct stat *to)
-{
-    return fails(fd) ? -1 : (int)syscall(SYS_newfstatat, fd, "", to, AT_EMPTY_PATH);
-}
-
-int fstat64(int fd, struct stat64 *to)
-{
-    return fstat(fd, (struct stat *)to);
+    return (int)syscall(SYS_statx, fd, path, flags, mask, to);
 }

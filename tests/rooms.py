@@ -99,7 +99,7 @@ def visited(at, given: bytes, tries=20, **how) -> tuple[bytes, Outcome]:
     reply, said = b"", process.stdout.readline()
     try:
         if LINE.fullmatch(said):
-            with socket.create_connection(("127.0.0.1", port), timeout=60) as one, contextlib.suppress(ConnectionError):
+            with socket.create_connection(("127.0.0.1", port), timeout=60) as one, contextlib.suppress(OSError):
                 one.sendall(given)
                 one.shutdown(socket.SHUT_WR)
                 while piece := one.recv(65_536):

@@ -87,8 +87,10 @@ def is_performed(one: Stopped, requests: int) -> bool:
     found = {min(answered, requests)}
     if FAILED in outcomes and answered < requests:
         found.add(answered + 1)
-    is_last = one.again == ["ok"] * requests and one.last == str(requests)
-    return is_answered(one.first, max(requests, 2)) and one.found in map(str, found) and is_last
+    words = {0: "before", requests: "after"}
+    is_last = one.again == ["ok"] * requests and one.last == "after"
+    is_found = one.found in {words.get(count, str(count)) for count in found}
+    return is_answered(one.first, max(requests, 2)) and is_found and is_last
 
 
 def is_made(one: Stopped, requests: int) -> bool:
@@ -112,7 +114,7 @@ class Trial:
     file: str
     requests: int = 1
     is_right: Callable[[Stopped, int], bool] = is_performed
-    undone: str = "0"  # what is found where nothing was done
+    undone: str = "before"  # what is found where nothing was done
     is_reached: bool = True  # whether the call itself uses the file, and not its opening and its closing alone
     apart: int = 1  # each so many-th number of calls is tried
 
@@ -147,9 +149,9 @@ a6,entry,5,BURIAL,f. 2,1,,,John,buried,John Smith
 a7,link,6,1,2,same day
 """
 MERGED = ALIKE + "m,merge,1,2\n"
-MERGES = {"a merge": (ALIKE, "merge,1,2"), "its undoing": (MERGED, "undo,8")}
+MERGES = {"a merge": (ALIKE, "merge,1,2"), "its undoing": (MERGED, "undo,7")}
 PERSONS = "\n".join(["0 HEAD", *(f"0 @I{n}@ INDI\n1 NAME Person /{n}/" for n in range(600)), "0 TRLR"])
-FIVE = "e1|person|Eva /Lee/|F,e2|family|8|1,e3|event|9|MARR||1820|,e4|participant|10|2|witness,e5|name|8|Eva"
+FIVE = "e1|person|Eva /Lee/|F,e2|family|7|1,e3|event|8|MARR||1820|,e4|participant|9|2|witness,e5|name|7|Eva"
 
 
 def performs(name: str, before: bytes, request: str, file: str, apart: int = 1) -> Trial:

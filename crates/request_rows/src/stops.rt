@@ -31,7 +31,8 @@ impl Around {
         Ok(Around { pictures })
     }
 
-    /// Says how many requests are done in a state, the most that it can be, or `else`.
+    /// Says how many requests are done in a state, the most that it can be: `before`, `after`, or a number of the first;
+    /// or `else`.
     fn say(
         &self,
         alloc: Global,
@@ -40,16 +41,31 @@ impl Around {
         words: &mut Words,
     ) -> Result<(), AllocError> {
         let shown = picture(alloc, state, tokens)?;
-        let mut found = None;
-        for i in 0..self.pictures.len() {
-            if self.pictures[i].as_slice() == shown.as_slice() {
-                found = Some(i as u64);
-            }
-        }
-        match found {
-            Some(count) => words.say(count.to_string(alloc)?.as_str()),
+        match self.count_in(&shown) {
+            Some(count) => self.say_count(alloc, count, words),
             None => words.say("else"),
         }
+    }
+
+    fn say_count(&self, alloc: Global, count: usize, words: &mut Words) -> Result<(), AllocError> {
+        if Some(count) == self.pictures.len().checked_sub(1) {
+            words.say("after")
+        } else if count == 0 {
+            words.say("before")
+        } else {
+            words.say((count as u64).to_string(alloc)?.as_str())
+        }
+    }
+
+    /// How many requests are done where this is shown.
+    fn count_in(&self, shown: &[u8]) -> Option<usize> {
+        let mut found = None;
+        for i in 0..self.pictures.len() {
+            if self.pictures[i].as_slice() == shown {
+                found = Some(i);
+            }
+        }
+        found
     }
 
     /// Says the outcomes of a visit, and how many requests it found done then.
