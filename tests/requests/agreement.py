@@ -4,8 +4,7 @@
 
 They come in calls of 100, behind each of which the archive in files is adopted again and holds what the others hold.
 Every verb of rows, batches of entries and imports of files are each accepted at least 20 times, and none is refused for
-want of memory or by the storage. A case is one such call, and last how often each verb was accepted. `lines` has the
-requests for other programs.
+want of memory or by the storage. A case is one such call, and last how often each verb was accepted.
 """
 
 from __future__ import annotations
@@ -27,8 +26,10 @@ from table.making import field  # noqa: E402
 
 ROOT = pathlib.Path(__file__).resolve().parents[2]
 PROGRAM = ROOT / "crates/request_rows/out/request_rows"
-COUNT, TOGETHER, LEAST, SEED = 2_000, 100, 20, 13
+ARCHIVES = ((13, 2_000),)  # the seed of each archive, and its requests
+TOGETHER, LEAST = 100, 20
 BATCH, IMPORT = "! batch", "! import"
+VERBS = (*KINDS, BATCH, IMPORT)
 LIMIT = 300  # seconds
 NEVER = ("1", "80", "81")  # refusals that there are none of
 
@@ -87,10 +88,10 @@ class Requests(Rows):
         return made
 
 
-def requests() -> list[list[str]]:
+def requests(seed: int, count: int) -> list[list[str]]:
     """A token, a verb and fields of each request."""
-    made = Requests(random.Random(SEED), True)
-    return [made.request(place) for place in range(COUNT)]
+    made = Requests(random.Random(seed), True)
+    return [made.request(place) for place in range(count)]
 
 
 def row_of(calls: list[list[str]]) -> bytes:
@@ -113,27 +114,39 @@ def judged(asked: list[list[str]], answers: list[list[str]], kept: set[str]) -> 
     return None, accepted
 
 
-def run(command: list[str]) -> tuple[int, int]:
-    """How many cases passed and failed; prints a line for each that failed, and how many requests agreed."""
-    drawn = requests()
-    calls = [drawn[at : at + TOGETHER] for at in range(0, COUNT, TOGETHER)]
+def answered(command: list[str], drawn: list[list[str]]) -> tuple[list[str | None], Counter[str]]:
+    """What is wrong with each call and with the end of an archive, and how often each verb was accepted."""
+    calls = [drawn[at : at + TOGETHER] for at in range(0, len(drawn), TOGETHER)]
     given = b"! store,Lee\n" + b"".join(map(row_of, calls)) + b"! stored\n"
     ended = subprocess.run(command, input=given, stdout=subprocess.PIPE, check=False, timeout=LIMIT)
     made, *told = csv.reader(io.StringIO(ended.stdout.decode()))
     same = told.pop() if told else []
-    cases, accepted, kept = [], Counter(), set()
-    for number, asked in enumerate(calls, 1):
+    wrong: list[str | None] = []
+    accepted: Counter[str] = Counter()
+    kept: set[str] = set()
+    for asked in calls:
         answers, told = told[: len(asked)], told[len(asked) :]
         why, found = judged(asked, answers, kept) if answers else ("no answer", Counter())
         accepted += found
-        cases.append((f"agreement, call {number}", why))
-    cases.append(("agreement, the end", None if (made, same, told) == (["ok"], ["same"], []) else f"{same} {told}"))
-    few = {verb: accepted[verb] for verb in (*KINDS, BATCH, IMPORT) if accepted[verb] < LEAST}
+        wrong.append(why)
+    wrong.append(None if (made, same, told) == (["ok"], ["same"], []) else f"at the end: {same} {told}")
+    return wrong, accepted
+
+
+def run(command: list[str]) -> tuple[int, int]:
+    """How many cases passed and failed; prints a line for each that failed, and how many requests agreed."""
+    cases, accepted = [], Counter()
+    for seed, count in ARCHIVES:
+        wrong, found = answered(command, requests(seed, count))
+        cases += [(f"agreement, archive {seed}, call {number}", why) for number, why in enumerate(wrong, 1)]
+        accepted += found
+    few = {verb: accepted[verb] for verb in VERBS if accepted[verb] < LEAST}
     cases.append(("agreement, accepted verbs", f"too few: {few}" if few else None))
     failed = [(name, why) for name, why in cases if why is not None]
     for name, why in failed:
         print(f"failed: {name}: {why}")
-    print(f"{COUNT} requests, of which {accepted.total()} were accepted anew, agree")
+    asked = sum(count for _, count in ARCHIVES)
+    print(f"{asked} requests, of which {accepted.total()} were accepted anew, agree")
     return len(cases) - len(failed), len(failed)
 
 
