@@ -8,10 +8,11 @@ use failing_archives::{Asked, Fuses, Images, Reply, Words, make, visit_once, vis
 use records::RefusalKind;
 use std::alloc::{AllocError, Global};
 
-/// What is shown of a state before requests, after the first of them, and so on.
+/// What is shown of a state before a request and after it.
 #[derive(Drop)]
 struct Around {
-    pictures: Vec<Vec<u8>>,
+    before: Vec<u8>,
+    after: Vec<u8>,
 }
 
 impl Around {
@@ -19,20 +20,17 @@ impl Around {
         alloc: Global,
         state: &State,
         tokens: &[Token],
-        requests: &[Request],
+        request: &Request,
     ) -> Result<Around, AllocError> {
+        let before = picture(alloc, state, tokens)?;
         let mut stepped = copy(alloc, state, tokens)?;
-        let mut pictures = Vec::new(alloc);
-        pictures.push(picture(alloc, &stepped, tokens)?)?;
-        for request in requests {
-            drop(step(alloc, &mut stepped, request));
-            pictures.push(picture(alloc, &stepped, tokens)?)?;
-        }
-        Ok(Around { pictures })
+        let outcome = step(alloc, &mut stepped, request);
+        drop(outcome);
+        let after = picture(alloc, &stepped, tokens)?;
+        Ok(Around { before, after })
     }
 
-    /// Says how many requests are done in a state, the most that it can be: `before`, `after`, or a number of the first;
-    /// or `else`.
+    /// Says which of the two a state is; `after` where both are the same.
     fn say(
         &self,
         alloc: Global,
@@ -41,34 +39,16 @@ impl Around {
         words: &mut Words,
     ) -> Result<(), AllocError> {
         let shown = picture(alloc, state, tokens)?;
-        match self.count_in(&shown) {
-            Some(count) => self.say_count(alloc, count, words),
-            None => words.say("else"),
-        }
-    }
-
-    fn say_count(&self, alloc: Global, count: usize, words: &mut Words) -> Result<(), AllocError> {
-        if Some(count) == self.pictures.len().checked_sub(1) {
+        if shown.as_slice() == self.after.as_slice() {
             words.say("after")
-        } else if count == 0 {
+        } else if shown.as_slice() == self.before.as_slice() {
             words.say("before")
         } else {
-            words.say((count as u64).to_string(alloc)?.as_str())
+            words.say("else")
         }
     }
 
-    /// How many requests are done where this is shown.
-    fn count_in(&self, shown: &[u8]) -> Option<usize> {
-        let mut found = None;
-        for i in 0..self.pictures.len() {
-            if self.pictures[i].as_slice() == shown {
-                found = Some(i);
-            }
-        }
-        found
-    }
-
-    /// Says the outcomes of a visit, and how many requests it found done then.
+    /// Says the outcomes of a visit, and which of the two it found then.
     fn say_found(
         &self,
         alloc: Global,
@@ -87,47 +67,20 @@ impl Around {
     }
 }
 
-/// One request, twice, on the archive in files that fail: what it answered; what is found when it is opened again; and
+/// A request, twice, on the archive in files that fail: what it answered; what is found when it is opened again; and
 /// what is answered and found when it is asked once more.
 pub(crate) fn stop_row(
     alloc: Global,
     kept: &Kept,
     state: &State,
     fuses: Fuses,
-    request: Request,
+    request: &Request,
 ) -> Result<Vec<u8>, AllocError> {
-    let requests = [request];
-    let twice = Asked::Perform(&requests[0], 2);
-    let again = Asked::Perform(&requests[0], 1);
-    stopped_row(alloc, kept, state, fuses, &requests, twice, again)
-}
-
-/// The same of requests in one call.
-pub(crate) fn stop_run_row(
-    alloc: Global,
-    kept: &Kept,
-    state: &State,
-    fuses: Fuses,
-    requests: &[Request],
-) -> Result<Vec<u8>, AllocError> {
-    let asked = Asked::Run(requests);
-    stopped_row(alloc, kept, state, fuses, requests, asked, asked)
-}
-
-fn stopped_row(
-    alloc: Global,
-    kept: &Kept,
-    state: &State,
-    fuses: Fuses,
-    requests: &[Request],
-    asked: Asked<'_>,
-    again: Asked<'_>,
-) -> Result<Vec<u8>, AllocError> {
-    let around = Around::of(alloc, state, &kept.tokens, requests)?;
+    let around = Around::of(alloc, state, &kept.tokens, request)?;
     let mut words = Words::new(alloc, "stop")?;
-    let (reply, left) = visit_once(alloc, &kept.images, fuses, asked)?;
+    let (reply, left) = visit_once(alloc, &kept.images, fuses, Asked::Perform(request, 2))?;
     words.say_reply(alloc, &reply)?;
-    let visits = visit_twice(alloc, &left, Asked::Nothing, again)?;
+    let visits = visit_twice(alloc, &left, Asked::Nothing, Asked::Perform(request, 1))?;
     around.say_found(alloc, &visits.first, &kept.tokens, &mut words)?;
     around.say_found(alloc, &visits.second, &kept.tokens, &mut words)?;
     words.into_row()
