@@ -1,8 +1,10 @@
-"""An archive of all that is awkward, exported, imported into an empty one, and compared with it record by record."""
+"""An archive of all that is awkward, exported, imported into an empty one, and compared with it record by record;
+and an export that is cut anywhere."""
 
 from __future__ import annotations
 
-from harness import Case, Tools, demand, expect, run, written
+from exports import ARCHIVES
+from harness import Case, Tools, demand, expect, run, tally, written
 from imports import Imported
 from table.making import between
 
@@ -85,5 +87,20 @@ def it_comes_back(tools):
         expect(run(tools.parish, ("norm",), text), written(text))
 
 
+def cut_anywhere(tools):
+    """Each beginning of an export is refused, but the one without the last line end, and nothing is taken in."""
+    with Imported(tools) as first, Imported(tools) as second:
+        text = first.with_rows(ARCHIVES["a place and a person"][0]).export().out
+        before = second.made().tables()
+        for size in range(len(text) - 1):
+            got = second.import_(text[:size])
+            is_refused = got.status == 1 and got.out == b"" and got.err.startswith(b"parish: ")
+            demand(is_refused and b" at line " in got.err, f"{size} bytes of {len(text)}: {got}")
+            demand(second.tables() == before, f"{size} bytes of {len(text)}: something was taken in")
+        tally("cut exports", "exchanges", len(text) - 1)
+        expect(second.import_(text[:-1]), written(b"imported 3 records, first 1\n"))
+
+
 def cases(tools: Tools):
     yield Case("exchanges: an awkward archive comes back", lambda: it_comes_back(tools))
+    yield Case("exchanges: an export that is cut anywhere", lambda: cut_anywhere(tools))

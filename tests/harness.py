@@ -55,6 +55,21 @@ REFUSALS = {
 }
 
 
+# How many stops, refused growths and failed calls there were: of each kind, by the test that made them.
+TALLIES: dict[str, dict[str, int]] = {}
+
+
+def tally(kind: str, test: str, number: int) -> None:
+    """Notes how many there were. There have to be some."""
+    demand(number > 0, f"there were no {kind}")
+    TALLIES.setdefault(kind, {})[test] = number
+
+
+def tallied() -> list[str]:
+    """A line for each kind, with how many there were in all tests."""
+    return [f"{sum(tests.values())} {kind} in {len(tests)} tests" for kind, tests in TALLIES.items()]
+
+
 class Failed(Exception):
     """A test did not go as expected; the text says how."""
 

@@ -89,6 +89,30 @@ def read_all(one: socket.socket) -> bytes:
     return got
 
 
+def visited(at, given: bytes, tries=20, **how) -> tuple[bytes, Outcome]:
+    """What a room that is open for one visit answers to these bytes, and how it ends, where its calls or its memory may
+    fail: nothing, where nobody is heard. A port that was free may be taken meanwhile."""
+    port = free_port()
+    words = ["--port", str(port), "--count", "1", "--today", TODAY]
+    pipes = {"stdin": subprocess.DEVNULL, "stdout": subprocess.PIPE, "stderr": subprocess.PIPE}
+    process = subprocess.Popen([*at.parish, "serve", at.file, *words], **pipes, **how)
+    reply, said = b"", process.stdout.readline()
+    try:
+        if LINE.fullmatch(said):
+            with socket.create_connection(("127.0.0.1", port), timeout=60) as one, contextlib.suppress(OSError):
+                one.sendall(given)
+                one.shutdown(socket.SHUT_WR)
+                while piece := one.recv(65_536):
+                    reply += piece
+        out, err = process.communicate(timeout=60)
+    finally:
+        process.kill()
+    ended = Outcome(out, err, process.returncode)
+    if not said and ended == refused(94) and tries:
+        return visited(at, given, tries - 1, **how)
+    return reply, ended
+
+
 # Targets, with status and page, of the rows of tests/sheet_commands.py.
 PAGES = (
     (SMITHS, (
@@ -163,6 +187,19 @@ def heads(tools):
                     got, wanted = room.asked(given, piece), answer(status)
                     demand(got == wanted, f"{given[:60]!r}: {difference(wanted, got)}")
             demand(room.asked(b"") == b"", "nothing was asked, and something answered")
+
+
+def the_largest_heads(tools):
+    """8,192 bytes and 64 header lines are answered; a byte or a line more is 431."""
+    with Shown(tools) as at:
+        at.with_rows(SMITHS)
+        with Room(at, 4) as room:
+            for more, wanted in ((0, answer(200, "Persons: 2\nFamilies: 1\nRegisters: 0\n")), (1, answer(431))):
+                long = b"p:" + b"x" * (8_192 - 31 + more) + b"\r\n"
+                demand(len(request("/", lines=HOST + long)) == 8_192 + more, "the head has another size")
+                for lines in (long, b"a:\r\n" * (63 + more)):
+                    got = room.asked(request("/", lines=HOST + lines))
+                    demand(got == wanted, f"{len(lines)} bytes: {difference(wanted, got)}")
 
 
 def by_another_client(tools):
@@ -261,6 +298,7 @@ def the_day_of_the_opening(tools):
 TESTS = (
     pages_by_hand,
     heads,
+    the_largest_heads,
     by_another_client,
     archives_that_show_the_same,
     the_day_of_the_opening,

@@ -22,6 +22,7 @@ sys.dont_write_bytecode = True
 
 import archives  # noqa: E402
 import audits  # noqa: E402
+import devices  # noqa: E402
 import documents  # noqa: E402
 import exchanges  # noqa: E402
 import exports  # noqa: E402
@@ -37,14 +38,19 @@ import rooms  # noqa: E402
 import scripts  # noqa: E402
 import sheet_commands  # noqa: E402
 import sizes  # noqa: E402
+import stops  # noqa: E402
 import streams  # noqa: E402
 import visitors  # noqa: E402
 import visits  # noqa: E402
-from harness import ROOT, Case, Failed, Tools  # noqa: E402
+import wants  # noqa: E402
+from harness import ROOT, Case, Failed, Tools, tallied  # noqa: E402
 
 # The longest ones first, since they run side by side.
 PARTS = (
+    stops,
     sizes,
+    wants,
+    devices,
     archives,
     imports,
     leaks,
@@ -126,6 +132,8 @@ def main():
                 print(f"FAILED {case.name}\n       {why}", flush=True)
             elif given.verbose:
                 print(f"passed {case.name} ({seconds:.1f} s)", flush=True)
+    for line in tallied():
+        print(line)
     print(f"{len(cases) - failed} passed, {failed} failed")
     return 1 if failed or not cases else 0
 

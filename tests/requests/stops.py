@@ -1,11 +1,12 @@
-"""Stops: an archive is made, and a request performed, in files of which one fails from some call on.
+"""Stops: an archive is made, and requests performed, in files of which one fails from some call on.
 
-    python3 tests/requests/stops.py [--program COMMAND] [--only WORD]
+    python3 tests/requests/stops.py [--program COMMAND] [--only WORD] [--each]
 
 For each file, and with the power going off at the end or not, the number of calls that go well rises from 0 until
 nothing is stopped any more. A case is one such number: what was answered, what is found when the files are opened
-again, and what is answered and found then when the same is asked once more. One line a case that fails, and last `N
-passed, M failed`; status 0 only if none failed and one passed. COMMAND as in run.py.
+again, and what is answered and found then when the same is asked once more. Of a long request each so many-th number
+is tried, or with `--each` every one. One line a case that fails, then how many stops there were and what was found
+behind them, and last `N passed, M failed`; status 0 only if none failed and one passed. COMMAND as in run.py.
 """
 
 from __future__ import annotations
@@ -16,6 +17,7 @@ import pathlib
 import shlex
 import subprocess
 import sys
+from collections import Counter
 from concurrent.futures import ThreadPoolExecutor
 from dataclasses import dataclass
 from typing import Callable
@@ -29,8 +31,8 @@ ROOT = pathlib.Path(__file__).resolve().parents[2]
 PROGRAM = ROOT / "crates/request_rows/out/request_rows"
 TOGETHER = 16  # numbers of calls that one run of the program tries
 BEHIND = 3  # numbers that are tried behind the first with which nothing is stopped
-MOST = 400  # calls after which a test gives up
-LIMIT = 100  # seconds for one run of the program
+MOST = 20_000  # calls after which a test gives up
+LIMIT = 300  # seconds for one run of the program
 SHOWN = 200  # characters of what is wrong
 REOPEN = "81"
 FAILED = "80"
@@ -38,12 +40,17 @@ FAILED = "80"
 
 @dataclass(frozen=True)
 class Stopped:
-    """What a row of stops tells: what became of the first try, what was found then, and the same of the next."""
+    """What a row of stops tells: what became of the first try, how many requests were found done then, and the same of
+    the next."""
 
     first: list[str]
     found: str
-    again: str
+    again: list[str]
     last: str
+
+    @property
+    def is_begun(self) -> bool:
+        return len(self.first) > 2
 
     @property
     def is_done(self) -> bool:
@@ -54,57 +61,62 @@ class Stopped:
         return all(one == "ok" for one in self.first)
 
 
-def stopped(answer: str) -> Stopped:
-    word, *first, found, again, last = answer.split(",")
-    if word != "stop" or not first:
+def stopped(answer: str, requests: int) -> Stopped:
+    word, *told, last = answer.split(",")
+    if word != "stop" or len(told) < requests + 2:
         raise ValueError(answer)
-    return Stopped(first, found, again, last)
+    first, again = told[: -requests - 1], told[-requests:]
+    return Stopped(first, told[-requests - 1], again, last)
 
 
-def is_answered(first: list[str]) -> bool:
-    """A request, the same again, the state and the society: after an 80 each call answers 81."""
+def is_answered(first: list[str], outcomes: int) -> bool:
+    """So many outcomes, the state and the society: after an 80 each call answers 81."""
     if first in (["unopened"], ["unadopted", FAILED]):
         return True
-    if len(first) != 4:
+    if len(first) != outcomes + 2:
         return False
-    ended = first.index(FAILED) if FAILED in first else 4
+    ended = first.index(FAILED) if FAILED in first else outcomes + 2
     return all(one == "ok" for one in first[:ended]) and all(one == REOPEN for one in first[ended + 1 :])
 
 
-def is_performed(one: Stopped) -> bool:
-    """A request that was answered is found done; one that was not begun is not; and it is done when it is sent
-    again."""
-    if one.is_done:
-        wanted = {"after"}
-    elif len(one.first) == 4:
-        wanted = {"before", "after"}
-    else:
-        wanted = {"before"}
-    return is_answered(one.first) and one.found in wanted and (one.again, one.last) == ("ok", "after")
+def is_performed(one: Stopped, requests: int) -> bool:
+    """Requests that were answered are found done, and of the others at most the one that failed; none where they were
+    not begun; and all are done when they are sent again. One alone was sent twice at first."""
+    outcomes = one.first[: max(requests, 2)] if one.is_begun else []
+    answered = outcomes.index(FAILED) if FAILED in outcomes else len(outcomes)
+    found = {min(answered, requests)}
+    if FAILED in outcomes and answered < requests:
+        found.add(answered + 1)
+    words = {0: "before", requests: "after"}
+    is_last = one.again == ["ok"] * requests and one.last == "after"
+    is_found = one.found in {words.get(count, str(count)) for count in found}
+    return is_answered(one.first, max(requests, 2)) and is_found and is_last
 
 
-def is_made(one: Stopped) -> bool:
+def is_made(one: Stopped, requests: int) -> bool:
     """An archive that was made is found; else it is, or nothing is; and it is made again where nothing is."""
     wanted = {"ok": {"new"}, FAILED: {"new", "empty"}, "unopened": {"empty"}}
     again = "ok" if one.found == "empty" else "82"
     return (
-        len(one.first) == 1
+        len(one.first) == requests
         and one.found in wanted.get(one.first[0], set())
-        and (one.again, one.last) == (again, "new")
+        and (one.again, one.last) == ([again], "new")
     )
 
 
 @dataclass(frozen=True)
 class Trial:
-    """Rows that come first, and a row that is stopped: in `file` after `calls` calls."""
+    """Rows that come first, and a row that is stopped: in `file` after `calls` calls, so many requests."""
 
     name: str
     before: bytes
     row: str
     file: str
-    is_right: Callable[[Stopped], bool]
-    undone: str  # what is found where nothing was done
-    is_reached: bool  # whether the call itself uses the file, and not its opening and its closing alone
+    requests: int = 1
+    is_right: Callable[[Stopped, int], bool] = is_performed
+    undone: str = "before"  # what is found where nothing was done
+    is_reached: bool = True  # whether the call itself uses the file, and not its opening and its closing alone
+    apart: int = 1  # each so many-th number of calls is tried
 
 
 FILES = ("log", "db", "log off", "db off")
@@ -121,23 +133,37 @@ PERFORMED = {
     "an entry": 'entry,5,BURIAL,f. 3,1,1 MAY 1800,,"Ann, widow of Tom",buried,Ann Lee,spouse,Tom Lee',
     "a link": 'link,6,2,1,"same farm, same age"',
     "a long name": "name,2," + "x" * 2 * LONG,
+    "a person": "person,Eva /Lee/,F",
 }
 
+# Persons 1 and 2, of whom the second is a partner of family 3, has event 4 and is linked to the mention of entry 6.
+ALIKE = """! store,Lee
+a1,person,John /Smith/,M
+a2,person,Jon /Smith/,
+a3,family,2,
+a4,event,2,BURI,,1 MAY 1800,
+a5,source,Ashby,,,,
+a6,entry,5,BURIAL,f. 2,1,,,John,buried,John Smith
+a7,link,6,1,2,same day
+"""
+MERGES = {"a merge": (ALIKE, "merge,1,2")}
 
-def performs(name: str, request: str, file: str) -> Trial:
+
+def performs(name: str, before: bytes, request: str, file: str, apart: int = 1) -> Trial:
     row = "! stop,{file},{calls},s1," + request + "\n"
     is_reached = file in ("log", "log off") or len(request) > LONG
-    return Trial(f"{name}, {file}", REQUESTS, row, file, is_performed, "before", is_reached)
+    return Trial(f"{name}, {file}", before, row, file, is_reached=is_reached, apart=apart)
 
 
 def makes(file: str) -> Trial:
     row = "! stop create,{file},{calls},Kirchspiel Lee\n"
     is_reached = file in ("log", "log off")
-    return Trial(f"a new archive, {file}", b"", row, file, is_made, "empty", is_reached)
+    return Trial(f"a new archive, {file}", b"", row, file, 1, is_made, "empty", is_reached)
 
 
 TRIALS = (
-    *(performs(name, request, file) for file in FILES for name, request in PERFORMED.items()),
+    *(performs(name, REQUESTS, request, file) for file in FILES for name, request in PERFORMED.items()),
+    *(performs(name, rows.encode(), row, file) for file in FILES for name, (rows, row) in MERGES.items()),
     *(makes(file) for file in FILES),
 )
 
@@ -150,38 +176,45 @@ def answers(command: list[str], trial: Trial, calls: range) -> list[str]:
     return ended.stdout.decode().splitlines()[-len(calls) :]
 
 
-def tried(command: list[str], trial: Trial) -> list[tuple[str, str | None]]:
-    """Each number of calls as a case, with what is wrong with it; and what is wrong with them all."""
+def tried(command: list[str], trial: Trial, apart: int) -> tuple[list[tuple[str, str | None]], Counter[str]]:
+    """Each number of calls as a case, with what is wrong with it; and what is wrong with them all. Behind them how many
+    were found how, of those that were stopped."""
     seen: list[Stopped] = []
     cases: list[tuple[str, str | None]] = []
-    while len(seen) < MOST and not (len(seen) > BEHIND and all(s.is_whole for s in seen[-BEHIND:])):
-        for answer in answers(command, trial, range(len(seen), len(seen) + TOGETHER)):
-            one = stopped(answer)
-            is_right = trial.is_right(one) and (one.is_done or not any(s.is_done for s in seen))
-            cases.append((f"{trial.name}, {len(seen)}", None if is_right else answer))
+    while len(seen) * apart < MOST and not (len(seen) > BEHIND and all(s.is_whole for s in seen[-BEHIND:])):
+        calls = range(len(seen) * apart, (len(seen) + TOGETHER) * apart, apart)
+        for count, answer in zip(calls, answers(command, trial, calls), strict=True):
+            one = stopped(answer, trial.requests)
+            is_right = trial.is_right(one, trial.requests) and (one.is_done or not any(s.is_done for s in seen))
+            cases.append((f"{trial.name}, {count}", None if is_right else answer))
             seen.append(one)
-    undone = [s for s in seen if s.first[0] == FAILED and s.found == trial.undone]
+    undone = [s for s in seen if FAILED in s.first and s.found == trial.undone]
     is_right = seen[-1].is_whole and (len(undone) > 0 or not trial.is_reached)
     told = None if is_right else f"{len(undone)} failed and were undone; last {seen[-1]}"
-    return [*cases, (f"{trial.name}, all", told)]
+    found = Counter(s.found for s in seen if not s.is_whole)
+    return [*cases, (f"{trial.name}, all", told)], found
 
 
-def judged(command: list[str], trial: Trial) -> list[tuple[str, str | None]]:
+def judged(command: list[str], trial: Trial, each: bool) -> tuple[list[tuple[str, str | None]], Counter[str]]:
     try:
-        return tried(command, trial)
+        return tried(command, trial, 1 if each else trial.apart)
     except (ValueError, IndexError, OSError, subprocess.SubprocessError) as error:
-        return [(trial.name, repr(error))]
+        return [(trial.name, repr(error))], Counter()
 
 
-def run(command: list[str], only: str) -> tuple[int, int]:
-    """How many cases passed and failed of the trials whose names have a word; prints a line for each that failed."""
+def run(command: list[str], only: str, each: bool = False) -> tuple[int, int]:
+    """How many cases passed and failed of the trials whose names have a word; prints a line for each that failed, and
+    how many stops there were and how many requests were found done behind them."""
     trials = [trial for trial in TRIALS if only in trial.name]
     with ThreadPoolExecutor(max_workers=os.cpu_count()) as pool:
-        results = list(pool.map(lambda trial: judged(command, trial), trials))
-    cases = [case for result in results for case in result]
+        results = list(pool.map(lambda trial: judged(command, trial, each), trials))
+    cases = [case for result, _ in results for case in result]
     failed = [(name, why) for name, why in cases if why is not None]
     for name, why in failed:
         print(f"failed: {name}: {why[:SHOWN]}")
+    found = sum((counts for _, counts in results), Counter())
+    if trials:
+        print(f"{found.total()} stops in {len(trials)} requests; found done: {dict(sorted(found.items()))}")
     return len(cases) - len(failed), len(failed)
 
 
@@ -189,8 +222,9 @@ def main() -> int:
     words = argparse.ArgumentParser(description="The tests of stops.")
     words.add_argument("--program", metavar="COMMAND", default=shlex.quote(str(PROGRAM)))
     words.add_argument("--only", metavar="WORD", default="")
+    words.add_argument("--each", action="store_true")
     told = words.parse_args()
-    passed, failed = run(shlex.split(told.program), told.only)
+    passed, failed = run(shlex.split(told.program), told.only, told.each)
     print(f"{passed} passed, {failed} failed")
     return 1 if failed or not passed else 0
 

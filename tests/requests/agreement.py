@@ -1,0 +1,129 @@
+"""Agreement: 2,000 requests, drawn by a seeded generator, are put to all archives of request_rows.
+
+    python3 tests/requests/agreement.py [--program COMMAND]
+
+They come in calls of 100, behind each of which the archive in files is adopted again and holds what the others hold.
+Every verb of rows is accepted at least 20 times, and no request is refused for want of memory or by the storage. A case
+is one such call, and last how often each verb was accepted.
+"""
+
+from __future__ import annotations
+
+import argparse
+import csv
+import io
+import pathlib
+import random
+import shlex
+import subprocess
+import sys
+from collections import Counter
+
+sys.dont_write_bytecode = True
+
+from generate import KINDS, Rows  # noqa: E402
+from table.making import field  # noqa: E402
+
+ROOT = pathlib.Path(__file__).resolve().parents[2]
+PROGRAM = ROOT / "crates/request_rows/out/request_rows"
+ARCHIVES = ((13, 1_000), (14, 1_000))  # the seed of each archive, and its requests
+TOGETHER, LEAST = 100, 20
+LIMIT = 300  # seconds
+NEVER = ("1", "80", "81")  # refusals that there are none of
+
+
+class Requests(Rows):
+    """Rows, most of them accepted."""
+
+    def remove(self):
+        """One of the records that nothing names, if some of those that are drawn are."""
+        numbers = list(self.names)
+        drawn = [self.rng.choice(numbers) for _ in range(200)]
+        return [self.of([number for number in drawn if not self.is_named(number)] or drawn)]
+
+    def request(self, place):
+        """A new request; one of before, under its token or as another's; or one that names nothing."""
+        form = self.rng.random()
+        if self.given and form < 0.06:
+            return self.rng.choice(self.given)
+        if self.given and form < 0.09:
+            return [self.rng.choice(self.given)[0], "person", "Another /Request/", ""]
+        if form < 0.12:
+            return [f"t{place}", "name", "4000000000", "Nobody"]
+        made = [f"t{place}", *self.good()]
+        self.given.append(made)
+        return made
+
+
+def requests(seed: int, count: int) -> list[list[str]]:
+    """A token, a verb and fields of each request."""
+    made = Requests(random.Random(seed), True)
+    return [made.request(place) for place in range(count)]
+
+
+def row_of(calls: list[list[str]]) -> bytes:
+    """One call of several requests, each of them a field with bars between its own fields."""
+    return (",".join(["! run", *(field("|".join(one)) for one in calls)]) + "\n").encode()
+
+
+def judged(asked: list[list[str]], answers: list[list[str]], kept: set[str]) -> tuple[str | None, Counter[str]]:
+    """What is wrong with a call, and how often each verb was accepted that was not asked before."""
+    tokens = [token for token, *_ in asked]
+    if [answer[0] for answer in answers] != tokens:
+        return f"{answers[0]} for {asked[0]}", Counter()
+    accepted: Counter[str] = Counter()
+    for (token, verb, *_), (_, outcome, number, _) in zip(asked, answers, strict=True):
+        if outcome != "ok" and number in NEVER:
+            return f"{verb} of {token} is refused with {number}", accepted
+        if outcome == "ok" and token not in kept:
+            kept.add(token)
+            accepted[verb] += 1
+    return None, accepted
+
+
+def answered(command: list[str], drawn: list[list[str]]) -> tuple[list[str | None], Counter[str]]:
+    """What is wrong with each call and with the end of an archive, and how often each verb was accepted."""
+    calls = [drawn[at : at + TOGETHER] for at in range(0, len(drawn), TOGETHER)]
+    given = b"! store,Lee\n" + b"".join(map(row_of, calls)) + b"! stored\n"
+    ended = subprocess.run(command, input=given, stdout=subprocess.PIPE, check=False, timeout=LIMIT)
+    made, *told = csv.reader(io.StringIO(ended.stdout.decode()))
+    same = told.pop() if told else []
+    wrong: list[str | None] = []
+    accepted: Counter[str] = Counter()
+    kept: set[str] = set()
+    for asked in calls:
+        answers, told = told[: len(asked)], told[len(asked) :]
+        why, found = judged(asked, answers, kept) if answers else ("no answer", Counter())
+        accepted += found
+        wrong.append(why)
+    wrong.append(None if (made, same, told) == (["ok"], ["same"], []) else f"at the end: {same} {told}")
+    return wrong, accepted
+
+
+def run(command: list[str]) -> tuple[int, int]:
+    """How many cases passed and failed; prints a line for each that failed, and how many requests agreed."""
+    cases, accepted = [], Counter()
+    for seed, count in ARCHIVES:
+        wrong, found = answered(command, requests(seed, count))
+        cases += [(f"agreement, archive {seed}, call {number}", why) for number, why in enumerate(wrong, 1)]
+        accepted += found
+    few = {verb: accepted[verb] for verb in KINDS if accepted[verb] < LEAST}
+    cases.append(("agreement, accepted verbs", f"too few: {few}" if few else None))
+    failed = [(name, why) for name, why in cases if why is not None]
+    for name, why in failed:
+        print(f"failed: {name}: {why}")
+    asked = sum(count for _, count in ARCHIVES)
+    print(f"{asked} requests, of which {accepted.total()} were accepted anew, agree")
+    return len(cases) - len(failed), len(failed)
+
+
+def main() -> int:
+    words = argparse.ArgumentParser(description="The test of agreement.")
+    words.add_argument("--program", metavar="COMMAND", default=shlex.quote(str(PROGRAM)))
+    passed, failed = run(shlex.split(words.parse_args().program))
+    print(f"{passed} passed, {failed} failed")
+    return 1 if failed or not passed else 0
+
+
+if __name__ == "__main__":
+    sys.exit(main())

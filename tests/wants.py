@@ -1,0 +1,121 @@
+"""Refused memory: each growth of a command on an archive gets none in turn (refuse.c).
+
+A run that wanted memory says 1, or 80 where the database wanted it, or answers its row so; the archive is as it was or
+as it is when the command is done, and the same command with memory then answers and leaves what it does where none is
+refused. `./test` refuses growths that lie further and further apart, and tests/long_stops.py each.
+"""
+
+from __future__ import annotations
+
+import os
+from collections.abc import Iterable, Iterator
+
+from exports import ARCHIVES
+from harness import Case, Failed, Outcome, Tools, demand, expect, refused, tally, written
+from imports import LEE, LEE_TOLD
+from memory import MOST, apart, built, refusing
+from rooms import visited
+from undisturbed import BATCH, MERGE, UNDO, Command, Undisturbed, of_row, tables_of
+from visits import request
+
+LEAST = 100  # growths that a command makes at least
+TODAY = "2024-01-01"
+COUPLE = ("p,person,John /Smith/,M", "f,family,1,", "m,event,2,MARR,,1960,")
+GIVEN = request("/person/1")
+PAGE = b"\r\n\r\nPerson 1\nName: Living\nPartner in: 2\n"
+SHEET = Command("a sheet", COUPLE, ("sheet", "family", "2", "--today", TODAY))
+COMMANDS = (
+    of_row("a person", (), "p,person,John /Smith/,M", "p,ok,1,1"),
+    MERGE,
+    UNDO,
+    BATCH,
+    Command("an import", (), ("import", "--token", "i"), LEE, (LEE_TOLD,)),
+    Command("an export", ARCHIVES["register entries, linked and not"][0], ("export",)),
+    Command("a public export", COUPLE, ("export", "--public", "--today", TODAY)),
+    SHEET,
+)
+
+
+def is_told(got: Outcome, whole: Outcome) -> bool:
+    """1 or 80 behind a beginning of what is written, or a row that is answered with 1."""
+    if got.status == 1 and got.err in (refused(1).err, refused(80).err):
+        return whole.out.startswith(got.out)
+    return got.status == 0 and got.out.endswith(b",refused,1,OutOfMemory\n") and got.out.count(b"\n") == 1
+
+
+def is_wanting(whole: Undisturbed, library: str, number: int) -> bool:
+    """Whether there is a growth of that number, which is refused; what is wrong then is raised."""
+    with whole.copy() as at:
+        mark = at.at("mark")
+        got = whole.command.run(at, env=refusing(number, library, mark))
+        if not os.path.exists(mark):
+            expect(got, whole.whole)
+            return False
+        demand(is_told(got, whole.whole), f"{got}")
+        whole.demand_found(at, 0, 0 if b",refused," in got.out else 1)
+        whole.demand_ended(at)
+        return True
+
+
+def each_growth(tools: Tools, command: Command, numbers: Iterable[int]) -> int:
+    """Refuses the growths of these numbers until a run has no such growth; answers how many were refused."""
+    whole = Undisturbed(tools, command)
+    with whole.copy() as at:
+        library = built(at.path)
+        for tried, number in enumerate(numbers):
+            try:
+                if not is_wanting(whole, library, number):
+                    demand(number > LEAST, f"it has only {number} growths")
+                    return tried
+            except Failed as failed:
+                raise Failed(f"growth {number} refused: {failed}") from None
+    raise Failed("the growths have no end")
+
+
+def wanting_room(whole: Undisturbed, library: str, page: bytes, number: int) -> bool:
+    """The same of an archive that is opened, masked and served to one visitor, who gets the page or nothing."""
+    with whole.copy() as at:
+        mark = at.at("mark")
+        got = visited(at, GIVEN, env=refusing(number, library, mark))
+        if not os.path.exists(mark):
+            demand(got == (page, written(b"")), f"{got}")
+            return False
+        reply, ended = got
+        if ended != written(b""):
+            demand(ended.status == 1 and ended.err in (refused(1).err, refused(80).err), f"{ended}")
+        demand(reply in (page, b""), f"{reply!r} is a part of a page")
+        demand(tables_of(at) == whole.tables[0], "the tables changed")
+        return True
+
+
+def each_growth_of_a_room(tools: Tools, numbers: Iterable[int]) -> int:
+    whole = Undisturbed(tools, SHEET)
+    with whole.copy() as at:
+        library, (page, ended) = built(at.path), visited(at, GIVEN)
+        demand(ended == written(b"") and page.endswith(PAGE), f"{page!r} {ended}")
+        for tried, number in enumerate(numbers):
+            try:
+                if not wanting_room(whole, library, page, number):
+                    demand(number > LEAST, f"it has only {number} growths")
+                    return tried
+            except Failed as failed:
+                raise Failed(f"growth {number} refused: {failed}") from None
+    raise Failed("the growths have no end")
+
+
+def case_of(tools: Tools, command: Command, every: bool) -> Case:
+    numbers = range(1, MOST) if every else apart()
+    return Case(
+        f"refused memory: {command.name}",
+        lambda: tally("refused growths", command.name, each_growth(tools, command, numbers)),
+    )
+
+
+def cases(tools: Tools, every: bool = False) -> Iterator[Case]:
+    for command in COMMANDS:
+        yield case_of(tools, command, every)
+    numbers = range(1, MOST) if every else apart()
+    yield Case(
+        "refused memory: a room",
+        lambda: tally("refused growths", "a room", each_growth_of_a_room(tools, numbers)),
+    )
