@@ -1,7 +1,6 @@
 -- Drafts of the nodes of a file, and the numbers that are drawn for them.
 use Rattle.std.specs.Prelude.{ℕ, ◌+◌, List, [], ◌∷◌}
 use Rattle.stored_lines.specs.Tree.{Tree, Forest, node, none, more}
-use Rattle.stored_lines.specs.Line.{Lines}
 use Rattle.record_shapes.specs.Reading.{Draft, read, sought}
 use Rattle.import_forest.specs.Numbers as numbers
 use Rattle.import_places.specs.Settling.{IsPathText}

@@ -13,6 +13,7 @@ ghost use Rattle.draft_reading.specs.Trees.{draft_tree};
 ghost use Rattle.import_drawing.specs.Drafts.{SeeksByPaths, draw_each};
 ghost use Rattle.import_drawing.specs.Drawing.{IsPlaceOf, batch_or_full};
 
+use crate::lists::take_last;
 use crate::roots::draw_drafts;
 use archive_state::{Batch, Numbered};
 use archive_view::View;
@@ -71,6 +72,8 @@ fn finished_batch<V: View>(
     Ok(Batch { records, next })
 }
 
+/// The records of what numbers were drawn for. They are taken from the end of the list, which is turned round before, so
+/// that its memory is given back while that of the records is needed.
 fn finished_records<V: View>(
     alloc: Global,
     view: &mut V,
@@ -85,7 +88,9 @@ fn finished_records<V: View>(
     ensures counts { CountsFailures (V.failed view.old) (V.failed view.new) result }
 {
     let mut records = Vec::with_capacity(alloc, drawn.len())?;
-    'drawn: for one in drawn {
+    let mut left = drawn;
+    left.reverse();
+    'left: while let Some(one) = take_last(&mut left) {
         add_finished(alloc, view, looks, file, drawing, one, &mut records)?;
     }
     Ok(records)

@@ -11,6 +11,7 @@ mod batch;
 mod below;
 mod first;
 pub mod laws;
+mod lists;
 mod roots;
 
 pub use batch::batch_of_drafts;

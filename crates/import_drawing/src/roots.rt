@@ -14,6 +14,7 @@ ghost use Rattle.import_drawing.specs.Drafts.{SeeksByPaths, draw_each};
 ghost use Rattle.import_drawing.specs.Drawing.{Draws, with_root};
 
 use crate::below::{Below, draw_all_owned};
+use crate::lists::take_last;
 use archive_view::View;
 use draft_reading::Draft;
 use import_places::{Drawing, FilePlaces, Looks};
@@ -38,8 +39,10 @@ pub fn draw_drafts<V: View>(
         drawing.new result × IfOk result (λ _. Knows looks.new.found c)) }
     ensures counts { CountsFailures (V.failed view.old) (V.failed view.new) result }
 {
+    let mut left = drafts;
+    left.reverse();
     let mut position: u32 = 0;
-    'drafts: for draft in drafts {
+    'left: while let Some(draft) = take_last(&mut left) {
         draw_root(alloc, view, looks, file, drawing, position, draft)?;
         position += 1;
     }
