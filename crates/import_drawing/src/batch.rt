@@ -72,7 +72,7 @@ fn finished_batch<V: View>(
     Ok(Batch { records, next })
 }
 
-/// The records of what numbers were drawn for. They are taken from the end of the list, which is turned round before, so
+/// The records of what numbers were drawn for. Each is taken from the end of the list, which is turned round before, so
 /// that its memory is given back while that of the records is needed.
 fn finished_records<V: View>(
     alloc: Global,
