@@ -52,6 +52,10 @@ def copy_sources(crates, room):
 
 
 def put_edits(crate, room):
+    """Copies the edits of a crate, and what its last check here has kept, over which each of them is tried."""
+    proved = os.path.join("crates", crate, "out", "incremental")
+    if os.path.isdir(os.path.join(ROOT, proved)):
+        shutil.copytree(os.path.join(ROOT, proved), os.path.join(room, proved))
     folder = os.path.join(room, "crates", crate, "must-fail")
     os.makedirs(folder)
     for edit in edits_of(crate):
