@@ -87,7 +87,7 @@ has_line at (kind.Citation p) is = absurd cc
 has_line at (kind.Other p) is = absurd cc
 
 -- a record that may have a date has a place for it
-some_place : (r : Record) → has_dates r ≡ true → (at : ℕ) × (place_of r ≡ Some at)
+pub some_place : (r : Record) → has_dates r ≡ true → (at : ℕ) × (place_of r ≡ Some at)
 some_place (kind.Event e) h = (2, refl)
 some_place (kind.Entry e) h = (4, refl)
 some_place (kind.Place p) h = absurd cc

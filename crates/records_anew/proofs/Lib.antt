@@ -7,3 +7,4 @@ pub mod AllRecords
 pub mod SlipsAnew
 pub mod SoundAnew
 pub mod OnceAnew
+pub mod OneOld

@@ -10,11 +10,12 @@ ghost use Rattle.record_fields.specs.declared.date.Date.{Date};
 ghost use Rattle.record_shapes.specs.Reading.{dated};
 ghost use Rattle.record_text.specs.Text.{IsText};
 ghost use Rattle.records.specs.Stored.{stored};
+ghost use Rattle.stored_lines.specs.Line.{Label};
 ghost use Rattle.archive_state.specs.Content.{Content};
 ghost use Rattle.archive_state.specs.Sound.{IsSound};
 ghost use Rattle.records_anew.specs.Anew.{IsAnew, IsAsBefore, IsRedated, IsSoundOld, OldContent, anew};
 ghost use Rattle.records_anew.specs.Dates.{WasWritten};
-ghost use Rattle.records_anew.specs.Old.{OldRecord, stored_with};
+ghost use Rattle.records_anew.specs.Old.{OldRecord, WasKeptAs, stored_with};
 
 /// What an archive of that time is today is sound where it was.
 pub fn what_was_sound_is_sound_anew()
@@ -52,4 +53,9 @@ pub fn what_fits_is_spelt_anew()
 /// A record without a date, or whose date is a spelling of today, keeps its lines.
 pub fn a_record_of_today_stays()
     ensures { (o : OldRecord) → IfSome o.date IsWritten → stored (anew o) ≡ stored_with o.date o.rest }
+{}
+
+/// Lines are those that one record of that time at the most was kept as.
+pub fn lines_were_of_one_record()
+    ensures { (lines : List (ℕ × Label)) (o p : OldRecord) → WasKeptAs lines o → WasKeptAs lines p → o ≡ p }
 {}
