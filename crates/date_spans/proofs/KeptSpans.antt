@@ -13,6 +13,7 @@ use Rattle.std.proofs.Common.{
   Bool,
   true,
   false,
+  cond,
   refl,
   sym,
   ap,
@@ -24,12 +25,15 @@ use Rattle.std.proofs.Common.{
 use Rattle.std.specs.Prelude.{Option, Some, None, ℤ, ◌≤ℤ◌, ◌==◌, ◌||◌}
 use Rattle.std.specs.Bool.{IsTrue}
 use Rattle.std.specs.List.{list_any}
-use Rattle.std.specs.FinMap.{get, keys}
+use Rattle.std.specs.Cmp.{nat_cmp_total}
+use Rattle.std.specs.Ordering.{eq_by_cmp, nat_cmp}
+use Rattle.std.specs.FinMap.{get, get-remove, insert, keys, remove}
 use Rattle.std.proofs.lemmas.List.Folds.{list_any_more}
 use Rattle.gedcom_date.specs.declared.value.Span.{Span}
 use Rattle.record_fields.specs.declared.date.Date.{Date}
 use Rattle.record_kinds.specs.declared.record.Record.{Record}
 use Rattle.archive_state.specs.Content.{Records}
+use Rattle.archive_state.proofs.Putting.{itself, one_number, put_elsewhere, put_here}
 use Rattle.date_spans.specs.Between.{IsBetween}
 use Rattle.date_spans.specs.Gathered.{Adds, AreSpansOf, Looks, date_if}
 use Rattle.date_spans.specs.Meeting.{Meets}
@@ -153,3 +157,43 @@ all_spans m ns look are h = λ n.
     subst (λ (d : Option Date). IsSpanOf d (look n))
     (dated_key m n (get m n) (list_any (λ j. j == n) (keys m)) refl refl)
     (subst (λ (ks : List ℕ). IsSpanOf (date_if (list_any (λ j. j == n) ks) (date_at (get m n))) (look n)) are (h n))
+
+-- ---- the spans of records with one more, and with one less
+other_number : (m : Records) (k : ℕ) (r : Record) (n : ℕ) (o : Option Span) → (n ≡ k → ⊥)
+    → IsSpanOf (date_at (get m n)) o → IsSpanOf (date_at (get (insert m k r) n)) o
+other_number m k r n o other h = subst (λ (x : Option Record). IsSpanOf (date_at x) o)
+    (sym (put_elsewhere m k r n other)) h
+
+pub put_spans : (m : Records) (k : ℕ) (r : Record) (look after : ℕ → Option Span) → AreSpans m look
+    → IsSpanOf (date_in r) (after k) → ((n : ℕ) → (n ≡ k → ⊥) → after n ≡ look n) → AreSpans (insert m k r) after
+put_spans m k r look after h is kept = λ n. elim (n == k) as (λ b. (n == k) ≡ b
+    → IsSpanOf (date_at (get (insert m k r) n)) (after n)) [
+      | true ↦ λ e.
+          let same : n ≡ k = eqb-true n k e in
+          subst (λ x. IsSpanOf (date_at (get (insert m k r) x)) (after x)) (sym same)
+          (subst (λ (x : Option Record). IsSpanOf (date_at x) (after k)) (sym (put_here m k r)) is)
+      | false ↦ λ e.
+          let other : n ≡ k → ⊥ = λ same. let wrong : true ≡ false = sym (eq-eqb n k same) ∙ e in absurd cc in
+          other_number m k r n (after n) other
+          (subst (λ (o : Option Span). IsSpanOf (date_at (get m n)) o) (sym (kept n other)) (h n))
+    ] refl
+
+other_key : (n k : ℕ) → eq_by_cmp nat_cmp n k ≡ false → n ≡ k → ⊥
+other_key n k e same =
+    let both : true ≡ false = sym (itself k) ∙ (ap (λ x. eq_by_cmp nat_cmp x k) (sym same) ∙ e) in absurd cc
+
+taken : (m : Records) (k n : ℕ) (b : Bool) → eq_by_cmp nat_cmp n k ≡ b → get (remove m k) n ≡ cond b None (get m n)
+taken m k n b e = get-remove nat_cmp_total m k n ∙ ap (λ x. cond x None (get m n)) e
+
+pub removed_spans : (m : Records) (k : ℕ) (look after : ℕ → Option Span) → AreSpans m look → after k ≡ None
+    → ((n : ℕ) → (n ≡ k → ⊥) → after n ≡ look n) → AreSpans (remove m k) after
+removed_spans m k look after h none kept = λ n. elim (eq_by_cmp nat_cmp n k) as (λ b. eq_by_cmp nat_cmp n k ≡ b
+    → IsSpanOf (date_at (get (remove m k) n)) (after n)) [
+      | true ↦ λ e.
+          let same : n ≡ k = one_number n k e in
+          let gone : after n ≡ None = ap after same ∙ none in
+          subst (λ (x : Option Record). IsSpanOf (date_at x) (after n)) (sym (taken m k n true e))
+          (subst (λ (o : Option Span). IsSpanOf None o) (sym gone) tt)
+      | false ↦ λ e. subst (λ (x : Option Record). IsSpanOf (date_at x) (after n)) (sym (taken m k n false e))
+          (subst (λ (o : Option Span). IsSpanOf (date_at (get m n)) o) (sym (kept n (other_key n k e))) (h n))
+    ] refl

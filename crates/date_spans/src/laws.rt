@@ -1,15 +1,17 @@
 //! Laws of spans, over the definitions that the contracts cite.
 
-ghost use Rattle.std.specs.Prelude.{◌≡◌, ◌≤ℤ◌, ◌↔◌, ℕ, ℤ, List, Option, Some};
+ghost use Rattle.std.specs.Prelude.{◌≡◌, ◌≤ℤ◌, ◌↔◌, ℕ, ℤ, List, None, Option, Some};
+ghost use Rattle.std.specs.FinMap.{insert, remove};
 ghost use Rattle.gedcom_date.specs.Days.{IsDayOf};
 ghost use Rattle.gedcom_date.specs.Form.{Form};
 ghost use Rattle.gedcom_date.specs.Grammar.{Says};
 ghost use Rattle.gedcom_date.specs.declared.value.Span.{Span};
 ghost use Rattle.record_fields.specs.declared.date.Date.{Date};
+ghost use Rattle.record_kinds.specs.declared.record.Record.{Record};
 ghost use Rattle.archive_state.specs.Content.{Records};
 ghost use Rattle.date_spans.specs.Between.{AreAll, IsBetween};
 ghost use Rattle.date_spans.specs.Meeting.{HasEnd, Meets};
-ghost use Rattle.date_spans.specs.Spans.{AreSpans, IsSpan};
+ghost use Rattle.date_spans.specs.Spans.{AreSpans, IsSpan, IsSpanOf, date_in};
 
 /// A date has one span.
 pub fn a_date_has_one_span()
@@ -51,4 +53,13 @@ pub fn records_have_one_span_each()
 pub fn there_is_one_list_between_days()
     ensures { (m : Records) (first last : ℤ) (ns ms : List ℕ) → AreAll (IsBetween m first last) ns
         → AreAll (IsBetween m first last) ms → ns ≡ ms }
+{}
+
+/// A record that is put at a number, or taken out, changes the span of that number alone.
+pub fn one_record_changes_one_span()
+    ensures put { (m : Records) (k : ℕ) (r : Record) (look after : ℕ → Option Span) → AreSpans m look
+        → IsSpanOf (date_in r) (after k) → ((n : ℕ) → (n ≡ k → ⊥) → after n ≡ look n)
+        → AreSpans (insert m k r) after }
+    ensures removed { (m : Records) (k : ℕ) (look after : ℕ → Option Span) → AreSpans m look → after k ≡ None
+        → ((n : ℕ) → (n ≡ k → ⊥) → after n ≡ look n) → AreSpans (remove m k) after }
 {}

@@ -1,0 +1,10 @@
+pub mod OldTexts
+pub mod OldLines
+pub mod KeptAnew
+pub mod ChangedLines
+pub mod OneRecord
+pub mod AllRecords
+pub mod SlipsAnew
+pub mod SoundAnew
+pub mod OnceAnew
+pub mod OneOld

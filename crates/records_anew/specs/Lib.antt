@@ -1,0 +1,5 @@
+pub mod Dates
+pub mod Old
+pub mod Lines
+pub mod Reading
+pub mod Anew
