@@ -3,8 +3,8 @@
     python3 tests/requests/agreement.py [--program COMMAND]
 
 They come in calls of 100, behind each of which the archive in files is adopted again and holds what the others hold.
-Every verb of rows is accepted at least 20 times, and no request is refused for want of memory or by the storage. A case
-is one such call, and last how often each verb was accepted.
+Every verb of rows, batches of entries and imports of files are each accepted at least 20 times, and none is refused for
+want of memory or by the storage. A case is one such call, and last how often each verb was accepted.
 """
 
 from __future__ import annotations
@@ -21,25 +21,53 @@ from collections import Counter
 
 sys.dont_write_bytecode = True
 
-from generate import KINDS, Rows  # noqa: E402
+from generate import KINDS, NAMES, ROLES_OF, Rows  # noqa: E402
 from table.making import field  # noqa: E402
 
 ROOT = pathlib.Path(__file__).resolve().parents[2]
 PROGRAM = ROOT / "crates/request_rows/out/request_rows"
-ARCHIVES = ((13, 1_000), (14, 1_000))  # the seed of each archive, and its requests
+ARCHIVES = ((13, 2_000),)  # the seed of each archive, and its requests
 TOGETHER, LEAST = 100, 20
+BATCH, IMPORT = "! batch", "! import"
+VERBS = (*KINDS, BATCH, IMPORT)
 LIMIT = 300  # seconds
 NEVER = ("1", "80", "81")  # refusals that there are none of
 
 
 class Requests(Rows):
-    """Rows, most of them accepted."""
+    """Rows, batches and imports, most of them accepted."""
 
     def remove(self):
         """One of the records that nothing names, if some of those that are drawn are."""
         numbers = list(self.names)
         drawn = [self.rng.choice(numbers) for _ in range(200)]
         return [self.of([number for number in drawn if not self.is_named(number)] or drawn)]
+
+    def batch(self):
+        """Entries of one source that are not there yet; fields of a row have semicolons between them."""
+        source, rows = self.rng.choice(self.sources), []
+        for _ in range(self.rng.choice((1, 2, 3, 5))):
+            kind, page, item = self.rng.choice(list(ROLES_OF)), "f. 9", self.rng.randrange(1, 1_000_000)
+            while (source, kind, page, item) in self.keys.values():
+                item = self.rng.randrange(1, 1_000_000)
+            made = self.entry_of(source, kind, page, item)[:17]
+            self.note("entry", made)
+            rows.append(";".join(made[1:]))
+        return [BATCH, str(source), *rows]
+
+    def file(self):
+        """A family with its children, as a file of lines, each with a name of its own or none."""
+        count = self.rng.choice((1, 2, 3, 6))
+        lines = ["0 HEAD"]
+        for number in range(count):
+            lines += [f"0 @I{number}@ INDI", f"1 NAME {self.rng.choice(NAMES[:4])}".rstrip()]
+            self.note("person", ["", ""])
+        lines += ["0 @F@ FAM", "1 HUSB @I0@", *(f"1 CHIL @I{number}@" for number in range(1, count)), "0 TRLR"]
+        first = self.next - count
+        self.note("family", [str(first), ""])
+        self.members[self.next - 1][1].update(range(first + 1, first + count))
+        self.names[self.next - 1].update(range(first + 1, first + count))
+        return [IMPORT, "\n".join(lines)]
 
     def request(self, place):
         """A new request; one of before, under its token or as another's; or one that names nothing."""
@@ -50,7 +78,12 @@ class Requests(Rows):
             return [self.rng.choice(self.given)[0], "person", "Another /Request/", ""]
         if form < 0.12:
             return [f"t{place}", "name", "4000000000", "Nobody"]
-        made = [f"t{place}", *self.good()]
+        if self.sources and form < 0.17:
+            made = [f"t{place}", *self.batch()]
+        elif form < 0.22:
+            made = [f"t{place}", *self.file()]
+        else:
+            made = [f"t{place}", *self.good()]
         self.given.append(made)
         return made
 
@@ -107,7 +140,7 @@ def run(command: list[str]) -> tuple[int, int]:
         wrong, found = answered(command, requests(seed, count))
         cases += [(f"agreement, archive {seed}, call {number}", why) for number, why in enumerate(wrong, 1)]
         accepted += found
-    few = {verb: accepted[verb] for verb in KINDS if accepted[verb] < LEAST}
+    few = {verb: accepted[verb] for verb in VERBS if accepted[verb] < LEAST}
     cases.append(("agreement, accepted verbs", f"too few: {few}" if few else None))
     failed = [(name, why) for name, why in cases if why is not None]
     for name, why in failed:

@@ -134,6 +134,8 @@ PERFORMED = {
     "a link": 'link,6,2,1,"same farm, same age"',
     "a long name": "name,2," + "x" * 2 * LONG,
     "a person": "person,Eva /Lee/,F",
+    "three entries": "! batch,5,BAPTISM;f. 4;1;15 APR 1699/00;;John;child;John;father;Tom Lee,"
+    "BURIAL;f. 4;1;;;Ann;buried;Ann Lee,MARRIAGE;f. 4;1;;;Tom and Ann;groom;Tom;bride;Ann",
 }
 
 # Persons 1 and 2, of whom the second is a partner of family 3, has event 4 and is linked to the mention of entry 6.
@@ -146,13 +148,21 @@ a5,source,Ashby,,,,
 a6,entry,5,BURIAL,f. 2,1,,,John,buried,John Smith
 a7,link,6,1,2,same day
 """
-MERGES = {"a merge": (ALIKE, "merge,1,2")}
+MERGED = ALIKE + "m,merge,1,2\n"
+MERGES = {"a merge": (ALIKE, "merge,1,2"), "its undoing": (MERGED, "undo,7")}
+PERSONS = "\n".join(["0 HEAD", *(f"0 @I{n}@ INDI\n1 NAME Person /{n}/" for n in range(600)), "0 TRLR"])
+FIVE = "e1|person|Eva /Lee/|F,e2|family|7|1,e3|event|8|MARR||1820|,e4|participant|9|2|witness,e5|name|7|Eva"
 
 
 def performs(name: str, before: bytes, request: str, file: str, apart: int = 1) -> Trial:
     row = "! stop,{file},{calls},s1," + request + "\n"
     is_reached = file in ("log", "log off") or len(request) > LONG
     return Trial(f"{name}, {file}", before, row, file, is_reached=is_reached, apart=apart)
+
+
+def runs(file: str) -> Trial:
+    row = "! stop run,{file},{calls}," + FIVE + "\n"
+    return Trial(f"five requests, {file}", ALIKE.encode(), row, file, 5, is_reached=file in ("log", "log off"))
 
 
 def makes(file: str) -> Trial:
@@ -162,8 +172,10 @@ def makes(file: str) -> Trial:
 
 
 TRIALS = (
+    *(performs("600 persons", ALIKE.encode(), f'! import,"{PERSONS}"', file, 16) for file in FILES),
     *(performs(name, REQUESTS, request, file) for file in FILES for name, request in PERFORMED.items()),
     *(performs(name, rows.encode(), row, file) for file in FILES for name, (rows, row) in MERGES.items()),
+    *(runs(file) for file in FILES),
     *(makes(file) for file in FILES),
 )
 

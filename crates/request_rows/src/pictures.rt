@@ -6,7 +6,7 @@ use records::copy_record;
 use std::alloc::{AllocError, Global};
 
 /// The most numbers that are looked at.
-const MOST: u64 = 1_000;
+const MOST: u64 = 20_000;
 
 /// All that rows show of a state: its next number, what stands at the numbers up to it, and what is kept under tokens.
 pub(crate) fn picture(
@@ -18,6 +18,7 @@ pub(crate) fn picture(
     for number in 1..last_number(state) {
         let shown = number.to_string(alloc)?;
         push_seen(alloc, &mut rows, state, "! show", shown.as_str())?;
+        push_seen(alloc, &mut rows, state, "! slip", shown.as_str())?;
     }
     for token in tokens {
         push_seen(alloc, &mut rows, state, "! kept", token.as_str())?;
@@ -41,12 +42,13 @@ fn last_number(state: &State) -> u32 {
     state.next().min(MOST) as u32 + 1
 }
 
-/// The same state, with the receipts of these tokens.
+/// The same state in memory of its own, with the receipts of these tokens.
 pub(crate) fn copy(alloc: Global, state: &State, tokens: &[Token]) -> Result<State, AllocError> {
     let mut made = State::new(alloc);
     made.set_next(state.next());
     for number in 1..last_number(state) {
         copy_number(alloc, state, &mut made, number)?;
+        copy_slip(alloc, state, &mut made, number)?;
     }
     for token in tokens {
         copy_receipt(alloc, state, &mut made, token)?;
@@ -57,6 +59,13 @@ pub(crate) fn copy(alloc: Global, state: &State, tokens: &[Token]) -> Result<Sta
 fn copy_number(alloc: Global, from: &State, to: &mut State, number: u32) -> Result<(), AllocError> {
     if let Some(record) = from.record(number) {
         drop(to.put_record(number, copy_record(alloc, record)?)?);
+    }
+    Ok(())
+}
+
+fn copy_slip(alloc: Global, from: &State, to: &mut State, number: u32) -> Result<(), AllocError> {
+    if let Some(slip) = from.slip(number) {
+        drop(to.put_slip(number, slip.copy(alloc)?)?);
     }
     Ok(())
 }

@@ -2,8 +2,10 @@
 
 use archive_core::Request;
 use archive_state::Token;
-use commands::{Command, RowCommand};
+use commands::{Command, EntryRow, EntryRows, RowCommand};
 use csv::ByteRecord;
+use devices::Counted;
+use gedcom_tree::read_forest;
 use records::RefusalKind;
 use std::alloc::{AllocError, Global};
 
@@ -25,8 +27,49 @@ pub(crate) fn fields_of<'a>(
 /// The command of a verb with its fields.
 pub(crate) fn command_of(alloc: Global, fields: &[&str]) -> Result<Command, RefusalKind> {
     match fields {
-        [verb, rest @ ..] => Ok(Command::Row(RowCommand::of_row(alloc, verb, rest)?)),
+        [verb, rest @ ..] => command_of_verb(alloc, verb, rest),
         [] => Err(RefusalKind::FieldCount),
+    }
+}
+
+/// The same. The tests have two verbs of their own beside those of rows.
+fn command_of_verb(alloc: Global, verb: &str, fields: &[&str]) -> Result<Command, RefusalKind> {
+    match (verb, fields) {
+        ("! batch", [source, rows @ ..]) => batch_of(alloc, source, rows),
+        ("! import", [text]) => import_of(alloc, text),
+        _ => Ok(Command::Row(RowCommand::of_row(alloc, verb, fields)?)),
+    }
+}
+
+/// A batch of register entries of a source. A row of it is a field with semicolons between its own fields.
+fn batch_of(alloc: Global, source: &str, rows: &[&str]) -> Result<Command, RefusalKind> {
+    let Ok(source) = source.parse::<u32>() else {
+        return Err(RefusalKind::BadRow);
+    };
+    let rows = EntryRows::new(entries_of(alloc, rows)?);
+    Ok(Command::Entries { source, rows })
+}
+
+fn entries_of(alloc: Global, rows: &[&str]) -> Result<Vec<EntryRow>, RefusalKind> {
+    let mut entries = Vec::new(alloc);
+    for row in rows {
+        let fields = parted(alloc, row, ';')?;
+        let entry = EntryRow::of_row(alloc, fields.as_slice())?;
+        push(&mut entries, entry)?;
+    }
+    Ok(entries)
+}
+
+fn push<T: Drop>(items: &mut Vec<T>, item: T) -> Result<(), AllocError> {
+    Ok(items.push(item)?)
+}
+
+/// The import of a file of this text. A text that is no file is told as a bad row.
+fn import_of(alloc: Global, text: &str) -> Result<Command, RefusalKind> {
+    let mut bytes = Counted::new(text.as_bytes());
+    match read_forest(alloc, &mut bytes) {
+        Ok(forest) => Ok(Command::Import(forest)),
+        Err(_) => Err(RefusalKind::BadRow),
     }
 }
 
@@ -58,7 +101,7 @@ pub(crate) fn requests_of(
 ) -> Result<Result<Vec<Request>, RefusalKind>, AllocError> {
     let mut requests = Vec::new(alloc);
     for row in rows {
-        match parted(alloc, row)? {
+        match request_of(alloc, parted(alloc, row, '|')?.as_slice())? {
             Ok(request) => requests.push(request)?,
             Err(kind) => return Ok(Err(kind)),
         }
@@ -66,10 +109,11 @@ pub(crate) fn requests_of(
     Ok(Ok(requests))
 }
 
-fn parted(alloc: Global, row: &str) -> Result<Result<Request, RefusalKind>, AllocError> {
+/// The fields of a row that is one field itself, with this character between its own.
+fn parted<'a>(alloc: Global, row: &'a str, between: char) -> Result<Vec<&'a str>, AllocError> {
     let mut fields = Vec::new(alloc);
-    for field in row.split('|') {
+    for field in row.split(between) {
         fields.push(field)?;
     }
-    request_of(alloc, fields.as_slice())
+    Ok(fields)
 }

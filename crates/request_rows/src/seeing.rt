@@ -2,7 +2,7 @@
 
 use crate::looks::looks_row;
 use crate::rows::{refused, row_of_four, said, word};
-use archive_state::{Receipt, State, Token};
+use archive_state::{Change, Receipt, Slip, State, Token};
 use failing_archives::Failure;
 use records::{Record, RefusalKind, StoredLine, lines_of};
 use std::alloc::{AllocError, Global};
@@ -17,6 +17,7 @@ pub(crate) fn see(
     match asked {
         "! next" => said(alloc, "next", state.next().to_string(alloc)?.as_bytes()),
         "! show" => show(alloc, state, fields),
+        "! slip" => show_slip(alloc, state, fields),
         "! kept" => show_kept(alloc, state, fields),
         "! looks 40" => looks_row(alloc, state, Failure::BadStored, fields),
         "! looks 80" => looks_row(alloc, state, Failure::Storage, fields),
@@ -71,6 +72,44 @@ fn number_or_dash(alloc: Global, number: Option<u32>) -> Result<String, AllocErr
         Some(number) => Ok(number.to_string(alloc)?),
         None => String::from_str(alloc, "-"),
     }
+}
+
+/// What is kept of the merge at a number, or `none`: both persons and whether it was undone, and for each number that
+/// it changed the lines of before and of after.
+fn show_slip(alloc: Global, state: &State, fields: &[&str]) -> Result<Vec<u8>, AllocError> {
+    let [number] = fields else {
+        return refused(alloc, "", RefusalKind::FieldCount);
+    };
+    let Ok(number) = number.parse::<u32>() else {
+        return refused(alloc, "", RefusalKind::BadRow);
+    };
+    match state.slip(number) {
+        Some(slip) => slip_rows(alloc, slip),
+        None => word(alloc, "none"),
+    }
+}
+
+fn slip_rows(alloc: Global, slip: &Slip) -> Result<Vec<u8>, AllocError> {
+    let keep = slip.keep.to_string(alloc)?;
+    let gone = slip.gone.to_string(alloc)?;
+    let how = if slip.is_undone { "undone" } else { "done" };
+    let mut rows = row_of_four(alloc, "slip", keep.as_str(), gone.as_str(), how)?;
+    for change in &slip.changes {
+        push_change(alloc, &mut rows, change)?;
+    }
+    Ok(rows)
+}
+
+fn push_change(alloc: Global, rows: &mut Vec<u8>, change: &Change) -> Result<(), AllocError> {
+    let number = change.number.to_string(alloc)?;
+    rows.extend_from_slice(said(alloc, "changed", number.as_bytes())?.as_slice())?;
+    rows.extend_from_slice(line_rows(alloc, &change.old)?.as_slice())?;
+    let after = match &change.new {
+        Some(record) => line_rows(alloc, record)?,
+        None => word(alloc, "none")?,
+    };
+    rows.extend_from_slice(after.as_slice())?;
+    Ok(())
 }
 
 /// The answer and the digest that are kept under a token, or `none`.

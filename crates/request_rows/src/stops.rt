@@ -8,11 +8,10 @@ use failing_archives::{Asked, Fuses, Images, Reply, Words, make, visit_once, vis
 use records::RefusalKind;
 use std::alloc::{AllocError, Global};
 
-/// What is shown of a state before a request and after it.
+/// What is shown of a state before requests, after the first of them, and so on.
 #[derive(Drop)]
 struct Around {
-    before: Vec<u8>,
-    after: Vec<u8>,
+    pictures: Vec<Vec<u8>>,
 }
 
 impl Around {
@@ -20,17 +19,20 @@ impl Around {
         alloc: Global,
         state: &State,
         tokens: &[Token],
-        request: &Request,
+        requests: &[Request],
     ) -> Result<Around, AllocError> {
-        let before = picture(alloc, state, tokens)?;
         let mut stepped = copy(alloc, state, tokens)?;
-        let outcome = step(alloc, &mut stepped, request);
-        drop(outcome);
-        let after = picture(alloc, &stepped, tokens)?;
-        Ok(Around { before, after })
+        let mut pictures = Vec::new(alloc);
+        pictures.push(picture(alloc, &stepped, tokens)?)?;
+        for request in requests {
+            drop(step(alloc, &mut stepped, request));
+            pictures.push(picture(alloc, &stepped, tokens)?)?;
+        }
+        Ok(Around { pictures })
     }
 
-    /// Says which of the two a state is; `after` where both are the same.
+    /// Says how many requests are done in a state, the most that it can be: `before`, `after`, or a number of the
+    /// first; or `else`.
     fn say(
         &self,
         alloc: Global,
@@ -39,16 +41,34 @@ impl Around {
         words: &mut Words,
     ) -> Result<(), AllocError> {
         let shown = picture(alloc, state, tokens)?;
-        if shown.as_slice() == self.after.as_slice() {
-            words.say("after")
-        } else if shown.as_slice() == self.before.as_slice() {
-            words.say("before")
-        } else {
-            words.say("else")
+        match self.count_in(&shown) {
+            Some(count) => self.say_count(alloc, count, words),
+            None => words.say("else"),
         }
     }
 
-    /// Says the outcomes of a visit, and which of the two it found then.
+    fn say_count(&self, alloc: Global, count: usize, words: &mut Words) -> Result<(), AllocError> {
+        if Some(count) == self.pictures.len().checked_sub(1) {
+            words.say("after")
+        } else if count == 0 {
+            words.say("before")
+        } else {
+            words.say((count as u64).to_string(alloc)?.as_str())
+        }
+    }
+
+    /// How many requests are done where this is shown.
+    fn count_in(&self, shown: &[u8]) -> Option<usize> {
+        let mut found = None;
+        for i in 0..self.pictures.len() {
+            if self.pictures[i].as_slice() == shown {
+                found = Some(i);
+            }
+        }
+        found
+    }
+
+    /// Says the outcomes of a visit, and how many requests it found done then.
     fn say_found(
         &self,
         alloc: Global,
@@ -67,20 +87,47 @@ impl Around {
     }
 }
 
-/// A request, twice, on the archive in files that fail: what it answered; what is found when it is opened again; and
+/// One request, twice, on the archive in files that fail: what it answered; what is found when it is opened again; and
 /// what is answered and found when it is asked once more.
 pub(crate) fn stop_row(
     alloc: Global,
     kept: &Kept,
     state: &State,
     fuses: Fuses,
-    request: &Request,
+    request: Request,
 ) -> Result<Vec<u8>, AllocError> {
-    let around = Around::of(alloc, state, &kept.tokens, request)?;
+    let requests = [request];
+    let twice = Asked::Perform(&requests[0], 2);
+    let again = Asked::Perform(&requests[0], 1);
+    stopped_row(alloc, kept, state, fuses, &requests, twice, again)
+}
+
+/// The same of requests in one call.
+pub(crate) fn stop_run_row(
+    alloc: Global,
+    kept: &Kept,
+    state: &State,
+    fuses: Fuses,
+    requests: &[Request],
+) -> Result<Vec<u8>, AllocError> {
+    let asked = Asked::Run(requests);
+    stopped_row(alloc, kept, state, fuses, requests, asked, asked)
+}
+
+fn stopped_row(
+    alloc: Global,
+    kept: &Kept,
+    state: &State,
+    fuses: Fuses,
+    requests: &[Request],
+    asked: Asked<'_>,
+    again: Asked<'_>,
+) -> Result<Vec<u8>, AllocError> {
+    let around = Around::of(alloc, state, &kept.tokens, requests)?;
     let mut words = Words::new(alloc, "stop")?;
-    let (reply, left) = visit_once(alloc, &kept.images, fuses, Asked::Perform(request, 2))?;
+    let (reply, left) = visit_once(alloc, &kept.images, fuses, asked)?;
     words.say_reply(alloc, &reply)?;
-    let visits = visit_twice(alloc, &left, Asked::Nothing, Asked::Perform(request, 1))?;
+    let visits = visit_twice(alloc, &left, Asked::Nothing, again)?;
     around.say_found(alloc, &visits.first, &kept.tokens, &mut words)?;
     around.say_found(alloc, &visits.second, &kept.tokens, &mut words)?;
     words.into_row()

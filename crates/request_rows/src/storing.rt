@@ -4,7 +4,7 @@ use crate::archives::Archives;
 use crate::kept::Kept;
 use crate::reading::{request_of, requests_of};
 use crate::rows::{refused, said, word};
-use crate::stops::{say_made, stop_create_row, stop_row};
+use crate::stops::{say_made, stop_create_row, stop_row, stop_run_row};
 use archive_core::Request;
 use failing_archives::{Asked, Fuses, Images, Words, make, visit_altered, visit_once};
 use records::RefusalKind;
@@ -24,6 +24,7 @@ pub(crate) fn answer_stored(
         ("! society", []) => society_row(alloc, archives),
         ("! run", rows) => run(alloc, archives, rows),
         ("! stop", [file, calls, rest @ ..]) => stop(alloc, archives, file, calls, rest),
+        ("! stop run", [file, calls, rows @ ..]) => stop_run(alloc, archives, file, calls, rows),
         ("! stop create", [file, calls, society]) => stop_create(alloc, file, calls, society),
         ("! spoil", [sql, rest @ ..]) => spoil(alloc, archives, sql, rest),
         ("! adopt", [sql]) => adopt(alloc, sql),
@@ -104,7 +105,7 @@ fn stop(
         return refused(alloc, "", RefusalKind::BadRow);
     };
     match request_of(alloc, fields)? {
-        Ok(request) => stop_request(alloc, archives, fuses, &request),
+        Ok(request) => stop_request(alloc, archives, fuses, request),
         Err(kind) => refused(alloc, "", kind),
     }
 }
@@ -113,11 +114,43 @@ fn stop_request(
     alloc: Global,
     archives: &mut Archives,
     fuses: Fuses,
-    request: &Request,
+    request: Request,
 ) -> Result<Vec<u8>, AllocError> {
-    archives.note(alloc, request)?;
+    archives.note(alloc, &request)?;
     match &archives.kept {
         Some(kept) => stop_row(alloc, kept, &archives.decided, fuses, request),
+        None => word(alloc, "none"),
+    }
+}
+
+/// Requests in one call on a copy of the archive of which a file fails. A row is one field here.
+fn stop_run(
+    alloc: Global,
+    archives: &mut Archives,
+    file: &str,
+    calls: &str,
+    rows: &[&str],
+) -> Result<Vec<u8>, AllocError> {
+    let Some(fuses) = Fuses::of(file, calls) else {
+        return refused(alloc, "", RefusalKind::BadRow);
+    };
+    match requests_of(alloc, rows)? {
+        Ok(requests) => stop_requests(alloc, archives, fuses, &requests),
+        Err(kind) => refused(alloc, "", kind),
+    }
+}
+
+fn stop_requests(
+    alloc: Global,
+    archives: &mut Archives,
+    fuses: Fuses,
+    requests: &[Request],
+) -> Result<Vec<u8>, AllocError> {
+    for request in requests {
+        archives.note(alloc, request)?;
+    }
+    match &archives.kept {
+        Some(kept) => stop_run_row(alloc, kept, &archives.decided, fuses, requests),
         None => word(alloc, "none"),
     }
 }
