@@ -96,7 +96,7 @@ def requests(seed: int, count: int) -> list[list[str]]:
 
 def row_of(calls: list[list[str]]) -> bytes:
     """One call of several requests, each of them a field with bars between its own fields."""
-    return (",".join(["! run", *(field("|".join(one)) for one in calls)]) + "\n").encode()
+    return (",".join(["! run", *(field("|".join(map(str, one))) for one in calls)]) + "\n").encode()
 
 
 def judged(asked: list[list[str]], answers: list[list[str]], kept: set[str]) -> tuple[str | None, Counter[str]]:
