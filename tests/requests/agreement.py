@@ -84,7 +84,8 @@ class Requests(Rows):
             made = [f"t{place}", *self.file()]
         else:
             made = [f"t{place}", *self.good()]
-        self.given.append(made)
+        if made[1] != "child":  # it may be refused, and then its token is not kept
+            self.given.append(made)
         return made
 
 
