@@ -1,14 +1,15 @@
 -- A batch that is taken out, commit by commit.
-use Rattle.std.specs.Prelude.{ℕ, ◌≡◌, ◌⊎◌, ◌==◌, List, not, true, Result, OnOk}
-use Rattle.std.specs.List.{AllByRecursion, list_any}
+use Rattle.std.specs.Prelude.{ℕ, ◌≡◌, ◌⊎◌, ◌==◌, List, true, Result, OnOk}
+use Rattle.std.specs.List.{list_any}
 use Rattle.sqlite.specs.State.{State, HasCleanDisk}
 use Rattle.sqlite.specs.Tree.{Trees}
 use Rattle.archive_state.specs.Content.{Content}
 use Rattle.store_tables.specs.Calls.{Good, Settled}
-use Rattle.store_tables.specs.Rows.{Rows, BatchRow}
+use Rattle.store_tables.specs.Rows.{Rows}
 use Rattle.store_rows.specs.Meaning.{Means}
 use Rattle.store_rows.specs.Writing.{without_all_lines}
 use Rattle.staged_rows.specs.Removing.{IsAside}
+use Rattle.staged_rows.specs.Staging.{AreAllClosed}
 
 -- whatever a crash may leave is good, and has these rows or what a commit makes of them
 abbrev pub LeavesEither : State → Rows → Rows → Type 0
@@ -34,10 +35,6 @@ pub record Clears {A E : Type 0} (ns : List ℕ) (Is : Rows → Rows → Type 0)
 abbrev pub IsThinned : ℕ → Rows → Rows → Type 0
 IsThinned n rows after = (ks : List ℕ) → list_any (λ k. k == n) ks ≡ true
     → without_all_lines ks after ≡ without_all_lines ks rows
-
--- every batch is closed
-abbrev pub AreAllClosed : Rows → Type 0
-AreAllClosed rows = AllByRecursion (λ (b : BatchRow). not b.is_open ≡ true) rows.batches
 
 -- settled tables whose rows mean a content and are of a society, and which have closed batches alone
 abbrev pub IsCleared : State → List ℕ → Content → Type 0

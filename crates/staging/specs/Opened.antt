@@ -16,9 +16,6 @@ pub record Import : Type 0 where
   pub changes : Changes
   pub left : List StagedRow
 
-abbrev pub numbers_of : List Numbered → List ℕ
-numbers_of = map (λ (p : Numbered). p.number)
-
 -- ---- how far the rows are written
 -- the lines of these records that are left, of the first from a place on
 abbrev pub lines_left : ℕ → List Numbered → List StagedRow

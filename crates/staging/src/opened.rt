@@ -1,8 +1,7 @@
 //! An import that is open.
 
-ghost use Rattle.std.specs.Prelude.{◌≡◌, ◌↔◌, ◌∷◌, ◌++◌, [], ℕ, IfOk, OnOk, false, map};
-ghost use Rattle.archive_state.specs.declared.changes.Numbered.{Numbered};
-ghost use Rattle.staged_rows.specs.Staging.{rows_of_import};
+ghost use Rattle.std.specs.Prelude.{◌≡◌, ◌↔◌, ◌∷◌, ◌++◌, [], ℕ, IfOk, OnOk, false};
+ghost use Rattle.staged_rows.specs.Staging.{numbers_of, rows_of_import};
 
 use crate::cursor::Cursor;
 use archive_state::{Changes, Numbered};
@@ -23,7 +22,8 @@ pub struct OpenImport {
 
 impl Model for OpenImport {
     ghost use Rattle.std.specs.Prelude.{◌≡◌};
-    ghost use Rattle.staging.specs.Opened.{Import, IsPlaced, left_of, numbers_of};
+    ghost use Rattle.staged_rows.specs.Staging.{numbers_of};
+    ghost use Rattle.staging.specs.Opened.{Import, IsPlaced, left_of};
 
     ghost Value = { Import };
 
@@ -37,8 +37,6 @@ impl Model for OpenImport {
 }
 
 impl OpenImport {
-    ghost use Rattle.staging.specs.Opened.{numbers_of};
-
     /// An import of which no row is written yet. Its batch is to be there, and open.
     pub fn new(alloc: Global, batch: u32, changes: Changes) -> Result<OpenImport, AllocError>
         ensures { IfOk result (λ i. i ≡ record {
@@ -87,7 +85,7 @@ impl OpenImport {
 
 /// The numbers of these records.
 fn numbers_of(alloc: Global, puts: &[Numbered]) -> Result<Vec<u32>, AllocError>
-    ensures { IfOk result (λ numbers. numbers.items ≡ map (λ (p : Numbered). p.number) puts.now) }
+    ensures { IfOk result (λ numbers. numbers.items ≡ numbers_of puts.now) }
 {
     let mut numbers = Vec::with_capacity(alloc, puts.len())?;
     'puts: for put in puts {

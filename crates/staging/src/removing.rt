@@ -12,7 +12,8 @@ ghost use Rattle.store_tables.specs.Rows.{Rows};
 ghost use Rattle.store_rows.specs.Meaning.{Means, is_closed};
 ghost use Rattle.store_rows.specs.Writing.{without_all_lines, without_record_rows, without_records};
 ghost use Rattle.staged_rows.specs.Removing.{IsAside, without_batch};
-ghost use Rattle.staging.specs.Clearing.{AreAllClosed, Clears, IsCleared, IsThinned, LeavesMeaning};
+ghost use Rattle.staged_rows.specs.Staging.{AreAllClosed};
+ghost use Rattle.staging.specs.Clearing.{Clears, IsCleared, IsThinned, LeavesMeaning};
 
 use crate::clearing::{Failed, clear_batch, clear_lines, clear_lines_from, clear_rows};
 use record_text::RefusalKind;
