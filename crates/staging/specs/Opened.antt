@@ -1,5 +1,5 @@
 -- An import that is open, and how far its rows are written. Rules of our own.
-use Rattle.std.specs.Prelude.{ℕ, ◌≡◌, ◌<◌, ◌⊎◌, List, [], ◌∷◌, ◌++◌, map, take, drop, length}
+use Rattle.std.specs.Prelude.{ℕ, ◌≡◌, ◌<◌, ◌≤◌, ◌+◌, ◌⊎◌, List, [], ◌∷◌, ◌++◌, map, take, drop, length}
 use Rattle.std.specs.List.{flat_map}
 use Rattle.stored_lines.specs.Line.{Label}
 use Rattle.records.specs.Stored.{stored}
@@ -35,3 +35,11 @@ pub record IsPlaced (ps : List Numbered) (cursor : Cursor) : Type 0 where
   pub next : IsNext cursor.place cursor.lines.items (drop cursor.done ps)
   -- records whose lines are written can be read
   pub shallow : EachOf IsShallowPut (take cursor.done ps)
+
+-- one line more of the record whose lines are at hand: it has a next one, or they are all written
+abbrev pub GoesOn : Cursor → Cursor → Type 0
+GoesOn old new = (new.rows ≡ old.rows)
+    × (((old.place + 1 < length old.lines.items) × (new.place ≡ old.place + 1) × (new.done ≡ old.done)
+    × (new.lines.items ≡ old.lines.items))
+    ⊎ ((length old.lines.items ≤ old.place + 1) × (new.place ≡ 0) × (new.done ≡ old.done + 1)
+    × (new.lines.items ≡ [])))

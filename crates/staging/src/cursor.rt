@@ -1,7 +1,7 @@
 //! How far the rows of an import are written: first those of `record`, and then all lines.
 
-ghost use Rattle.std.specs.Prelude.{◌≡◌, ◌↔◌, false, []};
-ghost use Rattle.staging.specs.Opened.{IsPlaced, left_of};
+ghost use Rattle.std.specs.Prelude.{◌≡◌, ◌↔◌, ◌<◌, OnOk, false, []};
+ghost use Rattle.staging.specs.Opened.{GoesOn, IsPlaced, left_of};
 
 use archive_state::Numbered;
 use sqlite::Error;
@@ -43,7 +43,10 @@ impl Cursor {
     }
 
     /// One line more of the next record is written. `Err`: a `u32` counts no further.
-    pub(crate) fn go_on(&mut self) -> Result<(), Error> {
+    pub(crate) fn go_on(&mut self) -> Result<(), Error>
+        requires room { self.old.done < 18_446_744_073_709_551_615 }
+        ensures { OnOk result (GoesOn self.old self.new) }
+    {
         let Some(place) = self.place.checked_add(1) else {
             return Err(Error::IntegralValueOutOfRange(1));
         };
