@@ -3,13 +3,11 @@ neighbour that is sound (spoilt.py)."""
 
 from __future__ import annotations
 
-import os
-
 from archives import generated, lines
+from ends import each_growth_refused, refused_as_no_archive
 from exports import ARCHIVES
 from harness import Case, Tools, demand, expect, pipe_without_reader, refused, run, written
 from imports import Imported
-from memory import apart, built, refusing
 from spoilt import FILE, LATER, PAIRS, RECORDS, ROWS, Tables
 
 
@@ -87,14 +85,7 @@ def pair_of(tools, pair):
 
 
 def no_archive(tools):
-    with Audited(tools) as at:
-        expect(at.audit(), refused(82))
-        demand(not os.listdir(at.path), "a file was made")
-        with open(at.file, "wb") as file:
-            file.write(b"x" * 5_000)
-        expect(at.audit(), refused(80))
-    with Audited(tools) as at:
-        expect(at.made().other_database("UPDATE meta SET version = 2").audit(), refused(83))
+    refused_as_no_archive(Audited, tools, Audited.audit)
 
 
 def words_that_are_refused(tools):
@@ -118,17 +109,8 @@ def outputs_that_fail(tools):
 def refused_memory(tools):
     """1, or 80 where the database wanted it, never an answer that is not so."""
     with Audited(tools) as at:
-        library, whole = built(at.of_pairs().path), at.audit()
-        expect(whole, sound(RECORDS))
-        for number in apart():
-            mark = os.path.join(at.path, str(number))
-            got = at.audit(env=refusing(number, library, mark))
-            if not os.path.exists(mark):
-                expect(got, whole)
-                demand(number > 100, f"it has only {number} growths")
-                return
-            is_told = got.status == 1 and got.err in (refused(1).err, refused(80).err)
-            demand(is_told and whole.out.startswith(got.out), f"growth {number}: {got}")
+        expect(at.of_pairs().audit(), sound(RECORDS))
+        each_growth_refused(at, at.audit)
 
 
 TESTS = (

@@ -2,26 +2,16 @@
 
 from __future__ import annotations
 
-import os
 import sqlite3
-import subprocess
 
+import shown.gedcom
 from archives import Folder, generated, lines
+from ends import each_growth_refused, left_by_its_reader, refused_as_no_archive
 from harness import Case, Tools, demand, expect, pipe_without_reader, refused, run, written
-from memory import apart, built, refusing
 
 SOCIETY = "Ashby Society"
 
-HEADER = """0 HEAD
-1 SOUR PARISH
-1 SUBM @SOCIETY@
-1 GEDC
-2 VERS 5.5.1
-2 FORM LINEAGE-LINKED
-1 CHAR UTF-8
-0 @SOCIETY@ SUBM
-1 NAME Ashby Society
-"""
+HEADER = shown.gedcom.HEADER.format(SOCIETY)
 TRAILER = "0 TRLR\n"
 
 # Rows that are accepted in a new archive, and the records of its export, written by hand from docs/FORMATS.md.
@@ -339,14 +329,7 @@ def nothing_changes(tools):
 
 
 def no_archive(tools):
-    with Exported(tools) as at:
-        expect(at.export(), refused(82))
-        demand(not os.listdir(at.path), "a file was made")
-        with open(at.file, "wb") as file:
-            file.write(b"x" * 5_000)
-        expect(at.export(), refused(80))
-    with Exported(tools) as at:
-        expect(at.made().other_database("UPDATE meta SET version = 2").export(), refused(83))
+    refused_as_no_archive(Exported, tools, Exported.export)
 
 
 def an_output_that_is_full(tools):
@@ -368,33 +351,16 @@ def a_reader_that_leaves(tools):
     """In the middle of an export of 900,000 bytes: what it got is a beginning."""
     with Exported(tools) as at:
         whole = at.with_rows([f"p{n},person,{'x' * 100_000}," for n in range(9)]).export().out
-        process = subprocess.Popen([*at.parish, "export", at.file], stdout=subprocess.PIPE, stderr=subprocess.PIPE)
-        try:
-            got = process.stdout.read(300_000)
-            process.stdout.close()
-            told = process.stderr.read()
-            demand(process.wait(timeout=60) == 1 and told == refused(95).err, f"{process.returncode} {told!r}")
-        finally:
-            process.kill()
-            process.stderr.close()
-            process.wait()
-        demand(len(got) == 300_000 and whole.startswith(got), "no beginning")
+        demand(whole.startswith(left_by_its_reader([*at.parish, "export", at.file])), "no beginning")
 
 
 def refused_memory(tools):
     """1, or 80 where the database wanted it, behind a beginning; and the archive is as it was."""
     with Exported(tools) as at:
-        whole = at.with_rows(ARCHIVES["register entries, linked and not"][0]).export()
-        library = built(at.path)
-        for number in apart():
-            mark = os.path.join(at.path, str(number))
-            got = at.export(env=refusing(number, library, mark))
-            if not os.path.exists(mark):
-                expect(got, whole)
-                demand(number > 100, f"it has only {number} growths")
-                return
-            is_told = got.status == 1 and got.err in (refused(1).err, refused(80).err)
-            demand(is_told and whole.out.startswith(got.out), f"growth {number}: {got}")
+        at.with_rows(ARCHIVES["register entries, linked and not"][0])
+        before = at.tables()
+        each_growth_refused(at, at.export)
+        demand(at.tables() == before, "the tables changed")
 
 
 def spoilt_lines(tools):

@@ -4,15 +4,13 @@ docs/FORMATS.md and docs/LIVING.md, or is what the second reading in `shown/` ma
 from __future__ import annotations
 
 import datetime
-import os
 import sqlite3
-import subprocess
 
 from archives import lines
+from ends import each_growth_refused, left_by_its_reader, refused_as_no_archive
 from exports import HEADER, TRAILER
 from harness import Case, Outcome, Tools, demand, difference, expect, pipe_without_reader, refused, run, written
 from imports import Imported
-from memory import apart, built, refusing
 from shown.drawn import TODAY as DAY
 from shown.drawn import archive, date_of
 from shown.gedcom import exported
@@ -157,19 +155,8 @@ def words_that_are_refused(tools):
 
 
 def no_archive(tools):
-    with Shown(tools) as at:
-        for kind in KINDS:
-            expect(at.sheet(kind, 1), refused(82))
-        expect(at.public(), refused(82))
-        demand(not os.listdir(at.path), "a file was made")
-        with open(at.file, "wb") as file:
-            file.write(b"x" * 5_000)
-        expect(at.sheet("person", 1), refused(80))
-        expect(at.public(), refused(80))
-    with Shown(tools) as at:
-        at.made().other_database("UPDATE meta SET version = 2")
-        expect(at.sheet("person", 1), refused(83))
-        expect(at.public(), refused(83))
+    sheets = [lambda at, kind=kind: at.sheet(kind, 1) for kind in KINDS]
+    refused_as_no_archive(Shown, tools, Shown.public, *sheets)
 
 
 def lines_of_no_record(tools):
@@ -217,17 +204,7 @@ def outputs_that_fail(tools):
             with pipe_without_reader() as writing:
                 expect(call(stdout=writing), refused(95))
             demand(len(whole) > 900_000 and call() == written(whole), "the next call differs")
-        words = [*at.parish, "sheet", at.file, "person", "2", "--today", TODAY]
-        process = subprocess.Popen(words, stdout=subprocess.PIPE, stderr=subprocess.PIPE)
-        try:
-            got = process.stdout.read(300_000)
-            process.stdout.close()
-            told = process.stderr.read()
-            demand(process.wait(timeout=60) == 1 and told == refused(95).err, f"{process.returncode} {told!r}")
-        finally:
-            process.kill()
-            process.stderr.close()
-            process.wait()
+        got = left_by_its_reader([*at.parish, "sheet", at.file, "person", "2", "--today", TODAY])
         demand(at.sheet("person", 2).out.startswith(got), "no beginning")
         demand(at.tables() == before, "the tables changed")
 
@@ -235,23 +212,11 @@ def outputs_that_fail(tools):
 def refused_memory(tools):
     """1, or 80 where the database wanted it, behind a beginning; and the archive is as it was."""
     with Shown(tools) as at:
-        at.with_rows(LEES)
-        library, before = built(at.path), at.tables()
-        for call in (
-            lambda **how: at.sheet("person", 2, **how), lambda **how: at.sheet("pedigree", 1, **how),
+        before = at.with_rows(LEES).tables()
+        each_growth_refused(
+            at, lambda **how: at.sheet("person", 2, **how), lambda **how: at.sheet("pedigree", 1, **how),
             lambda **how: at.sheet("register", 9, **how), at.public,
-        ):
-            whole = call()
-            for number in apart():
-                mark = os.path.join(at.path, "mark")
-                got = call(env=refusing(number, library, mark))
-                if not os.path.exists(mark):
-                    expect(got, whole)
-                    demand(number > 100, f"it has only {number} growths")
-                    break
-                os.remove(mark)
-                is_told = got.status == 1 and got.err in (refused(1).err, refused(80).err)
-                demand(is_told and whole.out.startswith(got.out), f"growth {number}: {got}")
+        )
         demand(at.tables() == before, "the tables changed")
 
 

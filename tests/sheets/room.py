@@ -8,31 +8,14 @@ from urllib.parse import unquote_to_bytes
 
 from plain import Family, Person, Source
 from rules import NO_SUCH, WRONG_KIND, Sheets
+from visits import answer
 
-PHRASES = {
-    200: "OK",
-    400: "Bad Request",
-    404: "Not Found",
-    405: "Method Not Allowed",
-    431: "Request Header Fields Too Large",
-}
 MOST_BYTES, MOST_LINES = 8_192, 64
 TOKEN = rb"[!#$%&'*+\-.^_`|~0-9A-Za-z]+"
 LINE = TOKEN + rb":[\t -~\x80-\xff]*\r?\n"
 HEAD = re.compile(
     rb"(?:\r?\n)*(" + TOKEN + rb") ([!-~\x80-\xff]+) HTTP/1\.([01])\r?\n((?:" + LINE + rb")*)\r?\n"
 )
-
-
-def answer(status, page=None, with_page=True):
-    """The bytes of an answer; the page of a refusal is its phrase."""
-    body = (f"{PHRASES[status]}\n" if page is None else page).encode()
-    allow = "Allow: GET, HEAD\r\n" if status == 405 else ""
-    head = (
-        f"HTTP/1.1 {status} {PHRASES[status]}\r\n{allow}Content-Type: text/plain; charset=utf-8\r\n"
-        f"Content-Length: {len(body)}\r\nConnection: close\r\n\r\n"
-    )
-    return head.encode() + (body if with_page else b"")
 
 
 def value(query, name):

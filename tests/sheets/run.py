@@ -12,6 +12,7 @@ import sys
 sys.dont_write_bytecode = True
 HERE = pathlib.Path(__file__).resolve().parent
 sys.path.insert(0, str(HERE.parent / "archive"))
+sys.path.append(str(HERE.parent))
 
 import drawn  # noqa: E402
 import hands  # noqa: E402
@@ -21,8 +22,9 @@ from heads import Heads  # noqa: E402
 from memory import REFUSED, fault  # noqa: E402
 from plain import Family, Person, Source, lines  # noqa: E402
 from rows import Ask, Case, given, row  # noqa: E402
-from room import Room, answer  # noqa: E402
+from room import Room  # noqa: E402
 from rules import Sheets  # noqa: E402
+from visits import answer  # noqa: E402
 
 PROGRAM = HERE.parents[1] / "crates/state_rows/out/state_rows"
 TODAY = 19_723  # 2024-01-01

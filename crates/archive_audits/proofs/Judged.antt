@@ -12,6 +12,8 @@ use Rattle.audit.specs.Faults.{IsFault}
 use Rattle.store_tables.specs.Calls.{Settled}
 use Rattle.store_tables.specs.Looking.{IsFailure}
 use Rattle.store_tables.specs.Rows.{Rows}
+use Rattle.store_tables.specs.Schema.{archive_schema}
+use Rattle.store_tables.specs.Showing.{ShowsRows}
 use Rattle.store_rows.specs.Meaning.{Means, AreReadable}
 use Rattle.store_rows.proofs.OneContent.{one_content}
 use Rattle.store.specs.Archives.{Keeps}
@@ -32,15 +34,18 @@ fault_of old c (Some f) means is = λ rows was. (c, means rows was, is)
 -- where the rows were read
 pub read_judges : (old : State) (c : Content) (result : Result ℕ (RefusalKind × Option Fault))
     → ((rows : Rows) → Settled old rows → Means rows c)
+    → (old.now.schema ≡ archive_schema → (rows : Rows) × ShowsRows rows old × Means rows c)
     → IfOk result (λ n. IsSound c × (n ≡ length (keys c.records)))
     → IfErr result (λ e. (e.0 ≡ OutOfMemory) ⊎ ((e.0 ≡ BadStored) × ¬ (IsSound c)))
     → IfErr result (λ e. IfSome e.1 (IsFault c)) → Judges old result
-read_judges old c (Ok n) means good bad told = record {
+read_judges old c (Ok n) means shown good bad told = record {
+  only = λ has. let it = shown has in (it.0, it.1, (c, it.2, good.0, good.1));
   good = λ rows was. (c, means rows was, good.0, good.1);
   bad = tt;
   told = tt;
 }
-read_judges old c (Err e) means good bad told = record {
+read_judges old c (Err e) means shown good bad told = record {
+  only = tt;
   good = tt;
   bad = λ rows was. elim bad [
     | inl memory ↦ inl (inl memory)
@@ -53,6 +58,7 @@ read_judges old c (Err e) means good bad told = record {
 pub unread_judges : (old : State) (kind : RefusalKind) → ((rows : Rows) → Settled old rows
     → IsFailure kind ⊎ ((kind ≡ BadStored) × ¬ (AreReadable rows))) → Judges old (Err (kind, None))
 unread_judges old kind refused = record {
+  only = tt;
   good = tt;
   bad = λ rows was. elim (refused rows was) [
     | inl failure ↦ inl failure

@@ -11,6 +11,8 @@ use Rattle.audit.specs.Faults.{IsFault}
 use Rattle.store_tables.specs.Calls.{Settled, LeavesOnly}
 use Rattle.store_tables.specs.Looking.{IsFailure}
 use Rattle.store_tables.specs.Rows.{Rows}
+use Rattle.store_tables.specs.Schema.{archive_schema}
+use Rattle.store_tables.specs.Showing.{ShowsRows}
 use Rattle.store_rows.specs.Meaning.{Means}
 use Rattle.store.specs.Archives.{Keeps}
 
@@ -26,8 +28,13 @@ AreNone rows = (society : List ℕ) (c : Content) → ¬ (Keeps society c rows)
 abbrev pub AreFaulty : Fault → Rows → Type 0
 AreFaulty fault rows = (c : Content) × Means rows c × IsFault c fault
 
--- an answer only of good tables, 40 only of others, and else a failure; what is told is so
+-- whoever reads the tables is shown rows that mean what is sound
+abbrev pub ShowsGood : ℕ → State → Type 0
+ShowsGood n s = (rows : Rows) × ShowsRows rows s × AreGood n rows
+
+-- an answer only of good tables, whoever wrote the rows; 40 only of others, and else a failure; what is told is so
 pub record Judges (old : State) (result : Result ℕ (RefusalKind × Option Fault)) : Type 0 where
+  pub only : IfOk result (λ n. old.now.schema ≡ archive_schema → ShowsGood n old)
   pub good : IfOk result (λ n. (rows : Rows) → Settled old rows → AreGood n rows)
   pub bad : IfErr result (λ e. (rows : Rows) → Settled old rows
       → IsFailure e.0 ⊎ ((e.0 ≡ BadStored) × AreNone rows))

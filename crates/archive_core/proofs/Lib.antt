@@ -1,3 +1,4 @@
+mod Adding
 mod Following
 mod Room
 pub mod Serving

@@ -9,6 +9,8 @@ use Rattle.receipts.specs.declared.answer.Answer.{Answer}
 use Rattle.receipts.specs.declared.answer.Receipt.{Receipt}
 use Rattle.commands.specs.Bytes.{digest_of}
 use Rattle.commands.specs.Rows.{is_want}
+use Rattle.commands.specs.declared.command.Command.TheVariants as command
+use Rattle.gedcom_tree.specs.Forest.{Item}
 use Rattle.archive_core.specs.Steps.{Step, refused_at, step}
 use Rattle.archive_core.specs.declared.request.Request.{Request}
 
@@ -22,6 +24,10 @@ kept_under token digest (Err e) = Err e
 abbrev pub answered_again : Content → List ℕ → Receipt → Step
 answered_again c digest receipt =
     if bytes_eq receipt.digest digest then Ok (c, receipt.answer) else Err (refused_at None TokenReused)
+
+-- the request that imports a forest
+abbrev pub import_of : List ℕ → List Item → Request
+import_of token forest = record { token = token; command = command.Import forest }
 
 -- what a request leaves and is answered, by what is kept under its token
 abbrev pub served : Content → Request → Option Receipt → Step

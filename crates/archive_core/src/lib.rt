@@ -6,11 +6,12 @@
 //! changes, `records` for what is in it, and `commands` for the commands and their digests.
 //!
 //! Callers may rely on: `decide` over any view answers the changes that, made, are the step of the definitions, or
-//! its refusal, and changes nothing itself. `apply` makes changes on a state, all of them or none, and `step` does
-//! both.
+//! its refusal, and changes nothing itself; `decide_import` does the same of a forest that no request has. `apply`
+//! makes changes on a state, all of them or none, and `step` does both.
 #![tactic(auto)]
 
 mod applying;
+mod importing;
 pub mod laws;
 mod machine;
 mod request;
@@ -18,5 +19,6 @@ mod request;
 pub use applying::apply;
 pub use commands::{Command, Field, GivenDate, RowCommand};
 pub use gedcom_tree::Forest;
+pub use importing::decide_import;
 pub use machine::{decide, step};
 pub use request::Request;

@@ -11,6 +11,7 @@ ghost use Rattle.archive_core.specs.Steps.{step};
 ghost use Rattle.archive_core.specs.Words.{HasUtf8Words};
 ghost use Rattle.archive_looks.specs.Exact.{ChangesNothing, IsExact};
 ghost use Rattle.entry_batches.specs.Applied.{PlansAt};
+ghost use Rattle.import_steps.specs.Imports.{OnlyAdds};
 
 use crate::applying::apply;
 use crate::request::{Request, tell_words};
@@ -66,7 +67,7 @@ pub fn decide<V: View>(alloc: Global, view: &mut V, request: &Request) -> Result
 }
 
 /// The kept answer, where the command is the same.
-fn answer_again<V: View>(
+pub(crate) fn answer_again<V: View>(
     alloc: Global,
     view: &mut V,
     receipt: &Receipt,
@@ -74,6 +75,7 @@ fn answer_again<V: View>(
 ) -> Result<Changes, Refusal>
     ensures decides { On V.View view.old view.new (λ c. Decides c result (answered_again c digest.now receipt.now)) }
     ensures exact { On V.View view.old view.new (λ c. IfOk result (ChangesNothing c)) }
+    ensures adds { On V.View view.old view.new (λ c. IfOk result (OnlyAdds c)) }
     ensures counts { CountsStops (V.failed view.old) (V.failed view.new) result }
 {
     if receipt.digest.as_slice() != digest.as_slice() {
@@ -130,7 +132,7 @@ fn decide_command<V: View>(
 }
 
 /// The changes, with the receipt of their answer.
-fn with_receipt(changes: Changes, token: Token, digest: [u8; 32]) -> Changes
+pub(crate) fn with_receipt(changes: Changes, token: Token, digest: [u8; 32]) -> Changes
     ensures { result ≡ record changes {
       kept = Some (record { token = token; receipt = record { digest = digest; answer = changes.answer } });
     } }

@@ -37,8 +37,9 @@ fn push_nodes(alloc: Global, out: &mut String, nodes: &[Node]) -> Result<(), All
     Ok(())
 }
 
-/// The digest of the bytes of the command that imports a forest. The text of one record is put together at a time.
-pub(crate) fn forest_digest(alloc: Global, forest: &Forest) -> Result<[u8; 32], AllocError>
+/// The digest of the command that imports a forest, as `command_digest` answers it, of a forest that need not be part
+/// of a command. The text of one record is put together at a time. Refused only for want of memory.
+pub fn forest_digest(alloc: Global, forest: &Forest) -> Result<[u8; 32], AllocError>
     ensures { IfOk result (λ digest. digest ≡ digest_of (command.Import forest.now)) }
 {
     let mut hasher = Sha256::new();

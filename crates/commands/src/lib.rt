@@ -30,6 +30,7 @@ pub use command::Command;
 pub use digest::{command_bytes, command_digest};
 pub use entry_row::{EntryRow, EntryRows, GivenMention, GivenMentions};
 pub use field::{Field, FieldRow};
+pub use forest_bytes::forest_digest;
 pub use given::GivenDate;
 pub use row_command::RowCommand;
 pub use verb::Verb;

@@ -20,8 +20,8 @@ use Rattle.import_forest.specs.Made.{made}
 use Rattle.import_soundness.specs.Imported.{CountUp, imported, numbers}
 use Rattle.import_soundness.proofs.Drawn.{numbers_are_new}
 use Rattle.import_soundness.proofs.Whole.{imports_stay_sound}
-use Rattle.import_steps.specs.Imports.{answer_of, import_step}
-use Rattle.import_steps.proofs.Standing.{all_taken, ascend, below_stays, ends, none_before}
+use Rattle.import_steps.specs.Imports.{OnlyAdds, answer_of, import_step}
+use Rattle.import_steps.proofs.Standing.{all_taken, ascend, below_stays, ends, free_from, none_before, once}
 
 -- the numbers of a batch
 counted : (c : Content) (f : List Item) (b : Batch) → made c f ≡ Ok b → CountUp c.next b.next (numbers b)
@@ -87,6 +87,17 @@ made_is_exact c f b a e =
       new = λ sound. none_before c.records c.next (none_later c sound) b.records c.next b.next (omega arith) up;
       there = tt;
       slip = λ _. tt;
+    }
+
+pub made_adds : (c : Content) (f : List Item) (b : Batch) (a : Answer) → made c f ≡ Ok b → OnlyAdds c (changes_of b a)
+made_adds c f b a e =
+    let up = counted c f b e in
+    record {
+      numbers = up;
+      once = once (numbers b) (ascend (numbers b) c.next b.next up);
+      free = λ sound. free_from c.records c.next (none_later c sound) b.records c.next b.next (omega arith) up;
+      removals = refl;
+      slip = refl;
     }
 
 -- ---- the laws

@@ -1,10 +1,12 @@
 -- Where the records of a batch stand, whose numbers count up.
 use Rattle.std.proofs.Common.{◌≡◌, ℕ, ◌+◌, ◌<◌, ◌≤◌, List, [], ◌∷◌, refl, sym, ap, ◌∙◌, inl, inr, ◌⊎◌, subst, arith}
-use Rattle.std.specs.Prelude.{◌≢◌, Some, None, map}
+use Rattle.std.specs.Prelude.{◌≢◌, ◌==◌, ◌||◌, false, Some, None, map}
+use Rattle.std.specs.List.{list_any}
+use Rattle.std.proofs.lemmas.Bool.{ne_eqb}
 use Rattle.std.proofs.Math.Nat.{eq-or-lt_of_le}
 use Rattle.std.specs.FinMap.{get, insert}
 use Rattle.record_kinds.specs.declared.record.Record.{Record}
-use Rattle.record_shapes.specs.Lists.{Ascends, EachOf}
+use Rattle.record_shapes.specs.Lists.{Ascends, EachOf, IsOnce}
 use Rattle.archive_state.specs.Applied.{with_puts}
 use Rattle.archive_state.specs.Content.{Records}
 use Rattle.archive_state.specs.declared.changes.Numbered.{Numbered}
@@ -59,7 +61,27 @@ ascend (n ∷ ns) first end h =
     let here : n ≡ first = h.0 in
     (from_first ns (first + 1) end n (omega arith) h.1, ascend ns (first + 1) end h.1)
 
--- where none stands from a number on, each that is put there is new
+-- and each is there once
+none_equal : (n : ℕ) (ns : List ℕ) → EachOf (λ m. n < m) ns → list_any (λ m. m == n) ns ≡ false
+none_equal n [] above = refl
+none_equal n (m ∷ ns) above =
+    let differs : m ≢ n = λ e. omega (arith, above.0, e) in
+    ap (λ b. b || list_any (λ k. k == n) ns) (ne_eqb m n differs) ∙ none_equal n ns above.1
+
+pub once : (ns : List ℕ) → Ascends ns → IsOnce ns
+once [] h = tt
+once (n ∷ ns) h = (none_equal n ns h.0, once ns h.1)
+
+-- where none stands from a number on, none stands where one is put
+pub free_from : (m : Records) (next : ℕ) → ((n : ℕ) → next ≤ n → get m n ≡ None) → (ps : List Numbered)
+    (first end : ℕ) → next ≤ first → CountUp first end (numbers_of ps)
+    → EachOf (λ (p : Numbered). get m p.number ≡ None) ps
+free_from m next none [] first end low h = tt
+free_from m next none (p ∷ ps) first end low h =
+    let here : p.number ≡ first = h.0 in
+    (none p.number (omega arith), free_from m next none ps (first + 1) end (omega arith) h.1)
+
+-- so each that is put there is new
 pub none_before : (m : Records) (next : ℕ) → ((n : ℕ) → next ≤ n → get m n ≡ None) → (ps : List Numbered)
     (first end : ℕ) → next ≤ first → CountUp first end (numbers_of ps)
     → EachOf (λ (p : Numbered). get m p.number ≢ Some p.«record») ps

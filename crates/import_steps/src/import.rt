@@ -32,6 +32,8 @@ pub fn decide_import<V: View>(
         (λ c. PlansAt c result (imports.import_step c forest.now)) }
     ensures exact { OnView V.is_honest V.shows V.content view.old view.new
         (λ c. IfOk result (IsExact c)) }
+    ensures adds { OnView V.is_honest V.shows V.content view.old view.new
+        (λ c. IfOk result (imports.OnlyAdds c)) }
     ensures counts { CountsStops (V.failed view.old) (V.failed view.new) result }
 {
     let next = view.next(alloc)?;

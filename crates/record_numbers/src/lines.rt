@@ -38,7 +38,7 @@ fn line_with(alloc: Global, line: Carried, numbers: &[u32]) -> Result<Carried, A
         value,
         children,
     } = line;
-    let mut made = Vec::new(alloc);
+    let mut made = Vec::with_capacity(alloc, children.len())?;
     'children: for child in children {
         made.push(line_with(alloc, child, numbers)?)?;
     }
@@ -57,7 +57,7 @@ fn lines_with(
 ) -> Result<Vec<Carried>, AllocError>
     ensures { IfOk result (λ made. made.items ≡ merging.lines_with (number_at numbers.now) lines.items) }
 {
-    let mut made = Vec::new(alloc);
+    let mut made = Vec::with_capacity(alloc, lines.len())?;
     'lines: for line in lines {
         made.push(line_with(alloc, line, numbers)?)?;
     }

@@ -16,6 +16,7 @@ ghost use Rattle.import_forest.specs.Sides.{draft_at, drafts_from};
 ghost use Rattle.known_roots.specs.Views.{path_said};
 ghost use Rattle.root_drafts.specs.Drafts.{as_line};
 
+use crate::fitted::fit_draft;
 use crate::lines::line_of;
 use crate::sided::put_sides;
 use draft_reading::{Draft, draft_of};
@@ -80,5 +81,6 @@ fn draft_of_root(
     let known = KnownRoots { roots, paths };
     let mut draft = draft_of(alloc, &earlier, &known, line)?;
     put_sides(alloc, roots, position, sides, &mut draft)?;
+    fit_draft(&mut draft);
     Ok(draft)
 }

@@ -1,4 +1,5 @@
 pub mod Appending
+pub mod Called
 pub mod Finding
 pub mod Knowing
 pub mod Same

@@ -5,4 +5,5 @@ pub mod Sheets
 pub mod Pedigrees
 pub mod Known
 pub mod Pages
+pub mod Called
 pub mod Answers

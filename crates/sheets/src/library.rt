@@ -11,23 +11,31 @@ use crate::gathering::index_of;
 use crate::generations::Generations;
 use crate::pages::{index_by, surname_by};
 use crate::pedigrees::pedigree_by;
+use crate::surnames::surnames_of;
 use crate::{families, persons, registers};
 use export_index::Index;
 use records::{Record, RefusalKind};
 use shown_state::Shown;
 use std::alloc::{AllocError, Global};
 use std::marker::Model;
+use surname_index::SurnameIndex;
 
-/// A masked state with the index of its records, which is made once for many sheets. Contracts see the masked state.
+/// A masked state with the index of its records and that of their surnames, which are made once for many sheets.
+/// Contracts see the masked state.
 pub struct Library {
     shown: Shown,
     index: Index,
+    surnames: SurnameIndex,
 }
 
 // It is written out, so that no function above proves again how each part is dropped.
 impl Drop for Library {
     fn drop(self) {
-        let Library { shown: _, index: _ } = self;
+        let Library {
+            shown: _,
+            index: _,
+            surnames: _,
+        } = self;
     }
 }
 
@@ -38,6 +46,7 @@ impl Model for Library {
     ghost use Rattle.archive_state.specs.Content as content;
     ghost use Rattle.archive_state.specs.Sound.{IsSound};
     ghost use Rattle.export_index.specs.Index.{IsArranged, IsIndexOf};
+    ghost use Rattle.sheets.specs.Called.{AreCalled};
 
     ghost Value = { content.Content };
 
@@ -45,16 +54,22 @@ impl Model for Library {
 
     ghost view = { λ a. a.shown };
 
-    ghost invariant = { λ a. IsArranged a.index × (IsSound a.shown → IsIndexOf (map.entries a.shown.records) a.index) };
+    ghost invariant = { λ a. IsArranged a.index × (IsSound a.shown → IsIndexOf (map.entries a.shown.records) a.index)
+        × (IsSound a.shown → AreCalled a.shown.records a.surnames) };
 }
 
 impl Library {
-    /// A masked state with its index. Refused only for want of memory.
+    /// A masked state with its indices. Refused only for want of memory.
     pub fn new(alloc: Global, shown: Shown) -> Result<Library, AllocError>
         ensures { IfOk result (λ l. l ≡ shown) }
     {
         let index = index_of(alloc, &shown)?;
-        Ok(Library { shown, index })
+        let surnames = surnames_of(alloc, &shown, &index)?;
+        Ok(Library {
+            shown,
+            index,
+            surnames,
+        })
     }
 
     /// The sheet of a person, as `person_sheet` makes it.
@@ -135,6 +150,6 @@ impl Library {
         ensures { IsSound self.now
             → IfOk result (λ s. string_bytes s ≡ pages.surname_page self.now.records of.now) }
     {
-        surname_by(alloc, &self.shown, &self.index, of)
+        surname_by(alloc, &self.shown, &self.surnames, of)
     }
 }

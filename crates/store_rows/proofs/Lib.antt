@@ -7,6 +7,7 @@ pub mod OneContent
 mod Own
 mod Puts
 pub mod Seen
+mod Showing
 pub mod SidesParted
 pub mod SidesRead
 pub mod Slips

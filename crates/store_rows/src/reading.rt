@@ -7,6 +7,8 @@ ghost use Rattle.record_text.specs.declared.refusal.RefusalKind.TheVariants.{Bad
 ghost use Rattle.store_tables.specs.Calls.{Settled, LeavesOnly};
 ghost use Rattle.store_tables.specs.Looking.{IsFailure};
 ghost use Rattle.store_tables.specs.Rows.{Rows};
+ghost use Rattle.store_tables.specs.Schema.{archive_schema};
+ghost use Rattle.store_tables.specs.Showing.{ShowsRows};
 ghost use Rattle.store_rows.specs.Meaning.{Means, AreReadable};
 
 use crate::state::state_of;
@@ -23,6 +25,8 @@ pub fn read_state<S: Alter>(alloc: Global, conn: &mut Connection<S>) -> Result<S
     requires autocommit { conn.old.in_transaction ≡ false }
     ensures read { HasCleanDisk (state S.Store conn.new)
         → IfOk result (λ s. (rows : Rows) → Settled (state S.Store conn.old) rows → Means rows s) }
+    ensures shown { HasCleanDisk (state S.Store conn.new) → (state S.Store conn.old).now.schema ≡ archive_schema
+        → IfOk result (λ s. (rows : Rows) × ShowsRows rows (state S.Store conn.old) × Means rows s) }
     ensures same { HasCleanDisk (state S.Store conn.new)
         → IfOk result (λ _. (rows : Rows) → Settled (state S.Store conn.old) rows
         → Settled (state S.Store conn.new) rows) }

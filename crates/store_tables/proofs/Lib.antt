@@ -16,6 +16,7 @@ pub mod Preparing
 pub mod Queries
 pub mod ReadingRows
 pub mod Reopening
+pub mod Showing
 mod Statements
 mod Texts
 mod Typed

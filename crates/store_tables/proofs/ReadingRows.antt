@@ -37,7 +37,7 @@ use Rattle.record_text.specs.declared.refusal.RefusalKind.{RefusalKind}
 use Rattle.record_text.specs.Text.{IsTag, is_word}
 use Rattle.receipts.specs.Tokens.{IsToken, is_printable}
 use Rattle.store_tables.specs.Calls.{Settled, LeavesOnly}
-use Rattle.store_tables.specs.Conversion.{IsReadBy, ShowsTyped, EachWith}
+use Rattle.store_tables.specs.Conversion.{IsReadAs, ShowsTyped, EachWith}
 use Rattle.store_tables.specs.Looking.{IsFailure, Looks}
 use Rattle.store_tables.specs.Reading.{
   AreTyped,
@@ -70,12 +70,13 @@ pub token_utf8 : (t : List ℕ) → IsToken t → IsUtf8 t
 token_utf8 t is = IsUtf8-from_ascii t (ascii_of is_printable low_printable t is.printed)
 
 -- ---- the rows of a table
-each_is : {X Y : Type 0} (shown : X → Row) (read : X → Y) (xs : List X) (ys : List Y)
-    → EachWith (IsReadBy shown read) (map shown xs) ys → ys ≡ map read xs
-each_is shown read [] [] h = refl
-each_is shown read [] (y ∷ ys) h = absurd h
-each_is shown read (x ∷ xs) [] h = absurd h
-each_is shown read (x ∷ xs) (y ∷ ys) h = ap₂ (λ z zs. z ∷ zs) (h.0 x refl) (each_is shown read xs ys h.1)
+each_is : {X Y : Type 0} (shown : X → Row) (read : X → Y) (Shows : Row → Y → Type 0) (xs : List X) (ys : List Y)
+    → EachWith (IsReadAs shown read Shows) (map shown xs) ys → ys ≡ map read xs
+each_is shown read Shows [] [] h = refl
+each_is shown read Shows [] (y ∷ ys) h = absurd h
+each_is shown read Shows (x ∷ xs) [] h = absurd h
+each_is shown read Shows (x ∷ xs) (y ∷ ys) h =
+    ap₂ (λ z zs. z ∷ zs) (h.0.0 x refl) (each_is shown read Shows xs ys h.1)
 
 all_typed : {X : Type 0} (shown : X → Row) (IsTyped : X → Type 0) (xs : List X) → AllByRecursion IsTyped xs
     → AllByRecursion (ShowsTyped shown IsTyped) (map shown xs)
@@ -87,14 +88,14 @@ map_same [] = refl
 map_same (x ∷ xs) = ap (λ ys. x ∷ ys) (map_same xs)
 
 -- a query that shows the rows of a table, each of which is read as what it is
-module _ {X Y A : Type 0} (shown : X → Row) (read : X → Y) (IsTyped : X → Type 0) (items : A → List Y) (sql : List ℕ)
-    (params : Row) (old new : State) (result : Result A RefusalKind)
+module _ {X Y A : Type 0} (shown : X → Row) (read : X → Y) (Shows : Row → Y → Type 0) (IsTyped : X → Type 0)
+    (items : A → List Y) (sql : List ℕ) (params : Row) (old new : State) (result : Result A RefusalKind)
     (rows_of : Rows → List X) (shows : (rows : Rows) → Settled old rows → (all : List Row)
     → Shown sql params old new all → all ≡ map shown (rows_of rows))
     (typed : (rows : Rows) → AreTyped rows → AllByRecursion IsTyped (rows_of rows)) where
   abbrev Reads : Type 0
   Reads = HasCleanDisk new → IfOk result (λ a. (all : List Row) × Shown sql params old new all
-      × EachWith (IsReadBy shown read) all (items a))
+      × EachWith (IsReadAs shown read Shows) all (items a))
 
   abbrev Refuses : Type 0
   Refuses = HasCleanDisk new
@@ -103,8 +104,9 @@ module _ {X Y A : Type 0} (shown : X → Row) (read : X → Y) (IsTyped : X → 
 
   reads_all : Reads → HasCleanDisk new
       → IfOk result (λ a. (rows : Rows) → Settled old rows → items a ≡ map read (rows_of rows))
-  reads_all h clean = if_ok result (λ a was rows settled. each_is shown read (rows_of rows) (items a)
-      (subst (λ all. EachWith (IsReadBy shown read) all (items a)) (shows rows settled was.0 was.1) was.2)) (h clean)
+  reads_all h clean = if_ok result (λ a was rows settled. each_is shown read Shows (rows_of rows) (items a)
+      (subst (λ all. EachWith (IsReadAs shown read Shows) all (items a)) (shows rows settled was.0 was.1) was.2))
+      (h clean)
 
   only_fails : (kind : RefusalKind) (rows : Rows) → Settled old rows → IsFailure kind
       ⊎ ((all : List Row) × Shown sql params old new all × ¬ (AllByRecursion (ShowsTyped shown IsTyped) all))

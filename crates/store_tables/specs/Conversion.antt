@@ -20,6 +20,10 @@ read_meta rows = (rows.next, rows.society)
 abbrev pub IsReadBy : {X Y : Type 0} → (X → Row) → (X → Y) → Row → Y → Type 0
 IsReadBy {X} shown read row item = (x : X) → row ≡ shown x → item ≡ read x
 
+-- it is read so, and shows the item
+abbrev pub IsReadAs : {X Y : Type 0} → (X → Row) → (X → Y) → (Row → Y → Type 0) → Row → Y → Type 0
+IsReadAs shown read Shows row item = IsReadBy shown read row item × Shows row item
+
 -- the row shows something whose values are those of the program's types
 abbrev pub ShowsTyped : {X : Type 0} → (X → Row) → (X → Type 0) → Row → Type 0
 ShowsTyped {X} shown IsTyped row = (x : X) × (row ≡ shown x) × IsTyped x

@@ -8,5 +8,6 @@ pub mod Prepared
 pub mod Reading
 pub mod Rows
 pub mod Schema
+pub mod Showing
 pub mod Shown
 pub mod Telling

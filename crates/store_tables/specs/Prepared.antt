@@ -13,15 +13,29 @@ use Rattle.record_text.specs.declared.refusal.RefusalKind.TheVariants.{Storage, 
 use Rattle.store_tables.specs.Looking.{meta_query}
 use Rattle.store_tables.specs.Telling.{lacks, tells_no_archive}
 
+abbrev pub batch_query : List ℕ
+batch_query = codes "SELECT no, is_open FROM batch ORDER BY no"
+
+abbrev pub record_query : List ℕ
+record_query = codes "SELECT no, batch FROM record ORDER BY no"
+
+abbrev pub line_query : List ℕ
+line_query = codes "SELECT no, depth, tag, text, dst FROM line ORDER BY id"
+
 abbrev pub record_queries : List (List ℕ)
-record_queries = codes "SELECT no, is_open FROM batch ORDER BY no" ∷ codes "SELECT no, batch FROM record ORDER BY no"
-    ∷ codes "SELECT no, depth, tag, text, dst FROM line ORDER BY id" ∷ []
+record_queries = batch_query ∷ record_query ∷ line_query ∷ []
+
+abbrev pub receipt_query : List ℕ
+receipt_query = codes "SELECT token, digest, first, count FROM receipt ORDER BY id"
+
+abbrev pub slip_query : List ℕ
+slip_query = codes "SELECT no, keep, gone, undone FROM slip ORDER BY no"
+
+abbrev pub slip_line_query : List ℕ
+slip_line_query = codes "SELECT slip, side, no, depth, tag, text, dst FROM slip_line ORDER BY id"
 
 abbrev pub history_queries : List (List ℕ)
-history_queries =
-    codes "SELECT token, digest, first, count FROM receipt ORDER BY id"
-    ∷ codes "SELECT no, keep, gone, undone FROM slip ORDER BY no"
-    ∷ codes "SELECT slip, side, no, depth, tag, text, dst FROM slip_line ORDER BY id" ∷ []
+history_queries = receipt_query ∷ slip_query ∷ slip_line_query ∷ []
 
 -- the queries that read the tables
 abbrev pub all_queries : List (List ℕ)

@@ -10,10 +10,31 @@ ghost use Rattle.sqlite.specs.Values.{bound};
 ghost use Rattle.sqlite.proofs.Callers.{IsPlain};
 ghost use Rattle.store_tables.specs.Calls.{Settled, LeavesOnly};
 ghost use Rattle.store_tables.specs.Conversion.{EachWith, read_meta};
-ghost use Rattle.store_tables.specs.Looking.{IsFailure, Looks};
+ghost use Rattle.store_tables.specs.Looking.{IsFailure, Looks, meta_query};
 ghost use Rattle.store_tables.specs.Reading.{read_of, read_record, read_line, read_receipt, read_slip_line};
 ghost use Rattle.store_tables.specs.Rows.{Rows};
 ghost use Rattle.store_tables.specs.Schema.{archive_schema};
+ghost use Rattle.store_tables.specs.Prepared.{
+  batch_query,
+  record_query,
+  line_query,
+  receipt_query,
+  slip_query,
+  slip_line_query,
+};
+ghost use Rattle.store_tables.specs.Showing.{
+  ShowsBatch,
+  ShowsEach,
+  ShowsHistory,
+  ShowsLine,
+  ShowsMeta,
+  ShowsRead,
+  ShowsReceipt,
+  ShowsRecord,
+  ShowsRecords,
+  ShowsSlip,
+  ShowsSlipLine,
+};
 ghost use Rattle.store_tables.specs.Telling.{tells_no_archive};
 
 use crate::stored::{BatchRow, LineRow, ReceiptRow, RecordRow, SlipLineRow, SlipRow, StoredRows};
@@ -49,6 +70,9 @@ pub fn read_rows<S: Alter>(
 ) -> Result<StoredRows, RefusalKind>
     requires autocommit { conn.old.in_transaction ≡ false }
     ensures looks { Looks (λ rows read. read ≡ read_of rows) (state S.Store conn.old) (state S.Store conn.new) result }
+    ensures shown { HasCleanDisk (state S.Store conn.new) → (state S.Store conn.old).now.schema ≡ archive_schema
+        → IfOk result (λ read. ShowsRead read
+        (state S.Store conn.old) (state S.Store conn.new)) }
     ensures ended { conn.new.in_transaction ≡ false }
 {
     let meta = read_meta(alloc, conn)?;
@@ -82,6 +106,9 @@ pub(crate) fn read_meta<S: Alter>(
     requires autocommit { conn.old.in_transaction ≡ false }
     ensures looks { Looks (λ rows meta. meta ≡ read_meta rows) (state S.Store conn.old)
         (state S.Store conn.new) result }
+    ensures shown { HasCleanDisk (state S.Store conn.new) → (state S.Store conn.old).now.schema ≡ archive_schema
+        → IfOk result (λ meta. ShowsEach meta_query ShowsMeta (state S.Store conn.old)
+        (state S.Store conn.new) (meta ∷ [])) }
     ensures ended { conn.new.in_transaction ≡ false }
 {
     only(read_meta_rows(alloc, conn)?)
@@ -96,6 +123,9 @@ fn read_records_by_batch<S: Alter>(
     ensures looks { Looks (λ rows all. (all.0.items ≡ rows.batches) × (all.1.items ≡ map read_record rows.records)
         × (all.2.items ≡ map read_line rows.lines))
         (state S.Store conn.old) (state S.Store conn.new) result }
+    ensures shown { HasCleanDisk (state S.Store conn.new) → (state S.Store conn.old).now.schema ≡ archive_schema
+        → IfOk result (λ all. ShowsRecords all.0.items all.1.items all.2.items
+        (state S.Store conn.old) (state S.Store conn.new)) }
     ensures ended { conn.new.in_transaction ≡ false }
 {
     let batches = read_batches(alloc, conn)?;
@@ -113,6 +143,9 @@ fn read_history<S: Alter>(
     ensures looks { Looks (λ rows all. (all.0.items ≡ map read_receipt rows.receipts) × (all.1.items ≡ rows.slips)
         × (all.2.items ≡ map read_slip_line rows.slip_lines))
         (state S.Store conn.old) (state S.Store conn.new) result }
+    ensures shown { HasCleanDisk (state S.Store conn.new) → (state S.Store conn.old).now.schema ≡ archive_schema
+        → IfOk result (λ all. ShowsHistory all.0.items all.1.items all.2.items
+        (state S.Store conn.old) (state S.Store conn.new)) }
     ensures ended { conn.new.in_transaction ≡ false }
 {
     let receipts = read_receipts(alloc, conn)?;
@@ -128,6 +161,9 @@ fn read_meta_rows<S: Alter>(
     requires autocommit { conn.old.in_transaction ≡ false }
     ensures looks { Looks (λ rows items. items.items ≡ read_meta rows ∷ []) (state S.Store conn.old)
         (state S.Store conn.new) result }
+    ensures shown { HasCleanDisk (state S.Store conn.new) → (state S.Store conn.old).now.schema ≡ archive_schema
+        → IfOk result (λ items. ShowsEach meta_query ShowsMeta (state S.Store conn.old)
+        (state S.Store conn.new) items.items) }
     ensures ended { conn.new.in_transaction ≡ false }
 {
     read_all(alloc, conn, SELECT_META, &[])
@@ -141,6 +177,9 @@ pub fn read_batches<S: Alter>(
     requires autocommit { conn.old.in_transaction ≡ false }
     ensures looks { Looks (λ rows items. items.items ≡ rows.batches) (state S.Store conn.old)
         (state S.Store conn.new) result }
+    ensures shown { HasCleanDisk (state S.Store conn.new) → (state S.Store conn.old).now.schema ≡ archive_schema
+        → IfOk result (λ items. ShowsEach batch_query ShowsBatch (state S.Store conn.old)
+        (state S.Store conn.new) items.items) }
     ensures ended { conn.new.in_transaction ≡ false }
 {
     read_all(alloc, conn, SELECT_BATCHES, &[])
@@ -153,6 +192,9 @@ fn read_records<S: Alter>(
     requires autocommit { conn.old.in_transaction ≡ false }
     ensures looks { Looks (λ rows items. items.items ≡ map read_record rows.records) (state S.Store conn.old)
         (state S.Store conn.new) result }
+    ensures shown { HasCleanDisk (state S.Store conn.new) → (state S.Store conn.old).now.schema ≡ archive_schema
+        → IfOk result (λ items. ShowsEach record_query ShowsRecord (state S.Store conn.old)
+        (state S.Store conn.new) items.items) }
     ensures ended { conn.new.in_transaction ≡ false }
 {
     read_all(alloc, conn, SELECT_RECORDS, &[])
@@ -165,6 +207,9 @@ fn read_lines<S: Alter>(
     requires autocommit { conn.old.in_transaction ≡ false }
     ensures looks { Looks (λ rows items. items.items ≡ map read_line rows.lines) (state S.Store conn.old)
         (state S.Store conn.new) result }
+    ensures shown { HasCleanDisk (state S.Store conn.new) → (state S.Store conn.old).now.schema ≡ archive_schema
+        → IfOk result (λ items. ShowsEach line_query ShowsLine (state S.Store conn.old)
+        (state S.Store conn.new) items.items) }
     ensures ended { conn.new.in_transaction ≡ false }
 {
     read_all(alloc, conn, SELECT_LINES, &[])
@@ -177,6 +222,9 @@ fn read_receipts<S: Alter>(
     requires autocommit { conn.old.in_transaction ≡ false }
     ensures looks { Looks (λ rows items. items.items ≡ map read_receipt rows.receipts) (state S.Store conn.old)
         (state S.Store conn.new) result }
+    ensures shown { HasCleanDisk (state S.Store conn.new) → (state S.Store conn.old).now.schema ≡ archive_schema
+        → IfOk result (λ items. ShowsEach receipt_query ShowsReceipt (state S.Store conn.old)
+        (state S.Store conn.new) items.items) }
     ensures ended { conn.new.in_transaction ≡ false }
 {
     read_all(alloc, conn, SELECT_RECEIPTS, &[])
@@ -189,6 +237,9 @@ fn read_slips<S: Alter>(
     requires autocommit { conn.old.in_transaction ≡ false }
     ensures looks { Looks (λ rows items. items.items ≡ rows.slips) (state S.Store conn.old)
         (state S.Store conn.new) result }
+    ensures shown { HasCleanDisk (state S.Store conn.new) → (state S.Store conn.old).now.schema ≡ archive_schema
+        → IfOk result (λ items. ShowsEach slip_query ShowsSlip (state S.Store conn.old)
+        (state S.Store conn.new) items.items) }
     ensures ended { conn.new.in_transaction ≡ false }
 {
     read_all(alloc, conn, SELECT_SLIPS, &[])
@@ -201,6 +252,9 @@ fn read_slip_lines<S: Alter>(
     requires autocommit { conn.old.in_transaction ≡ false }
     ensures looks { Looks (λ rows items. items.items ≡ map read_slip_line rows.slip_lines) (state S.Store conn.old)
         (state S.Store conn.new) result }
+    ensures shown { HasCleanDisk (state S.Store conn.new) → (state S.Store conn.old).now.schema ≡ archive_schema
+        → IfOk result (λ items. ShowsEach slip_line_query ShowsSlipLine (state S.Store conn.old)
+        (state S.Store conn.new) items.items) }
     ensures ended { conn.new.in_transaction ≡ false }
 {
     read_all(alloc, conn, SELECT_SLIP_LINES, &[])

@@ -26,7 +26,7 @@ ghost use Rattle.receipts.specs.Tokens.{IsToken};
 ghost use Rattle.store_tables.specs.Conversion.{
   FailsUnless,
   read_meta,
-  IsReadBy,
+  IsReadAs,
   ShowsTyped,
   EachWith,
   IsLineAt,
@@ -41,6 +41,17 @@ ghost use Rattle.store_tables.specs.Reading.{
   read_line,
   read_receipt,
   read_slip_line,
+};
+ghost use Rattle.store_tables.specs.Showing.{
+  ShowsBatch,
+  ShowsFields,
+  ShowsLine,
+  ShowsMeta,
+  ShowsNumber,
+  ShowsReceipt,
+  ShowsRecord,
+  ShowsSlip,
+  ShowsSlipLine,
 };
 ghost use Rattle.store_tables.specs.Rows as rows;
 ghost use Rattle.store_tables.specs.Rows.{line_fields, words_or_null};
@@ -205,7 +216,7 @@ fn line_at(row: &Row, at: usize) -> Result<StoredLine, RefusalKind>
 }
 
 impl FromRow for BatchRow {
-    ghost reads_as = { IsReadBy shown_batch (λ (b : rows.BatchRow). b) };
+    ghost reads_as = { IsReadAs shown_batch (λ (b : rows.BatchRow). b) ShowsBatch };
 
     ghost is_readable = { ShowsTyped shown_batch (λ (b : rows.BatchRow). IsU32 b.no) };
 
@@ -218,7 +229,7 @@ impl FromRow for BatchRow {
 }
 
 impl FromRow for RecordRow {
-    ghost reads_as = { IsReadBy shown_record read_record };
+    ghost reads_as = { IsReadAs shown_record read_record ShowsRecord };
 
     ghost is_readable = { ShowsTyped shown_record (λ (r : rows.RecordRow). IsU32 r.no × IsU32 r.batch) };
 
@@ -231,7 +242,7 @@ impl FromRow for RecordRow {
 }
 
 impl FromRow for LineRow {
-    ghost reads_as = { IsReadBy shown_line read_line };
+    ghost reads_as = { IsReadAs shown_line read_line ShowsLine };
 
     ghost is_readable = { ShowsTyped shown_line (λ (l : rows.LineRow). IsU32 l.no × IsTypedLine l.line) };
 
@@ -244,7 +255,7 @@ impl FromRow for LineRow {
 }
 
 impl FromRow for StoredLine {
-    ghost reads_as = { IsReadBy (λ (l : rows.LineRow). line_fields l.line) (λ (l : rows.LineRow). l.line) };
+    ghost reads_as = { IsReadAs (λ (l : rows.LineRow). line_fields l.line) (λ (l : rows.LineRow). l.line) ShowsFields };
 
     ghost is_readable = { ShowsTyped (λ (l : rows.LineRow). line_fields l.line)
         (λ (l : rows.LineRow). IsTypedLine l.line) };
@@ -255,7 +266,7 @@ impl FromRow for StoredLine {
 }
 
 impl FromRow for u32 {
-    ghost reads_as = { IsReadBy (λ (l : rows.LineRow). Int (pos l.no) ∷ []) (λ (l : rows.LineRow). l.no) };
+    ghost reads_as = { IsReadAs (λ (l : rows.LineRow). Int (pos l.no) ∷ []) (λ (l : rows.LineRow). l.no) ShowsNumber };
 
     ghost is_readable = { ShowsTyped (λ (l : rows.LineRow). Int (pos l.no) ∷ []) (λ (l : rows.LineRow). IsU32 l.no) };
 
@@ -265,7 +276,7 @@ impl FromRow for u32 {
 }
 
 impl FromRow for ReceiptRow {
-    ghost reads_as = { IsReadBy shown_receipt read_receipt };
+    ghost reads_as = { IsReadAs shown_receipt read_receipt ShowsReceipt };
 
     ghost is_readable = { ShowsTyped shown_receipt (λ (r : rows.ReceiptRow). IsToken r.token
         × IsTypedReceipt r.receipt) };
@@ -283,7 +294,7 @@ impl FromRow for ReceiptRow {
 }
 
 impl FromRow for SlipRow {
-    ghost reads_as = { IsReadBy shown_slip (λ (s : rows.SlipRow). s) };
+    ghost reads_as = { IsReadAs shown_slip (λ (s : rows.SlipRow). s) ShowsSlip };
 
     ghost is_readable = { ShowsTyped shown_slip IsTypedSlip };
 
@@ -298,7 +309,7 @@ impl FromRow for SlipRow {
 }
 
 impl FromRow for SlipLineRow {
-    ghost reads_as = { IsReadBy shown_slip_line read_slip_line };
+    ghost reads_as = { IsReadAs shown_slip_line read_slip_line ShowsSlipLine };
 
     ghost is_readable = { ShowsTyped shown_slip_line (λ (s : rows.SlipLineRow). IsU32 s.slip × IsU32 s.no
         × IsTypedLine s.line) };
@@ -332,7 +343,7 @@ impl Model for Meta {
 }
 
 impl FromRow for Meta {
-    ghost reads_as = { IsReadBy shown_meta read_meta };
+    ghost reads_as = { IsReadAs shown_meta read_meta ShowsMeta };
 
     ghost is_readable = { ShowsTyped shown_meta (λ (r : rows.Rows). IsText r.society) };
 

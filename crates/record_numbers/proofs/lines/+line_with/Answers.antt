@@ -1,4 +1,4 @@
-use Rattle.std.proofs.Common.{◌≡◌, ◌∙◌, ◌<◌, List, [], map, rules, ap, sym, arith}
+use Rattle.std.proofs.Common.{◌≡◌, ◌∙◌, ◌<◌, [], map, ap, sym, arith}
 use Rattle.std.proofs.lemmas.Grind.{common_steps}
 use Rattle.std.specs.Vec.Iter.{into_iter_items}
 use Rattle.stored_lines.specs.Tree.{Tree, label, relabel, forest_of}
@@ -16,8 +16,8 @@ children-init t c = record {
   value = ap (λ (u : Tree Line). (label u).value) c.line.view_is;
   made = begun (merging.line_with (number_at c.args.numbers.now)) c.args.line
       (record { tag = c.line.inside.tag; value = c.line.inside.value }) c.line.inside.children.items
-      c.new-made.result.items (into_iter_items c.into_iter-child-iterator.result) (sym c.line.view_is)
-      c.new-made.ensures.items c.into_iter-child-iterator.ensures.into_iter_gives.0;
+      c.in_ok-made.made.items (into_iter_items c.into_iter-child-iterator.result) (sym c.line.view_is)
+      c.in_ok-made.ensures.items c.into_iter-child-iterator.ensures.into_iter_gives.0;
 }
 
 pub invariant_of-result : goal.invariant_of-result

@@ -26,6 +26,6 @@ pub returns-clause-draft : goal.returns-clause-draft
 returns-clause-draft c =
     let ks = c.args.roots.now in
     let k = c.args.position in
-    c.in_ok-put_sides.ensures ∙ ap (root_with_sides (roots ks) k) (read_is ks c.args.paths.now k
+    c.fit_draft.ensures ∙ c.in_ok-put_sides.ensures ∙ ap (root_with_sides (roots ks) k) (read_is ks c.args.paths.now k
     (draft_tree c.in_ok-draft.draft) c.in_ok-line.line (as_line (place_in ks) (tree_of c.args.node.now))
     c.requires.paths c.in_ok-line.ensures.line c.in_ok-draft.ensures)

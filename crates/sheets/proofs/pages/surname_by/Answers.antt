@@ -1,14 +1,11 @@
-use Rattle.std.proofs.Common.{ap, ◌∙◌, List, ℕ, string_bytes}
+use Rattle.std.proofs.Common.{ap, string_bytes}
 use Rattle.archive_state.specs.Content.{Content}
-use Rattle.sheets.specs.Gathered.{Gathered, gathered}
-use Rattle.sheets.specs.Pages as pages
-use Rattle.sheets.proofs.Appending.{made}
+use Rattle.record_text.specs.Naming.{key_of}
+use Rattle.sheets.proofs.Called.{page_is}
 use Rattle.sheets.proofs.pages.surname_by.Goals as goal
 
 pub returns : goal.returns
-returns c = λ is. made (λ (g : Gathered). pages.surname_text g c.as_str.result.now) c.args.shown.now.records
-    c.as_state.result.now.records c.args.index.now (string_bytes c.new-out.result) _ c.new-out.ensures.bytes
-    (ap (λ (x : Content). x.records) c.as_state.ensures) is
+returns c = λ called. page_is c.args.shown.now.records c.as_state.result.now.records c.args.surnames.now
+    (key_of c.args.of.now) c.in_ok-numbers.numbers.now (string_bytes c.new-out.result) _
+    (ap (λ (x : Content). x.records) c.as_state.ensures) called c.in_ok-numbers.ensures c.new-out.ensures.bytes
     c.in_ok-push_persons.ensures
-    ∙ ap (λ (key : List ℕ). pages.surname_text (gathered c.args.shown.now.records) key)
-    (c.as_str.ensures.value ∙ c.in_ok-key.ensures)

@@ -1,5 +1,9 @@
 use Rattle.std.proofs.Common.{inl, inr, sym}
 use Rattle.std.proofs.lemmas.Result.{IfErr-weaker}
+use Rattle.sqlite.specs.Held.{state}
+use Rattle.store_tables.proofs.Calls.{if_ok}
+use Rattle.store_tables.proofs.Showing.{read_at}
+use Rattle.store_rows.proofs.Showing.{shown_rows}
 use Rattle.store_rows.proofs.reading.read_state.Goals as goal
 
 pub returns-clause-refused : goal.returns-clause-refused
@@ -8,3 +12,10 @@ returns-clause-refused g c clean =
       | inl memory ↦ inl (inl memory)
       | inr bad ↦ inr (bad.0, bad.1 rows (sym (c.in_ok-read.ensures.looks.read clean rows was)))
     ]) c.state_of.ensures.refused
+
+pub returns-clause-shown : goal.returns-clause-shown
+returns-clause-shown g c clean has =
+    let old = state g.S.Store c.args.conn.now in
+    let shown = read_at old (state g.S.Store c.read_rows.new.conn) _ has (c.in_ok-read.ensures.shown clean has) in
+    if_ok c.state_of.result (λ held means. shown_rows old _ held means shown)
+    c.state_of.ensures.read

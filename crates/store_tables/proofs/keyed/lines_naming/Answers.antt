@@ -4,6 +4,7 @@ use Rattle.sqlite.specs.declared.types.Value.TheVariants.{Int}
 use Rattle.store_tables.specs.Reading.{IsU32, IsTypedLine}
 use Rattle.store_tables.specs.Rows.{LineRow}
 use Rattle.store_tables.specs.Keyed.{is_number}
+use Rattle.store_tables.specs.Showing.{ShowsNumber}
 use Rattle.store_tables.proofs.Coded.{kept_by}
 use Rattle.store_tables.proofs.KeyedQueries.{reads_naming}
 use Rattle.store_tables.proofs.KeyedTexts.{lines_naming, lines_naming_plain}
@@ -19,7 +20,7 @@ returns-clause-looks g c =
     let old = state g.S.Store c.args.conn.now in
     let new = state g.S.Store c.read_all.new.conn in
     let did = c.read_all.ensures in
-    looks_all (λ (l : LineRow). Int (pos l.no) ∷ []) (λ (l : LineRow). l.no) (λ (l : LineRow). IsU32 l.no)
+    looks_all (λ (l : LineRow). Int (pos l.no) ∷ []) (λ (l : LineRow). l.no) ShowsNumber (λ (l : LineRow). IsU32 l.no)
     (λ items. items.items) lines_naming (Int (pos c.args.number) ∷ []) old new c.read_all.result
     (λ rows. filter (λ (x : LineRow). is_number c.args.number x.line.1.target) rows.lines)
     (λ rows was all shown. reads_naming old new c.args.number all rows was.schema was.good.holds shown)

@@ -4,6 +4,7 @@ use Rattle.sqlite.specs.declared.types.Value.TheVariants.{Int, Text}
 use Rattle.store_tables.specs.Reading.{IsU32, IsTypedLine}
 use Rattle.store_tables.specs.Rows.{LineRow}
 use Rattle.store_tables.specs.Keyed.{is_number, is_text}
+use Rattle.store_tables.specs.Showing.{ShowsNumber}
 use Rattle.store_tables.proofs.Coded.{kept_by}
 use Rattle.store_tables.proofs.KeyedQueries.{reads_saying_of}
 use Rattle.store_tables.proofs.KeyedTexts.{lines_saying_of, lines_saying_of_plain}
@@ -19,7 +20,7 @@ returns-clause-looks g c =
     let old = state g.S.Store c.args.conn.now in
     let new = state g.S.Store c.read_all.new.conn in
     let did = c.read_all.ensures in
-    looks_all (λ (l : LineRow). Int (pos l.no) ∷ []) (λ (l : LineRow). l.no) (λ (l : LineRow). IsU32 l.no)
+    looks_all (λ (l : LineRow). Int (pos l.no) ∷ []) (λ (l : LineRow). l.no) ShowsNumber (λ (l : LineRow). IsU32 l.no)
     (λ items. items.items) lines_saying_of (Text c.args.text.now ∷ Int (pos c.args.number) ∷ []) old new
     c.read_all.result (λ rows. filter
     (λ (x : LineRow). is_text c.args.text.now x.line.1.text && is_number c.args.number x.line.1.target) rows.lines)

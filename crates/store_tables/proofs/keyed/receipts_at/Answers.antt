@@ -5,6 +5,7 @@ use Rattle.receipts.specs.Tokens.{IsToken}
 use Rattle.store_tables.specs.Reading.{IsTypedReceipt, read_receipt}
 use Rattle.store_tables.specs.Rows.{ReceiptRow}
 use Rattle.store_tables.specs.Shown.{shown_receipt}
+use Rattle.store_tables.specs.Showing.{ShowsReceipt}
 use Rattle.store_tables.proofs.Coded.{kept_by}
 use Rattle.store_tables.proofs.KeyedQueries.{reads_receipts_at}
 use Rattle.store_tables.proofs.KeyedTexts.{receipts_at, receipts_at_plain}
@@ -19,7 +20,7 @@ returns-clause-looks g c =
     let old = state g.S.Store c.args.conn.now in
     let new = state g.S.Store c.read_all.new.conn in
     let did = c.read_all.ensures in
-    looks_all shown_receipt read_receipt (λ (r : ReceiptRow). IsToken r.token × IsTypedReceipt r.receipt)
+    looks_all shown_receipt read_receipt ShowsReceipt (λ (r : ReceiptRow). IsToken r.token × IsTypedReceipt r.receipt)
     (λ items. items.items) receipts_at (Text c.args.token.now ∷ []) old new c.read_all.result
     (λ rows. filter (λ (x : ReceiptRow). bytes_eq x.token c.args.token.now) rows.receipts)
     (λ rows was all shown. reads_receipts_at old new c.args.token.now all rows was.schema was.good.holds shown)

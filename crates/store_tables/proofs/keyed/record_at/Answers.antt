@@ -8,7 +8,8 @@ use Rattle.store_tables.proofs.keyed.record_at.Goals as goal
 pub returns-clause-looks : goal.returns-clause-looks
 returns-clause-looks g c =
     looks_with c.at_most_one.result c.in_ok-records_at.ensures.looks
-    (if_ok c.at_most_one.result (λ found is rows was. subst (λ xs. IsOnly xs found) was.0 is) c.at_most_one.ensures.ok)
+    (if_ok c.at_most_one.result (λ found is rows was. subst (λ xs. IsOnly xs found) was.0 is)
+    c.at_most_one.ensures.ok)
     (IfErr-weaker c.at_most_one.result _ _
     (λ kind why rows was. elim why [ inl memory ↦ inl memory | inr bad ↦ absurd (bad.1 was.1) ])
     c.at_most_one.ensures.err)

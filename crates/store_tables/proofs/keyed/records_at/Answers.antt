@@ -5,6 +5,7 @@ use Rattle.sqlite.specs.declared.types.Value.TheVariants.{Int}
 use Rattle.store_tables.specs.Reading.{IsU32, read_record}
 use Rattle.store_tables.specs.Rows.{RecordRow}
 use Rattle.store_tables.specs.Shown.{shown_record}
+use Rattle.store_tables.specs.Showing.{ShowsRecord}
 use Rattle.store_tables.proofs.Coded.{kept_by}
 use Rattle.store_tables.proofs.KeyedQueries.{reads_record, one_at_most}
 use Rattle.store_tables.proofs.KeyedTexts.{record_at, record_at_plain}
@@ -25,7 +26,8 @@ returns-clause-looks g c =
       rw (is, length-map found read_record)
           (one_at_most (λ (x : RecordRow). x.no) c.args.number rows.records was.good.holds.records.rise),
     )) (
-    looks_all shown_record read_record (λ (r : RecordRow). IsU32 r.no × IsU32 r.batch) (λ items. items.items) record_at
+    looks_all shown_record read_record ShowsRecord (λ (r : RecordRow). IsU32 r.no × IsU32 r.batch) (λ items.
+    items.items) record_at
     (Int (pos c.args.number) ∷ []) old new c.read_all.result
     (λ rows. filter (λ (x : RecordRow). x.no == c.args.number) rows.records)
     (λ rows was all shown. reads_record old new c.args.number all rows was.schema was.good.holds shown)

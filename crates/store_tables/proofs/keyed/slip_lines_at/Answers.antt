@@ -4,6 +4,7 @@ use Rattle.sqlite.specs.declared.types.Value.TheVariants.{Int}
 use Rattle.store_tables.specs.Reading.{IsU32, IsTypedLine, read_slip_line}
 use Rattle.store_tables.specs.Rows.{SlipLineRow}
 use Rattle.store_tables.specs.Shown.{shown_slip_line}
+use Rattle.store_tables.specs.Showing.{ShowsSlipLine}
 use Rattle.store_tables.proofs.Coded.{kept_by}
 use Rattle.store_tables.proofs.KeyedQueries.{reads_slip_lines_at}
 use Rattle.store_tables.proofs.KeyedTexts.{slip_lines_at, slip_lines_at_plain}
@@ -18,7 +19,8 @@ returns-clause-looks g c =
     let old = state g.S.Store c.args.conn.now in
     let new = state g.S.Store c.read_all.new.conn in
     let did = c.read_all.ensures in
-    looks_all shown_slip_line read_slip_line (λ (s : SlipLineRow). IsU32 s.slip × IsU32 s.no × IsTypedLine s.line)
+    looks_all shown_slip_line read_slip_line ShowsSlipLine (λ (s : SlipLineRow). IsU32 s.slip × IsU32 s.no ×
+    IsTypedLine s.line)
     (λ items. items.items) slip_lines_at (Int (pos c.args.slip) ∷ []) old new c.read_all.result
     (λ rows. filter (λ (x : SlipLineRow). x.slip == c.args.slip) rows.slip_lines)
     (λ rows was all shown. reads_slip_lines_at old new c.args.slip all rows was.schema was.good.holds shown)

@@ -4,6 +4,7 @@ use Rattle.sqlite.specs.declared.types.Value.TheVariants.{Int}
 use Rattle.store_tables.specs.Reading.{IsTypedSlip}
 use Rattle.store_tables.specs.Rows.{SlipRow}
 use Rattle.store_tables.specs.Shown.{shown_slip}
+use Rattle.store_tables.specs.Showing.{ShowsSlip}
 use Rattle.store_tables.proofs.Coded.{kept_by}
 use Rattle.store_tables.proofs.KeyedQueries.{reads_slip, one_at_most}
 use Rattle.store_tables.proofs.KeyedTexts.{slip_at, slip_at_plain}
@@ -21,7 +22,7 @@ returns-clause-looks g c =
     looks_where c.read_all.result
     (λ rows was items is. let e = is ∙ map_same (filter (λ (x : SlipRow). x.no == c.args.number) rows.slips) in
     (e, rw e (one_at_most (λ (x : SlipRow). x.no) c.args.number rows.slips was.good.holds.slips.rise))) (
-    looks_all shown_slip (λ (s : SlipRow). s) IsTypedSlip (λ items. items.items) slip_at
+    looks_all shown_slip (λ (s : SlipRow). s) ShowsSlip IsTypedSlip (λ items. items.items) slip_at
     (Int (pos c.args.number) ∷ []) old new c.read_all.result
     (λ rows. filter (λ (x : SlipRow). x.no == c.args.number) rows.slips)
     (λ rows was all shown. reads_slip old new c.args.number all rows was.schema was.good.holds shown)

@@ -1,5 +1,8 @@
-use Rattle.std.proofs.Common.{inl, inr, ap, length, sym, ◌∙◌}
+use Rattle.std.proofs.Common.{inl, inr, ap, length, sym, subst, ◌∙◌}
 use Rattle.std.proofs.lemmas.Result.{IfErr-weaker}
+use Rattle.sqlite.specs.Held.{state}
+use Rattle.store_tables.specs.Looking.{meta_query}
+use Rattle.store_tables.specs.Showing.{ShowsEach, ShowsMeta}
 use Rattle.store_tables.proofs.Calls.{if_ok}
 use Rattle.store_tables.proofs.ReadingRows.{looks_with}
 use Rattle.store_tables.proofs.reading.read_meta.Goals as goal
@@ -13,3 +16,10 @@ returns-clause-looks g c =
       | inr bad ↦
           absurd (bad.1 (ap length was))
     ]) c.only.ensures.err)
+
+pub returns-clause-shown : goal.returns-clause-shown
+returns-clause-shown g c clean has =
+    if_ok c.only.result
+    (λ meta is. subst (ShowsEach meta_query ShowsMeta (state g.S.Store c.args.conn.now)
+    (state g.S.Store c.read_meta_rows.new.conn)) is (c.in_ok-read_meta_rows.ensures.shown clean has))
+    c.only.ensures.ok

@@ -8,7 +8,8 @@ pub returns-in_err-prepare_records-clause-told : goal.returns-in_err-prepare_rec
 returns-in_err-prepare_records-clause-told g c =
     prepared_lost (meta_query ∷ record_queries) history_queries c.from_residual-in_err-prepare_records.result
     (search rules)
-    (prepared_then (meta_query ∷ []) record_queries c.in_ok-prepare.ensures.told c.in_err-prepare_records.ensures.told)
+    (prepared_then (meta_query ∷ []) record_queries c.in_ok-prepare.ensures.told
+    c.in_err-prepare_records.ensures.told)
 
 pub returns-clause-told : goal.returns-clause-told
 returns-clause-told g c =

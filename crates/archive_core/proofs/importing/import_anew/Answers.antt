@@ -1,0 +1,26 @@
+use Rattle.std.proofs.Common.{sym, subst}
+use Rattle.archive_looks.specs.Exact.{IsExact}
+use Rattle.archive_steps.proofs.Exactness.{kept_is_exact}
+use Rattle.import_steps.specs.Imports.{OnlyAdds}
+use Rattle.archive_core.proofs.Adding.{kept_adds}
+use Rattle.archive_core.proofs.importing.import_anew.Goals as goal
+
+pub returns-clause-exact : goal.returns-clause-exact
+returns-clause-exact g c honest =
+    let made = c.in_ok-changes.ensures.exact honest in (
+      made.0,
+      λ held shown.
+          let before = g.V.View.content held in
+          let done = made.1 held shown in
+          (done.0, subst (IsExact before) (sym c.with_receipt.ensures) (kept_is_exact before _ _ done.1)),
+    )
+
+pub returns-clause-adds : goal.returns-clause-adds
+returns-clause-adds g c honest =
+    let made = c.in_ok-changes.ensures.adds honest in (
+      made.0,
+      λ held shown.
+          let before = g.V.View.content held in
+          let done = made.1 held shown in
+          (done.0, subst (OnlyAdds before) (sym c.with_receipt.ensures) (kept_adds before _ _ done.1)),
+    )

@@ -1,0 +1,6 @@
+pub mod Keys
+pub mod Picked
+pub mod Found
+pub mod DaysMet
+pub mod KeptSpans
+pub mod OneList

@@ -1,0 +1,4 @@
+pub mod Spans
+pub mod Meeting
+pub mod Between
+pub mod Gathered

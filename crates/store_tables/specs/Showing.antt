@@ -1,0 +1,86 @@
+-- What the tables of the schema show to the queries that read them, whoever wrote the rows.
+use Rattle.std.specs.Prelude.{◌≡◌, ℕ, ℤ, pos, not, Bool, List, [], ◌∷◌}
+use Rattle.std.specs.Ordering.{int_eq}
+use Rattle.sqlite.specs.declared.types.Value.TheVariants.{Int, Text as Words, Blob}
+use Rattle.sqlite.specs.Order.{Row, column}
+use Rattle.sqlite.specs.State.{State, Shown}
+use Rattle.stored_lines.specs.Line.{Label}
+use Rattle.receipts.specs.declared.answer.Receipt.{Receipt}
+use Rattle.store_tables.specs.Conversion.{EachWith, IsLineAt}
+use Rattle.store_tables.specs.Looking.{meta_query}
+use Rattle.store_tables.specs.Prepared.{
+  batch_query,
+  record_query,
+  line_query,
+  receipt_query,
+  slip_query,
+  slip_line_query,
+}
+use Rattle.store_tables.specs.Reading.{ReadRows, read_of}
+use Rattle.store_tables.specs.Rows.{BatchRow, Rows, SlipRow}
+
+-- ---- that a row shows an item
+-- the columns from a place on: a number is a flag, which is set where it is not 0
+abbrev pub IsFlagAt : Row → ℕ → Bool → Type 0
+IsFlagAt row at flag = (n : ℤ) × (column row at ≡ Int n) × (flag ≡ not (int_eq n (pos 0)))
+
+abbrev pub IsNumberAt : Row → ℕ → ℕ → Type 0
+IsNumberAt row at n = column row at ≡ Int (pos n)
+
+-- the next number and the society, which stand behind the version
+abbrev pub ShowsMeta : Row → ℕ × List ℕ → Type 0
+ShowsMeta row m = IsNumberAt row 1 m.0 × (column row 2 ≡ Words m.1)
+
+abbrev pub ShowsBatch : Row → BatchRow → Type 0
+ShowsBatch row b = IsNumberAt row 0 b.no × IsFlagAt row 1 b.is_open
+
+abbrev pub ShowsRecord : Row → ℕ × ℕ → Type 0
+ShowsRecord row r = IsNumberAt row 0 r.0 × IsNumberAt row 1 r.1
+
+abbrev pub ShowsLine : Row → ℕ × (ℕ × Label) → Type 0
+ShowsLine row l = IsNumberAt row 0 l.0 × IsLineAt row 1 l.1
+
+-- the columns of a stored line alone
+abbrev pub ShowsFields : Row → ℕ × Label → Type 0
+ShowsFields row l = IsLineAt row 0 l
+
+-- a number alone
+abbrev pub ShowsNumber : Row → ℕ → Type 0
+ShowsNumber row n = IsNumberAt row 0 n
+
+abbrev pub ShowsReceipt : Row → List ℕ × Receipt → Type 0
+ShowsReceipt row r = (column row 0 ≡ Words r.0) × (column row 1 ≡ Blob r.1.digest)
+    × IsNumberAt row 2 r.1.answer.first × IsNumberAt row 3 r.1.answer.count
+
+abbrev pub ShowsSlip : Row → SlipRow → Type 0
+ShowsSlip row s = IsNumberAt row 0 s.no × IsNumberAt row 1 s.keep × IsNumberAt row 2 s.gone × IsFlagAt row 3 s.is_undone
+
+abbrev pub ShowsSlipLine : Row → ℕ × (Bool × (ℕ × (ℕ × Label))) → Type 0
+ShowsSlipLine row s = IsNumberAt row 0 s.0 × IsFlagAt row 1 s.1.0 × IsNumberAt row 2 s.1.1.0 × IsLineAt row 3 s.1.1.1
+
+-- ---- what the queries show
+-- a query shows a row for each item, in their order
+abbrev pub ShowsEach : {Y : Type 0} → List ℕ → (Row → Y → Type 0) → State → State → List Y → Type 0
+ShowsEach sql Shows old new items = (all : List Row) × Shown sql [] old new all × EachWith Shows all items
+
+pub record ShowsRecords (batches : List BatchRow) (records : List (ℕ × ℕ)) (lines : List (ℕ × (ℕ × Label)))
+    (old new : State) : Type 0 where
+  pub batches_shown : ShowsEach batch_query ShowsBatch old new batches
+  pub records_shown : ShowsEach record_query ShowsRecord old new records
+  pub lines_shown : ShowsEach line_query ShowsLine old new lines
+
+pub record ShowsHistory (receipts : List (List ℕ × Receipt)) (slips : List SlipRow)
+    (slip_lines : List (ℕ × (Bool × (ℕ × (ℕ × Label))))) (old new : State) : Type 0 where
+  pub receipts_shown : ShowsEach receipt_query ShowsReceipt old new receipts
+  pub slips_shown : ShowsEach slip_query ShowsSlip old new slips
+  pub slip_lines_shown : ShowsEach slip_line_query ShowsSlipLine old new slip_lines
+
+-- each query shows what is read
+pub record ShowsRead (read : ReadRows) (old new : State) : Type 0 where
+  pub meta : (society : List ℕ) × ShowsEach meta_query ShowsMeta old new ((read.next, society) ∷ [])
+  pub records : ShowsRecords read.batches read.records read.lines old new
+  pub history : ShowsHistory read.receipts read.slips read.slip_lines old new
+
+-- whoever reads the tables is shown these rows, and leaves the tables as they are
+abbrev pub ShowsRows : Rows → State → Type 0
+ShowsRows rows s = ShowsRead (read_of rows) s s

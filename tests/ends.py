@@ -1,0 +1,60 @@
+"""How a command that reads an archive ends: where there is none, where its reader leaves, where memory is refused."""
+
+from __future__ import annotations
+
+import os
+import subprocess
+
+from harness import demand, expect, refused
+from memory import apart, built, refusing
+
+
+def refused_as_no_archive(folder, tools, *calls):
+    """Each call, of a new folder of this class, is 82 where there is no file, 80 where the file is none of SQLite's,
+    and 83 where its version is a later one."""
+    with folder(tools) as at:
+        for call in calls:
+            expect(call(at), refused(82))
+        demand(not os.listdir(at.path), "a file was made")
+        with open(at.file, "wb") as file:
+            file.write(b"x" * 5_000)
+        for call in calls:
+            expect(call(at), refused(80))
+    with folder(tools) as at:
+        at.made().other_database("UPDATE meta SET version = 2")
+        for call in calls:
+            expect(call(at), refused(83))
+
+
+def left_by_its_reader(words) -> bytes:
+    """What a reader has got that leaves after 300,000 bytes; the command is told that it left: 95."""
+    process = subprocess.Popen(words, stdout=subprocess.PIPE, stderr=subprocess.PIPE)
+    try:
+        got = process.stdout.read(300_000)
+        process.stdout.close()
+        told = process.stderr.read()
+        demand(process.wait(timeout=60) == 1 and told == refused(95).err, f"{process.returncode} {told!r}")
+    finally:
+        process.kill()
+        process.stderr.close()
+        process.wait()
+    demand(len(got) == 300_000, f"{len(got)} bytes")
+    return got
+
+
+def each_growth_refused(at, *calls):
+    """Each call with one growth of its memory refused: 1, or 80 where the database wanted it, behind a beginning of
+    what it writes otherwise."""
+    library = built(at.path)
+    for call in calls:
+        whole = call()
+        for number in apart():
+            mark = os.path.join(at.path, "mark")
+            got = call(env=refusing(number, library, mark))
+            if not os.path.exists(mark):
+                expect(got, whole)
+                demand(number > 100, f"it has only {number} growths")
+                break
+            os.remove(mark)
+            is_told = got.status == 1 and got.err in (refused(1).err, refused(80).err)
+            demand(is_told and whole.out.startswith(got.out), f"growth {number}: {got}")
