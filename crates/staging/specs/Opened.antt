@@ -2,6 +2,8 @@
 use Rattle.std.specs.Prelude.{ℕ, ◌≡◌, ◌<◌, ◌≤◌, ◌+◌, ◌⊎◌, List, [], ◌∷◌, ◌++◌, map, take, drop, length}
 use Rattle.std.specs.List.{flat_map}
 use Rattle.stored_lines.specs.Line.{Label}
+use Rattle.record_kinds.specs.declared.record.Record.{Record}
+use Rattle.records.specs.Shallow.{IsShallow}
 use Rattle.records.specs.Stored.{stored}
 use Rattle.record_shapes.specs.Lists.{EachOf}
 use Rattle.archive_state.specs.Changes.{Changes}
@@ -26,10 +28,14 @@ abbrev pub left_of : ℕ → List Numbered → Cursor → List StagedRow
 left_of batch ps cursor =
     map (record_of batch) (drop cursor.rows ps) ++ lines_left cursor.place (drop cursor.done ps)
 
--- the first of these records has a line at the place; the lines at hand are its own, or none yet
+-- lines at hand are none yet, or those of a record, which can be read again
+abbrev pub AreKnownOf : List (ℕ × Label) → Record → Type 0
+AreKnownOf lines r = (lines ≡ []) ⊎ ((lines ≡ stored r) × IsShallow r)
+
+-- the first of these records has a line at the place, and the lines at hand are known
 abbrev pub IsNext : ℕ → List (ℕ × Label) → List Numbered → Type 0
 IsNext place lines [] = Unit {0}
-IsNext place lines (p ∷ ps) = (place < length (stored p.«record»)) × ((lines ≡ []) ⊎ (lines ≡ stored p.«record»))
+IsNext place lines (p ∷ ps) = (place < length (stored p.«record»)) × AreKnownOf lines p.«record»
 
 pub record IsPlaced (ps : List Numbered) (cursor : Cursor) : Type 0 where
   pub next : IsNext cursor.place cursor.lines.items (drop cursor.done ps)

@@ -1,6 +1,6 @@
 //! How far the rows of an import are written: first those of `record`, and then all lines.
 
-ghost use Rattle.std.specs.Prelude.{◌≡◌, ◌↔◌, ◌<◌, OnOk, false, []};
+ghost use Rattle.std.specs.Prelude.{◌≡◌, ◌↔◌, ◌<◌, ℕ, OnOk, false, []};
 ghost use Rattle.staging.specs.Opened.{GoesOn, IsPlaced, left_of};
 
 use archive_state::Numbered;
@@ -37,7 +37,7 @@ impl Cursor {
     /// Whether rows are left to be written.
     pub(crate) fn has_more(&self, puts: &[Numbered]) -> bool
         requires placed { IsPlaced puts.now self.now }
-        ensures { (result ≡ false) ↔ (left_of 0 puts.now self.now ≡ []) }
+        ensures { (batch : ℕ) → (result ≡ false) ↔ (left_of batch puts.now self.now ≡ []) }
     {
         self.rows < puts.len() || self.done < puts.len()
     }

@@ -24,8 +24,12 @@ impl Model for OpenImport {
     ghost use Rattle.std.specs.Prelude.{◌≡◌};
     ghost use Rattle.staged_rows.specs.Staging.{numbers_of};
     ghost use Rattle.staging.specs.Opened.{Import, IsPlaced, left_of};
+    ghost use Rattle.std.specs.Coded.{codes};
+    ghost use Rattle.stored_lines.specs.Line.{lines_code, value_code};
 
     ghost Value = { Import };
+
+    ghost coded = { Prim.hlevel (codes, lines_code, value_code) };
 
     ghost view = { λ a. record {
       batch = a.batch;

@@ -5,17 +5,18 @@ ghost use Rattle.sqlite.specs.State.{HasCleanDisk, Survives};
 ghost use Rattle.sqlite.specs.Held.{state};
 ghost use Rattle.record_text.specs.declared.refusal.RefusalKind.TheVariants.{OutOfMemory, Storage};
 ghost use Rattle.record_shapes.specs.Lists.{EachOf};
+ghost use Rattle.records.specs.Shallow.{IsShallow};
 ghost use Rattle.records.specs.Stored.{stored};
 ghost use Rattle.store_tables.specs.Calls.{Follows};
 ghost use Rattle.store_rows.specs.Shallow.{IsShallowPut};
 ghost use Rattle.staged_rows.specs.Staging.{lines_from, with_published, with_staged};
-ghost use Rattle.staging.specs.Opened.{IsPlaced, left_of};
+ghost use Rattle.staging.specs.Opened.{AreKnownOf, IsPlaced, left_of};
 
 use crate::cursor::Cursor;
 use crate::opened::OpenImport;
 use archive_state::Numbered;
 use record_text::RefusalKind;
-use records::lines_of;
+use records::{Record, lines_of};
 use sqlite::{Alter, Error, Transaction};
 use std::alloc::{AllocError, Global};
 use store_rows::{kind_word, write_kept};
@@ -182,19 +183,27 @@ fn write_line<S: Alter>(
     place: u32,
     lines: &mut Vec<StoredLine>,
 ) -> Result<(), Unwritten>
-    requires known { (lines.old.items ≡ []) ⊎ (lines.old.items ≡ stored put.now.«record») }
+    requires known { AreKnownOf lines.old.items put.now.«record» }
     requires there { place < length (stored put.now.«record») }
     ensures same_reference { tx.new.conn.ghost_name ≡ tx.old.conn.ghost_name }
     ensures ok { HasCleanDisk (state S.Store tx.new.conn.now)
         → OnOk result (Follows (state S.Store tx.old.conn.now) (state S.Store tx.new.conn.now)
         (with_staged (take 1 (lines_from put.now.number place (drop place (stored put.now.«record»)))))) }
-    ensures made { OnOk result (lines.new.items ≡ stored put.now.«record») }
-    ensures shallow { OnOk result (IsShallowPut put.now) }
+    ensures made { OnOk result ((lines.new.items ≡ stored put.now.«record») × IsShallowPut put.now) }
     ensures survives { Survives (state S.Store tx.old.conn.now) (state S.Store tx.new.conn.now) (λ _. ⊥) }
 {
-    if lines.is_empty() {
-        *lines = lines_of(alloc, &put.record)?;
-    }
+    make_lines(alloc, &put.record, lines)?;
     rows::insert_line(tx, put.number, place, &lines[place as usize])?;
+    Ok(())
+}
+
+/// Makes the lines of a record, where they are none yet.
+fn make_lines(alloc: Global, record: &Record, lines: &mut Vec<StoredLine>) -> Result<(), AllocError>
+    requires known { AreKnownOf lines.old.items «record».now }
+    ensures made { OnOk result ((lines.new.items ≡ stored «record».now) × IsShallow «record».now) }
+{
+    if lines.is_empty() {
+        *lines = lines_of(alloc, record)?;
+    }
     Ok(())
 }
