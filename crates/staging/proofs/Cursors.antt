@@ -3,6 +3,7 @@ use Rattle.std.proofs.Common.{
   ◌≡◌,
   ℕ,
   ◌+◌,
+  ◌-◌,
   ◌<◌,
   ◌≤◌,
   ◌⊎◌,
@@ -39,7 +40,7 @@ use Rattle.std.specs.Option.{is_some}
 use Rattle.std.specs.List.{flat_map}
 use Rattle.std.proofs.lemmas.Bool.Decides.{nat_tests}
 use Rattle.std.proofs.lemmas.List.{drop_all}
-use Rattle.sqlite.specs.State.{State}
+use Rattle.sqlite.specs.State.{State, HasCleanDisk, Survives}
 use Rattle.stored_lines.specs.Line.{Label}
 use Rattle.stored_lines.specs.Tree.{Tree, node, flat}
 use Rattle.records.specs.Stored.{record_tree, stored}
@@ -47,7 +48,8 @@ use Rattle.record_kinds.specs.declared.record.Record.{Record}
 use Rattle.record_shapes.specs.Lists.{EachOf}
 use Rattle.archive_state.specs.declared.changes.Numbered.{Numbered}
 use Rattle.store_tables.specs.Calls.{Follows, Inside}
-use Rattle.store_tables.specs.Rows.{Rows, with_line, with_record_row}
+use Rattle.store_tables.specs.Rows.{Rows}
+use Rattle.store_tables.proofs.Loops.{IsOnTheWay, goes_on}
 use Rattle.store_rows.specs.Shallow.{IsShallowPut}
 use Rattle.store_rows.specs.Writing.{kind_word}
 use Rattle.staged_rows.specs.Staging.{
@@ -104,6 +106,25 @@ pub one_then : (k : ℕ) (rs : List StagedRow) (rows : Rows) → with_staged (ta
 one_then zero [] rows = refl
 one_then (suc k) [] rows = refl
 one_then k (r ∷ rs) rows = refl
+
+pub one_turn : (old mid now : State) (n k : ℕ) (all rs : List StagedRow) → k < n
+    → IsOnTheWay old mid (with_staged (take n all)) (with_staged (take (n - k) rs))
+    → (HasCleanDisk now → Follows mid now (with_staged (take 1 rs))) → Survives mid now (λ _. ⊥)
+    → IsOnTheWay old now (with_staged (take n all)) (with_staged (take (n - (k + 1)) (drop 1 rs)))
+one_turn old mid now n k all rs low way step kept =
+    let one_less : n - k ≡ suc (n - (k + 1)) = omega (arith, low) in
+    goes_on old mid now (with_staged (take n all)) (with_staged (take (n - k) rs)) (with_staged (take 1 rs))
+    (with_staged (take (n - (k + 1)) (drop 1 rs))) way step kept
+    (λ rows. ap (λ m. with_staged (take m rs) rows) one_less ∙ one_then (n - (k + 1)) rs rows)
+
+pub arrived : (old now : State) (n k : ℕ) (all rs : List StagedRow) → n ≤ k
+    → IsOnTheWay old now (with_staged (take n all)) (with_staged (take (n - k) rs)) → HasCleanDisk now
+    → Follows old now (with_staged (take n all))
+arrived old now n k all rs past way clean rows was =
+    let came = way.leads clean rows was in
+    let none : n - k ≡ 0 = omega (arith, past) in
+    let same : came.0 ≡ with_staged (take n all) rows = sym (ap (λ m. with_staged (take m rs) came.0) none) ∙ came.3 in
+    (subst (Inside now) same came.1, came.2)
 
 -- the line of a record at a place
 pub line_next : (n place : ℕ) (ls : List (ℕ × Label)) (x : ℕ × Label) → place < length ls → x ≡ get_or ls place x

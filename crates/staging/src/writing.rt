@@ -139,7 +139,7 @@ fn write_rows<S: Alter>(
     ensures placed { OnOk result (IsPlaced puts.now cursor.new) }
     ensures survives { Survives (state S.Store tx.old.conn.now) (state S.Store tx.new.conn.now) (λ _. ⊥) }
 {
-    'rows: for _ in 0..STAGE {
+    'rows: for row in 0..STAGE {
         write_next(alloc, tx, batch, puts, cursor)?;
     }
     Ok(())
