@@ -38,6 +38,7 @@ impl From<RefusalKind> for Failed {
 }
 
 /// Takes the lines of these numbers out, in one commit.
+#[tactic(auto, using(crate::proofs::Commits::settles))]
 pub(crate) fn clear_lines<S: Alter>(conn: &mut Connection<S>, numbers: &[u32]) -> Result<(), Failed>
     requires autocommit { conn.old.in_transaction ≡ false }
     ensures done { HasCleanDisk (state S.Store conn.new) → OnOk result ((rows : Rows)
@@ -55,6 +56,7 @@ pub(crate) fn clear_lines<S: Alter>(conn: &mut Connection<S>, numbers: &[u32]) -
 }
 
 /// Takes the lines of a number out from a place on, in one commit.
+#[tactic(auto, using(crate::proofs::Commits::settles))]
 pub(crate) fn clear_lines_from<S: Alter>(
     conn: &mut Connection<S>,
     number: u32,
@@ -76,6 +78,7 @@ pub(crate) fn clear_lines_from<S: Alter>(
 }
 
 /// Takes the rows of these numbers out of `record`, in one commit.
+#[tactic(auto, using(crate::proofs::Commits::settles))]
 pub(crate) fn clear_rows<S: Alter>(conn: &mut Connection<S>, numbers: &[u32]) -> Result<(), Failed>
     requires autocommit { conn.old.in_transaction ≡ false }
     ensures done { HasCleanDisk (state S.Store conn.new) → OnOk result ((rows : Rows)
@@ -93,6 +96,7 @@ pub(crate) fn clear_rows<S: Alter>(conn: &mut Connection<S>, numbers: &[u32]) ->
 }
 
 /// Takes the row of a batch out, in one commit.
+#[tactic(auto, using(crate::proofs::Commits::settles))]
 pub(crate) fn clear_batch<S: Alter>(conn: &mut Connection<S>, batch: u32) -> Result<(), Failed>
     requires autocommit { conn.old.in_transaction ≡ false }
     ensures done { HasCleanDisk (state S.Store conn.new) → OnOk result ((rows : Rows)
