@@ -31,6 +31,10 @@ use Rattle.std.proofs.Common.{
   ◌∙◌,
   drop-cons,
   arith,
+  Result,
+  Ok,
+  Err,
+  OnOk,
   Bool,
   true,
   false,
@@ -49,7 +53,8 @@ use Rattle.record_shapes.specs.Lists.{EachOf}
 use Rattle.archive_state.specs.declared.changes.Numbered.{Numbered}
 use Rattle.store_tables.specs.Calls.{Follows, Inside}
 use Rattle.store_tables.specs.Rows.{Rows}
-use Rattle.store_tables.proofs.Loops.{IsOnTheWay, goes_on}
+use Rattle.store_tables.proofs.Calls.{follows_then}
+use Rattle.store_tables.proofs.Loops.{IsOnTheWay, and_last, goes_on}
 use Rattle.store_rows.specs.Shallow.{IsShallowPut}
 use Rattle.store_rows.specs.Writing.{kind_word}
 use Rattle.staged_rows.specs.Staging.{
@@ -125,6 +130,19 @@ arrived old now n k all rs past way clean rows was =
     let none : n - k ≡ 0 = omega (arith, past) in
     let same : came.0 ≡ with_staged (take n all) rows = sym (ap (λ m. with_staged (take m rs) came.0) none) ∙ came.3 in
     (subst (Inside now) same came.1, came.2)
+
+pub always : {A E : Type 0} {P : Type 0} (r : Result A E) → P → OnOk r P
+always (Ok a) p = p
+always (Err e) p = tt
+
+-- three calls, the last of which has the result of all
+pub three : {A E : Type 0} (r : Result A E) (a b c d : State) (f g h : Rows → Rows) → Survives b c (λ _. ⊥)
+    → Survives c d (λ _. ⊥) → (HasCleanDisk b → Follows a b f) → (HasCleanDisk c → Follows b c g)
+    → (HasCleanDisk d → OnOk r (Follows c d h)) → HasCleanDisk d → OnOk r (Follows a d (λ rows. h (g (f rows))))
+three r a b c d f g h early late one two last clean =
+    let clean_c : HasCleanDisk c = omega (arith, clean, late.clean) in
+    let clean_b : HasCleanDisk b = omega (arith, clean_c, early.clean) in
+    and_last r a c d (λ rows. g (f rows)) h (follows_then a b c f g (one clean_b) (two clean_c)) (last clean)
 
 -- the line of a record at a place
 pub line_next : (n place : ℕ) (ls : List (ℕ × Label)) (x : ℕ × Label) → place < length ls → x ≡ get_or ls place x
@@ -272,3 +290,20 @@ module _ (batch : ℕ) (ps : List Numbered) (old : Cursor) (p : Numbered) (past 
             (drop_all (old.place + 1) ls (subst (λ ms. length ms ≤ old.place + 1) made past.0)))
       ] in
       ap₂ (λ xs ys. xs ++ ys) records new_is ∙ sym (ap (drop 1) old_is)
+
+-- where nothing is left, all records were written, and can be read again
+take_all : {A : Type 0} (k : ℕ) (xs : List A) → length xs ≤ k → take k xs ≡ xs
+take_all zero [] past = refl
+take_all zero (x ∷ xs) past = absurd (omega (arith, past))
+take_all (suc k) [] past = refl
+take_all (suc k) (x ∷ xs) past = ap (λ ys. x ∷ ys) (take_all k xs (omega (arith, past)))
+
+pub all_shallow : (batch : ℕ) (ps : List Numbered) (c : Cursor) → IsPlaced ps c → left_of batch ps c ≡ []
+    → EachOf IsShallowPut ps
+all_shallow batch ps c placed none = past (nat_lt c.done (length ps)) refl
+  where
+    past : (b : Bool) → nat_lt c.done (length ps) ≡ b → EachOf IsShallowPut ps
+    past true e = absurd (lines_more batch ps c placed
+        (let low : c.done < length ps = grind (arith, nat_tests, e) in low) none)
+    past false e = subst (EachOf IsShallowPut)
+        (take_all c.done ps (let at_end : length ps ≤ c.done = grind (arith, nat_tests, e) in at_end)) placed.shallow

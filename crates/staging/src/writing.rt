@@ -74,7 +74,7 @@ pub fn publish_rows<S: Alter>(tx: &mut Transaction<'_, S>, import: &OpenImport) 
         → OnOk result (Follows (state S.Store tx.old.conn.now) (state S.Store tx.new.conn.now)
         (with_published import.now.batch import.now.changes)) }
     ensures survives { Survives (state S.Store tx.old.conn.now) (state S.Store tx.new.conn.now) (λ _. ⊥) }
-    ensures shallow { import.now.left ≡ [] → EachOf IsShallowPut import.now.changes.puts }
+    ensures shallow { OnOk result (import.now.left ≡ [] → EachOf IsShallowPut import.now.changes.puts) }
 {
     batches::close_batch(tx, import.batch)?;
     rows::set_next(tx, import.changes.next)?;
