@@ -8,13 +8,15 @@ ghost use Rattle.record_shapes.specs.Lists.{EachOf};
 ghost use Rattle.records.specs.Shallow.{IsShallow};
 ghost use Rattle.records.specs.Stored.{stored};
 ghost use Rattle.store_tables.specs.Calls.{Follows};
+ghost use Rattle.store_tables.specs.Rows.{with_closed, with_next};
 ghost use Rattle.store_rows.specs.Shallow.{IsShallowPut};
+ghost use Rattle.store_rows.specs.Writing.{with_kept_written};
 ghost use Rattle.staged_rows.specs.Staging.{lines_from, with_published, with_staged};
 ghost use Rattle.staging.specs.Opened.{AreKnownOf, IsPlaced, left_of};
 
 use crate::cursor::Cursor;
 use crate::opened::OpenImport;
-use archive_state::Numbered;
+use archive_state::{Kept, Numbered};
 use record_text::RefusalKind;
 use records::{Record, lines_of};
 use sqlite::{Alter, Error, Transaction};
@@ -76,9 +78,25 @@ pub fn publish_rows<S: Alter>(tx: &mut Transaction<'_, S>, import: &OpenImport) 
     ensures survives { Survives (state S.Store tx.old.conn.now) (state S.Store tx.new.conn.now) (λ _. ⊥) }
     ensures shallow { OnOk result (import.now.left ≡ [] → EachOf IsShallowPut import.now.changes.puts) }
 {
-    batches::close_batch(tx, import.batch)?;
-    rows::set_next(tx, import.changes.next)?;
-    write_kept(tx, &import.changes.kept)
+    publish(tx, import.batch, import.changes.next, &import.changes.kept)
+}
+
+/// Closes a batch, moves the next number and keeps an answer.
+fn publish<S: Alter>(
+    tx: &mut Transaction<'_, S>,
+    batch: u32,
+    next: u64,
+    kept: &Option<Kept>,
+) -> Result<(), Error>
+    ensures same_reference { tx.new.conn.ghost_name ≡ tx.old.conn.ghost_name }
+    ensures ok { HasCleanDisk (state S.Store tx.new.conn.now)
+        → OnOk result (Follows (state S.Store tx.old.conn.now) (state S.Store tx.new.conn.now)
+        (λ rows. with_kept_written kept.now (with_next next (with_closed batch rows)))) }
+    ensures survives { Survives (state S.Store tx.old.conn.now) (state S.Store tx.new.conn.now) (λ _. ⊥) }
+{
+    batches::close_batch(tx, batch)?;
+    rows::set_next(tx, next)?;
+    write_kept(tx, kept)
 }
 
 /// Why rows were not written.
