@@ -6,7 +6,6 @@ mod answering;
 mod asking;
 mod changing;
 mod fields;
-mod importing;
 mod lines;
 mod planning;
 mod printed;

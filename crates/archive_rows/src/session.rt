@@ -3,7 +3,6 @@
 use archive_state::{Answer, Changes, State};
 use records::StoredLine;
 use sqlite::{Connection, MemStore};
-use staging::OpenImport;
 use std::alloc::{AllocError, Global};
 
 /// What rows change.
@@ -15,10 +14,8 @@ pub(crate) struct Session {
     pub(crate) lines: Vec<StoredLine>,
     /// What rows change one by one, or what was read last of the tables.
     pub(crate) state: State,
-    /// What the next row `write` writes to the tables, or the next row `open` imports.
+    /// What the next row `write` writes to the tables.
     pub(crate) planned: Changes,
-    /// The import that is open.
-    pub(crate) import: Option<OpenImport>,
 }
 
 impl Session {
@@ -28,7 +25,6 @@ impl Session {
             lines: Vec::new(alloc),
             state: State::new(alloc),
             planned: nothing(alloc),
-            import: None,
         })
     }
 }
