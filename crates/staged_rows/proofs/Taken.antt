@@ -13,7 +13,6 @@ use Rattle.std.proofs.Common.{
   filter,
   cond,
   refl,
-  sym,
   ap,
   ap₂,
   ◌∙◌,

@@ -1,5 +1,23 @@
 -- An import that is staged to any row and taken out again leaves the rows as they were.
-use Rattle.std.proofs.Common.{◌≡◌, ℕ, Bool, true, false, not, List, [], ◌∷◌, ◌++◌, filter, refl, sym, ap, ap₂, subst, ◌∙◌, arith}
+use Rattle.std.proofs.Common.{
+  ◌≡◌,
+  ℕ,
+  true,
+  false,
+  not,
+  List,
+  [],
+  ◌∷◌,
+  ◌++◌,
+  filter,
+  refl,
+  sym,
+  ap,
+  ap₂,
+  subst,
+  ◌∙◌,
+  arith,
+}
 use Rattle.std.specs.Prelude.{◌==◌}
 use Rattle.std.specs.List.{list_any}
 use Rattle.std.proofs.lemmas.Bool.Decides.{nat_tests}
@@ -66,7 +84,8 @@ row_more : (ns : List ℕ) (r : StagedRow) (rows : Rows) → list_any (λ k. k =
 row_more ns (a_record r) rows is = record {
   lines = refl;
   records = filter_put (λ (x : RecordRow). x.no) (λ (x : RecordRow). is_outside ns x.no)
-      (record { no = r.no; kind = r.kind; batch = r.batch }) (λ y same. ap (is_outside ns) same ∙ ap not is) rows.records;
+      (record { no = r.no; kind = r.kind; batch = r.batch }) (λ y same. ap (is_outside ns) same ∙ ap not is)
+      rows.records;
   beside = refl;
 }
 row_more ns (a_line n at l) rows is = record {

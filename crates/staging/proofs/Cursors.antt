@@ -56,7 +56,6 @@ use Rattle.store_tables.specs.Rows.{Rows}
 use Rattle.store_tables.proofs.Calls.{follows_then}
 use Rattle.store_tables.proofs.Loops.{IsOnTheWay, and_last, goes_on}
 use Rattle.store_rows.specs.Shallow.{IsShallowPut}
-use Rattle.store_rows.specs.Writing.{kind_word}
 use Rattle.staged_rows.specs.Staging.{
   StagedRow,
   a_line,
@@ -64,9 +63,8 @@ use Rattle.staged_rows.specs.Staging.{
   lines_from,
   lines_of_put,
   with_staged,
-  with_staged_row,
 }
-use Rattle.staging.specs.Opened.{GoesOn, IsNext, IsPlaced, left_of, lines_left}
+use Rattle.staging.specs.Opened.{IsNext, IsPlaced, left_of, lines_left}
 use Rattle.staging.specs.declared.cursor.Cursor.{Cursor}
 
 -- ---- lists

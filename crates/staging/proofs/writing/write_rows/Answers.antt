@@ -1,4 +1,4 @@
-use Rattle.std.proofs.Common.{◌+◌, ◌-◌, arith, ap, drop, subst, sym, take, ◌∙◌}
+use Rattle.std.proofs.Common.{◌+◌, ◌-◌, ap, drop, subst, sym, take, ◌∙◌}
 use Rattle.sqlite.specs.Held.{state}
 use Rattle.staged_rows.specs.Staging.{with_staged}
 use Rattle.store_tables.proofs.Loops.{IsOnTheWay}
