@@ -1,14 +1,15 @@
 -- Nothing of a new import is there, where every row is of a closed batch.
-use Rattle.std.proofs.Common.{◌≡◌, ℕ, Bool, true, false, List, [], ◌∷◌, refl, sym, ap, ap₂, ◌∙◌}
+use Rattle.std.proofs.Common.{◌≡◌, ℕ, Bool, true, false, not, List, [], ◌∷◌, refl, sym, ap, ap₂, ◌∙◌}
 use Rattle.std.specs.Prelude.{◌==◌, ◌&&◌, ◌||◌, None}
 use Rattle.std.specs.FinMap.{get}
 use Rattle.std.specs.List.{AllByRecursion, list_any}
 use Rattle.record_shapes.specs.Lists.{EachOf}
 use Rattle.archive_state.specs.Content.{Content}
 use Rattle.archive_state.specs.declared.changes.Numbered.{Numbered}
+use Rattle.store_tables.specs.Batches.{AreOwned}
 use Rattle.store_tables.specs.Rows.{Rows, BatchRow, RecordRow, LineRow}
-use Rattle.store_rows.specs.Meaning.{Means, is_closed}
-use Rattle.staged_rows.specs.Staging.{AreClosed, IsFresh}
+use Rattle.store_rows.specs.Meaning.{Means, has_record, is_closed}
+use Rattle.staged_rows.specs.Staging.{AreAllClosed, AreClosed, IsFresh, numbers_of}
 use Rattle.staged_rows.proofs.Alike.{absent, none_closed}
 use Rattle.staged_rows.proofs.Lists.{it}
 
@@ -58,14 +59,26 @@ none_of_number n rs [] none all = refl
 none_of_number n rs (l ∷ ls) none all =
     ap₂ (λ s t. s || t) (line_apart n rs l none all.0) (none_of_number n rs ls none all.1)
 
+no_row : (n : ℕ) (rows : Rows) (c : Content) → AreClosed rows → Means rows c → get c.records n ≡ None
+    → list_any (λ (r : RecordRow). r.no == n) rows.records ≡ false
+no_row n rows c closed was new =
+    sym (any_closed n rows.batches rows.records closed.records) ∙ absent rows c n was new
+
+no_rows : (ps : List Numbered) (rows : Rows) (c : Content) → AreClosed rows → Means rows c
+    → EachOf (λ (p : Numbered). get c.records p.number ≡ None) ps
+    → EachOf (λ (p : Numbered). list_any (λ (r : RecordRow). r.no == p.number) rows.records ≡ false) ps
+no_rows [] rows c closed was new = tt
+no_rows (p ∷ ps) rows c closed was new = (
+  no_row p.number rows c closed was new.0,
+  no_rows ps rows c closed was new.1,
+)
+
 no_lines : (ps : List Numbered) (rows : Rows) (c : Content) → AreClosed rows → Means rows c
     → EachOf (λ (p : Numbered). get c.records p.number ≡ None) ps
     → EachOf (λ (p : Numbered). list_any (λ (l : LineRow). l.no == p.number) rows.lines ≡ false) ps
 no_lines [] rows c closed was new = tt
 no_lines (p ∷ ps) rows c closed was new = (
-  none_of_number p.number rows.records rows.lines
-      (sym (any_closed p.number rows.batches rows.records closed.records) ∙ absent rows c p.number was new.0)
-      closed.lines,
+  none_of_number p.number rows.records rows.lines (no_row p.number rows c closed was new.0) closed.lines,
   no_lines ps rows c closed was new.1,
 )
 
@@ -75,5 +88,31 @@ pub fresh : (batch : ℕ) (ps : List Numbered) (rows : Rows) (c : Content) → A
 fresh batch ps rows c closed unused new was = record {
   unused = unused;
   records = none_of_batch batch rows.batches rows.records (none_closed batch rows.batches unused) closed.records;
+  numbers = no_rows ps rows c closed was new;
   lines = no_lines ps rows c closed was new;
 }
+
+-- ---- where every batch is closed
+is_there : (n : ℕ) (bs : List BatchRow) → AllByRecursion (λ (b : BatchRow). not b.is_open ≡ true) bs
+    → is_closed n bs ≡ list_any (λ (b : BatchRow). b.no == n) bs
+is_there n [] all = refl
+is_there n (b ∷ bs) all = ap₂ (λ s t. s || t) (and_true (b.no == n) (not b.is_open) all.0) (is_there n bs all.1)
+
+of_closed : (bs : List BatchRow) (rs : List RecordRow) → AllByRecursion (λ (b : BatchRow). not b.is_open ≡ true) bs
+    → AllByRecursion (λ (r : RecordRow). list_any (λ (b : BatchRow). b.no == r.batch) bs ≡ true) rs
+    → AllByRecursion (λ (r : RecordRow). is_closed r.batch bs ≡ true) rs
+of_closed bs [] closed all = tt
+of_closed bs (r ∷ rs) closed all = (is_there r.batch bs closed ∙ all.0, of_closed bs rs closed all.1)
+
+pub all_of_closed : (rows : Rows) → AreOwned rows → AreAllClosed rows → AreClosed rows
+all_of_closed rows owned closed = record {
+  lines = owned.lines;
+  records = of_closed rows.batches rows.records closed owned.records;
+}
+
+-- ---- numbers without a record
+pub none_have : (ps : List Numbered) (rows : Rows) (c : Content)
+    → EachOf (λ (p : Numbered). get c.records p.number ≡ None) ps → Means rows c
+    → EachOf (λ n. has_record n rows ≡ false) (numbers_of ps)
+none_have [] rows c new was = tt
+none_have (p ∷ ps) rows c new was = (absent rows c p.number was new.0, none_have ps rows c new.1 was)

@@ -11,6 +11,7 @@ use Rattle.std.proofs.Common.{
   ◌∷◌,
   ◌++◌,
   filter,
+  not,
   cond,
   refl,
   sym,
@@ -25,6 +26,7 @@ use Rattle.std.specs.Ordering.{nat_cmp, match_ordering}
 use Rattle.std.specs.declared.cmp.Ordering.TheVariants.{Less, Equal, Greater}
 use Rattle.std.specs.FinMap.{nat_cmp-IsAntisymmetric}
 use Rattle.std.proofs.lemmas.Bool.Decides.{nat_tests}
+use Rattle.record_shapes.specs.Lists.{EachOf}
 use Rattle.store_tables.specs.Rows.{put_by}
 
 pub is_not : (m n : ℕ) → m ≢ n → (m == n) ≡ false
@@ -115,3 +117,65 @@ pub filter_behind : {X : Type 0} (q : X → Bool) (xs : List X) (x : X) → q x 
     → filter q (xs ++ x ∷ []) ≡ filter q xs
 filter_behind q [] x off = rw off refl
 filter_behind q (y ∷ ys) x off = ap (λ zs. cond (q y) (y ∷ zs) zs) (filter_behind q ys x off)
+
+-- ---- tests that fail of all items with the key of one that is put
+pub filter_put : {X : Type 0} (key : X → ℕ) (q : X → Bool) (x : X) → ((y : X) → key y ≡ key x → q y ≡ false)
+    → (xs : List X) → filter q (put_by key x xs) ≡ filter q xs
+filter_put key q x off [] = ap (λ b. cond b (x ∷ []) []) (off x refl)
+filter_put key q x off (y ∷ ys) =
+    elim (nat_cmp (key y) (key x)) as (λ o. nat_cmp (key y) (key x) ≡ o
+    → filter q (match_ordering o (y ∷ put_by key x ys) (x ∷ ys) (x ∷ y ∷ ys)) ≡ filter q (y ∷ ys)) [
+      | Less ↦ λ p. ap (λ zs. cond (q y) (y ∷ zs) zs) (filter_put key q x off ys)
+      | Equal ↦ λ p. let same : key y ≡ key x = nat_cmp-IsAntisymmetric (key y) (key x) p in
+          ap (λ b. cond b (x ∷ filter q ys) (filter q ys)) (off x refl)
+          ∙ sym (ap (λ b. cond b (y ∷ filter q ys) (filter q ys)) (off y same))
+      | Greater ↦ λ p. ap (λ b. cond b (x ∷ filter q (y ∷ ys)) (filter q (y ∷ ys))) (off x refl)
+    ] refl
+
+-- ---- what several numbers have, taken out
+pub all_pass : {X : Type 0} (xs : List X) → filter (λ x. true) xs ≡ xs
+all_pass [] = refl
+all_pass (x ∷ xs) = ap (λ ys. x ∷ ys) (all_pass xs)
+
+-- a number is not among these
+abbrev pub is_outside : List ℕ → ℕ → Bool
+is_outside ns m = not (list_any (λ k. k == m) ns)
+
+other_way : (m n : ℕ) (b : Bool) → (m == n) ≡ b → (n == m) ≡ b
+other_way m n b e = grind (arith, nat_tests, e)
+
+module _ {X : Type 0} (key : X → ℕ) where
+  pub one_more : (n : ℕ) (ns : List ℕ) (xs : List X)
+      → filter (λ x. is_outside ns (key x)) (filter (λ x. not (key x == n)) xs)
+      ≡ filter (λ x. is_outside (n ∷ ns) (key x)) xs
+  one_more n ns [] = refl
+  one_more n ns (x ∷ xs) =
+      let p = λ (x : X). not (key x == n) in
+      let q = λ (x : X). is_outside ns (key x) in
+      let both = λ (x : X). is_outside (n ∷ ns) (key x) in
+      let among = list_any (λ k. k == key x) ns in
+      elim (key x == n) as (λ b. (key x == n) ≡ b → filter q (cond (not b) (x ∷ filter p xs) (filter p xs))
+      ≡ cond (both x) (x ∷ filter both xs) (filter both xs)) [
+        | true ↦ λ e. one_more n ns xs
+            ∙ sym (ap (λ b. cond (not (b || among)) (x ∷ filter both xs) (filter both xs))
+            (other_way (key x) n true e))
+        | false ↦ λ e. ap (λ ys. cond (q x) (x ∷ ys) ys) (one_more n ns xs)
+            ∙ sym (ap (λ b. cond (not (b || among)) (x ∷ filter both xs) (filter both xs))
+            (other_way (key x) n false e))
+      ] refl
+
+  pub none_of_it : (n : ℕ) (xs : List X) → list_any (λ x. key x == n) xs ≡ false
+      → filter (λ x. not (key x == n)) xs ≡ xs
+  none_of_it n [] none = refl
+  none_of_it n (x ∷ xs) none =
+      let off = or_first (key x == n) (list_any (λ x. key x == n) xs) none in
+      let more = or_second (key x == n) (list_any (λ x. key x == n) xs) none in
+      ap (λ b. cond (not b) (x ∷ filter (λ x. not (key x == n)) xs) (filter (λ x. not (key x == n)) xs)) off
+      ∙ ap (λ ys. x ∷ ys) (none_of_it n xs more)
+
+  pub none_of_them : (ns : List ℕ) (xs : List X) → EachOf (λ n. list_any (λ x. key x == n) xs ≡ false) ns
+      → filter (λ x. is_outside ns (key x)) xs ≡ xs
+  none_of_them [] xs none = all_pass xs
+  none_of_them (n ∷ ns) xs none =
+      sym (one_more n ns xs) ∙ ap (filter (λ x. is_outside ns (key x))) (none_of_it n xs none.0)
+      ∙ none_of_them ns xs none.1

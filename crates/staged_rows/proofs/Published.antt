@@ -32,14 +32,20 @@ use Rattle.archive_state.specs.declared.changes.Numbered.{Numbered}
 use Rattle.receipts.specs.declared.answer.Answer.{Answer}
 use Rattle.record_shapes.specs.Lists.{IsOnce}
 use Rattle.store_tables.specs.Conversion.{EachWith}
-use Rattle.store_tables.specs.Rows.{Rows, BatchRow, RecordRow, put_by, with_batch, with_next}
+use Rattle.store_tables.specs.Rows.{Rows, BatchRow, RecordRow, closed_at, put_by, with_batch, with_next}
 use Rattle.store_rows.specs.Meaning.{Means, is_closed}
 use Rattle.store_rows.specs.Writing.{kind_word, with_all_lines, with_changes, with_kept_written}
 use Rattle.store_rows.proofs.Meaning.{changes_mean}
-use Rattle.staged_rows.specs.Staging.{IsFresh, closed_at, import_changes, with_published, with_whole_import}
+use Rattle.staged_rows.specs.Staging.{
+  IsFresh,
+  import_changes,
+  numbers_of,
+  with_published,
+  with_whole_import,
+}
 use Rattle.staged_rows.proofs.Alike.{means_alike, none_closed}
 use Rattle.staged_rows.proofs.Lists.{it, is_not, not_it, any_put, or_first, or_second}
-use Rattle.staged_rows.proofs.Whole.{all_lines_beside, beside, import_staged, numbers, records_put, records_written}
+use Rattle.staged_rows.proofs.Whole.{all_lines_beside, beside, import_staged, records_put, records_written}
 
 -- ---- batches
 closed_one : (b m : ℕ) (x : BatchRow) → b ≢ m → ((((closed_at b x).no == m)) && not (closed_at b x).is_open)
@@ -168,7 +174,7 @@ kept_batches None next rows = refl
 kept_batches (Some k) next rows = refl
 
 pub whole : (batch next : ℕ) (ps : List Numbered) (answer : Answer) (kept : Option Kept) (rows : Rows) (c : Content)
-    → IsOnce (numbers ps) → IsFresh batch ps rows → Means rows c
+    → IsOnce (numbers_of ps) → IsFresh batch ps rows → Means rows c
     → Means (with_whole_import batch (import_changes ps next answer kept) rows)
     (applied c (import_changes ps next answer kept))
 whole batch next ps answer kept rows c once fresh was =

@@ -33,7 +33,7 @@ lines_gone stays rows c h was =
     (λ l. unlike l stays m rows (h l) has) rows.lines)) was
 
 -- a row that is left out is of that number
-left_out : (k n : ℕ) → not (k == n) ≡ false → k ≡ n
+pub left_out : (k n : ℕ) → not (k == n) ≡ false → k ≡ n
 left_out k n e = it k n (flip (k == n) e)
   where
     flip : (b : Bool) → not b ≡ false → b ≡ true

@@ -44,20 +44,18 @@ use Rattle.staged_rows.specs.Staging.{
   record_of,
   lines_from,
   lines_of_put,
+  numbers_of,
   rows_of_import,
   with_staged,
   with_staged_row,
 }
 use Rattle.staged_rows.proofs.Lists.{is_not, not_it, none_kept, or_first, or_second}
 
-abbrev pub numbers : List Numbered → List ℕ
-numbers = map (λ (p : Numbered). p.number)
-
 -- a number has no line
 abbrev pub HasNoLine : Rows → ℕ → Type 0
 HasNoLine rows n = list_any (λ (l : LineRow). l.no == n) rows.lines ≡ false
 
-joined : (xs ys : List StagedRow) (rows : Rows) → with_staged (xs ++ ys) rows ≡ with_staged ys (with_staged xs rows)
+pub joined : (xs ys : List StagedRow) (rows : Rows) → with_staged (xs ++ ys) rows ≡ with_staged ys (with_staged xs rows)
 joined [] ys rows = refl
 joined (x ∷ xs) ys rows = joined xs ys (with_staged_row x rows)
 
@@ -67,7 +65,7 @@ records_put batch [] rs = rs
 records_put batch (p ∷ ps) rs = records_put batch ps
     (put_by (λ (r : RecordRow). r.no) (record { no = p.number; kind = kind_word p.«record»; batch = batch }) rs)
 
-records_staged : (batch : ℕ) (ps : List Numbered) (rows : Rows) → with_staged (map (record_of batch) ps) rows
+pub records_staged : (batch : ℕ) (ps : List Numbered) (rows : Rows) → with_staged (map (record_of batch) ps) rows
     ≡ record rows { records = records_put batch ps rows.records }
 records_staged batch [] rows = refl
 records_staged batch (p ∷ ps) rows = records_staged batch ps (with_staged_row (record_of batch p) rows)
@@ -78,12 +76,12 @@ records_written [] rows = refl
 records_written (p ∷ ps) rows = records_written ps (with_staged_row (record_of 0 p) rows)
 
 -- ---- lines
-one_staged : (n at : ℕ) (ls : List (ℕ × Label)) (rows : Rows) → with_staged (lines_from n at ls) rows
+pub one_staged : (n at : ℕ) (ls : List (ℕ × Label)) (rows : Rows) → with_staged (lines_from n at ls) rows
     ≡ with_lines n at ls rows
 one_staged n at [] rows = refl
 one_staged n at (l ∷ ls) rows = one_staged n (at + 1) ls (with_line n at l rows)
 
-all_stay : (n : ℕ) (ls : List LineRow) → list_any (λ (l : LineRow). l.no == n) ls ≡ false
+pub all_stay : (n : ℕ) (ls : List LineRow) → list_any (λ (l : LineRow). l.no == n) ls ≡ false
     → filter (λ (l : LineRow). not (l.no == n)) ls ≡ ls
 all_stay n [] none = refl
 all_stay n (l ∷ ls) none =
@@ -92,7 +90,7 @@ all_stay n (l ∷ ls) none =
     ap (λ b. cond (not b) (l ∷ filter (λ (l : LineRow). not (l.no == n)) ls)
     (filter (λ (l : LineRow). not (l.no == n)) ls)) off ∙ ap (λ ks. l ∷ ks) (all_stay n ls more)
 
-nothing_removed : (n : ℕ) (rows : Rows) → HasNoLine rows n → without_lines n rows ≡ rows
+pub nothing_removed : (n : ℕ) (rows : Rows) → HasNoLine rows n → without_lines n rows ≡ rows
 nothing_removed n rows none = ap (λ (ls : List LineRow). record rows { lines = ls }) (all_stay n rows.lines none)
 
 none_behind : (q : LineRow → Bool) (ls : List LineRow) (l : LineRow) → list_any q ls ≡ false → q l ≡ false
@@ -111,17 +109,17 @@ none_elsewhere m n at (l ∷ ls) rows off none =
     (record { id = next_key (λ (k : LineRow). k.id) rows.lines; no = n; at = at; line = l }) none (is_not n m off))
 
 still_none : (n : ℕ) (ls : List (ℕ × Label)) (rows : Rows) (qs : List Numbered)
-    → list_any (λ m. m == n) (numbers qs) ≡ false → EachOf (λ (q : Numbered). HasNoLine rows q.number) qs
+    → list_any (λ m. m == n) (numbers_of qs) ≡ false → EachOf (λ (q : Numbered). HasNoLine rows q.number) qs
     → EachOf (λ (q : Numbered). HasNoLine (with_changed_lines n ls rows) q.number) qs
 still_none n ls rows [] off none = tt
 still_none n ls rows (q ∷ qs) off none = (
   none_elsewhere q.number n 0 ls (without_lines n rows)
-      (λ same. not_it q.number n (or_first (q.number == n) (list_any (λ m. m == n) (numbers qs)) off) (sym same))
+      (λ same. not_it q.number n (or_first (q.number == n) (list_any (λ m. m == n) (numbers_of qs)) off) (sym same))
       (none_kept (λ (l : LineRow). l.no == q.number) (λ (l : LineRow). not (l.no == n)) rows.lines none.0),
-  still_none n ls rows qs (or_second (q.number == n) (list_any (λ m. m == n) (numbers qs)) off) none.1,
+  still_none n ls rows qs (or_second (q.number == n) (list_any (λ m. m == n) (numbers_of qs)) off) none.1,
 )
 
-lines_staged : (ps : List Numbered) (rows : Rows) → IsOnce (numbers ps)
+lines_staged : (ps : List Numbered) (rows : Rows) → IsOnce (numbers_of ps)
     → EachOf (λ (p : Numbered). HasNoLine rows p.number) ps
     → with_staged (flat_map lines_of_put ps) rows ≡ with_all_lines ps rows
 lines_staged [] rows once none = refl
@@ -150,7 +148,7 @@ all_lines_beside (p ∷ ps) bs rs rows =
     ∙ all_lines_beside ps bs rs (with_changed_lines p.number (stored p.«record») rows)
 
 -- ---- all rows of an import
-pub import_staged : (batch : ℕ) (ps : List Numbered) (bs : List BatchRow) (rows : Rows) → IsOnce (numbers ps)
+pub import_staged : (batch : ℕ) (ps : List Numbered) (bs : List BatchRow) (rows : Rows) → IsOnce (numbers_of ps)
     → EachOf (λ (p : Numbered). HasNoLine rows p.number) ps
     → with_staged (rows_of_import batch ps) (record rows { batches = bs })
     ≡ beside bs (records_put batch ps rows.records) (with_all_lines ps rows)

@@ -7,13 +7,13 @@ use Rattle.std.specs.Prelude.{
   ◌==◌,
   true,
   false,
+  not,
   List,
   [],
   ◌∷◌,
   ◌++◌,
   map,
   take,
-  cond,
   Option,
   None,
 }
@@ -33,6 +33,7 @@ use Rattle.store_tables.specs.Rows.{
   RecordRow,
   LineRow,
   with_batch,
+  with_closed,
   with_line,
   with_next,
   with_record_row,
@@ -44,6 +45,10 @@ use Rattle.store_rows.specs.Writing.{kind_word, with_kept_written}
 pub data StagedRow : Type 0 where
   a_record : RecordRow → StagedRow
   a_line : ℕ → ℕ → ℕ × Label → StagedRow
+
+-- the numbers of records
+abbrev pub numbers_of : List Numbered → List ℕ
+numbers_of = map (λ (p : Numbered). p.number)
 
 abbrev pub record_of : ℕ → Numbered → StagedRow
 record_of batch p = a_record (record { no = p.number; kind = kind_word p.«record»; batch = batch })
@@ -73,13 +78,6 @@ with_staged (r ∷ rs) rows = with_staged rs (with_staged_row r rows)
 abbrev pub with_open_import : ℕ → List Numbered → ℕ → Rows → Rows
 with_open_import batch ps count rows = with_staged (take count (rows_of_import batch ps)) (with_batch batch true rows)
 
--- the batch is closed, where it is there
-abbrev pub closed_at : ℕ → BatchRow → BatchRow
-closed_at n b = cond (b.no == n) (record b { is_open = false }) b
-
-abbrev pub with_closed : ℕ → Rows → Rows
-with_closed n rows = record rows { batches = map (closed_at n) rows.batches }
-
 -- an import is published: its batch is closed, the next number is behind its numbers, and its answer is kept
 abbrev pub with_published : ℕ → Changes → Rows → Rows
 with_published batch changes rows = with_kept_written changes.kept (with_next changes.next (with_closed batch rows))
@@ -96,10 +94,15 @@ pub record AreClosed (rows : Rows) : Type 0 where
       rows.lines
   pub records : AllByRecursion (λ (r : RecordRow). is_closed r.batch rows.batches ≡ true) rows.records
 
--- nothing of an import is there: not its batch, no row of the batch, and no line of a number that it puts
+-- every batch is closed
+abbrev pub AreAllClosed : Rows → Type 0
+AreAllClosed rows = AllByRecursion (λ (b : BatchRow). not b.is_open ≡ true) rows.batches
+
+-- nothing of an import is there: not its batch, no row of the batch or of a number that it puts, and no line of one
 pub record IsFresh (batch : ℕ) (ps : List Numbered) (rows : Rows) : Type 0 where
   pub unused : list_any (λ (b : BatchRow). b.no == batch) rows.batches ≡ false
   pub records : list_any (λ (r : RecordRow). r.batch == batch) rows.records ≡ false
+  pub numbers : EachOf (λ (p : Numbered). list_any (λ (r : RecordRow). r.no == p.number) rows.records ≡ false) ps
   pub lines : EachOf (λ (p : Numbered). list_any (λ (l : LineRow). l.no == p.number) rows.lines ≡ false) ps
 
 -- what an import changes: it puts records, and takes none out

@@ -1,17 +1,33 @@
 //! What holds of rows that are staged, and of rows that are taken out again.
 
-ghost use Rattle.std.specs.Prelude.{◌≡◌, ◌==◌, ℕ, Bool, false, List, Option, None, filter, map, not};
+ghost use Rattle.std.specs.Prelude.{◌≡◌, ◌≢◌, ◌==◌, ◌++◌, ℕ, Bool, true, false, List, Option, None, filter, map, not};
 ghost use Rattle.std.specs.FinMap.{get};
 ghost use Rattle.std.specs.List.{list_any};
 ghost use Rattle.archive_state.specs.Content.{Content};
 ghost use Rattle.archive_state.specs.Applied.{applied};
+ghost use Rattle.archive_state.specs.Changes.{Changes};
 ghost use Rattle.archive_state.specs.declared.changes.Kept.{Kept};
 ghost use Rattle.archive_state.specs.declared.changes.Numbered.{Numbered};
 ghost use Rattle.record_shapes.specs.Lists.{EachOf, IsOnce};
 ghost use Rattle.receipts.specs.declared.answer.Answer.{Answer};
-ghost use Rattle.store_tables.specs.Rows.{Rows, BatchRow, LineRow, without_record_row};
+ghost use Rattle.sqlite.specs.Tree.{Trees};
+ghost use Rattle.store_tables.specs.Batches.{AreOwned, numbers_in};
+ghost use Rattle.store_tables.specs.Calls.{Good};
+ghost use Rattle.store_tables.specs.Rows.{Rows, BatchRow, LineRow, RecordRow, with_batch, without_record_row};
 ghost use Rattle.store_rows.specs.Meaning.{Means, has_record, is_closed};
-ghost use Rattle.staged_rows.specs.Staging.{AreClosed, IsFresh, import_changes, with_open_import, with_whole_import};
+ghost use Rattle.staged_rows.specs.Removing.{IsAside, without_batch};
+ghost use Rattle.staged_rows.specs.Staging.{
+  AreAllClosed,
+  AreClosed,
+  IsFresh,
+  StagedRow,
+  import_changes,
+  numbers_of,
+  rows_of_import,
+  with_open_import,
+  with_staged,
+  with_whole_import,
+};
 
 /// While an import is open, the rows mean what they meant before, however many of its rows are there.
 pub fn an_open_import_is_in_no_view()
@@ -26,6 +42,11 @@ pub fn nothing_of_a_new_import_is_there()
     ensures { (batch : ℕ) (puts : List Numbered) (rows : Rows) (c : Content) → AreClosed rows
         → list_any (λ (b : BatchRow). b.no == batch) rows.batches ≡ false
         → EachOf (λ (p : Numbered). get c.records p.number ≡ None) puts → Means rows c → IsFresh batch puts rows }
+{}
+
+/// Where every batch is closed, each row that has what it refers to is of a closed batch.
+pub fn rows_of_closed_batches()
+    ensures { (rows : Rows) → AreOwned rows → AreAllClosed rows → AreClosed rows }
 {}
 
 /// An import of which nothing was there, staged to its end and published: the rows mean what the import makes of what
@@ -54,4 +75,42 @@ pub fn a_row_of_an_open_batch_means_nothing()
 pub fn an_open_batch_means_nothing()
     ensures { (n : ℕ) (rows : Rows) (c : Content) → is_closed n rows.batches ≡ false → Means rows c
         → Means (record rows { batches = filter (λ (b : BatchRow). not (b.no == n)) rows.batches }) c }
+{}
+
+/// An import leaves the rows of every number that it does not put: its row in `record` and its lines, each with its
+/// id, in their order.
+pub fn an_import_leaves_the_rows_of_other_numbers()
+    ensures { (batch : ℕ) (changes : Changes) (rows : Rows) (m : ℕ)
+        → EachOf (λ (p : Numbered). p.number ≢ m) changes.puts
+        → (filter (λ (l : LineRow). l.no == m) (with_whole_import batch changes rows).lines ≡ filter
+        (λ (l : LineRow). l.no == m) rows.lines)
+        × (filter (λ (r : RecordRow). r.no == m) (with_whole_import batch changes rows).records ≡ filter
+        (λ (r : RecordRow). r.no == m) rows.records) }
+{}
+
+/// An import of which nothing was there, staged to any row and taken out, leaves the rows as they were.
+pub fn an_import_that_is_taken_out_leaves_nothing()
+    ensures { (batch : ℕ) (puts : List Numbered) (done left : List StagedRow) (rows : Rows)
+        → rows_of_import batch puts ≡ done ++ left → IsFresh batch puts rows
+        → without_batch batch (numbers_of puts) (with_staged done (with_batch batch true rows)) ≡ rows }
+{}
+
+/// A batch that is not closed can be taken out with all of its numbers: the rows mean what they meant.
+pub fn a_batch_that_is_taken_out_means_nothing()
+    ensures { (batch : ℕ) (ns society : List ℕ) (rows : Rows) (c : Content) → IsAside ns society c rows
+        → is_closed batch rows.batches ≡ false
+        → Means (without_batch batch ns rows) c × ((without_batch batch ns rows).society ≡ society) }
+{}
+
+/// The numbers of an import whose numbers have no record in a content have none in the rows that mean it.
+pub fn numbers_of_an_import_have_no_record()
+    ensures { (puts : List Numbered) (rows : Rows) (c : Content)
+        → EachOf (λ (p : Numbered). get c.records p.number ≡ None) puts → Means rows c
+        → EachOf (λ n. has_record n rows ≡ false) (numbers_of puts) }
+{}
+
+/// The numbers of a batch that is not closed have no record.
+pub fn numbers_of_an_open_batch_have_no_record()
+    ensures { (batch : ℕ) (rows : Rows) (t : Trees) → Good rows t → is_closed batch rows.batches ≡ false
+        → EachOf (λ n. has_record n rows ≡ false) (numbers_in batch rows) }
 {}

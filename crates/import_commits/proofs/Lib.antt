@@ -1,0 +1,4 @@
+pub mod Settling
+mod Batches
+mod Imports
+mod Reading

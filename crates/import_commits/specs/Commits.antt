@@ -1,0 +1,41 @@
+-- What the commits of a staged import make of the rows of an archive. Rules of our own.
+use Rattle.std.specs.Prelude.{ℕ, ◌≡◌, ◌⊎◌, ◌==◌, true, false, List, [], ◌++◌, None}
+use Rattle.std.specs.FinMap.{get}
+use Rattle.std.specs.List.{list_any}
+use Rattle.sqlite.specs.State.{State}
+use Rattle.sqlite.specs.Tree.{Trees}
+use Rattle.archive_state.specs.Changes.{Changes}
+use Rattle.archive_state.specs.Content.{Content}
+use Rattle.archive_state.specs.declared.changes.Numbered.{Numbered}
+use Rattle.record_shapes.specs.Lists.{EachOf, IsOnce}
+use Rattle.store_tables.specs.Calls.{Good}
+use Rattle.store_tables.specs.Rows.{Rows, BatchRow, with_batch}
+use Rattle.staged_rows.specs.Staging.{AreAllClosed, StagedRow, numbers_of, rows_of_import, with_staged}
+use Rattle.staging.specs.Opened.{Import}
+
+-- whatever a crash may leave is good, and has these rows, or those that a commit makes of them
+abbrev pub LeavesEither : State → Rows → Rows → Type 0
+LeavesEither s rows after = (t : Trees) → s.may_leave t → Good rows t ⊎ Good after t
+
+-- the number of a batch that is not there, where all that are there are closed
+pub record IsNextBatch (batch : ℕ) (rows : Rows) : Type 0 where
+  pub unused : list_any (λ (b : BatchRow). b.no == batch) rows.batches ≡ false
+  pub closed : AreAllClosed rows
+
+-- whatever a crash may leave is good, and has these rows, or with them the next batch, which is open
+abbrev pub LeavesBegun : State → Rows → Type 0
+LeavesBegun s rows = (t : Trees) → s.may_leave t → Good rows t
+    ⊎ ((batch : ℕ) × IsNextBatch batch rows × Good (with_batch batch true rows) t)
+
+-- changes that only add records to an archive that holds this: each number is there once, and none has a record
+pub record IsAddition (c : Content) (changes : Changes) : Type 0 where
+  pub once : IsOnce (numbers_of changes.puts)
+  pub free : EachOf (λ (p : Numbered). get c.records p.number ≡ None) changes.puts
+  pub removals : changes.removals ≡ []
+  pub slip : changes.slip ≡ None
+
+-- rows with an import on them: those of before, with the import's batch, which is open, and a beginning of its rows
+pub record IsBegun (before : Rows) (i : Import) (rows : Rows) : Type 0 where
+  pub done : List StagedRow
+  pub parts : rows_of_import i.batch i.changes.puts ≡ done ++ i.left
+  pub rows_are : rows ≡ with_staged done (with_batch i.batch true before)

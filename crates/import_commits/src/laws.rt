@@ -1,0 +1,84 @@
+//! What the rows of an archive mean while an import is staged, and afterwards.
+
+ghost use Rattle.std.specs.Prelude.{◌≡◌, ℕ, List, [], false, take, drop};
+ghost use Rattle.sqlite.specs.Tree.{Trees};
+ghost use Rattle.archive_state.specs.Applied.{applied};
+ghost use Rattle.archive_state.specs.Changes.{Changes};
+ghost use Rattle.archive_state.specs.Content.{Content};
+ghost use Rattle.store_tables.specs.Calls.{Good};
+ghost use Rattle.store_tables.specs.Rows.{Rows};
+ghost use Rattle.record_shapes.specs.Lists.{EachOf};
+ghost use Rattle.store_rows.specs.Meaning.{AllShallow, Means, is_closed};
+ghost use Rattle.store_rows.specs.Shallow.{IsShallowPut};
+ghost use Rattle.staged_rows.specs.Removing.{IsAside, without_batch};
+ghost use Rattle.staged_rows.specs.Staging.{IsFresh, numbers_of, with_published, with_staged};
+ghost use Rattle.staging.specs.Opened.{Import};
+ghost use Rattle.import_commits.specs.Commits.{IsAddition, IsBegun, IsNextBatch};
+
+use staged_rows::laws::{
+    a_published_import_means_what_it_makes, an_import_that_is_taken_out_leaves_nothing,
+    an_open_import_is_in_no_view, nothing_of_a_new_import_is_there,
+    numbers_of_an_import_have_no_record, rows_of_closed_batches,
+};
+use store_tables::laws::rows_are_owned;
+
+/// Nothing of an import with the next batch is there before it is begun.
+pub fn nothing_is_there_of_the_next_batch()
+    ensures { (batch : ℕ) (rows : Rows) (t : Trees) (c : Content) (changes : Changes) → Good rows t
+        → IsNextBatch batch rows → Means rows c → IsAddition c changes → IsFresh batch changes.puts rows }
+{
+    rows_are_owned();
+    nothing_of_a_new_import_is_there();
+    rows_of_closed_batches();
+}
+
+/// An import goes on by the rows that are written of it.
+pub fn a_stage_goes_on()
+    ensures { (n : ℕ) (before rows : Rows) (i : Import) → IsBegun before i rows
+        → IsBegun before (record i { left = drop n i.left }) (with_staged (take n i.left) rows) }
+{}
+
+/// While it is open, the archive means what it meant before, and is of the same society.
+pub fn an_import_that_is_begun_is_in_no_view()
+    ensures { (before rows : Rows) (i : Import) (c : Content) → IsBegun before i rows
+        → IsFresh i.batch i.changes.puts before → IsAddition c i.changes → Means before c
+        → Means rows c × (rows.society ≡ before.society) }
+{
+    an_open_import_is_in_no_view();
+}
+
+/// When all its rows are written and it is published, the archive means what the import makes of it.
+pub fn a_published_import_is_whole()
+    ensures { (before rows : Rows) (i : Import) (c : Content) → IsBegun before i rows
+        → IsFresh i.batch i.changes.puts before → IsAddition c i.changes → Means before c → i.left ≡ []
+        → Means (with_published i.batch i.changes rows) (applied c i.changes)
+        × ((with_published i.batch i.changes rows).society ≡ before.society) }
+{
+    a_published_import_means_what_it_makes();
+}
+
+/// And what it adds can be read, where its rows could be written.
+pub fn what_an_import_adds_can_be_read()
+    ensures { (c : Content) (changes : Changes) → IsAddition c changes → EachOf IsShallowPut changes.puts
+        → AllShallow c → AllShallow (applied c changes) }
+{}
+
+/// It can be taken out again: its batch is not closed, and its numbers have no record.
+pub fn an_import_that_is_begun_can_be_taken_out()
+    ensures { (before rows : Rows) (i : Import) (c : Content) (society : List ℕ) → IsBegun before i rows
+        → IsFresh i.batch i.changes.puts before → IsAddition c i.changes → Means before c
+        → before.society ≡ society
+        → IsAside (numbers_of i.changes.puts) society c rows × (is_closed i.batch rows.batches ≡ false) }
+{
+    an_open_import_is_in_no_view();
+    numbers_of_an_import_have_no_record();
+}
+
+/// When it is taken out, the rows are those of before.
+pub fn an_import_that_is_taken_out_leaves_what_was()
+    ensures { (before rows : Rows) (i : Import) (c : Content) → IsBegun before i rows
+        → IsFresh i.batch i.changes.puts before → IsAddition c i.changes → Means before c
+        → without_batch i.batch (numbers_of i.changes.puts) rows ≡ before }
+{
+    an_import_that_is_taken_out_leaves_nothing();
+}

@@ -1,0 +1,65 @@
+-- The rows of every number that an import does not put stay, with their ids.
+use Rattle.std.proofs.Common.{◌≡◌, ◌≢◌, ℕ, true, List, [], ◌∷◌, filter, refl, ap, ◌∙◌}
+use Rattle.std.specs.Prelude.{◌==◌, Option, Some, None}
+use Rattle.record_shapes.specs.Lists.{EachOf}
+use Rattle.archive_state.specs.Changes.{Changes}
+use Rattle.archive_state.specs.declared.changes.Kept.{Kept}
+use Rattle.archive_state.specs.declared.changes.Numbered.{Numbered}
+use Rattle.store_tables.specs.Rows.{Rows, RecordRow, LineRow, next_key, with_batch, with_closed, with_next}
+use Rattle.store_rows.specs.Writing.{with_kept_written}
+use Rattle.staged_rows.specs.Staging.{
+  StagedRow,
+  a_record,
+  a_line,
+  rows_of_import,
+  with_staged,
+  with_staged_row,
+  with_whole_import,
+}
+use Rattle.staged_rows.proofs.Lists.{filter_behind, filter_put, is_not}
+use Rattle.staged_rows.proofs.Numbers.{number_of, of_import}
+
+record Stay (m : ℕ) (before after : Rows) : Type 0 where
+  lines : filter (λ (l : LineRow). l.no == m) after.lines ≡ filter (λ (l : LineRow). l.no == m) before.lines
+  records : filter (λ (r : RecordRow). r.no == m) after.records ≡ filter (λ (r : RecordRow). r.no == m) before.records
+
+then : (m : ℕ) (a b c : Rows) → Stay m b c → Stay m a b → Stay m a c
+then m a b c h k = record { lines = h.lines ∙ k.lines; records = h.records ∙ k.records }
+
+row_stays : (m : ℕ) (r : StagedRow) (rows : Rows) → number_of r ≢ m → Stay m rows (with_staged_row r rows)
+row_stays m (a_record r) rows off = record {
+  lines = refl;
+  records = filter_put (λ (x : RecordRow). x.no) (λ (x : RecordRow). x.no == m)
+      (record { no = r.no; kind = r.kind; batch = r.batch })
+      (λ y same. ap (λ k. k == m) same ∙ is_not r.no m off) rows.records;
+}
+row_stays m (a_line n at l) rows off = record {
+  lines = filter_behind (λ (k : LineRow). k.no == m) rows.lines
+      (record { id = next_key (λ (k : LineRow). k.id) rows.lines; no = n; at = at; line = l }) (is_not n m off);
+  records = refl;
+}
+
+all_stay : (m : ℕ) (rs : List StagedRow) (rows : Rows) → EachOf (λ r. number_of r ≢ m) rs
+    → Stay m rows (with_staged rs rows)
+all_stay m [] rows off = record { lines = refl; records = refl }
+all_stay m (r ∷ rs) rows off =
+    then m rows (with_staged_row r rows) (with_staged rs (with_staged_row r rows))
+    (all_stay m rs (with_staged_row r rows) off.1) (row_stays m r rows off.0)
+
+kept_stays : (m : ℕ) (kept : Option Kept) (rows : Rows) → Stay m rows (with_kept_written kept rows)
+kept_stays m None rows = record { lines = refl; records = refl }
+kept_stays m (Some kept) rows = record { lines = refl; records = refl }
+
+pub others_stay : (batch : ℕ) (changes : Changes) (rows : Rows) (m : ℕ)
+    → EachOf (λ (p : Numbered). p.number ≢ m) changes.puts
+    → (filter (λ (l : LineRow). l.no == m) (with_whole_import batch changes rows).lines ≡ filter
+    (λ (l : LineRow). l.no == m) rows.lines)
+    × (filter (λ (r : RecordRow). r.no == m) (with_whole_import batch changes rows).records ≡ filter
+    (λ (r : RecordRow). r.no == m) rows.records)
+others_stay batch changes rows m off =
+    let rs = rows_of_import batch changes.puts in
+    let opened = with_batch batch true rows in
+    let staged = with_staged rs opened in
+    let early : Stay m opened staged = all_stay m rs opened (of_import (λ n. n ≢ m) batch changes.puts off) in
+    let late = kept_stays m changes.kept (with_next changes.next (with_closed batch staged)) in
+    (late.lines ∙ early.lines, late.records ∙ early.records)

@@ -1,0 +1,146 @@
+-- An import that is staged to any row and taken out again leaves the rows as they were.
+use Rattle.std.proofs.Common.{
+  ◌≡◌,
+  ℕ,
+  true,
+  false,
+  not,
+  List,
+  [],
+  ◌∷◌,
+  ◌++◌,
+  filter,
+  refl,
+  sym,
+  ap,
+  ap₂,
+  subst,
+  ◌∙◌,
+  arith,
+}
+use Rattle.std.specs.Prelude.{◌==◌}
+use Rattle.std.specs.List.{list_any}
+use Rattle.std.proofs.lemmas.Bool.Decides.{nat_tests}
+use Rattle.record_shapes.specs.Lists.{EachOf}
+use Rattle.archive_state.specs.declared.changes.Numbered.{Numbered}
+use Rattle.store_tables.specs.Rows.{
+  Rows,
+  BatchRow,
+  RecordRow,
+  LineRow,
+  next_key,
+  put_by,
+  with_batch,
+  without_batch_row,
+  without_lines,
+  without_record_row,
+}
+use Rattle.store_rows.specs.Writing.{without_all_lines, without_record_rows}
+use Rattle.staged_rows.specs.Removing.{without_batch}
+use Rattle.staged_rows.specs.Staging.{
+  IsFresh,
+  StagedRow,
+  a_record,
+  a_line,
+  numbers_of,
+  rows_of_import,
+  with_staged,
+  with_staged_row,
+}
+use Rattle.staged_rows.proofs.Lists.{
+  all_pass,
+  filter_behind,
+  filter_put,
+  is_outside,
+  none_of_it,
+  none_of_them,
+  one_more,
+}
+use Rattle.staged_rows.proofs.Numbers.{are_among, each_front, number_of, of_import, of_numbers}
+
+-- ---- lines and rows of several numbers
+lines_less : (ns : List ℕ) (rows : Rows) → without_all_lines ns rows
+    ≡ record rows { lines = filter (λ (l : LineRow). is_outside ns l.no) rows.lines }
+lines_less [] rows = sym (ap (λ (ls : List LineRow). record rows { lines = ls }) (all_pass rows.lines))
+lines_less (n ∷ ns) rows = lines_less ns (without_lines n rows)
+    ∙ ap (λ (ls : List LineRow). record rows { lines = ls }) (one_more (λ (l : LineRow). l.no) n ns rows.lines)
+
+rows_less : (ns : List ℕ) (rows : Rows) → without_record_rows ns rows
+    ≡ record rows { records = filter (λ (r : RecordRow). is_outside ns r.no) rows.records }
+rows_less [] rows = sym (ap (λ (rs : List RecordRow). record rows { records = rs }) (all_pass rows.records))
+rows_less (n ∷ ns) rows = rows_less ns (without_record_row n rows)
+    ∙ ap (λ (rs : List RecordRow). record rows { records = rs }) (one_more (λ (r : RecordRow). r.no) n ns rows.records)
+
+-- ---- rows that are staged, of these numbers
+record More (ns : List ℕ) (before after : Rows) : Type 0 where
+  lines : filter (λ (l : LineRow). is_outside ns l.no) after.lines
+      ≡ filter (λ (l : LineRow). is_outside ns l.no) before.lines
+  records : filter (λ (r : RecordRow). is_outside ns r.no) after.records
+      ≡ filter (λ (r : RecordRow). is_outside ns r.no) before.records
+  beside : after ≡ record before { records = after.records; lines = after.lines }
+
+row_more : (ns : List ℕ) (r : StagedRow) (rows : Rows) → list_any (λ k. k == number_of r) ns ≡ true
+    → More ns rows (with_staged_row r rows)
+row_more ns (a_record r) rows is = record {
+  lines = refl;
+  records = filter_put (λ (x : RecordRow). x.no) (λ (x : RecordRow). is_outside ns x.no)
+      (record { no = r.no; kind = r.kind; batch = r.batch }) (λ y same. ap (is_outside ns) same ∙ ap not is)
+      rows.records;
+  beside = refl;
+}
+row_more ns (a_line n at l) rows is = record {
+  lines = filter_behind (λ (k : LineRow). is_outside ns k.no) rows.lines
+      (record { id = next_key (λ (k : LineRow). k.id) rows.lines; no = n; at = at; line = l }) (ap not is);
+  records = refl;
+  beside = refl;
+}
+
+all_more : (ns : List ℕ) (rs : List StagedRow) (rows : Rows)
+    → EachOf (λ r. list_any (λ k. k == number_of r) ns ≡ true) rs → More ns rows (with_staged rs rows)
+all_more ns [] rows is = record { lines = refl; records = refl; beside = refl }
+all_more ns (r ∷ rs) rows is =
+    let one = row_more ns r rows is.0 in
+    let next = with_staged_row r rows in
+    let after = with_staged rs next in
+    let more = all_more ns rs next is.1 in
+    record {
+      lines = more.lines ∙ one.lines;
+      records = more.records ∙ one.records;
+      beside = more.beside
+          ∙ ap (λ (rows : Rows). record rows { records = after.records; lines = after.lines }) one.beside;
+    }
+
+-- ---- the batch
+batch_gone : (n : ℕ) (bs : List BatchRow) → list_any (λ (b : BatchRow). b.no == n) bs ≡ false
+    → filter (λ (b : BatchRow). not (b.no == n))
+    (put_by (λ (b : BatchRow). b.no) (record { no = n; is_open = true }) bs) ≡ bs
+batch_gone n bs none =
+    filter_put (λ (b : BatchRow). b.no) (λ (b : BatchRow). not (b.no == n)) (record { no = n; is_open = true })
+    (λ y same. ap (λ k. not (k == n)) same ∙ itself n) bs ∙ none_of_it (λ (b : BatchRow). b.no) n bs none
+  where
+    itself : (n : ℕ) → not (n == n) ≡ false
+    itself n = grind (arith, nat_tests)
+
+pub no_trace : (batch : ℕ) (ps : List Numbered) (done left : List StagedRow) (rows : Rows)
+    → rows_of_import batch ps ≡ done ++ left → IsFresh batch ps rows
+    → without_batch batch (numbers_of ps) (with_staged done (with_batch batch true rows)) ≡ rows
+no_trace batch ps done left rows parts fresh =
+    let ns = numbers_of ps in
+    let opened = with_batch batch true rows in
+    let staged = with_staged done opened in
+    let among = λ (r : StagedRow). list_any (λ k. k == number_of r) ns ≡ true in
+    let mine : EachOf among done = each_front among done left
+    (subst (EachOf among) parts (of_import (λ n. list_any (λ k. k == n) ns ≡ true) batch ps (are_among ps))) in
+    let more = all_more ns done opened mine in
+    let ls = filter (λ (l : LineRow). is_outside ns l.no) staged.lines in
+    let rs = filter (λ (r : RecordRow). is_outside ns r.no) staged.records in
+    let old_lines : ls ≡ rows.lines = more.lines ∙ none_of_them (λ (l : LineRow). l.no) ns rows.lines
+    (of_numbers (λ n. list_any (λ (l : LineRow). l.no == n) rows.lines ≡ false) ps fresh.lines) in
+    let old_records : rs ≡ rows.records = more.records ∙ none_of_them (λ (r : RecordRow). r.no) ns rows.records
+    (of_numbers (λ n. list_any (λ (r : RecordRow). r.no == n) rows.records ≡ false) ps fresh.numbers) in
+    ap (λ (r : Rows). without_batch_row batch (without_record_rows ns r)) (lines_less ns staged)
+    ∙ ap (without_batch_row batch) (rows_less ns (record staged { lines = ls }))
+    ∙ ap (λ (r : Rows). without_batch_row batch (record r { lines = ls; records = rs })) more.beside
+    ∙ ap₂ (λ (ls : List LineRow) (rs : List RecordRow).
+    without_batch_row batch (record opened { lines = ls; records = rs })) old_lines old_records
+    ∙ ap (λ (bs : List BatchRow). record rows { batches = bs }) (batch_gone batch rows.batches fresh.unused)

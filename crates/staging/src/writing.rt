@@ -1,0 +1,227 @@
+//! The rows of an import, written inside a transaction.
+
+ghost use Rattle.std.specs.Prelude.{◌≡◌, ◌⊎◌, ◌<◌, [], length, take, drop, OnOk, IfErr};
+ghost use Rattle.sqlite.specs.State.{HasCleanDisk, Survives};
+ghost use Rattle.sqlite.specs.Held.{state};
+ghost use Rattle.record_text.specs.declared.refusal.RefusalKind.TheVariants.{OutOfMemory, Storage};
+ghost use Rattle.record_shapes.specs.Lists.{EachOf};
+ghost use Rattle.records.specs.Shallow.{IsShallow};
+ghost use Rattle.records.specs.Stored.{stored};
+ghost use Rattle.store_tables.specs.Calls.{Follows};
+ghost use Rattle.store_tables.specs.Rows.{with_closed, with_next};
+ghost use Rattle.store_rows.specs.Shallow.{IsShallowPut};
+ghost use Rattle.store_rows.specs.Writing.{with_kept_written};
+ghost use Rattle.staged_rows.specs.Staging.{lines_from, with_published, with_staged};
+ghost use Rattle.staging.specs.Opened.{AreKnownOf, IsPlaced, left_of};
+
+use crate::cursor::Cursor;
+use crate::opened::OpenImport;
+use archive_state::{Kept, Numbered};
+use record_text::RefusalKind;
+use records::{Record, lines_of};
+use sqlite::{Alter, Error, Transaction};
+use std::alloc::{AllocError, Global};
+use store_rows::{kind_word, write_kept};
+use store_tables::{batches, rows};
+use stored_lines::StoredLine;
+
+/// How many rows a stage writes.
+const STAGE: u32 = 256;
+
+/// Writes the next 256 rows of an import, or all that are left.
+///
+/// 80: the database answered an error. 1: memory for the lines of a record was refused. After either the transaction is
+/// to be given up; the import is as it was.
+pub fn stage_rows<S: Alter>(
+    alloc: Global,
+    tx: &mut Transaction<'_, S>,
+    import: &mut OpenImport,
+) -> Result<(), RefusalKind>
+    ensures same_reference { tx.new.conn.ghost_name ≡ tx.old.conn.ghost_name }
+    ensures ok { HasCleanDisk (state S.Store tx.new.conn.now)
+        → OnOk result (Follows (state S.Store tx.old.conn.now) (state S.Store tx.new.conn.now)
+        (with_staged (take 256 import.old.left))) }
+    ensures left { OnOk result (import.new ≡ record import.old { left = drop 256 import.old.left }) }
+    ensures kept { IfErr result (λ _. import.new ≡ import.old) }
+    ensures survives { Survives (state S.Store tx.old.conn.now) (state S.Store tx.new.conn.now) (λ _. ⊥) }
+    ensures refused { IfErr result (λ kind. (kind ≡ OutOfMemory) ⊎ (kind ≡ Storage)) }
+{
+    let (rows, done, place) = (import.cursor.rows, import.cursor.done, import.cursor.place);
+    let written = write_rows(
+        alloc,
+        tx,
+        import.batch,
+        &import.changes.puts,
+        &mut import.cursor,
+    );
+    match written {
+        Ok(()) => Ok(()),
+        Err(why) => {
+            import.cursor = Cursor {
+                rows,
+                done,
+                place,
+                lines: Vec::new(alloc),
+            };
+            Err(kind_of(why))
+        }
+    }
+}
+
+/// Publishes an import: its batch is closed, the next number is behind its numbers, and its answer is kept.
+/// `Err`: a statement failed.
+pub fn publish_rows<S: Alter>(tx: &mut Transaction<'_, S>, import: &OpenImport) -> Result<(), Error>
+    ensures same_reference { tx.new.conn.ghost_name ≡ tx.old.conn.ghost_name }
+    ensures ok { HasCleanDisk (state S.Store tx.new.conn.now)
+        → OnOk result (Follows (state S.Store tx.old.conn.now) (state S.Store tx.new.conn.now)
+        (with_published import.now.batch import.now.changes)) }
+    ensures survives { Survives (state S.Store tx.old.conn.now) (state S.Store tx.new.conn.now) (λ _. ⊥) }
+    ensures shallow { OnOk result (import.now.left ≡ [] → EachOf IsShallowPut import.now.changes.puts) }
+{
+    publish(tx, import.batch, import.changes.next, &import.changes.kept)
+}
+
+/// Closes a batch, moves the next number and keeps an answer.
+fn publish<S: Alter>(
+    tx: &mut Transaction<'_, S>,
+    batch: u32,
+    next: u64,
+    kept: &Option<Kept>,
+) -> Result<(), Error>
+    ensures same_reference { tx.new.conn.ghost_name ≡ tx.old.conn.ghost_name }
+    ensures ok { HasCleanDisk (state S.Store tx.new.conn.now)
+        → OnOk result (Follows (state S.Store tx.old.conn.now) (state S.Store tx.new.conn.now)
+        (λ rows. with_kept_written kept.now (with_next next (with_closed batch rows)))) }
+    ensures survives { Survives (state S.Store tx.old.conn.now) (state S.Store tx.new.conn.now) (λ _. ⊥) }
+{
+    batches::close_batch(tx, batch)?;
+    rows::set_next(tx, next)?;
+    write_kept(tx, kept)
+}
+
+/// Why rows were not written.
+#[derive(Drop)]
+enum Unwritten {
+    /// Memory for the lines of a record was refused.
+    Memory,
+    /// The database answered an error.
+    Database,
+}
+
+impl From<AllocError> for Unwritten {
+    ghost use Rattle.std.specs.Prelude.{◌≡◌};
+    ghost use Rattle.staging.specs.declared.writing.Unwritten.TheVariants.{Memory};
+
+    ghost from_gives = { λ _ e. e ≡ Memory };
+
+    fn from(_error: AllocError) -> Unwritten {
+        Unwritten::Memory
+    }
+}
+
+impl From<Error> for Unwritten {
+    ghost use Rattle.std.specs.Prelude.{◌≡◌};
+    ghost use Rattle.staging.specs.declared.writing.Unwritten.TheVariants.{Database};
+
+    ghost from_gives = { λ _ e. e ≡ Database };
+
+    fn from(_error: Error) -> Unwritten {
+        Unwritten::Database
+    }
+}
+
+/// The refusal for it.
+fn kind_of(why: Unwritten) -> RefusalKind
+    ensures { (result ≡ OutOfMemory) ⊎ (result ≡ Storage) }
+{
+    match why {
+        Unwritten::Memory => RefusalKind::OutOfMemory,
+        Unwritten::Database => RefusalKind::Storage,
+    }
+}
+
+/// Writes the next 256 rows, or all that are left.
+fn write_rows<S: Alter>(
+    alloc: Global,
+    tx: &mut Transaction<'_, S>,
+    batch: u32,
+    puts: &[Numbered],
+    cursor: &mut Cursor,
+) -> Result<(), Unwritten>
+    requires placed { IsPlaced puts.now cursor.old }
+    ensures same_reference { tx.new.conn.ghost_name ≡ tx.old.conn.ghost_name }
+    ensures ok { HasCleanDisk (state S.Store tx.new.conn.now)
+        → OnOk result (Follows (state S.Store tx.old.conn.now) (state S.Store tx.new.conn.now)
+        (with_staged (take 256 (left_of batch puts.now cursor.old)))) }
+    ensures left { OnOk result (left_of batch puts.now cursor.new ≡ drop 256 (left_of batch puts.now cursor.old)) }
+    ensures placed { OnOk result (IsPlaced puts.now cursor.new) }
+    ensures survives { Survives (state S.Store tx.old.conn.now) (state S.Store tx.new.conn.now) (λ _. ⊥) }
+{
+    'rows: for row in 0..STAGE {
+        write_next(alloc, tx, batch, puts, cursor)?;
+    }
+    Ok(())
+}
+
+/// Writes the next row, where one is left.
+fn write_next<S: Alter>(
+    alloc: Global,
+    tx: &mut Transaction<'_, S>,
+    batch: u32,
+    puts: &[Numbered],
+    cursor: &mut Cursor,
+) -> Result<(), Unwritten>
+    requires placed { IsPlaced puts.now cursor.old }
+    ensures same_reference { tx.new.conn.ghost_name ≡ tx.old.conn.ghost_name }
+    ensures ok { HasCleanDisk (state S.Store tx.new.conn.now)
+        → OnOk result (Follows (state S.Store tx.old.conn.now) (state S.Store tx.new.conn.now)
+        (with_staged (take 1 (left_of batch puts.now cursor.old)))) }
+    ensures left { OnOk result (left_of batch puts.now cursor.new ≡ drop 1 (left_of batch puts.now cursor.old)) }
+    ensures placed { OnOk result (IsPlaced puts.now cursor.new) }
+    ensures survives { Survives (state S.Store tx.old.conn.now) (state S.Store tx.new.conn.now) (λ _. ⊥) }
+{
+    if let Some(put) = puts.get(cursor.rows) {
+        rows::insert_record(tx, put.number, kind_word(&put.record), batch)?;
+        cursor.rows += 1;
+        return Ok(());
+    }
+    let Some(put) = puts.get(cursor.done) else {
+        return Ok(());
+    };
+    write_line(alloc, tx, put, cursor.place, &mut cursor.lines)?;
+    cursor.go_on()?;
+    Ok(())
+}
+
+/// Writes the line of a record at a place. The lines at hand are made where they are none yet.
+fn write_line<S: Alter>(
+    alloc: Global,
+    tx: &mut Transaction<'_, S>,
+    put: &Numbered,
+    place: u32,
+    lines: &mut Vec<StoredLine>,
+) -> Result<(), Unwritten>
+    requires known { AreKnownOf lines.old.items put.now.«record» }
+    requires there { place < length (stored put.now.«record») }
+    ensures same_reference { tx.new.conn.ghost_name ≡ tx.old.conn.ghost_name }
+    ensures ok { HasCleanDisk (state S.Store tx.new.conn.now)
+        → OnOk result (Follows (state S.Store tx.old.conn.now) (state S.Store tx.new.conn.now)
+        (with_staged (take 1 (lines_from put.now.number place (drop place (stored put.now.«record»)))))) }
+    ensures made { OnOk result ((lines.new.items ≡ stored put.now.«record») × IsShallowPut put.now) }
+    ensures survives { Survives (state S.Store tx.old.conn.now) (state S.Store tx.new.conn.now) (λ _. ⊥) }
+{
+    make_lines(alloc, &put.record, lines)?;
+    rows::insert_line(tx, put.number, place, &lines[place as usize])?;
+    Ok(())
+}
+
+/// Makes the lines of a record, where they are none yet.
+fn make_lines(alloc: Global, record: &Record, lines: &mut Vec<StoredLine>) -> Result<(), AllocError>
+    requires known { AreKnownOf lines.old.items «record».now }
+    ensures made { OnOk result ((lines.new.items ≡ stored «record».now) × IsShallow «record».now) }
+{
+    if lines.is_empty() {
+        *lines = lines_of(alloc, record)?;
+    }
+    Ok(())
+}
