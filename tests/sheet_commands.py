@@ -4,6 +4,7 @@ docs/FORMATS.md and docs/LIVING.md, or is what the second reading in `shown/` ma
 from __future__ import annotations
 
 import datetime
+import os
 import sqlite3
 
 from archives import lines
