@@ -34,9 +34,10 @@ def asked(port, target):
     """The answer to a GET."""
     with socket.create_connection(("127.0.0.1", port)) as one:
         one.sendall(f"GET {target} HTTP/1.1\r\nHost: localhost\r\nConnection: close\r\n\r\n".encode())
-        got = b""
-        while piece := one.recv(65_536):
-            got += piece
+        pieces = []
+        while piece := one.recv(1 << 20):
+            pieces.append(piece)
+    got = b"".join(pieces)
     if b" 200 OK\r\n" not in got[:20]:
         raise SystemExit(f"{target}: {got[:100]!r}")
     return got
