@@ -75,6 +75,7 @@ use crate::performing::perform_on;
 use crate::reading::{recognise, society_on, state_on};
 use archive_core::{Forest, Request};
 use archive_state::{Answer, State, Token};
+use import_commits::laws::an_import_that_is_begun_is_in_no_view;
 use record_text::{Refusal, RefusalKind, Text};
 use sqlite::{Alter, Connection};
 use staging::OpenImport;
@@ -446,6 +447,7 @@ impl<S: Alter> Archive<S> {
         if self.is_lost {
             return Err(RefusalKind::Reopen);
         }
+        an_import_that_is_begun_is_in_no_view();
         let read = state_on(alloc, &mut self.conn);
         self.is_lost = has_broken(&read);
         read
@@ -467,6 +469,7 @@ impl<S: Alter> Archive<S> {
         if self.is_lost {
             return Err(RefusalKind::Reopen);
         }
+        an_import_that_is_begun_is_in_no_view();
         let read = society_on(alloc, &mut self.conn);
         self.is_lost = has_broken(&read);
         read
