@@ -1,2 +1,1 @@
-mod Commits
 mod Cursors
