@@ -1,1 +1,2 @@
+mod Commits
 mod Cursors
