@@ -1,2 +1,3 @@
 mod Commits
 mod Cursors
+mod Opening
