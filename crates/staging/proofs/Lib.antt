@@ -1,2 +1,5 @@
+mod Cleared
 mod Commits
 mod Cursors
+mod Steps
+mod Thinned
