@@ -79,6 +79,15 @@ pub clears_lost : {B E F : Type 0} {ns : List ℕ} {P : Rows → Rows → Type 0
 clears_lost Q e (Ok b) is h = absurd cc
 clears_lost Q e (Err f) is h = record { done = λ ok. tt; crash = h.crash; clean = h.clean }
 
+pub as_lost : {A E : Type 0} {ns : List ℕ} {P : Rows → Rows → Type 0} {old new : State} {e : E}
+    → Clears {A = A} {E = E} ns P old new (Err e) → Clears {A = Unit {0}} {E = E} ns P old new (Err e)
+as_lost h = record { done = λ ok. tt; crash = h.crash; clean = h.clean }
+
+-- an error behind what was made
+pub given_up : {B E : Type 0} {ns : List ℕ} {P : Rows → Rows → Type 0} (Q : Rows → Rows → Type 0) {old new : State}
+    (e : E) → IsOnTheWay ns P old new → Clears {A = B} {E = E} ns Q old new (Err e)
+given_up Q e h = record { done = λ ok. tt; crash = h.crash; clean = h.clean }
+
 -- nothing is made yet
 pub begun : (ns : List ℕ) (Is : Rows → Rows → Type 0) (s : State)
     → ((rows : Rows) (t : Trees) → Settled s rows → s.may_leave t → Good rows t) → ((rows : Rows) → Is rows rows)
@@ -108,9 +117,9 @@ looked_in_vain ns Is kind (Err e) is h = record {
   clean = h.clean;
 }
 
-pub nothing_done : {A E P : Type 0} (result : Result A E) → IsErr result → OnOk result P
-nothing_done (Ok a) is = absurd cc
-nothing_done (Err e) is = tt
+pub nothing_done : {A E : Type 0} (P : Type 0) (result : Result A E) → IsErr result → OnOk result P
+nothing_done P (Ok a) is = absurd cc
+nothing_done P (Err e) is = tt
 
 -- ---- the batch's own row, behind all others
 module _ {A E : Type 0} (batch : ℕ) (ns : List ℕ) (old mid new : State) (result : Result A E)

@@ -1,6 +1,25 @@
 -- What each single commit makes of the rows, where the numbers of a batch stay without a record.
-use Rattle.std.proofs.Common.{◌≡◌, ◌++◌, ℕ, List, true, Result, OnOk, ap, sym, subst, ◌∙◌}
-use Rattle.std.specs.Prelude.{◌==◌, false}
+use Rattle.std.proofs.Common.{
+  ◌≡◌,
+  ◌++◌,
+  ◌<◌,
+  ◌≤◌,
+  ℕ,
+  List,
+  length,
+  get_or,
+  drop,
+  true,
+  false,
+  Result,
+  Ok,
+  OnOk,
+  ap,
+  sym,
+  subst,
+  ◌∙◌,
+}
+use Rattle.std.specs.Prelude.{◌==◌}
 use Rattle.std.specs.List.{list_any}
 use Rattle.sqlite.specs.State.{State, HasCleanDisk}
 use Rattle.record_shapes.specs.Lists.{EachOf}
@@ -10,8 +29,8 @@ use Rattle.store_rows.specs.Meaning.{has_record}
 use Rattle.store_rows.specs.Writing.{without_all_lines, without_record_rows}
 use Rattle.staged_rows.proofs.Taken.{aside_lines, aside_lines_from, aside_rows}
 use Rattle.staging.specs.Clearing.{Clears, IsThinned, LeavesEither}
-use Rattle.staging.proofs.Cleared.{IsOnTheWay, clears_then, one_commit}
-use Rattle.staging.proofs.Thinned.{each_first, each_second, has_none, lines_of_two, rows_of_two, thinned_from}
+use Rattle.staging.proofs.Cleared.{IsOnTheWay, clears_as, clears_then, one_commit}
+use Rattle.staging.proofs.Thinned.{each_first, each_second, has_none, lines_of_two, rows_of_two, there, there_from, thinned_from}
 
 module _ {A E : Type 0} (ns : List ℕ) (old new : State) (result : Result A E)
     (clean : HasCleanDisk new → HasCleanDisk old) where
@@ -70,3 +89,15 @@ module _ {A E : Type 0} (ns : List ℕ) (old new : State) (result : Result A E)
         clears_then (λ rows here. without_record_rows behind here ≡ without_record_rows ns rows) result way
         (no_rows front ks behind (are ∙ ap (λ r. front ++ r) parted) done crash)
         (λ x y z p q. q ∙ ap (λ r. without_record_rows r y) (sym parted) ∙ p)
+
+-- ---- a number of which lines are taken out before all lines of it are
+module _ {A E : Type 0} (ns : List ℕ) (d first at : ℕ) (le : first ≤ at) (low : at < length ns) (start old new : State)
+    (result : Result A E)
+    (way : IsOnTheWay ns (λ rows here. without_all_lines (drop first ns) here ≡ without_all_lines ns rows) start old)
+    (thins : (ms : List ℕ) → list_any (λ m. m == get_or ns at d) ms ≡ true
+    → Clears ms (IsThinned (get_or ns at d)) old new result) where
+  pub thinned_on : Clears ns (λ rows here. without_all_lines (drop first ns) here ≡ without_all_lines ns rows) start new
+      result
+  thinned_on =
+      clears_then (λ rows here. without_all_lines (drop first ns) here ≡ without_all_lines ns rows) result way
+      (thins ns (there d at ns low)) (λ x y z p q. q (drop first ns) (there_from d first at ns le low) ∙ p)

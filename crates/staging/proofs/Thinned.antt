@@ -1,7 +1,9 @@
 -- Lines and rows that are taken out part by part.
 use Rattle.std.proofs.Common.{◌≡◌, ℕ, Bool, true, false, not, List, [], ◌∷◌, ◌++◌, filter, cond, refl, sym, ap, subst, ◌∙◌, arith, ◌<◌, ◌≤◌, zero, suc, length, get_or, drop}
 use Rattle.std.specs.Prelude.{◌==◌, ◌&&◌, ◌||◌, nat_lt}
-use Rattle.std.specs.List.{list_any}
+use Rattle.std.specs.List.{list_any, slice_range}
+use Rattle.std.proofs.lemmas.List.Folds.{drop_split}
+use Rattle.std.proofs.Math.Seq.{drop-length}
 use Rattle.std.proofs.lemmas.Bool.Decides.{nat_tests}
 use Rattle.record_shapes.specs.Lists.{EachOf}
 use Rattle.store_tables.specs.Rows.{Rows, LineRow, is_line_from, without_lines, without_lines_from, without_record_row}
@@ -115,3 +117,13 @@ pub rows_of_two : (ks ms : List ℕ) (rows : Rows)
     → without_record_rows (ks ++ ms) rows ≡ without_record_rows ms (without_record_rows ks rows)
 rows_of_two [] ms rows = refl
 rows_of_two (k ∷ ks) ms rows = rows_of_two ks ms (without_record_row k rows)
+
+-- ---- the last numbers of a list
+pub none_left : {A : Type 0} (xs : List A) → true ≡ (length xs == 0) → xs ≡ []
+none_left [] h = refl
+none_left (x ∷ xs) h =
+    let more : length (x ∷ xs) ≡ 0 = it (length (x ∷ xs)) 0 (sym h) in
+    absurd (omega (arith, more))
+
+pub last_part : {A : Type 0} (xs : List A) (at : ℕ) → at ≤ length xs → drop at xs ≡ slice_range xs at (length xs) ++ []
+last_part xs at le = drop_split xs at (length xs) le ∙ ap (λ ys. slice_range xs at (length xs) ++ ys) (drop-length xs)

@@ -5,7 +5,7 @@ use Rattle.staging.proofs.Cleared.{batch_leaves, batch_taken, clears_as, nothing
 use Rattle.staging.proofs.removing.take_out.Goals as goal
 
 pub returns-in_err-take_rows_out-clause-gone : goal.returns-in_err-take_rows_out-clause-gone
-returns-in_err-take_rows_out-clause-gone g c clean = nothing_done c.from_residual.result c.from_residual.ensures.0
+returns-in_err-take_rows_out-clause-gone g c clean = nothing_done _ c.from_residual.result c.from_residual.ensures.0
 
 pub returns-in_err-take_rows_out-clause-crash : goal.returns-in_err-take_rows_out-clause-crash
 returns-in_err-take_rows_out-clause-crash g c clean society content rows was unclosed apart =

@@ -1,9 +1,10 @@
-use Rattle.std.proofs.Common.{◌≡◌, ◌++◌, [], Ok, Err, refl, sym, ap, ◌∙◌, append_assoc, arith}
+use Rattle.std.proofs.Common.{◌≡◌, ◌++◌, [], Ok, Err, refl, sym, ap, ◌∙◌, append_assoc, rules}
 use Rattle.sqlite.specs.Held.{state}
 use Rattle.store_rows.specs.Writing.{without_record_rows}
 use Rattle.store_tables.proofs.Queries.{only_committed}
 use Rattle.staging.proofs.Cleared.{begun, clears_as, clears_lost}
 use Rattle.staging.proofs.Steps.{rows_go_on}
+use Rattle.staging.proofs.Thinned.{none_left}
 use Rattle.staging.proofs.removing.take_rows.Goals as goal
 
 pub rows-init : goal.rows-init
@@ -29,7 +30,7 @@ rows-preserved g c =
         was.taken.1 ∙ ap (λ r. was.taken.0 ++ r) c.split_at.ensures.by_index.0 ∙ sym (append_assoc _ _ _),
       );
       way = rows_go_on c.args.numbers.now (state g.S.Store c.rows.conn) (state g.S.Store c.clear_rows.new.conn) (Ok tt)
-          did.clean (state g.S.Store c.args.conn.now) was.taken.0 c.rows.rest c.split_at.result.0.now
+          did.clean (state g.S.Store c.args.conn.now) was.taken.0 c.rows.rest.now c.split_at.result.0.now
           c.split_at.result.1.now was.taken.1 c.split_at.ensures.by_index.0 was.way did.done did.crash;
     }
 
@@ -40,11 +41,11 @@ returns-in_err-clear_rows-clause-clears g c =
     let e = c.in_err-clear_rows.field-0.0 in
     clears_lost _ e c.from_residual.result c.from_residual.ensures.0
     (rows_go_on c.args.numbers.now (state g.S.Store c.rows.conn) (state g.S.Store c.clear_rows.new.conn) (Err e)
-    did.clean (state g.S.Store c.args.conn.now) was.taken.0 c.rows.rest c.split_at.result.0.now
+    did.clean (state g.S.Store c.args.conn.now) was.taken.0 c.rows.rest.now c.split_at.result.0.now
     c.split_at.result.1.now was.taken.1 c.split_at.ensures.by_index.0 was.way did.done did.crash)
 
 pub returns-clause-clears : goal.returns-clause-clears
-returns-clause-clears g c = let was = c.rows.invariant.way in ?
-
-pub rows-smaller : goal.rows-smaller
-rows-smaller g c = ?
+returns-clause-clears g c =
+    let none : c.rows.rest.now ≡ [] = none_left c.rows.rest.now (search rules) in
+    clears_as (λ rows after. after ≡ without_record_rows c.args.numbers.now rows) tt tt c.rows.invariant.way
+    (λ x y is. ap (λ ks. without_record_rows ks y) (sym none) ∙ is)
