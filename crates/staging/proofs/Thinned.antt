@@ -84,7 +84,7 @@ or_true : (a b : Bool) → b ≡ true → (a || b) ≡ true
 or_true true b h = refl
 or_true false b h = h
 
-there : (d at : ℕ) (ns : List ℕ) → at < length ns → list_any (λ m. m == get_or ns at d) ns ≡ true
+pub there : (d at : ℕ) (ns : List ℕ) → at < length ns → list_any (λ m. m == get_or ns at d) ns ≡ true
 there d at [] low = absurd (omega (arith, low))
 there d zero (n ∷ ns) low =
     let same : (n == n) ≡ true = grind (arith, nat_tests) in
