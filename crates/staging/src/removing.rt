@@ -150,12 +150,13 @@ fn take_lines<S: Alter>(conn: &mut Connection<S>, numbers: &[u32]) -> Result<(),
     let mut gathered: usize = 0;
     'numbers: for at in 0..numbers.len() {
         let count = thinned(conn, numbers[at])?;
-        if gathered + count > ROOM {
-            clear_lines(conn, &numbers[first..at])?;
-            first = at;
-            gathered = 0;
+        if gathered + count <= ROOM {
+            gathered += count;
+            continue;
         }
-        gathered += count;
+        clear_lines(conn, &numbers[first..at])?;
+        first = at;
+        gathered = count;
     }
     clear_lines(conn, &numbers[first..])
 }
