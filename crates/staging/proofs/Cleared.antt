@@ -1,5 +1,5 @@
 -- Commits that take rows of numbers out, one after the other.
-use Rattle.std.proofs.Common.{◌≡◌, ◌⊎◌, inl, inr, ℕ, true, false, sym, subst, List, Result, Ok, Err, OnOk}
+use Rattle.std.proofs.Common.{◌≡◌, ◌⊎◌, inl, inr, ℕ, false, sym, subst, List, Result, Ok, Err, OnOk}
 use Rattle.std.specs.Result.{IsErr}
 use Rattle.sqlite.specs.State.{State, HasCleanDisk}
 use Rattle.sqlite.specs.Tree.{Trees}
@@ -82,11 +82,6 @@ clears_lost Q e (Err f) is h = record { done = λ ok. tt; crash = h.crash; clean
 pub as_lost : {A E : Type 0} {ns : List ℕ} {P : Rows → Rows → Type 0} {old new : State} {e : E}
     → Clears {A = A} {E = E} ns P old new (Err e) → Clears {A = Unit {0}} {E = E} ns P old new (Err e)
 as_lost h = record { done = λ ok. tt; crash = h.crash; clean = h.clean }
-
--- an error behind what was made
-pub given_up : {B E : Type 0} {ns : List ℕ} {P : Rows → Rows → Type 0} (Q : Rows → Rows → Type 0) {old new : State}
-    (e : E) → IsOnTheWay ns P old new → Clears {A = B} {E = E} ns Q old new (Err e)
-given_up Q e h = record { done = λ ok. tt; crash = h.crash; clean = h.clean }
 
 -- nothing is made yet
 pub begun : (ns : List ℕ) (Is : Rows → Rows → Type 0) (s : State)

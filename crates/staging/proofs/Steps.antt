@@ -12,7 +12,6 @@ use Rattle.std.proofs.Common.{
   true,
   false,
   Result,
-  Ok,
   OnOk,
   ap,
   sym,
@@ -29,8 +28,17 @@ use Rattle.store_rows.specs.Meaning.{has_record}
 use Rattle.store_rows.specs.Writing.{without_all_lines, without_record_rows}
 use Rattle.staged_rows.proofs.Taken.{aside_lines, aside_lines_from, aside_rows}
 use Rattle.staging.specs.Clearing.{Clears, IsThinned, LeavesEither}
-use Rattle.staging.proofs.Cleared.{IsOnTheWay, clears_as, clears_then, one_commit}
-use Rattle.staging.proofs.Thinned.{each_first, each_second, has_none, lines_of_two, rows_of_two, there, there_from, thinned_from}
+use Rattle.staging.proofs.Cleared.{IsOnTheWay, clears_then, one_commit}
+use Rattle.staging.proofs.Thinned.{
+  each_first,
+  each_second,
+  has_none,
+  lines_of_two,
+  rows_of_two,
+  there,
+  there_from,
+  thinned_from,
+}
 
 module _ {A E : Type 0} (ns : List ℕ) (old new : State) (result : Result A E)
     (clean : HasCleanDisk new → HasCleanDisk old) where
@@ -72,8 +80,8 @@ module _ {A E : Type 0} (ns : List ℕ) (old new : State) (result : Result A E)
         (λ society c rows apart. aside_rows ns society c ks rows (unrecorded rows apart.unrecorded) apart)
 
   -- where `rest` is left so far, and its front is taken out
-  module _ (start : State) (front rest ks behind : List ℕ) (are : ns ≡ front ++ rest) (parted : rest ≡ ks ++ behind)
-      where
+  module _ (start : State) (front rest ks behind : List ℕ) (are : ns ≡ front ++ rest)
+      (parted : rest ≡ ks ++ behind) where
     pub lines_go_on : IsOnTheWay ns (λ rows here. without_all_lines rest here ≡ without_all_lines ns rows) start old
         → Makes (without_all_lines ks) → MayMake (without_all_lines ks)
         → Clears ns (λ rows here. without_all_lines behind here ≡ without_all_lines ns rows) start new result

@@ -1,5 +1,31 @@
 -- Lines and rows that are taken out part by part.
-use Rattle.std.proofs.Common.{◌≡◌, ℕ, Bool, true, false, not, List, [], ◌∷◌, ◌++◌, filter, cond, refl, sym, ap, subst, ◌∙◌, arith, ◌<◌, ◌≤◌, zero, suc, length, get_or, drop}
+use Rattle.std.proofs.Common.{
+  ◌≡◌,
+  ℕ,
+  Bool,
+  true,
+  false,
+  not,
+  List,
+  [],
+  ◌∷◌,
+  ◌++◌,
+  filter,
+  cond,
+  refl,
+  sym,
+  ap,
+  subst,
+  ◌∙◌,
+  arith,
+  ◌<◌,
+  ◌≤◌,
+  zero,
+  suc,
+  length,
+  get_or,
+  drop,
+}
 use Rattle.std.specs.Prelude.{◌==◌, ◌&&◌, ◌||◌, nat_lt}
 use Rattle.std.specs.List.{list_any, slice_range}
 use Rattle.std.proofs.lemmas.List.Folds.{drop_split}

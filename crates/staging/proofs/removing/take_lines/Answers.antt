@@ -5,7 +5,7 @@ use Rattle.std.proofs.lemmas.List.Folds.{drop_split}
 use Rattle.sqlite.specs.Held.{state}
 use Rattle.store_rows.specs.Writing.{without_all_lines}
 use Rattle.store_tables.proofs.Queries.{only_committed}
-use Rattle.staging.proofs.Cleared.{as_lost, begun, clears_as, clears_lost}
+use Rattle.staging.proofs.Cleared.{IsOnTheWay, as_lost, begun, clears_as, clears_lost}
 use Rattle.staging.proofs.Steps.{lines_go_on, thinned_on}
 use Rattle.staging.proofs.Thinned.{last_part}
 use Rattle.staging.proofs.removing.take_lines.Goals as goal
@@ -52,7 +52,8 @@ pub numbers-preserved : goal.numbers-preserved
 numbers-preserved g c =
     let ns = c.args.numbers.now in
     let did = c.in_ok-clear_lines.ensures in
-    let way = clears_as (λ rows here. without_all_lines (drop c.numbers.first ns) here ≡ without_all_lines ns rows)
+    let way : IsOnTheWay ns (λ rows here. without_all_lines (drop c.numbers.first ns) here ≡ without_all_lines ns rows)
+    (state g.S.Store c.args.conn.now) (state g.S.Store c.thinned.new.conn) = clears_as _
     c.in_ok-count.count tt (thinned_on ns 0 c.numbers.first c.numbers.at c.numbers.invariant.first
     c.numbers-test.true (state g.S.Store c.args.conn.now) (state g.S.Store c.numbers.conn)
     (state g.S.Store c.thinned.new.conn) (Ok c.in_ok-count.count) c.numbers.invariant.way
@@ -73,7 +74,8 @@ returns-in_err-clear_lines-clause-clears g c =
     let ns = c.args.numbers.now in
     let did = c.in_err-clear_lines.ensures in
     let e = c.in_err-clear_lines.field-0.0 in
-    let way = clears_as (λ rows here. without_all_lines (drop c.numbers.first ns) here ≡ without_all_lines ns rows)
+    let way : IsOnTheWay ns (λ rows here. without_all_lines (drop c.numbers.first ns) here ≡ without_all_lines ns rows)
+    (state g.S.Store c.args.conn.now) (state g.S.Store c.thinned.new.conn) = clears_as _
     c.in_ok-count.count tt (thinned_on ns 0 c.numbers.first c.numbers.at c.numbers.invariant.first
     c.numbers-test.true (state g.S.Store c.args.conn.now) (state g.S.Store c.numbers.conn)
     (state g.S.Store c.thinned.new.conn) (Ok c.in_ok-count.count) c.numbers.invariant.way

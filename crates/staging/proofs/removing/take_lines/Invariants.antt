@@ -1,6 +1,6 @@
 -- At each turn the lines of the numbers from the first on that is gathered are left, and all that is left means what it
 -- meant.
-use Rattle.std.proofs.Common.{◌≡◌, ◌≤◌, ℕ, List, false, drop}
+use Rattle.std.proofs.Common.{◌≡◌, ◌≤◌, false, drop}
 use Rattle.sqlite.specs.Held.{state}
 use Rattle.store_rows.specs.Writing.{without_all_lines}
 use Rattle.staging.proofs.Cleared.{IsOnTheWay}

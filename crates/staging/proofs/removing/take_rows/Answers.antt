@@ -27,7 +27,8 @@ rows-preserved g c =
       ended = c.clear_rows.ensures.ended;
       taken = (
         was.taken.0 ++ c.split_at.result.0.now,
-        was.taken.1 ∙ ap (λ r. was.taken.0 ++ r) c.split_at.ensures.by_index.0 ∙ sym (append_assoc was.taken.0 c.split_at.result.0.now c.split_at.result.1.now),
+        was.taken.1 ∙ ap (λ r. was.taken.0 ++ r) c.split_at.ensures.by_index.0
+            ∙ sym (append_assoc was.taken.0 c.split_at.result.0.now c.split_at.result.1.now),
       );
       way = rows_go_on c.args.numbers.now (state g.S.Store c.rows.conn) (state g.S.Store c.clear_rows.new.conn) (Ok tt)
           did.clean (state g.S.Store c.args.conn.now) was.taken.0 c.rows.rest.now c.split_at.result.0.now

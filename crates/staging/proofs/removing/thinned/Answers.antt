@@ -1,7 +1,6 @@
 use Rattle.std.proofs.Common.{Ok, Err, refl}
-use Rattle.sqlite.specs.Held.{state}
 use Rattle.staging.specs.Clearing.{IsThinned}
-use Rattle.staging.proofs.Cleared.{clears_as, clears_lost, clears_then, given_up, looked, looked_in_vain}
+use Rattle.staging.proofs.Cleared.{clears_as, clears_lost, clears_then, looked, looked_in_vain}
 use Rattle.staging.proofs.Thinned.{thinned_more}
 use Rattle.staging.proofs.removing.thinned.Goals as goal
 
