@@ -146,6 +146,14 @@ both_ways : (a : Bool) → a ≡ true → not a ≡ true → ⊥
 both_ways true is no_more = absurd cc
 both_ways false is no_more = absurd cc
 
+-- where none was open, none is open that is left
+pub none_is_open : (b : BatchRow) (left : List BatchRow) (rows here : Rows) → b.is_open ≡ true
+    → HasCleared (b ∷ left) rows here → AreAllClosed rows → ⊥
+none_is_open b left rows here is was all =
+    let closed : AllClosed (was.before ++ b ∷ left) =
+    subst AllClosed was.batches (subst AreAllClosed (sym (was.untouched all)) all) in
+    both_ways b.is_open is (at_middle (λ (x : BatchRow). not x.is_open ≡ true) was.before b left closed)
+
 one_gone : (s : State) (b : BatchRow) (left : List BatchRow) (rows here : Rows) → b.is_open ≡ true → Settled s here
     → HasCleared (b ∷ left) rows here → HasCleared left rows (without_batch b.no (numbers_in b.no here) here)
 one_gone s b left rows here is settled was =
@@ -163,11 +171,7 @@ one_gone s b left rows here is settled was =
       closed = was.closed;
       batches = ap (filter (λ (x : BatchRow). not (x.no == b.no))) (batches_stay ns here ∙ was.batches)
           ∙ it_goes b was.before left rise;
-      untouched = λ all.
-          let closed : AllClosed (was.before ++ b ∷ left) =
-          subst AllClosed was.batches (subst AreAllClosed (sym (was.untouched all)) all) in
-          absurd (both_ways b.is_open is
-          (at_middle (λ (x : BatchRow). not x.is_open ≡ true) was.before b left closed));
+      untouched = λ all. absurd (none_is_open b left rows here is was all);
     }
 
 -- ---- the calls

@@ -38,6 +38,8 @@ pub fn remove_open<S: Alter>(alloc: Global, conn: &mut Connection<S>) -> Result<
     ensures untouched { HasCleanDisk (state S.Store conn.new)
         → OnOk result ((rows : Rows) → Settled (state S.Store conn.old) rows → AreAllClosed rows
         → Settled (state S.Store conn.new) rows) }
+    ensures idle { HasCleanDisk (state S.Store conn.new) → (rows : Rows) → Settled (state S.Store conn.old) rows
+        → AreAllClosed rows → LeavesOnly (state S.Store conn.new) rows }
     ensures crash { HasCleanDisk (state S.Store conn.new)
         → (society : List ℕ) (c : Content) (rows : Rows) → Settled (state S.Store conn.old) rows → Means rows c
         → rows.society ≡ society → LeavesMeaning (state S.Store conn.new) society c }

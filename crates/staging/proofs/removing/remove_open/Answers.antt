@@ -4,7 +4,16 @@ use Rattle.sqlite.specs.Held.{state}
 use Rattle.store_tables.specs.Rows.{BatchRow}
 use Rattle.store_tables.proofs.Loops.{item_left}
 use Rattle.store_tables.proofs.Queries.{only_committed}
-use Rattle.staging.proofs.Opening.{IsClearing, clears, goes_past, leaves_meaning, next_is_open, takes_out}
+use Rattle.staging.proofs.Opening.{
+  IsClearing,
+  clears,
+  goes_past,
+  leaves_meaning,
+  next_is_open,
+  none_is_open,
+  takes_out,
+  touches_nothing,
+}
 use Rattle.staging.proofs.removing.remove_open.Goals as goal
 use Rattle.staging.proofs.removing.remove_open.Goals.{then-batch+in_ok-remove_found, else-batch}
 
@@ -18,6 +27,22 @@ returns-in_err-batches-clause-stays g c clean =
     let same : c.from_residual.result ≡ Err c.in_err-batches.field-0.0 = search rules in
     rw same (λ society content rows was meant is.
     inr (rows, c.in_err-batches.ensures.looks.crash clean rows was, meant, is))
+
+pub returns-in_err-batches-clause-idle : goal.returns-in_err-batches-clause-idle
+returns-in_err-batches-clause-idle g c clean rows was closed = c.in_err-batches.ensures.looks.crash clean rows was
+
+pub returns-in_err-remove_found-clause-idle : goal.returns-in_err-remove_found-clause-idle
+returns-in_err-remove_found-clause-idle g c clean rows was closed =
+    let old = state g.S.Store c.args.conn.now in
+    let mid = state g.S.Store c.batches.conn in
+    let xs = c.deref-batch-items.result.now in
+    let i = c.batches.batch-index in
+    let b : BatchRow = record { no = c.batch.inside.number; is_open = c.batch.inside.is_open } in
+    let left : drop i xs ≡ b ∷ drop (i + 1) xs =
+    item_left xs i b c.batch-item.result c.batches-test.true (c.batch.view_is ∙ c.batch-item.is) in
+    let way : IsClearing old mid (b ∷ drop (i + 1) xs) = subst (IsClearing old mid) left c.batches.invariant.way in
+    let came = way.leads (c.in_err-remove_found.ensures.clean clean) rows was in
+    absurd (none_is_open b (drop (i + 1) xs) rows came.0 c.if-batch.true came.2 closed)
 
 pub returns-in_err-remove_found-clause-crash : goal.returns-in_err-remove_found-clause-crash
 returns-in_err-remove_found-clause-crash g c clean society content rows was meant is =
@@ -88,3 +113,13 @@ returns-clause-crash g c clean society content rows was meant is =
     leaves_meaning now society content came.0
     (λ t leaves. only_committed now came.0 t came.1
     (g.met.S.Store.settled c.batches.conn.store t came.1.is_open leaves)) means.0 (means.1 ∙ is)
+
+pub returns-clause-idle : goal.returns-clause-idle
+returns-clause-idle g c clean rows was closed t leaves =
+    let old = state g.S.Store c.args.conn.now in
+    let now = state g.S.Store c.batches.conn in
+    let way : IsClearing old now [] = subst (IsClearing old now)
+    (drop_all c.batches.batch-index c.deref-batch-items.result.now (omega (arith, c.batches-test.false)))
+    c.batches.invariant.way in
+    let settled = touches_nothing old now way clean rows was closed in
+    only_committed now rows t settled (g.met.S.Store.settled c.batches.conn.store t settled.is_open leaves)
