@@ -221,8 +221,8 @@ next_is_open s b left rows here is settled was =
     ∙ it_is_open b is was.before left (subst Rises was.batches settled.good.holds.batches.rise)
 
 -- ---- the end
-pub clears : (old now : State) → IsClearing old now [] → HasCleanDisk now → (society : List ℕ) (c : Content) (rows : Rows)
-    → Settled old rows → Means rows c → rows.society ≡ society → IsCleared now society c
+pub clears : (old now : State) → IsClearing old now [] → HasCleanDisk now → (society : List ℕ) (c : Content)
+    (rows : Rows) → Settled old rows → Means rows c → rows.society ≡ society → IsCleared now society c
 clears old now way clean society c rows was meant is =
     let came = way.leads clean rows was in
     let means = came.2.means c meant in (
