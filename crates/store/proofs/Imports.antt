@@ -134,10 +134,10 @@ has_the_archive law society c None s has = has
 has_the_archive law society c (Some (r, i)) s has = (has.0, has.1, keeps_archive law society c r i has.0 has.2)
 
 -- ---- what is said of an import that may be there
-pub some_then : {A : Type 0} (P : Type 0) (Q R S : A → Type 0) (o : Option A) → ((x : A) → Q x → R x → S x)
-    → MatchOption o P Q → IfSome o R → IfSome o S
-some_then P Q R S None f whole more = tt
-some_then P Q R S (Some x) f whole more = f x whole more
+pub some_then : {A : Type 0} (P : Type 0) (Q R S : A → Type 0) (o : Option A) → MatchOption o P Q
+    → IfSome o R → ((x : A) → Q x → R x → S x) → IfSome o S
+some_then P Q R S None whole more f = tt
+some_then P Q R S (Some x) whole more f = f x whole more
 
 pub none_then : {A : Type 0} (P : Type 0) (Q : A → Type 0) (o : Option A) → MatchOption o P Q → o ≡ None → P
 none_then P Q None whole none = whole
@@ -228,8 +228,7 @@ module _ (seen : InNoView) (law : IsNew) (society : List ℕ) (c : Content) (row
   begin_leaves s leaves t l = elim (leaves t l) [
     | inl good ↦ (c, refl, (rows, good, keeps))
     | inr next ↦
-        let after = with_batch next.0 true rows in
-        (
+        let after = with_batch next.0 true rows in (
           c,
           refl,
           (

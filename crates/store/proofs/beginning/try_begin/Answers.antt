@@ -17,7 +17,8 @@ returns-in-Ok-open_import-clause-begun g c clean =
     let before = made.clean clean in
     let new = state g.S.Store c.open_import.new.conn in
     let old = state g.S.Store c.args.archive.now.conn in
-    some_then _ _ _ _ c.in-Ok-open_import.import (λ i whole next society content rows was keeps.
+    some_then _ _ _ _ c.in-Ok-open_import.import made.whole (made.begun clean)
+    (λ i whole next society content rows was keeps.
     let did = next rows (c.in-Ok.ensures.same before rows content was keeps.means keeps.shallow).0 in
     subst (λ a. HasBegun society content rows r a i new) (sym (ap (λ (x : Changes). x.answer) c.changes.view_is))
     (subst (λ x. HasBegun society content rows r changes.answer x new) (sym whole.1)
@@ -26,7 +27,6 @@ returns-in-Ok-open_import-clause-begun g c clean =
     i.batch new (c.in-Ok.ensures.decides before rows content was keeps.means keeps.shallow)
     (c.in-Ok.ensures.exact before rows content was keeps.means keeps.shallow) c.in-Ok.ensures.words whole.0 did.0
     did.1)))
-    made.whole (made.begun clean)
 
 -- the answer was kept before
 pub returns-in-Ok-open_import-clause-answered : goal.returns-in-Ok-open_import-clause-answered
