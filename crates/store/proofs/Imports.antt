@@ -6,7 +6,6 @@ use Rattle.std.proofs.Common.{
   inl,
   inr,
   ℕ,
-  Bool,
   true,
   false,
   List,
@@ -20,7 +19,6 @@ use Rattle.std.proofs.Common.{
   Ok,
   Err,
   refl,
-  sym,
   subst,
   ◌∙◌,
   true≢false,
@@ -62,7 +60,7 @@ use Rattle.import_commits.specs.Commits.{
   LeavesEither,
   LeavesPublished,
 }
-use Rattle.store.specs.Archives.{HasArchive, IsArchive, Keeps, LeavesArchive}
+use Rattle.store.specs.Archives.{HasArchive, Keeps, LeavesArchive}
 use Rattle.store.specs.Calls.{KeepsRows}
 use Rattle.store.specs.Histories.{is_storage}
 use Rattle.store.specs.Importing.{Has, HasAnswered, HasBegun, KeepsImport}

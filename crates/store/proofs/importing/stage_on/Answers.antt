@@ -1,7 +1,6 @@
 use Rattle.std.proofs.Common.{◌≡◌, arith, inl, inr, false, refl, subst, sym, take, ◌∙◌}
 use Rattle.sqlite.specs.Held.{state}
 use Rattle.sqlite.specs.State.{HasCleanDisk}
-use Rattle.sqlite.specs.Tree.{Trees}
 use Rattle.staged_rows.specs.Staging.{with_staged}
 use Rattle.store.specs.Histories.{is_storage}
 use Rattle.store.specs.Importing.{HasImport}
