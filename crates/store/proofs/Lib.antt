@@ -1,6 +1,7 @@
 mod Called
 mod Committed
 pub mod Histories
+mod Imports
 mod Looked
 pub mod Opened
 mod Recognised

@@ -3,9 +3,11 @@
 #![tactic(auto)]
 
 mod archive;
+mod beginning;
 mod committing;
 mod deciding;
 mod failing;
+mod importing;
 pub mod laws;
 mod performing;
 mod reading;

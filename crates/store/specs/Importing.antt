@@ -1,0 +1,40 @@
+-- An archive with an import on it: begun, and not yet published. Rules of our own.
+use Rattle.std.specs.Prelude.{ℕ, ◌≡◌, ◌≢◌, ◌⊎◌, List, Option, Some, None, Ok}
+use Rattle.std.specs.FinMap.{get}
+use Rattle.sqlite.specs.State.{State}
+use Rattle.archive_state.specs.Applied.{applied}
+use Rattle.archive_state.specs.Content.{Content}
+use Rattle.archive_core.specs.Machine.{outcome}
+use Rattle.archive_core.specs.Words.{HasUtf8Words}
+use Rattle.archive_core.specs.declared.request.Request.{Request}
+use Rattle.store_tables.specs.Calls.{Settled}
+use Rattle.store_tables.specs.Rows.{Rows}
+use Rattle.staged_rows.specs.Staging.{IsFresh}
+use Rattle.staging.specs.Opened.{Import}
+use Rattle.import_commits.specs.Commits.{IsAddition, IsBegun}
+use Rattle.store.specs.Archives.{HasArchive, Keeps}
+
+-- a request to import, accepted: nothing is kept for it, and the archive is to be what its changes make
+pub record IsAccepted (c : Content) (r : Request) (i : Import) : Type 0 where
+  pub new : get c.receipts r.token ≡ None
+  pub accepted : outcome c r ≡ Ok (applied c i.changes, i.changes.answer)
+  pub words : HasUtf8Words r.command
+  pub adds : IsAddition c i.changes
+
+-- the rows of a society's archive, with an import on them that a request was accepted for: its batch, which is open,
+-- and a beginning of its rows
+pub record KeepsImport (society : List ℕ) (c : Content) (r : Request) (i : Import) (rows : Rows) : Type 0 where
+  pub before : Rows
+  pub keeps : Keeps society c before
+  pub fresh : IsFresh i.batch i.changes.puts before
+  pub begun : IsBegun before i rows
+  pub accepted : IsAccepted c r i
+
+-- a connection over the tables of an archive with an import on it
+abbrev pub HasImport : List ℕ → Content → Request → Import → State → Type 0
+HasImport society c r i s = (rows : Rows) × Settled s rows × KeepsImport society c r i rows
+
+-- what a connection has, by the import that is open
+abbrev pub Has : List ℕ → Content → Option (Request × Import) → State → Type 0
+Has society c None s = HasArchive society c s
+Has society c (Some both) s = HasImport society c both.0 both.1 s
