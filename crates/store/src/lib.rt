@@ -11,6 +11,7 @@ mod importing;
 pub mod laws;
 mod performing;
 mod reading;
+mod staged;
 mod viewing;
 
 pub use archive::{Archive, society_named};
