@@ -1,21 +1,21 @@
 //! An import that is staged on the connection of an archive: it goes on, and is published.
 
-ghost use Rattle.std.specs.Prelude.{◌≡◌, ◌⊎◌, ◌↔◌, ℕ, List, [], Ok, false, drop, IfOk, IfErr, OnOk};
+ghost use Rattle.std.specs.Prelude.{◌≡◌, ◌⊎◌, ◌↔◌, ℕ, List, [], false, drop, IfOk, IfErr, OnOk};
 ghost use Rattle.sqlite.specs.State.{HasCleanDisk};
 ghost use Rattle.sqlite.specs.Held.{state};
 ghost use Rattle.record_text.specs.declared.refusal.RefusalKind.TheVariants.{OutOfMemory, Storage};
 ghost use Rattle.archive_state.specs.Applied.{applied};
 ghost use Rattle.archive_state.specs.Content.{Content};
-ghost use Rattle.archive_core.specs.Machine.{Does};
 ghost use Rattle.archive_core.specs.declared.request.Request.{Request};
 ghost use Rattle.store_tables.specs.Calls.{Settled};
-ghost use Rattle.store.specs.Archives.{HasArchive, Keeps, LeavesArchive};
+ghost use Rattle.store.specs.Archives.{Keeps, LeavesArchive};
 ghost use Rattle.store.specs.Histories.{is_storage};
-ghost use Rattle.store.specs.Importing.{HasImport};
+ghost use Rattle.store.specs.Importing.{HasImport, HasPublished, StaysOn};
 
 use crate::reading::refusal_after;
 use import_commits::laws::{
-    a_published_import_is_whole, a_stage_goes_on, an_import_that_is_begun_can_be_taken_out,
+    a_published_import_is_whole, a_published_import_leaves_the_rows_of_other_numbers,
+    a_stage_goes_on, an_import_that_is_begun_can_be_taken_out,
     an_import_that_is_begun_is_in_no_view, an_import_that_is_taken_out_leaves_what_was,
     what_an_import_adds_can_be_read,
 };
@@ -36,16 +36,14 @@ pub(crate) fn stage_on<S: Alter>(
     requires autocommit { conn.old.in_transaction ≡ false }
     ensures left { OnOk result (import.new ≡ record import.old { left = drop 256 import.old.left }) }
     ensures more { IfOk result (λ more. (more ≡ false) ↔ (import.new.left ≡ [])) }
-    ensures staged { HasCleanDisk (state S.Store conn.new) → OnOk result ((society : List ℕ) (c : Content) (r : Request)
-        → HasImport society c r import.old (state S.Store conn.old)
-        → HasImport society c r import.new (state S.Store conn.new)) }
+    ensures staged { HasCleanDisk (state S.Store conn.new)
+        → OnOk result (StaysOn import.old (state S.Store conn.old) import.new (state S.Store conn.new)) }
     ensures crash { HasCleanDisk (state S.Store conn.new) → (society : List ℕ) (c : Content) (r : Request)
         → HasImport society c r import.old (state S.Store conn.old)
         → LeavesArchive (state S.Store conn.new) society (λ found. found ≡ c) }
     ensures stays { HasCleanDisk (state S.Store conn.new) → IfErr result (λ kind. is_storage kind ≡ false
-        → (kind ≡ OutOfMemory) × (import.new ≡ import.old) × ((society : List ℕ) (c : Content) (r : Request)
-        → HasImport society c r import.old (state S.Store conn.old)
-        → HasImport society c r import.old (state S.Store conn.new))) }
+        → (kind ≡ OutOfMemory) × (import.new ≡ import.old)
+        × StaysOn import.old (state S.Store conn.old) import.new (state S.Store conn.new)) }
     ensures clean { HasCleanDisk (state S.Store conn.new) → HasCleanDisk (state S.Store conn.old) }
     ensures ended { conn.new.in_transaction ≡ false }
 {
@@ -66,9 +64,8 @@ pub(crate) fn publish_on<S: Alter>(
 ) -> Result<(), RefusalKind>
     requires autocommit { conn.old.in_transaction ≡ false }
     ensures published { HasCleanDisk (state S.Store conn.new) → OnOk result ((society : List ℕ) (c : Content)
-        (r : Request) → HasImport society c r import.now (state S.Store conn.old) → import.now.left ≡ []
-        → Does c r (Ok import.now.changes.answer) (applied c import.now.changes)
-        × HasArchive society (applied c import.now.changes) (state S.Store conn.new)) }
+        (r : Request) → (has : HasImport society c r import.now (state S.Store conn.old)) → import.now.left ≡ []
+        → HasPublished society c has.2.before r import.now (state S.Store conn.new)) }
     ensures crash { HasCleanDisk (state S.Store conn.new) → (society : List ℕ) (c : Content) (r : Request)
         → HasImport society c r import.now (state S.Store conn.old) → import.now.left ≡ []
         → LeavesArchive (state S.Store conn.new) society
@@ -78,6 +75,7 @@ pub(crate) fn publish_on<S: Alter>(
     ensures ended { conn.new.in_transaction ≡ false }
 {
     a_published_import_is_whole();
+    a_published_import_leaves_the_rows_of_other_numbers();
     an_import_that_is_begun_is_in_no_view();
     what_an_import_adds_can_be_read();
     publish(conn, import)

@@ -85,7 +85,7 @@ fn perform_at_once<S: Alter>(
 }
 
 /// The refusal of a request: 80 where the connection answers no more.
-fn refusal_after<S: Alter>(conn: &mut Connection<S>, refusal: Refusal) -> Refusal
+pub(crate) fn refusal_after<S: Alter>(conn: &mut Connection<S>, refusal: Refusal) -> Refusal
     requires autocommit { conn.old.in_transaction ≡ false }
     ensures settled { HasCleanDisk (state S.Store conn.new) → is_storage result.kind ≡ false → (rows : Rows)
         → LeavesOnly (state S.Store conn.old) rows → Settled (state S.Store conn.new) rows }

@@ -1,4 +1,4 @@
-use Rattle.std.proofs.Common.{◌≡◌, arith, inl, inr, false, subst, sym, take, ◌∙◌}
+use Rattle.std.proofs.Common.{◌≡◌, arith, inl, inr, false, refl, subst, sym, take, ◌∙◌}
 use Rattle.sqlite.specs.Held.{state}
 use Rattle.sqlite.specs.State.{HasCleanDisk}
 use Rattle.sqlite.specs.Tree.{Trees}
@@ -12,10 +12,14 @@ pub returns-in-Ok-clause-staged : goal.returns-in-Ok-clause-staged
 returns-in-Ok-clause-staged g c clean society content r has =
     let import = c.args.import.now in
     let new = state g.S.Store c.stage.new.conn in
-    subst (λ i. HasImport society content r i new) (sym c.in-Ok.ensures.left) (
-      with_staged (take 256 import.left) has.0,
-      c.in-Ok.ensures.staged clean has.0 has.1,
-      stage_keeps c.a_stage_goes_on.ensures 256 society content r import has.0 has.2,
+    subst (λ i. (still : HasImport society content r i new) × (still.2.before ≡ has.2.before))
+    (sym c.in-Ok.ensures.left) (
+      (
+        with_staged (take 256 import.left) has.0,
+        c.in-Ok.ensures.staged clean has.0 has.1,
+        stage_keeps c.a_stage_goes_on.ensures 256 society content r import has.0 has.2,
+      ),
+      refl,
     )
 
 pub returns-in-Ok-clause-crash : goal.returns-in-Ok-clause-crash
@@ -41,5 +45,7 @@ returns-in-Err-clause-stays g c clean sure =
     let undone = c.in-Err.ensures.undone before want in (
       same ∙ want,
       undone.0,
-      λ society content r has. (has.0, after.settled clean sure has.0 (undone.1 has.0 has.1), has.2),
+      λ society content r has. subst
+      (λ i. (still : HasImport society content r i (state g.S.Store c.refusal_after.new.conn)) × (still.2.before ≡ has.2.before))
+      (sym undone.0) ((has.0, after.settled clean sure has.0 (undone.1 has.0 has.1), has.2), refl),
     )
