@@ -7,6 +7,6 @@ pub mod Opened
 mod Recognised
 mod Running
 mod Sessions
-mod Staged
+mod Steps
 mod Unchanged
 pub mod Viewed
