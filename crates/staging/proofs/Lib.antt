@@ -1,1 +1,6 @@
+mod Cleared
+mod Commits
 mod Cursors
+mod Opening
+mod Steps
+mod Thinned
