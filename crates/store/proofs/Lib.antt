@@ -7,5 +7,6 @@ pub mod Opened
 mod Recognised
 mod Running
 mod Sessions
+mod Steps
 mod Unchanged
 pub mod Viewed

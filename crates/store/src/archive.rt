@@ -161,8 +161,8 @@ impl<S: Alter> Archive<S> {
         }
     }
 
-    /// Does a request, and then answers: in one commit, or an import in its steps (`begin_import`, `stage`, `publish`). A
-    /// request whose token is kept is answered as before, and nothing is written.
+    /// Does a request, and then answers: an import in commits of at most 256 rows, of which the last publishes it, and
+    /// any other in one commit. A request whose token is kept is answered as before, and nothing is written.
     ///
     /// Any refusal but 80 leaves the archive as it was. 80: the database failed, and the request is done or not; the
     /// archive has to be opened again, and each later call answers 81. 84: an import is open.
