@@ -8,13 +8,18 @@ use Rattle.archive_state.specs.Content.{Content}
 use Rattle.archive_core.specs.Machine.{Done}
 use Rattle.archive_core.specs.declared.request.Request.{Request}
 use Rattle.receipts.specs.declared.answer.Answer.{Answer}
-use Rattle.store.specs.Archives.{HasArchive, IsArchive}
+use Rattle.store.specs.Archives.{HasArchive, IsArchive, LeavesArchive}
 use Rattle.store.specs.Calls.{Performs, Stays}
 use Rattle.store.specs.Histories.{answered, in_doubt}
 
 -- a connection that was opened over these tables has the archive that they are
 abbrev pub IsOpenedOver : Trees → State → Type 0
 IsOpenedOver t s = (society : List ℕ) (c : Content) → IsArchive society c t → HasArchive society c s
+
+-- a connection that was opened over these tables, on which the archive was not taken up: a crash leaves what they hold
+abbrev pub IsRefusedOver : Trees → State → Type 0
+IsRefusedOver t s = (society : List ℕ) (c : Content) → IsArchive society c t
+    → LeavesArchive s society (λ found. found ≡ c)
 
 -- ---- the calls of a session, on a connection, by whether its archive was lost before each and after it
 -- requests are performed, by `perform` or `run`: a lost archive stays as it is, and one that is not lost afterwards has
@@ -56,10 +61,16 @@ abbrev pub SessionOn : {S : Type 0} → Ghosts S → Held S → List Done → Tr
 SessionOn {S} g first calls after = (last : Held S) × (all : List Call) × Serves g first false all last
     × HasCleanDisk (state g last) × (calls ≡ heard false all) × (state g last).may_leave after
 
--- a session: an archive is opened over these tables, is called, and is stopped, which leaves those tables
+-- an archive is not taken up over these tables, and that is stopped, which leaves those tables: nothing was asked of it
+abbrev pub IsRefusedSession : {S : Type 0} → Ghosts S → Trees → List Done → Trees → Type 0
+IsRefusedSession {S} g before calls after = (last : Held S) × IsRefusedOver before (state g last)
+    × HasCleanDisk (state g last) × (calls ≡ []) × (state g last).may_leave after
+
+-- a session: an archive is opened over these tables, is called, and is stopped, which leaves those tables; or it is
+-- stopped before it is taken up
 abbrev pub Session : {S : Type 0} → Ghosts S → Trees → List Done → Trees → Type 0
-Session {S} g before calls after = (first : Held S) × IsOpenedOver before (state g first)
-    × SessionOn g first calls after
+Session {S} g before calls after = ((first : Held S) × IsOpenedOver before (state g first)
+    × SessionOn g first calls after) ⊎ IsRefusedSession g before calls after
 
 -- a session, and then others
 abbrev pub Life : {S : Type 0} → Ghosts S → Trees → List Done → List (List Done) → Trees → Type 0

@@ -2,6 +2,7 @@
 //! answered.
 #![tactic(auto)]
 
+mod adopting;
 mod archive;
 mod committing;
 mod deciding;
