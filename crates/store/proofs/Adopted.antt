@@ -36,7 +36,6 @@ use Rattle.store_tables.specs.Calls.{Good, LeavesOnly, Settled}
 use Rattle.store_tables.specs.Looking.{IsFailure, Looks}
 use Rattle.store_tables.specs.Rows.{BatchRow, Rows, batch_values}
 use Rattle.store_tables.proofs.Reopening.{sound_once}
-use Rattle.staged_rows.specs.Staging.{AreAllClosed}
 use Rattle.staging.specs.Clearing.{IsCleared, LeavesMeaning}
 use Rattle.store.specs.Adopting.{HasNoImport, KeepsArchive, TakesUp}
 use Rattle.store.specs.Archives.{HasArchive, Keeps, LeavesArchive}
@@ -53,6 +52,7 @@ is_open_row (number ∷ key ∷ Int (pos (suc n)) ∷ more) = true
 is_open_row _ = false
 
 open_row : (b : BatchRow) → is_open_row (batch_values b) ≡ b.is_open
+unfolding is_open_row
 open_row b = elim b.is_open as (λ x. is_open_row (batch_values (record { no = b.no; is_open = x })) ≡ x) [
   | true ↦ refl
   | false ↦ refl
@@ -131,9 +131,9 @@ module _ (old mid new : State) (r : Result (Unit {0}) RefusalKind) where
       → OnOk r ((society : List ℕ) (c : Content) → HasArchive society c old → HasNoImport new)
   finished_on has done = elim r as (λ x. OnOk x ((society : List ℕ) (c : Content) → HasArchive society c mid
       → HasNoImport new) → OnOk x ((society : List ℕ) (c : Content) → HasArchive society c old → HasNoImport new)) [
-    | Ok a ↦ λ d society c was. d society c (has society c was)
-    | Err kind ↦ λ d. tt
-  ] done
+        | Ok a ↦ λ d society c was. d society c (has society c was)
+        | Err kind ↦ λ d. tt
+      ] done
 
   keeps_on : ((society : List ℕ) (c : Content) → HasArchive society c old → HasArchive society c mid)
       → HasCleanDisk old → KeepsArchive mid (has_broken r) new → KeepsArchive old (has_broken r) new
@@ -147,9 +147,9 @@ module _ (old mid new : State) (r : Result (Unit {0}) RefusalKind) where
       → IsFailure kind)
   refused_on failure = elim r as (λ x. IfErr x IsFailure → IfErr x (λ kind. (society : List ℕ) (c : Content)
       → HasArchive society c old → IsFailure kind)) [
-    | Ok a ↦ λ f. tt
-    | Err kind ↦ λ f society c was. f
-  ] failure
+        | Ok a ↦ λ f. tt
+        | Err kind ↦ λ f society c was. f
+      ] failure
 
   pub some_found : HasCleanDisk mid → Looks Finds old mid (Ok true) → KeepsArchive mid (has_broken r) new
       → OnOk r ((society : List ℕ) (c : Content) → HasArchive society c mid → HasNoImport new) → IfErr r IsFailure
@@ -176,9 +176,9 @@ module _ (old mid new : State) (r : Result (Unit {0}) RefusalKind) where
         refused = elim r as (λ x. IfErr x (λ kind. (society : List ℕ) (c : Content) → HasArchive society c mid
             → IsFailure kind) → IfErr x (λ kind. (society : List ℕ) (c : Content) → HasArchive society c old
             → IsFailure kind)) [
-          | Ok a ↦ λ f. tt
-          | Err kind ↦ λ f society c was. f society c (has society c was)
-        ] takes.refused;
+              | Ok a ↦ λ f. tt
+              | Err kind ↦ λ f society c was. f society c (has society c was)
+            ] takes.refused;
         untouched = λ rows was all. takes.untouched rows (stays.same refl rows was) all;
       }
 

@@ -30,10 +30,7 @@ use std::alloc::Global;
 use store_tables::{BatchRow, check_version, read_batches};
 
 /// Takes up the archive of a store. After any refusal but 80 the connection still answers.
-pub(crate) fn take_up<S: Alter>(
-    alloc: Global,
-    conn: &mut Connection<S>,
-) -> Result<(), RefusalKind>
+pub(crate) fn take_up<S: Alter>(alloc: Global, conn: &mut Connection<S>) -> Result<(), RefusalKind>
     requires autocommit { conn.old.in_transaction ≡ false }
     ensures takes { HasCleanDisk (state S.Store conn.new)
         → TakesUp (state S.Store conn.old) result (state S.Store conn.new) }

@@ -1,4 +1,4 @@
-use Rattle.std.proofs.Common.{◌≡◌, ◌∙◌, ap, inl, inr, not, false}
+use Rattle.std.proofs.Common.{◌∙◌, ap, inl, inr, not}
 use Rattle.sqlite.specs.Held.{state}
 use Rattle.store_tables.proofs.Asking.{shown_same}
 use Rattle.store.proofs.Adopted.{archive_again, settled_again}
