@@ -47,18 +47,18 @@ abbrev pub LeavesJust : Trees → RefusalKind → State → Type 0
 LeavesJust t kind s = ((left : Trees) → s.may_leave left → left ≡ t)
     × (is_foreign kind ≡ true → (s.now.trees ≡ t) × (s.committed.trees ≡ t))
 
+-- a connection that was opened over these tables was recognised
+abbrev pub WereRecognised : {D : Type 0} → disk.Ghosts D → Trees → Type 0
+WereRecognised {D} g t = (opened : Held (FileStore D g)) × ((file_state opened).committed.trees ≡ t)
+    × IsRecognised over_files (file_state opened)
+
+-- what the file with its log held is left as it was; or it was recognised, and memory was refused or the database
+-- failed while imports were taken out of it
+abbrev pub IsAsHeld : {D : Type 0} → disk.Ghosts D → Image → RefusalKind → State → Type 0
+IsAsHeld g image kind s = HasCleanDisk s → (t : Trees) → HoldsDatabase image t
+    → LeavesJust t kind s ⊎ (IsFailure kind × WereRecognised g t)
+
 module _ {D : Type 0} {g : disk.Ghosts D} where
-  -- a connection that was opened over these tables was recognised
-  abbrev pub WereRecognised : Trees → Type 0
-  WereRecognised t = (opened : Held (FileStore D g)) × ((file_state opened).committed.trees ≡ t)
-      × IsRecognised over_files (file_state opened)
-
-  -- what the file with its log held is left as it was; or it was recognised, and memory was refused or the database
-  -- failed while imports were taken out of it
-  abbrev pub IsAsHeld : Image → RefusalKind → State → Type 0
-  IsAsHeld image kind s = HasCleanDisk s → (t : Trees) → HoldsDatabase image t
-      → LeavesJust t kind s ⊎ (IsFailure kind × WereRecognised t)
-
   -- a file was opened, and P of the archive that it held
   abbrev pub IsOnHeld : Image → (List ℕ → Content → Type 0) → Option (Held (FileStore D g)) → Type 0
   IsOnHeld image P left = IsSomeAnd left (λ conn. OnHeld image P (file_state conn))
@@ -67,4 +67,4 @@ module _ {D : Type 0} {g : disk.Ghosts D} where
   abbrev pub Unopened : Image → RefusalKind → Option (Held (FileStore D g)) → Type 0
   Unopened image kind None = IsUnopened kind
   Unopened image kind (Some conn) = (conn.in_transaction ≡ false) × IsLeft image kind (file_state conn)
-      × IsAsHeld image kind (file_state conn)
+      × IsAsHeld g image kind (file_state conn)

@@ -42,8 +42,8 @@ pub record LeavesStore (old new : State) : Type 0 where
   pub survives : Survives old new (λ _. ⊥)
   pub crash : HasCleanDisk new → IsTrue old.is_open → (t : Trees) → new.may_leave t → t ≡ old.committed.trees
 
--- what a store that is refused leaves: nothing is committed; or it was recognised, and memory was refused or the database
--- failed while imports were taken out of it
+-- what a store that is refused leaves: nothing is committed; or it was recognised, and memory was refused or the
+-- database failed while imports were taken out of it
 abbrev pub LeavesRefused : {S : Type 0} → Ghosts S → State → RefusalKind → State → Type 0
 LeavesRefused g old kind new = LeavesStore old new ⊎ (IsFailure kind × (HasCleanDisk new → IsRecognised g old))
 

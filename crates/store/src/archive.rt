@@ -92,8 +92,8 @@ impl<S: Alter> Archive<S> {
         }
     }
 
-    /// The archive that a store has. Imports that were left open are taken out of it; where none was, nothing is written.
-    /// At a refusal the connection is handed back.
+    /// The archive that a store has. Imports that were left open are taken out of it; where none was, nothing is
+    /// written. At a refusal the connection is handed back.
     ///
     /// 82: the store has no archive. 83: a later program wrote it. 80: the database failed. 1: memory was refused.
     pub fn adopt(
