@@ -50,7 +50,7 @@ LeavesJust t kind s = ((left : Trees) → s.may_leave left → left ≡ t)
 -- a connection that was opened over these tables was recognised
 abbrev pub WereRecognised : {D : Type 0} → disk.Ghosts D → Trees → Type 0
 WereRecognised {D} g t = (opened : Held (FileStore D g)) × ((file_state opened).committed.trees ≡ t)
-    × IsRecognised over_files (file_state opened)
+    × IsRecognised (over_files {D = D} {g = g}) (file_state opened)
 
 -- what the file with its log held is left as it was; or it was recognised, and memory was refused or the database
 -- failed while imports were taken out of it
