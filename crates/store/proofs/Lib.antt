@@ -1,3 +1,4 @@
+mod Adopted
 mod Called
 mod Committed
 pub mod Histories

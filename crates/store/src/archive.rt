@@ -43,7 +43,7 @@ ghost use Rattle.archive_core.specs.declared.request.Request.{Request};
 ghost use Rattle.archive_state.specs.Content.{Content, nothing};
 ghost use Rattle.store_tables.specs.Calls.{IsAsItWas, Settled, SettledBlank, LeavesOnly};
 ghost use Rattle.store_tables.specs.Schema.{no_schema};
-ghost use Rattle.store.specs.Adopting.{IsRecognised, LeavesStore, RefusesToAdopt, is_foreign};
+ghost use Rattle.store.specs.Adopting.{IsRecognised, LeavesRefused, LeavesStore, RefusesToAdopt, TakesUp, is_foreign};
 ghost use Rattle.store.specs.Archives.{HasArchive, Keeps, LeavesArchive};
 ghost use Rattle.store.specs.Calls.{Acknowledges, OnArchive, Performs, Reads};
 ghost use Rattle.store.specs.Creating.{IsSociety, RefusesToCreate, RefusesToMake};
@@ -57,7 +57,7 @@ ghost use Rattle.store.specs.Histories.{
   loses,
 };
 ghost use Rattle.store.specs.Importing.{HasAnswered, HasBegun, HasImport};
-ghost use Rattle.store.specs.Lives.{IsCall, IsOpenedOver};
+ghost use Rattle.store.specs.Lives.{IsCall, IsOpenedOver, IsRefusedOver};
 ghost use Rattle.store.specs.Standing.{
   begun_as,
   heard,
@@ -68,11 +68,12 @@ ghost use Rattle.store.specs.Standing.{
   standing,
 };
 
+use crate::adopting::take_up;
 use crate::beginning::begin_on;
 use crate::failing::{has_broken, has_failed, loses};
 use crate::importing::{abandon_on, publish_on, stage_on};
 use crate::performing::perform_on;
-use crate::reading::{recognise, society_on, state_on};
+use crate::reading::{society_on, state_on};
 use archive_core::{Forest, Request};
 use archive_state::{Answer, State, Token};
 use import_commits::laws::an_import_that_is_begun_is_in_no_view;
@@ -126,13 +127,17 @@ impl<S: Alter> Archive<S> {
         }
     }
 
-    /// The archive that a store has. At a refusal the connection is handed back.
+    /// The archive that a store has. Imports that were left open are taken out of it; where none was, nothing is
+    /// written. At a refusal the connection is handed back.
     ///
     /// 82: the store has no archive. 83: a later program wrote it. 80: the database failed. 1: memory was refused.
-    pub fn adopt(mut conn: Connection<S>) -> Result<Archive<S>, (RefusalKind, Connection<S>)>
+    pub fn adopt(
+        alloc: Global,
+        mut conn: Connection<S>,
+    ) -> Result<Archive<S>, (RefusalKind, Connection<S>)>
         requires autocommit { conn.in_transaction ≡ false }
         ensures adopted { IfOk result (λ made. (made.is_lost ≡ false)
-            × (HasCleanDisk (state S.Store made.conn) → Reads {A = Unit {0}} (λ _ _ _. ⊤) (state S.Store conn) (Ok tt)
+            × (HasCleanDisk (state S.Store made.conn) → TakesUp (state S.Store conn) (Ok tt)
             (state S.Store made.conn))) }
         ensures recognised { IfOk result (λ made. HasCleanDisk (state S.Store made.conn)
             → IsRecognised S.Store (state S.Store conn)) }
@@ -140,17 +145,20 @@ impl<S: Alter> Archive<S> {
         ensures idle { IfOk result (λ made. (made.import ≡ None) × (shuts made.is_lost made.import ≡ false)) }
         ensures begins { IfOk result (λ made. HasCleanDisk (state S.Store made.conn) → (t : Trees)
             → IsOpenedOver t (state S.Store conn) → IsOpenedOver t (state S.Store made.conn)) }
-        ensures taken { IfOk result (λ made. LeavesStore (state S.Store conn) (state S.Store made.conn)) }
-        ensures left { IfErr result (λ e. LeavesStore (state S.Store conn) (state S.Store e.1)) }
+        ensures left { IfErr result (λ e. LeavesRefused S.Store (state S.Store conn) e.0 (state S.Store e.1)) }
+        ensures foreign { IfErr result (λ e. is_foreign e.0 ≡ true
+            → LeavesStore (state S.Store conn) (state S.Store e.1)) }
         ensures unchanged { IfErr result (λ e. HasCleanDisk (state S.Store e.1) → is_foreign e.0 ≡ true
             → IsAsItWas (state S.Store conn) (state S.Store e.1)) }
         ensures refused { IfErr result (λ e. HasCleanDisk (state S.Store e.1)
-            → Reads {A = Unit {0}} (λ _ _ _. ⊤) (state S.Store conn) (Err e.0) (state S.Store e.1)) }
+            → TakesUp (state S.Store conn) (Err e.0) (state S.Store e.1)) }
+        ensures stopped { IfErr result (λ e. HasCleanDisk (state S.Store e.1) → (t : Trees)
+            → IsOpenedOver t (state S.Store conn) → IsRefusedOver t (state S.Store e.1)) }
         ensures told { IfErr result (λ e. HasCleanDisk (state S.Store e.1) → RefusesToAdopt S.Store
             (state S.Store conn) e.0) }
         ensures ended { IfErr result (λ e. e.1.in_transaction ≡ false) }
     {
-        match recognise(&mut conn) {
+        match take_up(alloc, &mut conn) {
             Ok(()) => Ok(Archive {
                 conn,
                 is_lost: false,

@@ -2,6 +2,7 @@
 //! is answered: an import in steps, and any other in one commit.
 #![tactic(auto)]
 
+mod adopting;
 mod archive;
 mod beginning;
 mod committing;
