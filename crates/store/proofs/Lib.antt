@@ -1,3 +1,4 @@
+mod Audited
 mod Called
 mod Committed
 pub mod Histories

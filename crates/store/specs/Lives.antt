@@ -25,7 +25,7 @@ pub record IsPerform {S : Type 0} (g : Ghosts S) (old : Held S) (was_lost : Bool
   pub certain : was_lost ≡ false → is_lost ≡ false → in_doubt calls ≡ None
   pub performs : HasCleanDisk (state g new) → was_lost ≡ false → Performs (state g old) calls (state g new)
 
--- something is read, by `state` or `society`
+-- something is read, by `state`, `society` or an audit
 pub record IsRead {S : Type 0} (g : Ghosts S) (old : Held S) (was_lost : Bool) (new : Held S)
     (is_lost : Bool) : Type 0 where
   pub still : was_lost ≡ true → (new ≡ old) × (is_lost ≡ true)

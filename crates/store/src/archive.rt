@@ -23,7 +23,7 @@ ghost use Rattle.std.specs.Prelude.{
 };
 ghost use Rattle.std.specs.List.{zip};
 ghost use Rattle.std.specs.String.{string_bytes};
-ghost use Rattle.std.specs.FinMap.{get};
+ghost use Rattle.std.specs.FinMap.{get, keys};
 ghost use Rattle.sqlite.specs.State.{HasCleanDisk};
 ghost use Rattle.sqlite.specs.Held.{state};
 ghost use Rattle.sqlite.specs.Tree.{Trees};
@@ -33,6 +33,7 @@ ghost use Rattle.archive_core.specs.Steps.{refused_at};
 ghost use Rattle.archive_state.specs.Content.{nothing};
 ghost use Rattle.store_tables.specs.Calls.{IsAsItWas, Settled, SettledBlank, LeavesOnly};
 ghost use Rattle.store_tables.specs.Schema.{no_schema};
+ghost use Rattle.archive_audits.specs.Judging.{Judges, Tells, without_fault};
 ghost use Rattle.store.specs.Adopting.{IsRecognised, LeavesStore, RefusesToAdopt, is_foreign};
 ghost use Rattle.store.specs.Archives.{HasArchive, LeavesArchive};
 ghost use Rattle.store.specs.Calls.{Acknowledges, OnArchive, Performs, Reads};
@@ -40,11 +41,13 @@ ghost use Rattle.store.specs.Creating.{IsSociety, RefusesToCreate, RefusesToMake
 ghost use Rattle.store.specs.Histories.{AreLost, has_broken, has_failed, is_storage};
 ghost use Rattle.store.specs.Lives.{IsCall, IsOpenedOver};
 
+use crate::auditing::{self, audit_on};
 use crate::failing::{has_broken, has_failed};
 use crate::performing::perform_on;
 use crate::reading::{recognise, society_on, state_on};
 use archive_core::Request;
 use archive_state::{Answer, State};
+use audit::Fault;
 use record_text::{Refusal, RefusalKind, Text};
 use sqlite::{Alter, Connection};
 use std::alloc::Global;
@@ -237,6 +240,52 @@ impl<S: Alter> Archive<S> {
             failures: _,
         } = self;
         conn
+    }
+
+    /// How many records the archive has, where its tables are good. Nothing is changed.
+    ///
+    /// 40: the tables are not good: they cannot be read, as where somebody else wrote them, or what they mean is not
+    /// sound. 80: the database failed. 81: it failed before. 1: memory was refused.
+    pub fn audit(&mut self, alloc: Global) -> Result<u32, RefusalKind>
+        ensures judged { HasCleanDisk (state S.Store self.new.conn) → self.old.is_lost ≡ false
+            → Judges (state S.Store self.old.conn) result }
+        ensures reads { HasCleanDisk (state S.Store self.new.conn) → self.old.is_lost ≡ false
+            → Reads (λ _ c n. n ≡ length (keys c.records)) (state S.Store self.old.conn) result
+            (state S.Store self.new.conn) }
+        ensures lost { self.old.is_lost ≡ false → self.new.is_lost ≡ has_broken result }
+        ensures reopen { IsTrue self.old.is_lost → (result ≡ Err refusal.Reopen) × (self.new ≡ self.old) }
+        ensures called { IsCall S.Store self.old.conn self.old.is_lost [] self.new.conn self.new.is_lost }
+        ensures uncounted { self.new.failures ≡ self.old.failures }
+    {
+        match self.audit_with_fault(alloc) {
+            Ok(records) => Ok(records),
+            Err((kind, _)) => Err(kind),
+        }
+    }
+
+    /// The same, and what breaks a rule, where a 40 says that what the tables mean is not sound.
+    pub fn audit_with_fault(
+        &mut self,
+        alloc: Global,
+    ) -> Result<u32, (RefusalKind, Option<Fault>)>
+        ensures judged { HasCleanDisk (state S.Store self.new.conn) → self.old.is_lost ≡ false
+            → Judges (state S.Store self.old.conn) (without_fault result) }
+        ensures told { HasCleanDisk (state S.Store self.new.conn) → self.old.is_lost ≡ false
+            → Tells (state S.Store self.old.conn) result }
+        ensures reads { HasCleanDisk (state S.Store self.new.conn) → self.old.is_lost ≡ false
+            → Reads (λ _ c n. n ≡ length (keys c.records)) (state S.Store self.old.conn) (without_fault result)
+            (state S.Store self.new.conn) }
+        ensures lost { self.old.is_lost ≡ false → self.new.is_lost ≡ has_broken (without_fault result) }
+        ensures reopen { IsTrue self.old.is_lost → (result ≡ Err (refusal.Reopen, None)) × (self.new ≡ self.old) }
+        ensures called { IsCall S.Store self.old.conn self.old.is_lost [] self.new.conn self.new.is_lost }
+        ensures uncounted { self.new.failures ≡ self.old.failures }
+    {
+        if self.is_lost {
+            return Err((RefusalKind::Reopen, None));
+        }
+        let audit = audit_on(alloc, &mut self.conn);
+        self.is_lost = auditing::has_failed(&audit);
+        audit
     }
 }
 

@@ -3,6 +3,7 @@
 #![tactic(auto)]
 
 mod archive;
+mod auditing;
 mod committing;
 mod deciding;
 mod failing;
