@@ -64,8 +64,8 @@ module _ (old : State) where
     refused_as : (rows : Rows) (b : Bool) → is_storage result ≡ b → (b ≡ false → result ≡ kind)
         → IsFailure kind ⊎ ((kind ≡ BadStored) × AreNone rows)
         → IsFailure result ⊎ ((result ≡ BadStored) × AreNone rows)
-    refused_as rows true e as bad = inl (inr (storage_is result e))
-    refused_as rows false e as bad = subst (λ k. IsFailure k ⊎ ((k ≡ BadStored) × AreNone rows)) (sym (as refl)) bad
+    refused_as rows true e still bad = inl (inr (storage_is result e))
+    refused_as rows false e still bad = subst (λ k. IsFailure k ⊎ ((k ≡ BadStored) × AreNone rows)) (sym (still refl)) bad
 
     pub refused_judges : Judges old (Err result)
     refused_judges = record {

@@ -264,10 +264,7 @@ impl<S: Alter> Archive<S> {
     }
 
     /// The same, and what breaks a rule, where a 40 says that what the tables mean is not sound.
-    pub fn audit_with_fault(
-        &mut self,
-        alloc: Global,
-    ) -> Result<u32, (RefusalKind, Option<Fault>)>
+    pub fn audit_with_fault(&mut self, alloc: Global) -> Result<u32, (RefusalKind, Option<Fault>)>
         ensures judged { HasCleanDisk (state S.Store self.new.conn) → self.old.is_lost ≡ false
             → Judges (state S.Store self.old.conn) (without_fault result) }
         ensures told { HasCleanDisk (state S.Store self.new.conn) → self.old.is_lost ≡ false
