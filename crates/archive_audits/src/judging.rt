@@ -24,8 +24,8 @@ pub(crate) fn judge(alloc: Global, held: &State) -> Result<u32, (RefusalKind, Op
     }
 }
 
-/// How many records a sound state has: their numbers are from 1 and below 4,294,967,296, so that many fit. 1: memory was
-/// refused.
+/// How many records a sound state has. Their numbers are from 1 and below 4,294,967,296, so the count fits. 1: memory
+/// was refused.
 fn counted(alloc: Global, held: &State) -> Result<u32, (RefusalKind, Option<Fault>)>
     requires sound { IsSound held.now }
     ensures counted { IfOk result (λ n. n ≡ length (keys held.now.records)) }

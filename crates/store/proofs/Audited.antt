@@ -65,7 +65,8 @@ module _ (old : State) where
         → IsFailure kind ⊎ ((kind ≡ BadStored) × AreNone rows)
         → IsFailure result ⊎ ((result ≡ BadStored) × AreNone rows)
     refused_as rows true e still bad = inl (inr (storage_is result e))
-    refused_as rows false e still bad = subst (λ k. IsFailure k ⊎ ((k ≡ BadStored) × AreNone rows)) (sym (still refl)) bad
+    refused_as rows false e still bad =
+        subst (λ k. IsFailure k ⊎ ((k ≡ BadStored) × AreNone rows)) (sym (still refl)) bad
 
     pub refused_judges : Judges old (Err result)
     refused_judges = record {
