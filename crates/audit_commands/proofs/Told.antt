@@ -1,5 +1,5 @@
 -- What an audit tells of the archive that a file held, from what it tells of the tables of a connection.
-use Rattle.std.proofs.Common.{◌≡◌, inr, ℕ, List, length, Ok, Err, refl}
+use Rattle.std.proofs.Common.{◌≡◌, inr, ℕ, List, length, Ok, Err, refl, sym, subst}
 use Rattle.std.specs.Prelude.{Some, IfErr, IfOk}
 use Rattle.std.specs.FinMap.{keys}
 use Rattle.sqlite.specs.Files.{file_state}
@@ -38,28 +38,42 @@ module _ {D : Type 0} {g : disk.Ghosts D} (image : Image) (taken conn : Held (Fi
     audit_of outcome judges tells reads clean =
         record { judges = judges clean; tells = tells clean; stays = (reads clean).stays }
 
-    pub audited : (outcome : Audit)
+    audited_on : (outcome : Audit)
         → (HasCleanDisk (file_state conn) → Judges (file_state taken) (without_fault outcome))
         → (HasCleanDisk (file_state conn) → Tells (file_state taken) outcome)
         → (HasCleanDisk (file_state conn)
         → Reads IsCount (file_state taken) (without_fault outcome) (file_state conn))
         → IfOk outcome (λ n. Audited image n (Some conn))
-    audited (Ok n) judges tells reads = (
+    audited_on (Ok n) judges tells reads = (
       λ clean. (taken, up, audit_of (Ok n) judges tells reads clean),
       kept_of image (file_state taken) (file_state conn) _ _ up (λ clean. (reads clean).stays)
           (λ clean society c has. (reads clean).read society c has),
     )
-    audited (Err e) judges tells reads = tt
+    audited_on (Err e) judges tells reads = tt
 
-    pub refused : (outcome : Audit)
+    refused_on : (outcome : Audit)
         → (HasCleanDisk (file_state conn) → Judges (file_state taken) (without_fault outcome))
         → (HasCleanDisk (file_state conn) → Tells (file_state taken) outcome)
         → (HasCleanDisk (file_state conn)
         → Reads IsCount (file_state taken) (without_fault outcome) (file_state conn))
         → IfErr outcome (λ e. Unaudited image e.0 e.1 (Some conn))
-    refused (Ok n) judges tells reads = tt
-    refused (Err e) judges tells reads = inr (
+    refused_on (Ok n) judges tells reads = tt
+    refused_on (Err e) judges tells reads = inr (
       λ clean. (taken, up, audit_of (Err e) judges tells reads clean),
       kept_of image (file_state taken) (file_state conn) _ _ up (λ clean. (reads clean).stays)
           (λ clean society c has. (reads clean).refused society c has),
     )
+
+    -- the connection is handed back
+    module _ (back : Held (FileStore D g)) (same : back ≡ conn) (outcome : Audit)
+        (judges : HasCleanDisk (file_state conn) → Judges (file_state taken) (without_fault outcome))
+        (tells : HasCleanDisk (file_state conn) → Tells (file_state taken) outcome)
+        (reads : HasCleanDisk (file_state conn)
+        → Reads IsCount (file_state taken) (without_fault outcome) (file_state conn)) where
+      pub audited : IfOk outcome (λ n. Audited image n (Some back))
+      audited = subst (λ (x : Held (FileStore D g)). IfOk outcome (λ n. Audited image n (Some x))) (sym same)
+          (audited_on outcome judges tells reads)
+
+      pub refused : IfErr outcome (λ e. Unaudited image e.0 e.1 (Some back))
+      refused = subst (λ (x : Held (FileStore D g)). IfErr outcome (λ e. Unaudited image e.0 e.1 (Some x))) (sym same)
+          (refused_on outcome judges tells reads)
