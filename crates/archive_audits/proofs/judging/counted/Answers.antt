@@ -1,5 +1,4 @@
 use Rattle.std.proofs.Common.{rules, ◌≡◌, ◌<◌, ◌∙◌, ap, sym, subst, length, w32}
-use Rattle.std.specs.FinMap.{keys}
 use Rattle.std.proofs.Math.Facts.{Fits-of_lt}
 use Rattle.archive_audits.proofs.Counting.{count_fits}
 use Rattle.archive_audits.proofs.judging.counted.Goals as goal
