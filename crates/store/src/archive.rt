@@ -31,7 +31,7 @@ ghost use Rattle.std.specs.Prelude.{
 };
 ghost use Rattle.std.specs.List.{AllByRecursion, zip};
 ghost use Rattle.std.specs.String.{string_bytes};
-ghost use Rattle.std.specs.FinMap.{get};
+ghost use Rattle.std.specs.FinMap.{get, keys};
 ghost use Rattle.sqlite.specs.State.{HasCleanDisk};
 ghost use Rattle.sqlite.specs.Held.{state};
 ghost use Rattle.sqlite.specs.Tree.{Trees};
@@ -43,6 +43,7 @@ ghost use Rattle.archive_core.specs.declared.request.Request.{Request};
 ghost use Rattle.archive_state.specs.Content.{Content, nothing};
 ghost use Rattle.store_tables.specs.Calls.{IsAsItWas, Settled, SettledBlank, LeavesOnly};
 ghost use Rattle.store_tables.specs.Schema.{no_schema};
+ghost use Rattle.archive_audits.specs.Judging.{Judges, Tells, without_fault};
 ghost use Rattle.store.specs.Adopting.{IsRecognised, LeavesRefused, LeavesStore, RefusesToAdopt, TakesUp, is_foreign};
 ghost use Rattle.store.specs.Archives.{HasArchive, Keeps, LeavesArchive};
 ghost use Rattle.store.specs.Calls.{Acknowledges, OnArchive, Performs, Reads};
@@ -69,6 +70,7 @@ ghost use Rattle.store.specs.Standing.{
 };
 
 use crate::adopting::take_up;
+use crate::auditing::{self, audit_on};
 use crate::beginning::begin_on;
 use crate::failing::{has_broken, has_failed, loses};
 use crate::importing::{abandon_on, publish_on, stage_on};
@@ -76,6 +78,7 @@ use crate::performing::perform_on;
 use crate::reading::{society_on, state_on};
 use archive_core::{Forest, Request};
 use archive_state::{Answer, State, Token};
+use audit::Fault;
 use import_commits::laws::an_import_that_is_begun_is_in_no_view;
 use record_text::{Refusal, RefusalKind, Text};
 use sqlite::{Alter, Connection};
@@ -501,6 +504,56 @@ impl<S: Alter> Archive<S> {
             import: _,
         } = self;
         conn
+    }
+
+    /// How many records the archive has, where its tables are good. Nothing is changed.
+    ///
+    /// 40: the tables are not good: they cannot be read, as where somebody else wrote them, or what they mean is not
+    /// sound. 80: the database failed. 81: it failed before. 1: memory was refused.
+    pub fn audit(&mut self, alloc: Global) -> Result<u32, RefusalKind>
+        ensures judged { HasCleanDisk (state S.Store self.new.conn) → self.old.is_lost ≡ false
+            → Judges (state S.Store self.old.conn) result }
+        ensures reads { HasCleanDisk (state S.Store self.new.conn) → self.old.is_lost ≡ false
+            → Reads (λ _ c n. n ≡ length (keys c.records)) (state S.Store self.old.conn) result
+            (state S.Store self.new.conn) }
+        ensures lost { self.old.is_lost ≡ false → self.new.is_lost ≡ has_broken result }
+        ensures reopen { IsTrue self.old.is_lost → (result ≡ Err refusal.Reopen) × (self.new ≡ self.old) }
+        ensures open { self.new.import ≡ self.old.import }
+        ensures called { (r : Request) → IsCall S.Store self.old.conn
+            (standing r self.old.is_lost self.old.import) [] self.new.conn
+            (standing r self.new.is_lost self.new.import) }
+        ensures uncounted { self.new.failures ≡ self.old.failures }
+    {
+        match self.audit_with_fault(alloc) {
+            Ok(records) => Ok(records),
+            Err((kind, _)) => Err(kind),
+        }
+    }
+
+    /// The same, and what breaks a rule, where a 40 says that what the tables mean is not sound.
+    pub fn audit_with_fault(&mut self, alloc: Global) -> Result<u32, (RefusalKind, Option<Fault>)>
+        ensures judged { HasCleanDisk (state S.Store self.new.conn) → self.old.is_lost ≡ false
+            → Judges (state S.Store self.old.conn) (without_fault result) }
+        ensures told { HasCleanDisk (state S.Store self.new.conn) → self.old.is_lost ≡ false
+            → Tells (state S.Store self.old.conn) result }
+        ensures reads { HasCleanDisk (state S.Store self.new.conn) → self.old.is_lost ≡ false
+            → Reads (λ _ c n. n ≡ length (keys c.records)) (state S.Store self.old.conn) (without_fault result)
+            (state S.Store self.new.conn) }
+        ensures lost { self.old.is_lost ≡ false → self.new.is_lost ≡ has_broken (without_fault result) }
+        ensures reopen { IsTrue self.old.is_lost → (result ≡ Err (refusal.Reopen, None)) × (self.new ≡ self.old) }
+        ensures open { self.new.import ≡ self.old.import }
+        ensures called { (r : Request) → IsCall S.Store self.old.conn
+            (standing r self.old.is_lost self.old.import) [] self.new.conn
+            (standing r self.new.is_lost self.new.import) }
+        ensures uncounted { self.new.failures ≡ self.old.failures }
+    {
+        if self.is_lost {
+            return Err((RefusalKind::Reopen, None));
+        }
+        an_import_that_is_begun_is_in_no_view();
+        let audit = audit_on(alloc, &mut self.conn);
+        self.is_lost = auditing::has_failed(&audit);
+        audit
     }
 }
 

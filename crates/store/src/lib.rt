@@ -4,6 +4,7 @@
 
 mod adopting;
 mod archive;
+mod auditing;
 mod beginning;
 mod committing;
 mod deciding;
