@@ -3,7 +3,9 @@
 
 mod cursor;
 mod opened;
+mod progress;
 mod writing;
 
 pub use opened::OpenImport;
+pub use progress::{Progress, RowCount, Silent};
 pub use writing::{publish_rows, stage_rows};
