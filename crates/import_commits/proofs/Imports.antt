@@ -117,6 +117,15 @@ goes_on n before rows i begun = record {
       ∙ sym (staged_after begun.done (take n i.left) (with_batch i.batch true before));
 }
 
+-- it is published when all its rows are there
+pub published_is : (before rows : Rows) (i : Import) → IsBegun before i rows → i.left ≡ []
+    → with_published i.batch i.changes rows ≡ with_whole_import i.batch i.changes before
+published_is before rows i begun none =
+    let all : begun.done ≡ rows_of_import i.batch i.changes.puts =
+    sym (begun.parts ∙ ap (λ xs. begun.done ++ xs) none ∙ append-nil begun.done) in
+    ap (with_published i.batch i.changes)
+    (begun.rows_are ∙ ap (λ xs. with_staged xs (with_batch i.batch true before)) all)
+
 module _ (before rows : Rows) (i : Import) (c : Content) (begun : IsBegun before i rows)
     (fresh : IsFresh i.batch i.changes.puts before) (adds : IsAddition c i.changes) (means : Means before c) where
   abbrev opened : Rows
@@ -175,18 +184,12 @@ module _ (before rows : Rows) (i : Import) (c : Content) (begun : IsBegun before
       ≡ import_changes i.changes.puts i.changes.next i.changes.answer i.changes.kept
   changes_are = ap₂ (λ ns s. record i.changes { removals = ns; slip = s }) adds.removals adds.slip
 
-  published_is : i.left ≡ [] → with_published i.batch i.changes rows ≡ with_whole_import i.batch i.changes before
-  published_is none =
-      let all : begun.done ≡ rows_of_import i.batch i.changes.puts =
-      sym (begun.parts ∙ ap (λ xs. begun.done ++ xs) none ∙ append-nil begun.done) in
-      ap (with_published i.batch i.changes) (begun.rows_are ∙ ap (λ xs. with_staged xs opened) all)
-
   pub published_means : ((batch next : ℕ) (puts : List Numbered) (answer : Answer) (kept : Option Kept) (rows : Rows)
       (c : Content) → IsOnce (numbers_of puts) → IsFresh batch puts rows → Means rows c
       → Means (with_whole_import batch (import_changes puts next answer kept) rows)
       (applied c (import_changes puts next answer kept)))
       → i.left ≡ [] → Means (with_published i.batch i.changes rows) (applied c i.changes)
   published_means law none =
-      subst (λ (r : Rows). Means r (applied c i.changes)) (sym (published_is none))
+      subst (λ (r : Rows). Means r (applied c i.changes)) (sym (published_is before rows i begun none))
       (subst (λ x. Means (with_whole_import i.batch x before) (applied c x)) (sym changes_are)
       (law i.batch i.changes.next i.changes.puts i.changes.answer i.changes.kept before c adds.once fresh means))

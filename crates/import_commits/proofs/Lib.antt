@@ -1,4 +1,5 @@
 pub mod Settling
 mod Batches
 mod Imports
+mod Others
 mod Reading

@@ -10,12 +10,26 @@ use Rattle.archive_state.specs.declared.changes.Numbered.{Numbered}
 use Rattle.record_shapes.specs.Lists.{EachOf, IsOnce}
 use Rattle.store_tables.specs.Calls.{Good}
 use Rattle.store_tables.specs.Rows.{Rows, BatchRow, with_batch}
-use Rattle.staged_rows.specs.Staging.{AreAllClosed, StagedRow, numbers_of, rows_of_import, with_staged}
+use Rattle.store_rows.specs.Shallow.{IsShallowPut}
+use Rattle.staged_rows.specs.Staging.{
+  AreAllClosed,
+  StagedRow,
+  numbers_of,
+  rows_of_import,
+  with_published,
+  with_staged,
+}
 use Rattle.staging.specs.Opened.{Import}
 
 -- whatever a crash may leave is good, and has these rows, or those that a commit makes of them
 abbrev pub LeavesEither : State → Rows → Rows → Type 0
 LeavesEither s rows after = (t : Trees) → s.may_leave t → Good rows t ⊎ Good after t
+
+-- whatever a crash may leave is good, and has these rows, or those with an import published; what that puts can be read
+-- again, where no row of it was left to be written
+abbrev pub LeavesPublished : State → Rows → Import → Type 0
+LeavesPublished s rows i = (t : Trees) → s.may_leave t → Good rows t
+    ⊎ (Good (with_published i.batch i.changes rows) t × (i.left ≡ [] → EachOf IsShallowPut i.changes.puts))
 
 -- the number of a batch that is not there, where all that are there are closed
 pub record IsNextBatch (batch : ℕ) (rows : Rows) : Type 0 where

@@ -1,12 +1,13 @@
 //! What the rows of an archive mean while an import is staged, and afterwards.
 
-ghost use Rattle.std.specs.Prelude.{◌≡◌, ℕ, List, [], false, take, drop};
+ghost use Rattle.std.specs.Prelude.{◌≡◌, ◌==◌, ℕ, List, [], false, filter, take, drop};
+ghost use Rattle.std.specs.FinMap.{get};
 ghost use Rattle.sqlite.specs.Tree.{Trees};
 ghost use Rattle.archive_state.specs.Applied.{applied};
 ghost use Rattle.archive_state.specs.Changes.{Changes};
 ghost use Rattle.archive_state.specs.Content.{Content};
 ghost use Rattle.store_tables.specs.Calls.{Good};
-ghost use Rattle.store_tables.specs.Rows.{Rows};
+ghost use Rattle.store_tables.specs.Rows.{LineRow, RecordRow, Rows};
 ghost use Rattle.record_shapes.specs.Lists.{EachOf};
 ghost use Rattle.store_rows.specs.Meaning.{AllShallow, Means, is_closed};
 ghost use Rattle.store_rows.specs.Shallow.{IsShallowPut};
@@ -16,9 +17,9 @@ ghost use Rattle.staging.specs.Opened.{Import};
 ghost use Rattle.import_commits.specs.Commits.{IsAddition, IsBegun, IsNextBatch};
 
 use staged_rows::laws::{
-    a_published_import_means_what_it_makes, an_import_that_is_taken_out_leaves_nothing,
-    an_open_import_is_in_no_view, nothing_of_a_new_import_is_there,
-    numbers_of_an_import_have_no_record, rows_of_closed_batches,
+    a_published_import_means_what_it_makes, an_import_leaves_the_rows_of_other_numbers,
+    an_import_that_is_taken_out_leaves_nothing, an_open_import_is_in_no_view,
+    nothing_of_a_new_import_is_there, numbers_of_an_import_have_no_record, rows_of_closed_batches,
 };
 use store_tables::laws::rows_are_owned;
 
@@ -62,6 +63,18 @@ pub fn what_an_import_adds_can_be_read()
     ensures { (c : Content) (changes : Changes) → IsAddition c changes → EachOf IsShallowPut changes.puts
         → AllShallow c → AllShallow (applied c changes) }
 {}
+
+/// It leaves the rows of every number at which the archive then has what it had before, each line with its id.
+pub fn a_published_import_leaves_the_rows_of_other_numbers()
+    ensures { (before rows : Rows) (i : Import) (c : Content) (m : ℕ) → IsBegun before i rows
+        → IsAddition c i.changes → i.left ≡ [] → get c.records m ≡ get (applied c i.changes).records m
+        → (filter (λ (l : LineRow). l.no == m) (with_published i.batch i.changes rows).lines ≡ filter
+        (λ (l : LineRow). l.no == m) before.lines)
+        × (filter (λ (r : RecordRow). r.no == m) (with_published i.batch i.changes rows).records ≡ filter
+        (λ (r : RecordRow). r.no == m) before.records) }
+{
+    an_import_leaves_the_rows_of_other_numbers();
+}
 
 /// It can be taken out again: its batch is not closed, and its numbers have no record.
 pub fn an_import_that_is_begun_can_be_taken_out()

@@ -9,7 +9,7 @@ ghost use Rattle.store_tables.specs.Calls.{Settled};
 ghost use Rattle.store_tables.specs.Rows.{Rows};
 ghost use Rattle.store_rows.specs.Shallow.{IsShallowPut};
 ghost use Rattle.staged_rows.specs.Staging.{with_published};
-ghost use Rattle.import_commits.specs.Commits.{LeavesEither};
+ghost use Rattle.import_commits.specs.Commits.{LeavesPublished};
 
 use record_text::RefusalKind;
 use sqlite::{Alter, Connection, Error};
@@ -24,8 +24,8 @@ pub fn publish<S: Alter>(conn: &mut Connection<S>, import: &OpenImport) -> Resul
         → OnOk result ((rows : Rows) → Settled (state S.Store conn.old) rows → Settled (state S.Store conn.new)
         (with_published import.now.batch import.now.changes rows)) }
     ensures crash { HasCleanDisk (state S.Store conn.new)
-        → (rows : Rows) → Settled (state S.Store conn.old) rows → LeavesEither (state S.Store conn.new)
-        rows (with_published import.now.batch import.now.changes rows) }
+        → (rows : Rows) → Settled (state S.Store conn.old) rows
+        → LeavesPublished (state S.Store conn.new) rows import.now }
     ensures shallow { OnOk result (import.now.left ≡ [] → EachOf IsShallowPut import.now.changes.puts) }
     ensures refused { IfErr result (λ kind. kind ≡ Storage) }
     ensures clean { HasCleanDisk (state S.Store conn.new) → HasCleanDisk (state S.Store conn.old) }
@@ -45,8 +45,8 @@ fn try_publish<S: Alter>(conn: &mut Connection<S>, import: &OpenImport) -> Resul
         → OnOk result ((rows : Rows) → Settled (state S.Store conn.old) rows → Settled (state S.Store conn.new)
         (with_published import.now.batch import.now.changes rows)) }
     ensures crash { HasCleanDisk (state S.Store conn.new)
-        → (rows : Rows) → Settled (state S.Store conn.old) rows → LeavesEither (state S.Store conn.new)
-        rows (with_published import.now.batch import.now.changes rows) }
+        → (rows : Rows) → Settled (state S.Store conn.old) rows
+        → LeavesPublished (state S.Store conn.new) rows import.now }
     ensures shallow { OnOk result (import.now.left ≡ [] → EachOf IsShallowPut import.now.changes.puts) }
     ensures clean { HasCleanDisk (state S.Store conn.new) → HasCleanDisk (state S.Store conn.old) }
     ensures ended { conn.new.in_transaction ≡ false }

@@ -113,9 +113,9 @@ module _ (society : List ℕ) (c : Content) (rows : Rows) (r : Request) (changes
       let same = applies_nothing c changes (nothing_changes c r changes exact none) in
       (c, rows, subst (λ d. Does c r (Ok changes.answer) d) same decided, settled, keeps, λ m e. (refl, refl))
 
-  pub done_or_not : (s : State) → LeavesEither s rows changes → LeavesDoneOrNot s society c rows r
+  pub done_or_not : (s : State) → LeavesEither s rows changes → LeavesDoneOrNot s society c r
   done_or_not s either t leaves = elim (either t leaves) [
-    | inl before ↦ inl before
+    | inl before ↦ inl (rows, before, keeps)
     | inr after ↦ inr (
       applied c changes,
       (changes.answer, decided),
@@ -167,9 +167,9 @@ settles old mid new f rows follows shows was =
     }
 
 -- ---- a request that is refused, or in doubt
-pub stays_same : (s : State) (society : List ℕ) (c : Content) (rows : Rows) (r : Request) → LeavesOnly s rows
-    → LeavesDoneOrNot s society c rows r
-stays_same s society c rows r only t leaves = inl (only t leaves)
+pub stays_same : (s : State) (society : List ℕ) (c : Content) (rows : Rows) (r : Request) → Keeps society c rows
+    → LeavesOnly s rows → LeavesDoneOrNot s society c r
+stays_same s society c rows r keeps only t leaves = inl (rows, only t leaves, keeps)
 
 pub by_kept : {P : Type 0} (kept : Option Kept) → (kept ≡ None → P) → (kept ≢ None → P) → P
 by_kept None f g = f refl
@@ -209,7 +209,7 @@ ok_performs old new r a ack leaves clean = record {
 module _ (old new : State) (r : Request) (e : Refusal)
     (refused : is_storage e.kind ≡ false
     → OnArchive old (λ society c rows. Does c r (Err e) c × Settled new rows × LeavesOnly new rows))
-    (crash : OnArchive old (λ society c rows. LeavesDoneOrNot new society c rows r)) where
+    (crash : OnArchive old (λ society c rows. LeavesDoneOrNot new society c r)) where
   left_by : (b : Bool) → is_storage e.kind ≡ b → (society : List ℕ) (c : Content) → HasArchive society c old
       → (t : Trees) → new.may_leave t → (found : Content) × MayBeFound c ((r, Err e) ∷ []) found
       × IsArchive society found t
@@ -217,7 +217,7 @@ module _ (old new : State) (r : Request) (e : Refusal)
       let did = refused sure society c has.0 has.1 has.2 in
       (c, may_be_answered c c r (Err e) sure did.0, (has.0, did.2 t l, has.2))
   left_by true lost society c has t l = elim (crash society c has.0 has.1 has.2 t l) [
-    | inl before ↦ (c, may_be_before c r (Err e) lost, (has.0, before, has.2))
+    | inl before ↦ (c, may_be_before c r (Err e) lost, before)
     | inr done ↦ (done.0, may_be_done c done.0 r (Err e) lost done.1, done.2)
   ]
 

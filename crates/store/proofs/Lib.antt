@@ -1,10 +1,12 @@
 mod Called
 mod Committed
 pub mod Histories
+mod Imports
 mod Looked
 pub mod Opened
 mod Recognised
 mod Running
 mod Sessions
+mod Steps
 mod Unchanged
 pub mod Viewed

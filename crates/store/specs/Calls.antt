@@ -80,7 +80,7 @@ LeavesEither s rows changes = (t : Trees) → s.may_leave t
     → Good rows t ⊎ (Good (with_changes changes rows) t
     × ((c : Content) → AllShallow c → AllShallow (applied c changes)))
 
--- whatever a crash may leave has these rows, or is the archive with the request done
-abbrev pub LeavesDoneOrNot : State → List ℕ → Content → Rows → Request → Type 0
-LeavesDoneOrNot s society c rows r = (t : Trees) → s.may_leave t → Good rows t
+-- whatever a crash may leave is the archive as it was, or with the request done
+abbrev pub LeavesDoneOrNot : State → List ℕ → Content → Request → Type 0
+LeavesDoneOrNot s society c r = (t : Trees) → s.may_leave t → IsArchive society c t
     ⊎ ((after : Content) × Accepts c r after × IsArchive society after t)

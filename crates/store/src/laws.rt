@@ -1,6 +1,6 @@
 //! What holds of an archive over all runs and all stops.
 
-ghost use Rattle.std.specs.Prelude.{◌≡◌, ◌⊎◌, ℕ, List, ◌++◌, None, Some, Ok};
+ghost use Rattle.std.specs.Prelude.{◌≡◌, ◌⊎◌, ℕ, List, ◌++◌, Option, None, Some, Ok};
 ghost use Rattle.std.specs.List.{Any};
 ghost use Rattle.sqlite.specs.Held.{Held, state};
 ghost use Rattle.sqlite.specs.State.{IsLive, Opens};
@@ -11,9 +11,12 @@ ghost use Rattle.archive_core.specs.declared.request.Request.{Request};
 ghost use Rattle.receipts.specs.declared.answer.Answer.{Answer};
 ghost use Rattle.store.specs.Archives.{HasArchive, IsArchive};
 ghost use Rattle.store.specs.Calls.{Performs};
+ghost use Rattle.staging.specs.Opened.{Import};
 ghost use Rattle.store.specs.Histories.{in_doubt};
+ghost use Rattle.store.specs.Importing.{Has};
 ghost use Rattle.store.specs.Lives.{CountInAll, IsOpenedOver, Life, LifeOn};
 
+use import_commits::laws::an_import_that_is_begun_is_in_no_view;
 use sqlite::Alter;
 
 /// However often an archive is opened, used and stopped, within a call or between two: what is found in the end is a
@@ -34,6 +37,14 @@ pub fn a_stop_of_an_archive_loses_nothing<S: Alter>()
         → (found : Content) × (dones : List Done) × IsArchive society found after × CountInAll calls more dones
         × Runs c dones found }
 {}
+
+/// While an import is open, the archive is that of before.
+pub fn has_the_archive<S: Alter>()
+    ensures { (h : Held S) (society : List ℕ) (c : Content) (o : Option (Request × Import))
+        → Has society c o (state S.Store h) → HasArchive society c (state S.Store h) }
+{
+    an_import_that_is_begun_is_in_no_view();
+}
 
 /// A connection that was opened over tables, and shows them, has the archive that they are.
 pub fn opened_over<S: Alter>()

@@ -3,12 +3,15 @@
 #![tactic(auto)]
 
 mod archive;
+mod beginning;
 mod committing;
 mod deciding;
 mod failing;
+mod importing;
 pub mod laws;
 mod performing;
 mod reading;
+mod staged;
 mod viewing;
 
 pub use archive::{Archive, society_named};

@@ -1,4 +1,4 @@
-//! One request, done in one commit before it is answered.
+//! One request, done before it is answered: an import in steps, and any other in one commit.
 
 ghost use Rattle.std.specs.Prelude.{◌≡◌, ◌≢◌, ◌⊎◌, [], ◌∷◌, false, true, None, Err, IfOk, IfErr, OnOk};
 ghost use Rattle.std.specs.FinMap.{get};
@@ -20,7 +20,8 @@ use crate::archive::Archive;
 use crate::committing::commit_changes;
 use crate::deciding::decide_on;
 use crate::failing::is_storage;
-use archive_core::Request;
+use crate::staged::import_on;
+use archive_core::{Command, Request};
 use archive_state::{Answer, Changes};
 use record_text::{Refusal, RefusalKind};
 use sqlite::{Alter, Connection};
@@ -49,6 +50,34 @@ pub(crate) fn perform_on<S: Alter>(
     ensures quiet { HasCleanDisk (state S.Store archive.new.conn) → OnArchive (state S.Store archive.old.conn)
         (λ society c rows. OnOk result (archive.new.failures ≡ 0)) }
 {
+    match &request.command {
+        Command::Import(forest) => import_on(alloc, archive, &request.token, forest),
+        _ => perform_at_once(alloc, archive, request),
+    }
+}
+
+/// Does a request on an archive in one commit. After any refusal but 80 the archive is as it was.
+fn perform_at_once<S: Alter>(
+    alloc: Global,
+    archive: &mut Archive<S>,
+    request: &Request,
+) -> Result<Answer, Refusal>
+    requires kept { archive.old.is_lost ≡ false }
+    ensures performs { HasCleanDisk (state S.Store archive.new.conn)
+        → Performs (state S.Store archive.old.conn) ((«request».now, result) ∷ []) (state S.Store archive.new.conn) }
+    ensures acknowledged { HasCleanDisk (state S.Store archive.new.conn)
+        → IfOk result (λ answer. Acknowledges (state S.Store archive.old.conn) «request».now answer
+        (state S.Store archive.new.conn)) }
+    ensures repeated { HasCleanDisk (state S.Store archive.new.conn) → OnArchive (state S.Store archive.old.conn)
+        (λ society c rows.
+        get c.receipts «request».now.token ≢ None → LeavesOnly (state S.Store archive.new.conn) rows) }
+    ensures refused { HasCleanDisk (state S.Store archive.new.conn) → IfErr result (λ e. is_storage e.kind ≡ false
+        → OnArchive (state S.Store archive.old.conn)
+        (λ society c rows. Settled (state S.Store archive.new.conn) rows)) }
+    ensures placed { IfErr result (λ e. is_stop e.kind ≡ true → e.at ≡ None) }
+    ensures quiet { HasCleanDisk (state S.Store archive.new.conn) → OnArchive (state S.Store archive.old.conn)
+        (λ society c rows. OnOk result (archive.new.failures ≡ 0)) }
+{
     match try_request(alloc, archive, request) {
         Ok(answer) => Ok(answer),
         Err(refusal) => Err(refusal_after(&mut archive.conn, refusal)),
@@ -56,7 +85,7 @@ pub(crate) fn perform_on<S: Alter>(
 }
 
 /// The refusal of a request: 80 where the connection answers no more.
-fn refusal_after<S: Alter>(conn: &mut Connection<S>, refusal: Refusal) -> Refusal
+pub(crate) fn refusal_after<S: Alter>(conn: &mut Connection<S>, refusal: Refusal) -> Refusal
     requires autocommit { conn.old.in_transaction ≡ false }
     ensures settled { HasCleanDisk (state S.Store conn.new) → is_storage result.kind ≡ false → (rows : Rows)
         → LeavesOnly (state S.Store conn.old) rows → Settled (state S.Store conn.new) rows }
@@ -88,7 +117,7 @@ fn try_request<S: Alter>(
         Does c «request».now (Err e) c × LeavesOnly (state S.Store archive.new.conn) rows)) }
     ensures crash { HasCleanDisk (state S.Store archive.new.conn)
         → IfErr result (λ e. OnArchive (state S.Store archive.old.conn) (λ society c rows.
-        LeavesDoneOrNot (state S.Store archive.new.conn) society c rows «request».now)) }
+        LeavesDoneOrNot (state S.Store archive.new.conn) society c «request».now)) }
     ensures repeated { HasCleanDisk (state S.Store archive.new.conn) → OnArchive (state S.Store archive.old.conn)
         (λ society c rows.
         get c.receipts «request».now.token ≢ None → LeavesOnly (state S.Store archive.new.conn) rows) }

@@ -82,7 +82,7 @@ returns-in-Err-clause-refused g c clean sure society content rows was keeps =
 
 pub returns-in-Err-clause-crash : goal.returns-in-Err-clause-crash
 returns-in-Err-clause-crash g c clean society content rows was keeps =
-    stays_same (state g.S.Store c.decide_on.new.archive.conn) society content rows c.args.request.now
+    stays_same (state g.S.Store c.decide_on.new.archive.conn) society content rows c.args.request.now keeps
     (c.in-Err.ensures.crash clean rows content was keeps.means keeps.shallow)
 
 pub returns-in-Err-clause-repeated : goal.returns-in-Err-clause-repeated

@@ -6,7 +6,7 @@ use Rattle.archive_core.specs.Machine.{Does}
 use Rattle.store_tables.proofs.Queries.{only_committed}
 use Rattle.store.specs.Histories.{is_storage}
 use Rattle.store.proofs.Committed.{ok_performs, refusal_performs}
-use Rattle.store.proofs.performing.perform_on.Goals as goal
+use Rattle.store.proofs.performing.perform_at_once.Goals as goal
 
 pub returns-in-Ok-clause-performs : goal.returns-in-Ok-clause-performs
 returns-in-Ok-clause-performs g c clean =

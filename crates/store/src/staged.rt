@@ -1,0 +1,149 @@
+//! A request to import: the steps of a staged import, one after the other.
+
+ghost use Rattle.std.specs.Prelude.{◌≡◌, ◌≢◌, ℕ, List, [], ◌∷◌, false, true, None, IfOk, IfErr, OnOk, OnErr};
+ghost use Rattle.std.specs.FinMap.{get};
+ghost use Rattle.sqlite.specs.State.{HasCleanDisk};
+ghost use Rattle.sqlite.specs.Held.{state};
+ghost use Rattle.record_text.specs.declared.refusal.RefusalKind.TheVariants.{OutOfMemory};
+ghost use Rattle.archive_state.specs.Content.{Content};
+ghost use Rattle.archive_core.specs.Machine.{import_of};
+ghost use Rattle.archive_core.specs.declared.request.Request.{Request};
+ghost use Rattle.archive_view.specs.Looks.{is_stop};
+ghost use Rattle.store_tables.specs.Calls.{LeavesOnly, Settled};
+ghost use Rattle.store_tables.specs.Rows.{Rows};
+ghost use Rattle.store.specs.Archives.{LeavesArchive};
+ghost use Rattle.store.specs.Calls.{AcknowledgedBy, Acknowledges, LeavesDoneOrNot, OnArchive, Performs};
+ghost use Rattle.store.specs.Histories.{is_storage};
+ghost use Rattle.store.specs.Importing.{HasImport, HasImportOver};
+
+use crate::archive::Archive;
+use crate::beginning::begin_on;
+use crate::failing::is_storage;
+use crate::importing::{abandon_on, publish_on, stage_on};
+use archive_core::Forest;
+use archive_state::{Answer, Token};
+use record_text::{Refusal, RefusalKind};
+use sqlite::{Alter, Connection};
+use staging::OpenImport;
+use std::alloc::Global;
+
+/// Imports a forest into an archive, in commits of at most 256 rows; the last of them publishes all. After any refusal
+/// but 80 the archive is as it was.
+pub(crate) fn import_on<S: Alter>(
+    alloc: Global,
+    archive: &mut Archive<S>,
+    token: &Token,
+    forest: &Forest,
+) -> Result<Answer, Refusal>
+    requires kept { archive.old.is_lost ≡ false }
+    ensures performs { HasCleanDisk (state S.Store archive.new.conn) → Performs (state S.Store archive.old.conn)
+        ((import_of token.now forest.now, result) ∷ []) (state S.Store archive.new.conn) }
+    ensures acknowledged { HasCleanDisk (state S.Store archive.new.conn)
+        → IfOk result (λ answer. Acknowledges (state S.Store archive.old.conn) (import_of token.now forest.now) answer
+        (state S.Store archive.new.conn)) }
+    ensures repeated { HasCleanDisk (state S.Store archive.new.conn) → OnArchive (state S.Store archive.old.conn)
+        (λ society c rows. get c.receipts token.now ≢ None → LeavesOnly (state S.Store archive.new.conn) rows) }
+    ensures refused { HasCleanDisk (state S.Store archive.new.conn) → IfErr result (λ e. is_storage e.kind ≡ false
+        → OnArchive (state S.Store archive.old.conn)
+        (λ society c rows. Settled (state S.Store archive.new.conn) rows)) }
+    ensures placed { IfErr result (λ e. is_stop e.kind ≡ true → e.at ≡ None) }
+    ensures quiet { HasCleanDisk (state S.Store archive.new.conn) → OnArchive (state S.Store archive.old.conn)
+        (λ society c rows. OnOk result (archive.new.failures ≡ 0)) }
+{
+    match begin_on(alloc, archive, token, forest) {
+        Ok((answer, Some(import))) => {
+            let mut import = import;
+            match finish_on(alloc, &mut archive.conn, &mut import) {
+                Ok(()) => Ok(answer),
+                Err(kind) => Err(Refusal { kind, at: None }),
+            }
+        }
+        Ok((answer, None)) => Ok(answer),
+        Err(refusal) => Err(refusal),
+    }
+}
+
+/// Writes the rows of an import that are left, and publishes it. Where memory was refused it is taken out again.
+///
+/// 1: memory was refused, and the rows are those of before. 80: the database failed, and the import is done or not.
+fn finish_on<S: Alter>(
+    alloc: Global,
+    conn: &mut Connection<S>,
+    import: &mut OpenImport,
+) -> Result<(), RefusalKind>
+    requires autocommit { conn.old.in_transaction ≡ false }
+    ensures done { HasCleanDisk (state S.Store conn.new) → OnOk result ((society : List ℕ) (c : Content)
+        (before : Rows) (r : Request) → HasImportOver society c before r import.old (state S.Store conn.old)
+        → AcknowledgedBy society c before r import.old.changes.answer (state S.Store conn.new)) }
+    ensures undone { HasCleanDisk (state S.Store conn.new) → IfErr result (λ kind. is_storage kind ≡ false
+        → (kind ≡ OutOfMemory) × ((society : List ℕ) (c : Content) (before : Rows) (r : Request)
+        → HasImportOver society c before r import.old (state S.Store conn.old)
+        → Settled (state S.Store conn.new) before)) }
+    ensures crash { HasCleanDisk (state S.Store conn.new) → OnErr result ((society : List ℕ) (c : Content) (r : Request)
+        → HasImport society c r import.old (state S.Store conn.old)
+        → LeavesDoneOrNot (state S.Store conn.new) society c r) }
+    ensures clean { HasCleanDisk (state S.Store conn.new) → HasCleanDisk (state S.Store conn.old) }
+    ensures ended { conn.new.in_transaction ≡ false }
+{
+    match stage_all(alloc, conn, import) {
+        Ok(()) => publish_on(conn, import),
+        Err(kind) => Err(give_up(conn, import, kind)),
+    }
+}
+
+/// Writes all rows of an import that are left, 256 in each commit.
+///
+/// 80: the database failed, and further rows are written or not. 1: memory was refused, and the import is still on.
+pub(crate) fn stage_all<S: Alter>(
+    alloc: Global,
+    conn: &mut Connection<S>,
+    import: &mut OpenImport,
+) -> Result<(), RefusalKind>
+    requires autocommit { conn.old.in_transaction ≡ false }
+    ensures left { OnOk result (import.new ≡ record import.old { left = [] }) }
+    ensures staged { HasCleanDisk (state S.Store conn.new) → OnOk result ((society : List ℕ) (c : Content)
+        (before : Rows) (r : Request) → HasImportOver society c before r import.old (state S.Store conn.old)
+        → HasImportOver society c before r import.new (state S.Store conn.new)) }
+    ensures stays { HasCleanDisk (state S.Store conn.new) → IfErr result (λ kind. is_storage kind ≡ false
+        → (kind ≡ OutOfMemory) × ((society : List ℕ) (c : Content) (before : Rows) (r : Request)
+        → HasImportOver society c before r import.old (state S.Store conn.old)
+        → HasImportOver society c before r import.new (state S.Store conn.new))) }
+    ensures crash { HasCleanDisk (state S.Store conn.new) → OnErr result ((society : List ℕ) (c : Content) (r : Request)
+        → HasImport society c r import.old (state S.Store conn.old)
+        → LeavesArchive (state S.Store conn.new) society (λ found. found ≡ c)) }
+    ensures clean { HasCleanDisk (state S.Store conn.new) → HasCleanDisk (state S.Store conn.old) }
+    ensures ended { conn.new.in_transaction ≡ false }
+{
+    'stages: while import.has_more() {
+        stage_on(alloc, conn, import)?;
+    }
+    Ok(())
+}
+
+/// What an import is refused with that goes no further: it is taken out again where memory was refused.
+fn give_up<S: Alter>(
+    conn: &mut Connection<S>,
+    import: &OpenImport,
+    kind: RefusalKind,
+) -> RefusalKind
+    requires autocommit { conn.old.in_transaction ≡ false }
+    ensures same { is_storage result ≡ false → result ≡ kind }
+    ensures gone { HasCleanDisk (state S.Store conn.new) → is_storage result ≡ false
+        → (society : List ℕ) (c : Content) (before : Rows) (r : Request)
+        → HasImportOver society c before r import.now (state S.Store conn.old)
+        → Settled (state S.Store conn.new) before }
+    ensures crash { HasCleanDisk (state S.Store conn.new) → (society : List ℕ) (c : Content) (r : Request)
+        → (is_storage kind ≡ false → HasImport society c r import.now (state S.Store conn.old))
+        → LeavesArchive (state S.Store conn.old) society (λ found. found ≡ c)
+        → LeavesArchive (state S.Store conn.new) society (λ found. found ≡ c) }
+    ensures clean { HasCleanDisk (state S.Store conn.new) → HasCleanDisk (state S.Store conn.old) }
+    ensures ended { conn.new.in_transaction ≡ false }
+{
+    if is_storage(kind) {
+        return kind;
+    }
+    match abandon_on(conn, import) {
+        Ok(()) => kind,
+        Err(lost) => lost,
+    }
+}
