@@ -84,5 +84,5 @@ next_counted ps i p count more new most low is lines sum was =
 pub all_counted : (batch : ℕ) (ps : List Numbered) (i count most : ℕ) → length ps ≤ i
     → count ≡ min (length ps + line_count (take i ps)) most → count ≡ min (length (rows_of_import batch ps)) most
 all_counted batch ps i count most past was =
-    was ∙ ap (λ (qs : List Numbered). min (length ps + line_count qs) most) (take_all ps i past)
+    was ∙ ap (λ (qs : List Numbered). min (length ps + line_count qs) most) (take_all i ps past)
     ∙ ap (λ n. min n most) (sym (all_rows batch ps))
