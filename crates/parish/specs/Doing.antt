@@ -116,7 +116,8 @@ module _ {R W : Type 0} (reader : read.Ghosts R) (reads : device.Ghosts R) (writ
     Does (Apply file) = Applies image status input rest output written quiet told left × (room ≡ None)
     Does (Entries file source token) = EntersBatch image token.now source status input rest output written left
         × (room ≡ None)
-    Does (Import file token progress) = ImportsFile image token.now status input rest output written left × (room ≡ None)
+    Does (Import file token progress) = ImportsFile image token.now status input rest output written left
+        × (room ≡ None)
     Does (Export file) = Exports image status output written left × (rest ≡ input) × (room ≡ None)
     Does (ExportPublic file today) = Publishes image today status output written left × (rest ≡ input) × (room ≡ None)
     Does (Sheet file which number generations today) =

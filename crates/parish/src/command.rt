@@ -60,9 +60,9 @@ const WRITE_FAILED: TreeFault = TreeFault {
 /// serves the room then.
 ///
 /// Results go to `output`, a refusal goes to `faults` as one line, and so does what is wrong with a row of `apply` that
-/// is refused, what `audit` finds wrong, and with `--progress` how far an import is. Where `faults` fails too, the status tells alone. Where the words are
-/// refused nothing is read, and nothing written elsewhere. Words that are taken are never refused: what they name is
-/// done, with 0, or 1 and a reason.
+/// is refused, what `audit` finds wrong, and with `--progress` how far an import is. Where `faults` fails too, the
+/// status tells alone. Where the words are refused nothing is read, and nothing written elsewhere. Words that are taken
+/// are never refused: what they name is done, with 0, or 1 and a reason.
 pub fn command<S: Start, R: Read + Device, W: Write + Device, F: Write + Device>(
     rt: &HostRuntime,
     words: &[String],

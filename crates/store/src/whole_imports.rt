@@ -1,6 +1,21 @@
 //! An import of a forest that is given up once it is decided: it is not in memory while rows are written.
 
-ghost use Rattle.std.specs.Prelude.{◌≡◌, ◌≢◌, [], ◌∷◌, false, None, Err, IfOk, IfErr, IfSome, IsSome, IsTrue, OnOk, true};
+ghost use Rattle.std.specs.Prelude.{
+  ◌≡◌,
+  ◌≢◌,
+  [],
+  ◌∷◌,
+  true,
+  false,
+  None,
+  Err,
+  IfOk,
+  IfErr,
+  IfSome,
+  IsSome,
+  IsTrue,
+  OnOk,
+};
 ghost use Rattle.std.specs.FinMap.{get};
 ghost use Rattle.sqlite.specs.State.{HasCleanDisk};
 ghost use Rattle.sqlite.specs.Held.{state};
