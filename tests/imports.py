@@ -238,17 +238,26 @@ def an_input_that_fails(tools):
         demand(at.tables() == kept, "something was taken in")
 
 
-def killed_in_an_import(tools, stops=20):
+def opened_again(at):
+    """The tables behind an opening, which takes out what an import left that did not end."""
+    told = run(at.parish, ("audit", at.file))
+    demand(told.status == 0, f"the archive is not sound: {told.err!r}")
+    return at.tables()
+
+
+def killed_in_an_import(tools, stops=10, persons=600, seed=10):
     """A program that is killed while it imports leaves the whole file or nothing, and the file sent again gets the
-    answer of a run that was not stopped."""
-    given = between(*(line for n in range(600) for line in (f"0 @I{n}@ INDI", "1 BIRT", f"2 PLAC Ashby {n % 50}")))
-    rng = random.Random(stops)
+    answer of a run that was not stopped; so does a person after it."""
+    given = between(*(line for n in range(persons) for line in (f"0 @I{n}@ INDI", "1 BIRT", f"2 PLAC Ashby {n % 50}")))
+    rng = random.Random(seed)
+    counted = {"absent": 0, "whole": 0, "begun": 0}
     with Imported(tools) as whole:
         whole.made()
         start = time.perf_counter()
         told = whole.import_(given)
         longest, wanted = time.perf_counter() - start, whole.tables()
-        expect(told, written(b"imported 1250 records, first 1\n"))
+        expect(told, written(f"imported {2 * persons + 50} records, first 1\n".encode()))
+        person = whole.apply(b"new,person,Nora /New/,F\n")
     for _ in range(stops):
         with Imported(tools) as at:
             before = at.made().tables()
@@ -259,9 +268,15 @@ def killed_in_an_import(tools, stops=20):
             except subprocess.TimeoutExpired:
                 process.kill()
                 process.communicate()
-            demand(at.tables() in (before, wanted), "a part of a file is there")
+            left = at.tables()
+            found = opened_again(at)
+            demand(found in (before, wanted), "a part of a file is there")
+            counted["whole" if found == wanted else "absent"] += 1
+            counted["begun"] += left not in (before, wanted)
             expect(at.import_(given), told)
             demand(at.tables() == wanted, "the tables differ")
+            expect(at.apply(b"new,person,Nora /New/,F\n"), person)
+    return counted
 
 
 def refused_memory(tools):
@@ -280,7 +295,7 @@ def refused_memory(tools):
                     demand(number > 100, f"it has only {number} growths")
                     return
                 demand(got.status == 1 and got.err in (refused(1).err, refused(80).err), f"growth {number}: {got}")
-                demand(at.tables() in (before, wanted), f"growth {number}: a part of the file is there")
+                demand(opened_again(at) in (before, wanted), f"growth {number}: a part of the file is there")
                 expect(at.import_(LEE), told)
 
 

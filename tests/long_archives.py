@@ -1,12 +1,16 @@
 """Long tests of archives in files, which `./test` does not run:
 
     python3 tests/long_archives.py [--parish COMMAND] kills [ROWS [KILLS [SEED]]]
+    python3 tests/long_archives.py [--parish COMMAND] killed-imports [PERSONS [KILLS [SEED]]]
     python3 tests/long_archives.py [--parish COMMAND] [--loaded] compare 'COMMAND' [ROWS [SEED]]
     python3 tests/long_archives.py [--parish COMMAND] [--loaded] exports 'COMMAND' [ARCHIVES [SEED]]
     python3 tests/long_archives.py [--parish COMMAND] [--loaded] imports 'COMMAND' [FILES [SEED]]
 
 `kills` gives ROWS generated rows (2,000) to `apply`, kills it KILLS times (20) at random moments and gives the same
-rows again: each answer has to be that of a run that was not stopped, and so have the tables. `compare` gives ROWS rows
+rows again: each answer has to be that of a run that was not stopped, and so have the tables. `killed-imports` gives a
+file of PERSONS persons (20,000) to `import`, kills it KILLS times (200), each time in a new archive, and gives the file
+again; it tells how often nothing of the file was there behind the next opening, all of it, and how often rows of it
+were left before that. `compare` gives ROWS rows
 (5,000), in archives of 200 rows each, to `apply` and to a second program, which takes the same words, then drawn
 batches to `entries`, and their rows one by one to `apply`, and compares what is told. `exports` gives the rows of
 ARCHIVES archives (500) to both, and compares what they export. `imports` gives FILES drawn files (2,000) to both, each
@@ -32,6 +36,7 @@ sys.dont_write_bytecode = True
 
 from archives import killed_and_run_again  # noqa: E402
 from harness import ROOT, Failed, Tools, difference, run  # noqa: E402
+from imports import killed_in_an_import  # noqa: E402
 from lineages import drawn as drawn_file  # noqa: E402
 from loaded import Loaded  # noqa: E402
 
@@ -210,6 +215,17 @@ def stopped(command, rows, kills, seed):
     return 1, 0
 
 
+def stopped_imports(command, persons, kills, seed):
+    try:
+        counted = killed_in_an_import(Tools(command, None), kills, persons, seed)
+    except Failed as failed:
+        print(failed)
+        return 0, 1
+    print(", ".join(f"{count} {what}" for what, count in counted.items()))
+    return 1, 0
+
+
+KILLED = {"kills": (stopped, (2_000, 20, 1)), "killed-imports": (stopped_imports, (20_000, 200, 1))}
 COMPARED = {"compare": (compared, 5_000), "exports": (exports_compared, 500), "imports": (imports_compared, 2_000)}
 
 
@@ -217,13 +233,13 @@ def main():
     words = argparse.ArgumentParser(usage=__doc__.strip())
     words.add_argument("--parish", default=PARISH)
     words.add_argument("--loaded", action="store_true")
-    words.add_argument("what", choices=("kills", *COMPARED))
+    words.add_argument("what", choices=(*KILLED, *COMPARED))
     words.add_argument("words", nargs="*")
     given = words.parse_args()
     parish = tuple(shlex.split(given.parish))
-    if given.what == "kills":
-        numbers = [*map(int, given.words), *(2_000, 20, 1)[len(given.words) :]]
-        passed, failed = stopped(parish, *numbers)
+    if given.what in KILLED:
+        kill, numbers = KILLED[given.what]
+        passed, failed = kill(parish, *map(int, given.words), *numbers[len(given.words) :])
     else:
         second, *numbers = given.words
         compare, most = COMPARED[given.what]

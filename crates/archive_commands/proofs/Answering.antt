@@ -10,6 +10,7 @@ use Rattle.sqlite_wal.specs.Recovery.{Image}
 use Rattle.archive_core.specs.Machine.{Done}
 use Rattle.record_text.specs.declared.refusal.RefusalKind.{RefusalKind}
 use Rattle.record_text.specs.declared.refusal.RefusalKind.TheVariants.{ReadFailed, WriteFailed}
+use Rattle.store.specs.Shut.{is_shut}
 use Rattle.store.specs.declared.archive.Archive.{Archive}
 use Rattle.tables.specs.Applying.{PerformsAll, calls_of}
 use Rattle.tables.specs.RowByRow.{AppliedInTurn, EndedInTurn}
@@ -23,7 +24,7 @@ keeps (Some bytes) = refl
 
 -- the connection of an archive that was taken up, after calls on it
 module _ {D : Type 0} {g : disk.Ghosts D} (image : Image) (old new : Archive (FileStore D g) over_files)
-    (conn : Held (FileStore D g)) (kept : old.is_lost ≡ false)
+    (conn : Held (FileStore D g)) (kept : is_shut old ≡ false)
     (taken : IsTakenUp image (file_state old.conn)) (same : conn ≡ new.conn) where
   pub performed_on : (calls : List Done) → PerformsAll over_files old calls new
       → PerformsOn image calls (file_state conn)

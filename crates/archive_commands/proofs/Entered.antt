@@ -12,6 +12,7 @@ use Rattle.record_text.specs.declared.refusal.Refusal.{Refusal}
 use Rattle.record_text.specs.declared.refusal.RefusalKind.{RefusalKind}
 use Rattle.record_text.specs.declared.refusal.RefusalKind.TheVariants.{BadToken, OutOfMemory}
 use Rattle.store.specs.Histories.{Outcome}
+use Rattle.store.specs.Shut.{is_shut}
 use Rattle.store.specs.declared.archive.Archive.{Archive}
 use Rattle.batch_reading.specs.Batches.{placeless}
 use Rattle.tables.specs.Entering.{Enters, IsNoBatch, batch_request}
@@ -35,7 +36,7 @@ module _ {D : Type 0} {g : disk.Ghosts D} (image : Image) (token : List ℕ) (so
   unnamed kind e Failed is (inr bad) = inl (refl, inr (is ∙ ap placeless bad.0, bad.1))
 
   module _ (word : IsToken token) (old new : Archive (FileStore D g) over_files) (conn : Held (FileStore D g))
-      (kept : old.is_lost ≡ false)
+      (kept : is_shut old ≡ false)
       (taken : IsTakenUp image (file_state old.conn)) (same : conn ≡ new.conn) where
     entered : (o : Outcome) → Enters over_files token source input old o new
         → Entered image token source input o (Some conn)

@@ -13,6 +13,7 @@ use Rattle.record_text.specs.declared.refusal.Refusal.{Refusal}
 use Rattle.record_text.specs.declared.refusal.RefusalKind.{RefusalKind}
 use Rattle.record_text.specs.declared.refusal.RefusalKind.TheVariants.{BadToken, OutOfMemory}
 use Rattle.store.specs.Histories.{Outcome}
+use Rattle.store.specs.Shut.{is_shut}
 use Rattle.store.specs.declared.archive.Archive.{Archive}
 use Rattle.batch_reading.specs.Batches.{placeless}
 use Rattle.file_imports.specs.Importing.{Imports, ImportsAll, ImportsSilently, IsNoFile, import_request}
@@ -29,7 +30,7 @@ module _ {D : Type 0} {g : disk.Ghosts D} (image : Image) (token : List ℕ) (in
   unnamed kind e Failed is (inr bad) = inl (refl, inr (is ∙ ap placeless bad.0, bad.1))
 
   module _ (word : IsToken token) (old new : Archive (FileStore D g) over_files) (conn : Held (FileStore D g))
-      (kept : old.is_lost ≡ false)
+      (kept : is_shut old ≡ false)
       (taken : IsTakenUp image (file_state old.conn)) (same : conn ≡ new.conn) where
     abbrev imported : (o : Outcome) → Imports over_files token input old o new
         → Imported image token input o (Some conn)

@@ -1,2 +1,3 @@
+mod Commits
 mod Counting
 mod Cursors

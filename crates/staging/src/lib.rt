@@ -1,11 +1,14 @@
-//! An import that is staged: its rows are written 256 at a time, and it is published.
+//! An import that is staged: its rows are written in commits of 256, it is published, or taken out again.
 #![tactic(auto)]
 
+mod clearing;
 mod cursor;
 mod opened;
 mod progress;
+mod removing;
 mod writing;
 
 pub use opened::OpenImport;
 pub use progress::{Progress, RowCount, Silent};
+pub use removing::{remove_batch, remove_open};
 pub use writing::{publish_rows, stage_rows};

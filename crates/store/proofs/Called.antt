@@ -3,73 +3,96 @@ use Rattle.std.proofs.Common.{
   ◌≡◌,
   inl,
   inr,
+  ℕ,
   Bool,
   true,
   false,
   List,
   [],
   ◌∷◌,
+  Option,
+  None,
+  Some,
   refl,
   sym,
+  ap,
   ◌∙◌,
   subst,
   true≢false,
 }
 use Rattle.std.specs.List.{zip}
 use Rattle.sqlite.specs.Held.{Held, state}
-use Rattle.sqlite.specs.State.{HasCleanDisk}
+use Rattle.sqlite.specs.State.{HasCleanDisk, State}
 use Rattle.sqlite_trees.specs.declared.store.Store.{Ghosts}
-use Rattle.archive_core.specs.Machine.{Done}
+use Rattle.archive_state.specs.Content.{Content}
+use Rattle.archive_core.specs.Machine.{Done, Runs}
 use Rattle.archive_core.specs.declared.request.Request.{Request}
+use Rattle.staging.specs.Opened.{Import}
+use Rattle.store_tables.specs.Calls.{Settled}
+use Rattle.store_tables.specs.Rows.{Rows}
+use Rattle.store.specs.Archives.{HasArchive, LeavesArchive}
 use Rattle.store.specs.Calls.{Performs, Stays}
-use Rattle.store.specs.Histories.{AreLost, Outcome, has_failed}
-use Rattle.store.specs.Lives.{IsCall}
-use Rattle.store.proofs.Committed.{unless_failed}
-use Rattle.store.proofs.Running.{none_in_doubt}
+use Rattle.store.specs.Histories.{MayBeFound, in_doubt}
+use Rattle.store.specs.Importing.{Has}
+use Rattle.store.specs.Lives.{GoesOn, IsCall, IsStill}
+use Rattle.store.specs.Standing.{Standing, asked_by, heard}
+use Rattle.store.proofs.Imports.{InNoView, has_the_archive}
 
-never : {A : Type 0} (b : Bool) → b ≡ true → b ≡ false → A
-never b on off = absurd (true≢false (sym on ∙ off))
+-- tables that stay settled have what they had
+pub still_has : (o : Option (Request × Import)) (old new : State) (society : List ℕ) (c : Content)
+    → ((rows : Rows) → Settled old rows → Settled new rows) → Has society c o old → Has society c o new
+still_has None old new society c same has = (has.0, same has.0 has.1, has.2)
+still_has (Some both) old new society c same has = (has.0, same has.0 has.1, has.2)
 
-module _ {S : Type 0} (g : Ghosts S) (old new : Held S) (was_lost is_lost : Bool) where
-  -- the archive was lost before
-  pub lost_call : (calls : List Done) → was_lost ≡ true → new ≡ old → is_lost ≡ true
-      → IsCall g old was_lost calls new is_lost
-  lost_call calls was same is = inl (record {
-    still = λ _. (same, is);
-    certain = λ off. never was_lost was off;
-    performs = λ clean off. never was_lost was off;
-  })
+module _ {S : Type 0} (g : Ghosts S) (old new : Held S) (was is : Standing) where
+  -- the call was refused for how the archive stands
+  pub still_call : (calls : List Done) → calls ≡ [] → new ≡ old → is ≡ was → IsCall g old was calls new is
+  still_call calls none same stands = inr (record { unheard = none; same = same; stands = stands })
 
-  -- one request
-  pub performed_call : (r : Request) (o : Outcome) → was_lost ≡ false → is_lost ≡ has_failed o
-      → (HasCleanDisk (state g new) → Performs (state g old) ((r, o) ∷ []) (state g new))
-      → IsCall g old was_lost ((r, o) ∷ []) new is_lost
-  performed_call r o off is did = inl (record {
-    still = λ on. never was_lost on off;
-    certain = λ _ sure. unless_failed (has_failed o) r (sym is ∙ sure);
-    performs = λ clean _. did clean;
-  })
-
-  -- requests one after the other
-  pub run_call : (rs : List Request) (os : List Outcome) → AreLost was_lost os is_lost
-      → (was_lost ≡ true → (new ≡ old) × (is_lost ≡ true))
-      → (HasCleanDisk (state g new) → was_lost ≡ false → Performs (state g old) (zip rs os) (state g new))
-      → IsCall g old was_lost (zip rs os) new is_lost
-  run_call rs os lost still did = inl (record {
-    still = still;
-    certain = λ off sure. none_in_doubt rs os
-        (subst (λ b. AreLost false os b) sure (subst (λ b. AreLost b os is_lost) off lost));
-    performs = did;
+  -- requests on an archive that takes them
+  pub ready_call : (calls : List Done) → was.is_lost ≡ false → was.import ≡ None → is.import ≡ None
+      → (is.is_lost ≡ false → in_doubt calls ≡ None)
+      → (HasCleanDisk (state g new) → Performs (state g old) calls (state g new)) → IsCall g old was calls new is
+  ready_call calls kept none after certain did = inl (record {
+    kept = kept;
+    certain = certain;
+    done = λ clean sure society c has.
+        let to = (did clean).done (certain sure) society c
+        (subst (λ o. Has society c o (state g old)) none has) in
+        (to.0, to.1, subst (λ o. Has society to.0 o (state g new)) (sym after) to.2);
+    crash = λ clean society c has. (did clean).crash society c (subst (λ o. Has society c o (state g old)) none has);
+    clean = λ clean. (did clean).clean;
   })
 
   -- something that is read
-  pub read_call : (failed : Bool) → was_lost ≡ false → is_lost ≡ failed
-      → (HasCleanDisk (state g new) → Stays (state g old) failed (state g new))
-      → IsCall g old was_lost [] new is_lost
-  read_call failed off is did = inr (
-    refl,
-    record {
-      still = λ on. never was_lost on off;
-      stays = λ clean _. subst (λ b. Stays (state g old) b (state g new)) (sym is) (did clean);
-    },
-  )
+  pub read_call : InNoView → (failed : Bool) → was.is_lost ≡ false → is.import ≡ was.import → is.is_lost ≡ failed
+      → (HasCleanDisk (state g new) → Stays (state g old) failed (state g new)) → IsCall g old was [] new is
+  read_call view failed kept same lost did = inl (record {
+    kept = kept;
+    certain = λ _. refl;
+    done = λ clean sure society c has. (
+      c,
+      refl,
+      subst (λ o. Has society c o (state g new)) (sym same)
+          (still_has was.import (state g old) (state g new) society c ((did clean).same (sym lost ∙ sure)) has),
+    );
+    crash = λ clean society c has t l.
+        let archive = has_the_archive view society c was.import (state g old) has in
+        (c, refl, (archive.0, (did clean).crash archive.0 archive.1 t l, archive.2));
+    clean = λ clean. (did clean).clean;
+  })
+
+  -- rows of an import are written or taken out: what the archive holds stays
+  pub staged_call : was.is_lost ≡ false
+      → (HasCleanDisk (state g new) → is.is_lost ≡ false → (society : List ℕ) (c : Content)
+      → Has society c was.import (state g old) → Has society c is.import (state g new))
+      → (HasCleanDisk (state g new) → (society : List ℕ) (c : Content) → Has society c was.import (state g old)
+      → LeavesArchive (state g new) society (λ found. found ≡ c))
+      → (HasCleanDisk (state g new) → HasCleanDisk (state g old)) → IsCall g old was [] new is
+  staged_call kept has_still leaves clean = inl (record {
+    kept = kept;
+    certain = λ _. refl;
+    done = λ now sure society c has. (c, refl, has_still now sure society c has);
+    crash = λ now society c has t l. leaves now society c has t l;
+    clean = clean;
+  })

@@ -11,12 +11,16 @@ use Rattle.std.proofs.Common.{
   [],
   ◌∷◌,
   ◌++◌,
+  Option,
+  None,
+  Some,
   append-nil,
   refl,
   sym,
   ap,
   ◌∙◌,
   subst,
+  true≢false,
 }
 use Rattle.sqlite.specs.Held.{Held, state}
 use Rattle.sqlite.specs.State.{HasCleanDisk}
@@ -24,87 +28,110 @@ use Rattle.sqlite.specs.Tree.{Trees}
 use Rattle.sqlite_trees.specs.declared.store.Store.{Ghosts}
 use Rattle.archive_state.specs.Content.{Content}
 use Rattle.archive_core.specs.Machine.{Done, Runs}
+use Rattle.archive_core.specs.declared.request.Request.{Request}
 use Rattle.archive_core.proofs.Serving.{joined}
+use Rattle.staging.specs.Opened.{Import}
 use Rattle.store_tables.specs.Calls.{LeavesOnly, Settled}
 use Rattle.store_tables.specs.Rows.{Rows}
 use Rattle.store.specs.Archives.{HasArchive, IsArchive, LeavesArchive}
 use Rattle.store.specs.Histories.{MayBeFound, in_doubt}
-use Rattle.store.specs.Lives.{Call, CountInAll, Counts, IsCall, Life, LifeOn, Serves, Session, SessionOn, heard}
+use Rattle.store.specs.Importing.{Has}
+use Rattle.store.specs.Lives.{
+  Call,
+  CountInAll,
+  Counts,
+  GoesOn,
+  IsCall,
+  Life,
+  LifeOn,
+  Serves,
+  Session,
+  SessionOn,
+  requests_of,
+}
+use Rattle.store.specs.Standing.{Standing, ready}
 use Rattle.store.proofs.Histories.{counted, found_after}
-
-heard_lost : (more : List Call) → heard true more ≡ []
-heard_lost [] = refl
-heard_lost (call ∷ more) = refl
+use Rattle.store.proofs.Imports.{InNoView, has_the_archive}
 
 module _ {S : Type 0} (g : Ghosts S) where
-  call_still : (old next : Held S) (calls : List Done) (is_lost : Bool) → IsCall g old true calls next is_lost
-      → (next ≡ old) × (is_lost ≡ true)
-  call_still old next calls is_lost (inl p) = p.still refl
-  call_still old next calls is_lost (inr r) = r.1.still refl
+  call_clean : (old next : Held S) (was : Standing) (calls : List Done) (is : Standing)
+      → IsCall g old was calls next is → HasCleanDisk (state g next) → HasCleanDisk (state g old)
+  call_clean old next was calls is (inl p) clean = p.clean clean
+  call_clean old next was calls is (inr q) clean = subst (λ h. HasCleanDisk (state g h)) q.same clean
 
-  call_clean : (old next : Held S) (was : Bool) (calls : List Done) (is_lost : Bool)
-      → IsCall g old was calls next is_lost → HasCleanDisk (state g next) → HasCleanDisk (state g old)
-  call_clean old next true calls is_lost h clean =
-      subst (λ s. HasCleanDisk (state g s)) (call_still old next calls is_lost h).0 clean
-  call_clean old next false calls is_lost (inl p) clean = (p.performs clean refl).clean
-  call_clean old next false calls is_lost (inr r) clean = (r.1.stays clean refl).clean
-
-  -- a lost archive stays as it is
-  lost_stays : (all : List Call) (old new : Held S) → Serves g old true all new → new ≡ old
-  lost_stays [] old new s = s
-  lost_stays (call ∷ more) old new s =
-      let here = call_still old s.0 call.0 call.1 s.1 in
-      lost_stays more s.0 new (subst (λ b. Serves g s.0 b more new) here.1 s.2) ∙ here.0
-
-  clean_back : (all : List Call) (was : Bool) (old new : Held S) → Serves g old was all new
+  clean_back : (all : List Call) (was : Standing) (old new : Held S) → Serves g old was all new
       → HasCleanDisk (state g new) → HasCleanDisk (state g old)
   clean_back [] was old new s clean = subst (λ h. HasCleanDisk (state g h)) s clean
   clean_back (call ∷ more) was old new s clean =
       call_clean old s.0 was call.0 call.1 s.1 (clean_back more call.1 s.0 new s.2 clean)
 
-  module _ (only : (h : Held S) (rows : Rows) → Settled (state g h) rows → LeavesOnly (state g h) rows) where
-    stopped : (all : List Call) (old new : Held S) (society : List ℕ) (c : Content) → Serves g old false all new
-        → HasCleanDisk (state g new) → HasArchive society c (state g old)
-        → LeavesArchive (state g new) society (MayBeFound c (heard false all))
-    stopped [] old new society c s clean has t l =
-        (c, refl, (has.0, only old has.0 has.1 t (subst (λ h. (state g h).may_leave t) s l), has.2))
-    stopped ((calls, false) ∷ more) old new society c s clean has t l =
-        let before = clean_back more false s.0 new s.2 clean in
-        elim s.1 [
-          | inl p ↦
-              let none = p.certain refl refl in
-              let to = (p.performs before refl).done none society c has in
-              let left = stopped more s.0 new society to.0 s.2 clean to.2 t l in
-              (left.0, found_after c to.0 left.0 calls (heard false more) none to.1 left.1, left.2)
-          | inr r ↦
-              let still = (r.1.stays before refl).same refl has.0 has.1 in
-              let left = stopped more s.0 new society c s.2 clean (has.0, still, has.2) t l in (
-                left.0,
-                subst (λ xs. MayBeFound c (xs ++ heard false more) left.0) (sym r.0) left.1,
-                left.2,
-              )
-        ]
-    stopped ((calls, true) ∷ more) old new society c s clean has t l =
-        let before = clean_back more true s.0 new s.2 clean in
-        let here = subst (λ h. (state g h).may_leave t) (lost_stays more s.0 new s.2) l in
-        let all : calls ++ heard true more ≡ calls = ap (λ xs. calls ++ xs) (heard_lost more) ∙ append-nil calls in
-        elim s.1 [
-          | inl p ↦
-              let left = (p.performs before refl).crash society c has t here in
-              (left.0, subst (λ xs. MayBeFound c xs left.0) (sym all) left.1, left.2)
-          | inr r ↦ (
-            c,
-            subst (λ xs. MayBeFound c xs c) (sym (all ∙ r.0)) refl,
-            (has.0, (r.1.stays before refl).crash has.0 has.1 t here, has.2),
+  -- a lost archive stays as it is, and does no request
+  lost_stays : (all : List Call) (was : Standing) (old new : Held S) → was.is_lost ≡ true → Serves g old was all new
+      → (new ≡ old) × (requests_of all ≡ [])
+  lost_stays [] was old new lost s = (s, refl)
+  lost_stays (call ∷ more) was old new lost s = elim s.1 [
+    | inl p ↦ absurd (true≢false (sym lost ∙ p.kept))
+    | inr q ↦
+        let rest = lost_stays more call.1 s.0 new (ap (λ (w : Standing). w.is_lost) q.stands ∙ lost) s.2 in
+        (rest.0 ∙ q.same, ap (λ xs. xs ++ requests_of more) q.unheard ∙ rest.1)
+  ]
+
+  module _ (view : InNoView)
+      (only : (h : Held S) (rows : Rows) → Settled (state g h) rows → LeavesOnly (state g h) rows) where
+    -- between two calls
+    at_rest : (o : Option (Request × Import)) (h : Held S) (society : List ℕ) (c : Content)
+        → Has society c o (state g h) → LeavesArchive (state g h) society (λ found. found ≡ c)
+    at_rest o h society c has t l =
+        let archive = has_the_archive view society c o (state g h) has in
+        (c, refl, (archive.0, only h archive.0 archive.1 t l, archive.2))
+
+    -- behind a call that loses the archive or does not
+    behind : (lost : Bool) (call : Call) (more : List Call) (was : Standing) (old next new : Held S) (society : List ℕ)
+        (c : Content) → call.1.is_lost ≡ lost → GoesOn g old was call.0 next call.1 → Serves g next call.1 more new
+        → HasCleanDisk (state g new) → Has society c was.import (state g old)
+        → ((to : Content) → Has society to call.1.import (state g next)
+        → LeavesArchive (state g new) society (MayBeFound to (requests_of more)))
+        → LeavesArchive (state g new) society (MayBeFound c (call.0 ++ requests_of more))
+    behind false call more was old next new society c kept p s clean has rest t l =
+        let before = clean_back more call.1 next new s clean in
+        let to = p.done before kept society c has in
+        let left = rest to.0 to.2 t l in
+        (left.0, found_after c to.0 left.0 call.0 (requests_of more) (p.certain kept) to.1 left.1, left.2)
+    behind true call more was old next new society c lost p s clean has rest t l =
+        let before = clean_back more call.1 next new s clean in
+        let still = lost_stays more call.1 next new lost s in
+        let left = p.crash before society c has t (subst (λ h. (state g h).may_leave t) still.0 l) in (
+          left.0,
+          subst (λ xs. MayBeFound c xs left.0)
+              (sym (ap (λ xs. call.0 ++ xs) still.1 ∙ append-nil call.0)) left.1,
+          left.2,
+        )
+
+    stopped : (all : List Call) (was : Standing) (old new : Held S) (society : List ℕ) (c : Content)
+        → Serves g old was all new → HasCleanDisk (state g new) → Has society c was.import (state g old)
+        → LeavesArchive (state g new) society (MayBeFound c (requests_of all))
+    stopped [] was old new society c s clean has t l =
+        at_rest was.import old society c has t (subst (λ h. (state g h).may_leave t) s l)
+    stopped (call ∷ more) was old new society c s clean has t l = elim s.1 [
+      | inl p ↦ behind call.1.is_lost call more was old s.0 new society c refl p s.2 clean has
+          (λ to now. stopped more call.1 s.0 new society to s.2 clean now) t l
+      | inr q ↦
+          let now : Has society c call.1.import (state g s.0) =
+              subst (λ (w : Standing). Has society c w.import (state g s.0)) (sym q.stands)
+              (subst (λ h. Has society c was.import (state g h)) (sym q.same) has) in
+          let left = stopped more call.1 s.0 new society c s.2 clean now t l in (
+            left.0,
+            subst (λ xs. MayBeFound c (xs ++ requests_of more) left.0) (sym q.unheard) left.1,
+            left.2,
           )
-        ]
+    ]
 
     on_session : (first : Held S) (after : Trees) (calls : List Done) (society : List ℕ) (c : Content)
         → SessionOn g first calls after → HasArchive society c (state g first)
         → (found : Content) × (dones : List Done) × IsArchive society found after × Counts calls dones
         × Runs c dones found
     on_session first after calls society c s has =
-        let left = stopped s.1 first s.0 society c s.2 s.3 has after s.5 in
+        let left = stopped s.1 ready first s.0 society c s.2 s.3 has after s.5 in
         let all = counted calls c left.0 (in_doubt calls) refl
         (subst (λ xs. MayBeFound c xs left.0) (sym s.4) left.1) in
         (left.0, all.0, left.2, all.1, all.2)

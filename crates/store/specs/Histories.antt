@@ -28,6 +28,11 @@ abbrev pub has_failed : Outcome → Bool
 has_failed (Ok answer) = false
 has_failed (Err e) = is_storage e.kind
 
+-- the same of any call that refuses with a place
+abbrev pub loses : {A : Type 0} → Result A Refusal → Bool
+loses (Ok a) = false
+loses (Err e) = is_storage e.kind
+
 -- calls in their order: those that were answered, up to the first at which the database failed
 abbrev pub answered : List Done → List Done
 answered [] = []

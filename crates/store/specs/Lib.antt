@@ -5,4 +5,6 @@ pub mod Creating
 pub mod Histories
 pub mod Importing
 pub mod Lives
+pub mod Shut
+pub mod Standing
 pub mod Viewing

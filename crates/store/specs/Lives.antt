@@ -1,60 +1,67 @@
 -- The life of an archive: sessions that follow each other, each over what the stop before it left. Rules of our own.
-use Rattle.std.specs.Prelude.{ℕ, ◌≡◌, ◌⊎◌, Bool, true, false, cond, List, [], ◌∷◌, ◌++◌, None, Some, Ok}
+use Rattle.std.specs.Prelude.{ℕ, ◌≡◌, ◌⊎◌, false, List, [], ◌∷◌, ◌++◌, None, Some, Ok}
 use Rattle.sqlite.specs.Held.{Held, state}
 use Rattle.sqlite.specs.State.{HasCleanDisk, State}
 use Rattle.sqlite.specs.Tree.{Trees}
 use Rattle.sqlite_trees.specs.declared.store.Store.{Ghosts}
 use Rattle.archive_state.specs.Content.{Content}
-use Rattle.archive_core.specs.Machine.{Done}
+use Rattle.archive_core.specs.Machine.{Done, Runs}
 use Rattle.archive_core.specs.declared.request.Request.{Request}
 use Rattle.receipts.specs.declared.answer.Answer.{Answer}
-use Rattle.store.specs.Archives.{HasArchive, IsArchive}
-use Rattle.store.specs.Calls.{Performs, Stays}
-use Rattle.store.specs.Histories.{answered, in_doubt}
+use Rattle.store.specs.Archives.{HasArchive, IsArchive, LeavesArchive}
+use Rattle.store.specs.Histories.{MayBeFound, answered, in_doubt}
+use Rattle.store.specs.Importing.{Has}
+use Rattle.store.specs.Standing.{Standing, ready}
 
 -- a connection that was opened over these tables has the archive that they are
 abbrev pub IsOpenedOver : Trees → State → Type 0
 IsOpenedOver t s = (society : List ℕ) (c : Content) → IsArchive society c t → HasArchive society c s
 
--- ---- the calls of a session, on a connection, by whether its archive was lost before each and after it
--- requests are performed, by `perform` or `run`: a lost archive stays as it is, and one that is not lost afterwards has
--- none in doubt
-pub record IsPerform {S : Type 0} (g : Ghosts S) (old : Held S) (was_lost : Bool) (calls : List Done) (new : Held S)
-    (is_lost : Bool) : Type 0 where
-  pub still : was_lost ≡ true → (new ≡ old) × (is_lost ≡ true)
-  pub certain : was_lost ≡ false → is_lost ≡ false → in_doubt calls ≡ None
-  pub performs : HasCleanDisk (state g new) → was_lost ≡ false → Performs (state g old) calls (state g new)
+-- ---- the calls of a session, on a connection, by how its archive stood before each and stands after it
+-- requests that are done, by a call on an archive that is not lost, which may be none, as of a call that reads or writes
+-- rows of an import. Unless the database failed, they are a run of the machine, and the archive has what it leaves; in
+-- any case a stop leaves what their history allows
+pub record GoesOn {S : Type 0} (g : Ghosts S) (old : Held S) (was : Standing) (calls : List Done) (new : Held S)
+    (is : Standing) : Type 0 where
+  pub kept : was.is_lost ≡ false
+  pub certain : is.is_lost ≡ false → in_doubt calls ≡ None
+  pub done : HasCleanDisk (state g new) → is.is_lost ≡ false → (society : List ℕ) (c : Content)
+      → Has society c was.import (state g old)
+      → (after : Content) × Runs c calls after × Has society after is.import (state g new)
+  pub crash : HasCleanDisk (state g new) → (society : List ℕ) (c : Content) → Has society c was.import (state g old)
+      → LeavesArchive (state g new) society (MayBeFound c calls)
+  pub clean : HasCleanDisk (state g new) → HasCleanDisk (state g old)
 
--- something is read, by `state` or `society`
-pub record IsRead {S : Type 0} (g : Ghosts S) (old : Held S) (was_lost : Bool) (new : Held S)
-    (is_lost : Bool) : Type 0 where
-  pub still : was_lost ≡ true → (new ≡ old) × (is_lost ≡ true)
-  pub stays : HasCleanDisk (state g new) → was_lost ≡ false → Stays (state g old) is_lost (state g new)
+-- a call that is refused for how the archive stands: 81, 84, 85 or 86
+pub record IsStill {S : Type 0} (old : Held S) (was : Standing) (calls : List Done) (new : Held S)
+    (is : Standing) : Type 0 where
+  pub unheard : calls ≡ []
+  pub same : new ≡ old
+  pub stands : is ≡ was
 
-abbrev pub IsCall : {S : Type 0} → Ghosts S → Held S → Bool → List Done → Held S → Bool → Type 0
-IsCall g old was_lost calls new is_lost =
-    IsPerform g old was_lost calls new is_lost ⊎ ((calls ≡ []) × IsRead g old was_lost new is_lost)
+abbrev pub IsCall : {S : Type 0} → Ghosts S → Held S → Standing → List Done → Held S → Standing → Type 0
+IsCall g old was calls new is = GoesOn g old was calls new is ⊎ IsStill old was calls new is
 
--- a call, by the requests that it performs, and whether the archive is lost afterwards
+-- a call, by the requests that it does, and how the archive stands afterwards
 abbrev pub Call : Type 0
-Call = List Done × Bool
+Call = List Done × Standing
 
 -- calls one after the other
-abbrev pub Serves : {S : Type 0} → Ghosts S → Held S → Bool → List Call → Held S → Type 0
-Serves g old was_lost [] new = new ≡ old
-Serves {S} g old was_lost (call ∷ more) new = (next : Held S) × IsCall g old was_lost call.0 next call.1
+abbrev pub Serves : {S : Type 0} → Ghosts S → Held S → Standing → List Call → Held S → Type 0
+Serves g old was [] new = new ≡ old
+Serves {S} g old was (call ∷ more) new = (next : Held S) × IsCall g old was call.0 next call.1
     × Serves g next call.1 more new
 
--- the requests of calls on an archive that was not lost: those on a lost one are not heard
-abbrev pub heard : Bool → List Call → List Done
-heard was_lost [] = []
-heard was_lost (call ∷ more) = cond was_lost [] (call.0 ++ heard call.1 more)
+-- the requests of calls, in their order
+abbrev pub requests_of : List Call → List Done
+requests_of [] = []
+requests_of (call ∷ more) = call.0 ++ requests_of more
 
 -- ---- sessions
 -- calls on the archive of a connection, which is then stopped, which leaves these tables
 abbrev pub SessionOn : {S : Type 0} → Ghosts S → Held S → List Done → Trees → Type 0
-SessionOn {S} g first calls after = (last : Held S) × (all : List Call) × Serves g first false all last
-    × HasCleanDisk (state g last) × (calls ≡ heard false all) × (state g last).may_leave after
+SessionOn {S} g first calls after = (last : Held S) × (all : List Call) × Serves g first ready all last
+    × HasCleanDisk (state g last) × (calls ≡ requests_of all) × (state g last).may_leave after
 
 -- a session: an archive is opened over these tables, is called, and is stopped, which leaves those tables
 abbrev pub Session : {S : Type 0} → Ghosts S → Trees → List Done → Trees → Type 0

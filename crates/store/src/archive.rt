@@ -4,6 +4,7 @@ ghost use Rattle.std.specs.Prelude.{
   ◌≡◌,
   ◌≢◌,
   ◌⊎◌,
+  ◌↔◌,
   ⊤,
   true,
   List,
@@ -11,17 +12,24 @@ ghost use Rattle.std.specs.Prelude.{
   [],
   ◌∷◌,
   length,
+  drop,
   false,
+  is_some,
+  is_none,
   None,
+  Some,
   Ok,
   Err,
   IfOk,
   IfErr,
+  IfSome,
+  IfNone,
   OnOk,
+  IsSome,
   IsTrue,
   MatchOption,
 };
-ghost use Rattle.std.specs.List.{zip};
+ghost use Rattle.std.specs.List.{AllByRecursion, zip};
 ghost use Rattle.std.specs.String.{string_bytes};
 ghost use Rattle.std.specs.FinMap.{get};
 ghost use Rattle.sqlite.specs.State.{HasCleanDisk};
@@ -29,24 +37,47 @@ ghost use Rattle.sqlite.specs.Held.{state};
 ghost use Rattle.sqlite.specs.Tree.{Trees};
 ghost use Rattle.archive_view.specs.Looks.{is_stop};
 ghost use Rattle.record_text.specs.declared.refusal.RefusalKind.TheVariants as refusal;
+ghost use Rattle.archive_core.specs.Machine.{Does, import_of};
 ghost use Rattle.archive_core.specs.Steps.{refused_at};
-ghost use Rattle.archive_state.specs.Content.{nothing};
+ghost use Rattle.archive_core.specs.declared.request.Request.{Request};
+ghost use Rattle.archive_state.specs.Content.{Content, nothing};
 ghost use Rattle.store_tables.specs.Calls.{IsAsItWas, Settled, SettledBlank, LeavesOnly};
 ghost use Rattle.store_tables.specs.Schema.{no_schema};
 ghost use Rattle.store.specs.Adopting.{IsRecognised, LeavesStore, RefusesToAdopt, is_foreign};
-ghost use Rattle.store.specs.Archives.{HasArchive, LeavesArchive};
+ghost use Rattle.store.specs.Archives.{HasArchive, Keeps, LeavesArchive};
 ghost use Rattle.store.specs.Calls.{Acknowledges, OnArchive, Performs, Reads};
 ghost use Rattle.store.specs.Creating.{IsSociety, RefusesToCreate, RefusesToMake};
-ghost use Rattle.store.specs.Histories.{AreLost, has_broken, has_failed, is_storage};
+ghost use Rattle.store.specs.Histories.{
+  AreLost,
+  MayBeFound,
+  Outcome,
+  has_broken,
+  has_failed,
+  is_storage,
+  loses,
+};
+ghost use Rattle.store.specs.Importing.{HasAnswered, HasBegun, HasImport};
 ghost use Rattle.store.specs.Lives.{IsCall, IsOpenedOver};
+ghost use Rattle.store.specs.Standing.{
+  begun_as,
+  heard,
+  must_wait,
+  published_as,
+  published_by,
+  shuts,
+  standing,
+};
 
-use crate::failing::{has_broken, has_failed};
+use crate::beginning::begin_on;
+use crate::failing::{has_broken, has_failed, loses};
+use crate::importing::{abandon_on, publish_on, stage_on};
 use crate::performing::perform_on;
 use crate::reading::{recognise, society_on, state_on};
-use archive_core::Request;
-use archive_state::{Answer, State};
+use archive_core::{Forest, Request};
+use archive_state::{Answer, State, Token};
 use record_text::{Refusal, RefusalKind, Text};
 use sqlite::{Alter, Connection};
+use staging::OpenImport;
 use std::alloc::Global;
 use store_tables::connection::is_blank;
 
@@ -57,6 +88,8 @@ pub struct Archive<S: Alter> {
     pub(crate) is_lost: bool,
     /// How many looks of the last request failed.
     pub(crate) failures: u64,
+    /// The import that is open: its rows are in the tables up to a place, in a batch that is in no view.
+    pub(crate) import: Option<OpenImport>,
     ghost ended: { conn.in_transaction ≡ false },
 }
 
@@ -77,6 +110,7 @@ impl<S: Alter> Archive<S> {
         ensures named { IfOk result (λ made. (made.is_lost ≡ false) × IsSociety (string_bytes society)
             × ((state S.Store conn).now.schema ≡ no_schema)) }
         ensures quiet { IfOk result (λ made. made.failures ≡ 0) }
+        ensures idle { IfOk result (λ made. (made.import ≡ None) × (shuts made.is_lost made.import ≡ false)) }
         ensures refused { IfErr result (λ e. RefusesToCreate (string_bytes society) (state S.Store conn)
             (state S.Store e.1) e.0) }
         ensures back { IfErr result (λ e. is_storage e.0 ≡ false → e.1 ≡ conn) }
@@ -102,6 +136,7 @@ impl<S: Alter> Archive<S> {
         ensures recognised { IfOk result (λ made. HasCleanDisk (state S.Store made.conn)
             → IsRecognised S.Store (state S.Store conn)) }
         ensures quiet { IfOk result (λ made. made.failures ≡ 0) }
+        ensures idle { IfOk result (λ made. (made.import ≡ None) × (shuts made.is_lost made.import ≡ false)) }
         ensures begins { IfOk result (λ made. HasCleanDisk (state S.Store made.conn) → (t : Trees)
             → IsOpenedOver t (state S.Store conn) → IsOpenedOver t (state S.Store made.conn)) }
         ensures taken { IfOk result (λ made. LeavesStore (state S.Store conn) (state S.Store made.conn)) }
@@ -119,18 +154,19 @@ impl<S: Alter> Archive<S> {
                 conn,
                 is_lost: false,
                 failures: 0,
+                import: None,
             }),
             Err(kind) => Err((kind, conn)),
         }
     }
 
-    /// Does a request in one commit, and then answers. A request whose token is kept is answered as before, and nothing
-    /// is written.
+    /// Does a request, and then answers: in one commit, or an import in its steps (`begin_import`, `stage`, `publish`). A
+    /// request whose token is kept is answered as before, and nothing is written.
     ///
     /// Any refusal but 80 leaves the archive as it was. 80: the database failed, and the request is done or not; the
-    /// archive has to be opened again, and each later call answers 81.
+    /// archive has to be opened again, and each later call answers 81. 84: an import is open.
     pub fn perform(&mut self, alloc: Global, request: &Request) -> Result<Answer, Refusal>
-        ensures performs { HasCleanDisk (state S.Store self.new.conn) → self.old.is_lost ≡ false
+        ensures performs { HasCleanDisk (state S.Store self.new.conn) → shuts self.old.is_lost self.old.import ≡ false
             → Performs (state S.Store self.old.conn) ((«request».now, result) ∷ []) (state S.Store self.new.conn) }
         ensures acknowledged { HasCleanDisk (state S.Store self.new.conn)
             → IfOk result (λ answer. Acknowledges (state S.Store self.old.conn) «request».now answer
@@ -138,8 +174,13 @@ impl<S: Alter> Archive<S> {
         ensures repeated { HasCleanDisk (state S.Store self.new.conn) → OnArchive (state S.Store self.old.conn)
             (λ society c rows.
             get c.receipts «request».now.token ≢ None → LeavesOnly (state S.Store self.new.conn) rows) }
-        ensures lost { self.old.is_lost ≡ false → self.new.is_lost ≡ has_failed result }
+        ensures lost { shuts self.old.is_lost self.old.import ≡ false
+            → shuts self.new.is_lost self.new.import ≡ has_failed result }
+        ensures failed { shuts self.old.is_lost self.old.import ≡ false → self.new.is_lost ≡ has_failed result }
+        ensures alone { self.old.import ≡ None → self.new.import ≡ None }
         ensures reopen { IsTrue self.old.is_lost → (result ≡ Err (refused_at None refusal.Reopen))
+            × (self.new ≡ self.old) }
+        ensures waits { self.old.is_lost ≡ false → IsSome self.old.import → (result ≡ must_wait)
             × (self.new ≡ self.old) }
         ensures refused { HasCleanDisk (state S.Store self.new.conn) → self.old.is_lost ≡ false
             → IfErr result (λ e. is_storage e.kind ≡ false
@@ -147,18 +188,24 @@ impl<S: Alter> Archive<S> {
         ensures placed { IfErr result (λ e. is_stop e.kind ≡ true → e.at ≡ None) }
         ensures quiet { HasCleanDisk (state S.Store self.new.conn) → self.old.is_lost ≡ false
             → OnArchive (state S.Store self.old.conn) (λ society c rows. OnOk result (self.new.failures ≡ 0)) }
-        ensures called { IsCall S.Store self.old.conn self.old.is_lost ((«request».now, result) ∷ []) self.new.conn
-            self.new.is_lost }
+        ensures called { (r : Request) → IsCall S.Store self.old.conn (standing r self.old.is_lost self.old.import)
+            (heard (shuts self.old.is_lost self.old.import) ((«request».now, result) ∷ [])) self.new.conn
+            (standing r self.new.is_lost self.new.import) }
     {
         if self.is_lost {
             return Err(RefusalKind::Reopen.into());
         }
+        if self.import.is_some() {
+            return Err(RefusalKind::ImportOpen.into());
+        }
         let outcome = perform_on(alloc, self, request);
         self.is_lost = has_failed(&outcome);
+        self.import = None;
         outcome
     }
 
-    /// Performs requests in their order, and answers the outcome of each. After an 80 the rest get 81.
+    /// Performs requests in their order, and answers the outcome of each. After an 80 the rest get 81. While an import
+    /// is open each gets 84.
     ///
     /// 1: memory for the outcomes was refused, before the first request.
     pub fn run(
@@ -167,12 +214,19 @@ impl<S: Alter> Archive<S> {
         requests: &[Request],
     ) -> Result<Vec<Result<Answer, Refusal>>, Refusal>
         ensures performs { IfOk result (λ outcomes. (length outcomes.items ≡ length requests.now)
-            × (HasCleanDisk (state S.Store self.new.conn) → self.old.is_lost ≡ false
+            × (HasCleanDisk (state S.Store self.new.conn) → shuts self.old.is_lost self.old.import ≡ false
             → Performs (state S.Store self.old.conn) (zip requests.now outcomes.items) (state S.Store self.new.conn))) }
-        ensures lost { IfOk result (λ outcomes. AreLost self.old.is_lost outcomes.items self.new.is_lost) }
+        ensures lost { self.old.import ≡ None
+            → IfOk result (λ outcomes. AreLost self.old.is_lost outcomes.items self.new.is_lost) }
+        ensures alone { self.old.import ≡ None → self.new.import ≡ None }
         ensures reopen { IsTrue self.old.is_lost → self.new ≡ self.old }
-        ensures called { IfOk result (λ outcomes. IsCall S.Store self.old.conn self.old.is_lost
-            (zip requests.now outcomes.items) self.new.conn self.new.is_lost) }
+        ensures waits { self.old.is_lost ≡ false → IsSome self.old.import
+            → IfOk result (λ outcomes. AllByRecursion (λ (o : Outcome). o ≡ must_wait) outcomes.items)
+            × (self.new ≡ self.old) }
+        ensures called { IfOk result (λ outcomes. (r : Request) → IsCall S.Store self.old.conn
+            (standing r self.old.is_lost self.old.import)
+            (heard (shuts self.old.is_lost self.old.import) (zip requests.now outcomes.items)) self.new.conn
+            (standing r self.new.is_lost self.new.import)) }
         ensures refused { IfErr result (λ e. (e ≡ refused_at None refusal.OutOfMemory) × (self.new ≡ self.old)) }
     {
         let mut outcomes = Vec::with_capacity(alloc, requests.len())?;
@@ -181,6 +235,198 @@ impl<S: Alter> Archive<S> {
             outcomes.push(outcome).unwrap();
         }
         Ok(outcomes)
+    }
+
+    /// Begins the import of a forest: it is decided as by `perform`, and where nothing is kept for the token an import
+    /// is open, of which no row is written yet. Some: the answer that was kept; nothing is written then, and no import
+    /// is open.
+    ///
+    /// Refusals as of `perform`; after each of them no import is open that was not open before.
+    pub fn begin_import(
+        &mut self,
+        alloc: Global,
+        token: &Token,
+        forest: &Forest,
+    ) -> Result<Option<Answer>, Refusal>
+        ensures begun { HasCleanDisk (state S.Store self.new.conn) → shuts self.old.is_lost self.old.import ≡ false
+            → IfOk result (λ o. IfNone o (OnArchive (state S.Store self.old.conn) (λ society c rows.
+            IfSome self.new.import (λ i. HasBegun society c rows (import_of token.now forest.now) i.changes.answer i
+            (state S.Store self.new.conn))))) }
+        ensures opened { IfOk result (λ o. is_some self.new.import ≡ is_none o) }
+        ensures kept { HasCleanDisk (state S.Store self.new.conn)
+            → IfOk result (λ o. IfSome o (λ answer. OnArchive (state S.Store self.old.conn) (λ society c rows.
+            HasAnswered c rows (import_of token.now forest.now) answer (state S.Store self.new.conn)))) }
+        ensures refused { HasCleanDisk (state S.Store self.new.conn) → shuts self.old.is_lost self.old.import ≡ false
+            → IfErr result (λ e. is_storage e.kind ≡ false → OnArchive (state S.Store self.old.conn)
+            (λ society c rows. Does c (import_of token.now forest.now) (Err e) c
+            × Settled (state S.Store self.new.conn) rows)) }
+        ensures crash { HasCleanDisk (state S.Store self.new.conn) → shuts self.old.is_lost self.old.import ≡ false
+            → (society : List ℕ) (c : Content) → HasArchive society c (state S.Store self.old.conn)
+            → LeavesArchive (state S.Store self.new.conn) society (λ found. found ≡ c) }
+        ensures lost { shuts self.old.is_lost self.old.import ≡ false → self.new.is_lost ≡ loses result }
+        ensures alone { self.old.import ≡ None → IfErr result (λ _. self.new.import ≡ None) }
+        ensures placed { IfErr result (λ e. is_stop e.kind ≡ true → e.at ≡ None) }
+        ensures reopen { IsTrue self.old.is_lost → (result ≡ Err (refused_at None refusal.Reopen))
+            × (self.new ≡ self.old) }
+        ensures waits { self.old.is_lost ≡ false → IsSome self.old.import
+            → (result ≡ Err (refused_at None refusal.ImportOpen)) × (self.new ≡ self.old) }
+        ensures called { self.old.import ≡ None
+            → IsCall S.Store self.old.conn (standing (import_of token.now forest.now) self.old.is_lost self.old.import)
+            (heard self.old.is_lost (begun_as (import_of token.now forest.now) result))
+            self.new.conn (standing (import_of token.now forest.now) self.new.is_lost self.new.import) }
+    {
+        if self.is_lost {
+            return Err(RefusalKind::Reopen.into());
+        }
+        if self.import.is_some() {
+            return Err(RefusalKind::ImportOpen.into());
+        }
+        let begun = begin_on(alloc, self, token, forest);
+        self.is_lost = loses(&begun);
+        match begun {
+            Ok((_, Some(import))) => {
+                self.import = Some(import);
+                Ok(None)
+            }
+            Ok((answer, None)) => {
+                self.import = None;
+                Ok(Some(answer))
+            }
+            Err(refusal) => {
+                self.import = None;
+                Err(refusal)
+            }
+        }
+    }
+
+    /// Writes the next 256 rows of the import that is open, or all that are left, in one commit, and answers whether
+    /// more is left. Where nothing is left nothing is committed.
+    ///
+    /// 85: no import is open. 1: memory was refused, and the import is as it was. 80: the database failed; the archive
+    /// has to be opened again, and the import is gone then.
+    pub fn stage(&mut self, alloc: Global) -> Result<bool, RefusalKind>
+        ensures left { IfOk result (λ more. IfSome self.old.import (λ i.
+            (self.new.import ≡ Some (record i { left = drop 256 i.left }))
+            × ((more ≡ false) ↔ (drop 256 i.left ≡ [])))) }
+        ensures staged { HasCleanDisk (state S.Store self.new.conn)
+            → IfOk result (λ _. IfSome self.old.import (λ i. (society : List ℕ) (c : Content) (r : Request)
+            → HasImport society c r i (state S.Store self.old.conn)
+            → HasImport society c r (record i { left = drop 256 i.left }) (state S.Store self.new.conn))) }
+        ensures nothing_left { IfSome self.old.import (λ i. i.left ≡ [] → self.new.conn ≡ self.old.conn) }
+        ensures stays { HasCleanDisk (state S.Store self.new.conn) → IfErr result (λ kind. is_storage kind ≡ false
+            → (self.new.import ≡ self.old.import) × IfSome self.old.import (λ i.
+            (society : List ℕ) (c : Content) (r : Request) → HasImport society c r i (state S.Store self.old.conn)
+            → HasImport society c r i (state S.Store self.new.conn))) }
+        ensures told { self.old.is_lost ≡ false → IsSome self.old.import
+            → IfErr result (λ kind. (kind ≡ refusal.OutOfMemory) ⊎ (kind ≡ refusal.Storage)) }
+        ensures lost { self.old.is_lost ≡ false → self.new.is_lost ≡ has_broken result }
+        ensures reopen { IsTrue self.old.is_lost → (result ≡ Err refusal.Reopen) × (self.new ≡ self.old) }
+        ensures none { self.old.is_lost ≡ false → self.old.import ≡ None → (result ≡ Err refusal.NoImport)
+            × (self.new ≡ self.old) }
+        ensures called { (r : Request) → IsCall S.Store self.old.conn
+            (standing r self.old.is_lost self.old.import) [] self.new.conn
+            (standing r self.new.is_lost self.new.import) }
+    {
+        if self.is_lost {
+            return Err(RefusalKind::Reopen);
+        }
+        let staged = match &mut self.import {
+            Some(import) => stage_on(alloc, &mut self.conn, import),
+            None => return Err(RefusalKind::NoImport),
+        };
+        self.is_lost = has_broken(&staged);
+        staged
+    }
+
+    /// Publishes the import that is open, in one commit: its batch is closed, the next number is moved, and its answer
+    /// is kept and given.
+    ///
+    /// 85: no import is open. 86: rows of it are left to be written; it stays open. 80: the database failed, and the
+    /// import is done or not. Takes no memory outside of the database.
+    pub fn publish(&mut self) -> Result<Answer, RefusalKind>
+        ensures done { HasCleanDisk (state S.Store self.new.conn)
+            → IfOk result (λ answer. IfSome self.old.import (λ i. (society : List ℕ) (c : Content) (r : Request)
+            → HasImport society c r i (state S.Store self.old.conn)
+            → (after : Content) × Does c r (Ok answer) after
+            × HasArchive society after (state S.Store self.new.conn))) }
+        ensures crash { HasCleanDisk (state S.Store self.new.conn)
+            → IfSome self.old.import (λ i. (society : List ℕ) (c : Content) (r : Request)
+            → HasImport society c r i (state S.Store self.old.conn) → LeavesArchive (state S.Store self.new.conn) society
+            (MayBeFound c ((r, published_as r result) ∷ []))) }
+        ensures closed { OnOk result (self.new.import ≡ None) }
+        ensures unfinished { self.old.is_lost ≡ false → IfSome self.old.import (λ i. i.left ≢ []
+            → (result ≡ Err refusal.NotAllStaged) × (self.new ≡ self.old)) }
+        ensures told { self.old.is_lost ≡ false → IfSome self.old.import (λ i. i.left ≡ []
+            → IfErr result (λ kind. kind ≡ refusal.Storage)) }
+        ensures lost { self.old.is_lost ≡ false → self.new.is_lost ≡ has_broken result }
+        ensures reopen { IsTrue self.old.is_lost → (result ≡ Err refusal.Reopen) × (self.new ≡ self.old) }
+        ensures none { self.old.is_lost ≡ false → self.old.import ≡ None → (result ≡ Err refusal.NoImport)
+            × (self.new ≡ self.old) }
+        ensures called { (r : Request) → IsCall S.Store self.old.conn (standing r self.old.is_lost self.old.import)
+            (published_by r result) self.new.conn (standing r self.new.is_lost self.new.import) }
+    {
+        if self.is_lost {
+            return Err(RefusalKind::Reopen);
+        }
+        let Some(import) = &self.import else {
+            return Err(RefusalKind::NoImport);
+        };
+        if import.has_more() {
+            return Err(RefusalKind::NotAllStaged);
+        }
+        let answer = import.changes().answer;
+        match publish_on(&mut self.conn, import) {
+            Ok(()) => {
+                self.import = None;
+                Ok(answer)
+            }
+            Err(kind) => {
+                self.is_lost = true;
+                Err(kind)
+            }
+        }
+    }
+
+    /// Gives the import up that is open: its rows are taken out again, in commits of at most 256 rows.
+    ///
+    /// 85: no import is open. 80: the database failed; the archive has to be opened again, and the import is gone then.
+    /// Takes no memory outside of the database.
+    pub fn abandon(&mut self) -> Result<(), RefusalKind>
+        ensures gone { HasCleanDisk (state S.Store self.new.conn)
+            → OnOk result (IfSome self.old.import (λ i. (society : List ℕ) (c : Content) (r : Request)
+            → (has : HasImport society c r i (state S.Store self.old.conn))
+            → Settled (state S.Store self.new.conn) has.2.before × Keeps society c has.2.before)) }
+        ensures crash { HasCleanDisk (state S.Store self.new.conn)
+            → IfSome self.old.import (λ i. (society : List ℕ) (c : Content) (r : Request)
+            → HasImport society c r i (state S.Store self.old.conn)
+            → LeavesArchive (state S.Store self.new.conn) society (λ found. found ≡ c)) }
+        ensures closed { OnOk result (self.new.import ≡ None) }
+        ensures told { self.old.is_lost ≡ false → IsSome self.old.import
+            → IfErr result (λ kind. kind ≡ refusal.Storage) }
+        ensures lost { self.old.is_lost ≡ false → self.new.is_lost ≡ has_broken result }
+        ensures reopen { IsTrue self.old.is_lost → (result ≡ Err refusal.Reopen) × (self.new ≡ self.old) }
+        ensures none { self.old.is_lost ≡ false → self.old.import ≡ None → (result ≡ Err refusal.NoImport)
+            × (self.new ≡ self.old) }
+        ensures called { (r : Request) → IsCall S.Store self.old.conn
+            (standing r self.old.is_lost self.old.import) [] self.new.conn
+            (standing r self.new.is_lost self.new.import) }
+    {
+        if self.is_lost {
+            return Err(RefusalKind::Reopen);
+        }
+        let Some(import) = &self.import else {
+            return Err(RefusalKind::NoImport);
+        };
+        match abandon_on(&mut self.conn, import) {
+            Ok(()) => {
+                self.import = None;
+                Ok(())
+            }
+            Err(kind) => {
+                self.is_lost = true;
+                Err(kind)
+            }
+        }
     }
 
     /// All that the archive holds.
@@ -192,7 +438,10 @@ impl<S: Alter> Archive<S> {
             → Reads (λ _ c held. held ≡ c) (state S.Store self.old.conn) result (state S.Store self.new.conn) }
         ensures lost { self.old.is_lost ≡ false → self.new.is_lost ≡ has_broken result }
         ensures reopen { IsTrue self.old.is_lost → (result ≡ Err refusal.Reopen) × (self.new ≡ self.old) }
-        ensures called { IsCall S.Store self.old.conn self.old.is_lost [] self.new.conn self.new.is_lost }
+        ensures open { self.new.import ≡ self.old.import }
+        ensures called { (r : Request) → IsCall S.Store self.old.conn
+            (standing r self.old.is_lost self.old.import) [] self.new.conn
+            (standing r self.new.is_lost self.new.import) }
     {
         if self.is_lost {
             return Err(RefusalKind::Reopen);
@@ -209,7 +458,10 @@ impl<S: Alter> Archive<S> {
             (state S.Store self.new.conn) }
         ensures lost { self.old.is_lost ≡ false → self.new.is_lost ≡ has_broken result }
         ensures reopen { IsTrue self.old.is_lost → (result ≡ Err refusal.Reopen) × (self.new ≡ self.old) }
-        ensures called { IsCall S.Store self.old.conn self.old.is_lost [] self.new.conn self.new.is_lost }
+        ensures open { self.new.import ≡ self.old.import }
+        ensures called { (r : Request) → IsCall S.Store self.old.conn
+            (standing r self.old.is_lost self.old.import) [] self.new.conn
+            (standing r self.new.is_lost self.new.import) }
         ensures uncounted { self.new.failures ≡ self.old.failures }
     {
         if self.is_lost {
@@ -235,6 +487,7 @@ impl<S: Alter> Archive<S> {
             conn,
             is_lost: _,
             failures: _,
+            import: _,
         } = self;
         conn
     }
@@ -265,6 +518,7 @@ fn create_named<S: Alter>(
     ensures refused { IfErr result (λ e. RefusesToMake society.now (state S.Store conn) (state S.Store e.1) e.0) }
     ensures back { IfErr result (λ e. is_storage e.0 ≡ false → e.1 ≡ conn) }
     ensures quiet { IfOk result (λ made. made.failures ≡ 0) }
+    ensures idle { IfOk result (λ made. (made.import ≡ None) × (shuts made.is_lost made.import ≡ false)) }
     ensures clean { IfOk result (λ made. HasCleanDisk (state S.Store made.conn) → HasCleanDisk (state S.Store conn)) }
     ensures honest { IfErr result (λ e. HasCleanDisk (state S.Store e.1) → HasCleanDisk (state S.Store conn)) }
     ensures ended { IfErr result (λ e. e.1.in_transaction ≡ false) }
@@ -277,6 +531,7 @@ fn create_named<S: Alter>(
             conn,
             is_lost: false,
             failures: 0,
+            import: None,
         }),
         Err(_) => Err((RefusalKind::Storage, conn)),
     }

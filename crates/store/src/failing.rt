@@ -31,6 +31,16 @@ pub(crate) fn has_failed(outcome: &Result<Answer, Refusal>) -> bool
     }
 }
 
+/// The same of any call that refuses with a place.
+pub(crate) fn loses<T>(outcome: &Result<T, Refusal>) -> bool
+    ensures { result ≡ history.loses outcome.now }
+{
+    match outcome {
+        Ok(_) => false,
+        Err(refusal) => is_storage(refusal.kind),
+    }
+}
+
 /// Whether a call that reads was refused because the database failed.
 pub(crate) fn has_broken<T>(read: &Result<T, RefusalKind>) -> bool
     ensures { result ≡ history.has_broken read.now }

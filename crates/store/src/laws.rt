@@ -28,7 +28,9 @@ pub fn a_stop_loses_nothing<S: Alter>()
         → Life S.Store before calls more after → IsArchive society c before
         → (found : Content) × (dones : List Done) × IsArchive society found after × CountInAll calls more dones
         × Runs c dones found }
-{}
+{
+    an_import_that_is_begun_is_in_no_view();
+}
 
 /// The same of an archive that was just made, or taken up: its first session goes on with it.
 pub fn a_stop_of_an_archive_loses_nothing<S: Alter>()
@@ -36,7 +38,9 @@ pub fn a_stop_of_an_archive_loses_nothing<S: Alter>()
         (c : Content) → LifeOn S.Store first calls more after → HasArchive society c (state S.Store first)
         → (found : Content) × (dones : List Done) × IsArchive society found after × CountInAll calls more dones
         × Runs c dones found }
-{}
+{
+    an_import_that_is_begun_is_in_no_view();
+}
 
 /// While an import is open, the archive is that of before.
 pub fn has_the_archive<S: Alter>()

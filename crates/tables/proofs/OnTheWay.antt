@@ -43,6 +43,7 @@ use Rattle.devices.specs.Devices.{AppendsBeginning}
 use Rattle.record_text.specs.declared.refusal.RefusalKind.{RefusalKind}
 use Rattle.record_text.specs.declared.refusal.RefusalKind.TheVariants.{OutOfMemory, ReadFailed, Storage, WriteFailed}
 use Rattle.store.specs.Histories.{in_doubt, is_storage}
+use Rattle.store.specs.Shut.{is_shut}
 use Rattle.store.specs.declared.archive.Archive.{Archive}
 use Rattle.tables.specs.Answers.{Served, answer_text}
 use Rattle.tables.specs.Applying.{
@@ -98,7 +99,7 @@ pub record OnTheWay {S : Type 0} (g : Ghosts S) (known left : Option (List ℕ))
   pub took : Took known rows at left
   pub each : AreServed rows served
   pub certain : in_doubt (calls_of served) ≡ None
-  pub kept : old.is_lost ≡ false → new.is_lost ≡ false
+  pub kept : is_shut old ≡ false → is_shut new ≡ false
   pub performed : PerformsAll g old (calls_of served) new
   pub written : Appends before after (answers served)
 
@@ -174,8 +175,8 @@ module _ {S : Type 0} (g : Ghosts S) (known left : Option (List ℕ)) (at : Stat
   ends_unread kind (inl e) = inr (w.certain, inr (inl e, all_written before after _ w.written))
   ends_unread kind (inr e) = inr (w.certain, inl (e, w.written))
 
-  lost_unread : (kind : RefusalKind) → (kind ≡ OutOfMemory) ⊎ (kind ≡ ReadFailed) → old.is_lost ≡ false
-      → now.is_lost ≡ is_storage kind
+  lost_unread : (kind : RefusalKind) → (kind ≡ OutOfMemory) ⊎ (kind ≡ ReadFailed) → is_shut old ≡ false
+      → is_shut now ≡ is_storage kind
   lost_unread kind (inl e) was = w.kept was ∙ sym (ap is_storage e)
   lost_unread kind (inr e) was = w.kept was ∙ sym (ap is_storage e)
 
@@ -223,14 +224,14 @@ module _ {S : Type 0} (g : Ghosts S) (known left : Option (List ℕ)) (at : Stat
       (λ sure p. let all = part_written before after out w.served s sure w.written p.1 in
       inr (certain_more w.served s w.certain sure, inr (p.0, all)))
 
-  lost_doubted : (next : Archive S g) (s : Served) → Steps g s now next → is_in_doubt s ≡ true → old.is_lost ≡ false
-      → next.is_lost ≡ true
+  lost_doubted : (next : Archive S g) (s : Served) → Steps g s now next → is_in_doubt s ≡ true → is_shut old ≡ false
+      → is_shut next ≡ true
   lost_doubted next (Ok done) steps doubted was = steps.1 (w.kept was) ∙ doubted
   lost_doubted next (Err bad) same doubted was = absurd (false≢true doubted)
 
   lost_row : (kind : RefusalKind) (next : Archive S g) (out : Option (List ℕ)) (s : Served) → Steps g s now next
       → MatchBool (is_in_doubt s) ((kind ≡ Storage) × (out ≡ after)) (WritesPart kind after out (answer_text s))
-      → old.is_lost ≡ false → next.is_lost ≡ is_storage kind
+      → is_shut old ≡ false → is_shut next ≡ is_storage kind
   lost_row kind next out s steps h was = by_bool (is_in_doubt s) h
       (λ doubted a. lost_doubted next s steps doubted was ∙ sym (ap is_storage a.0))
       (λ sure p. kept_more g old now next w.served s steps sure w.kept was ∙ sym (not_storage kind p.0))

@@ -26,6 +26,7 @@ use Rattle.sqlite_trees.specs.declared.store.Store.{Ghosts}
 use Rattle.archive_core.specs.Machine.{Done}
 use Rattle.store.specs.Calls.{Performs}
 use Rattle.store.specs.Histories.{in_doubt}
+use Rattle.store.specs.Shut.{is_shut}
 use Rattle.store.specs.declared.archive.Archive.{Archive}
 use Rattle.store.proofs.Histories.{doubt_after, performs_then}
 use Rattle.tables.specs.Answers.{Served, answer_text}
@@ -72,11 +73,11 @@ answers_doubted served s doubted =
 
 module _ {S : Type 0} (g : Ghosts S) (old now next : Archive S g) (served : List Served) where
   pub kept_more : (s : Served) → Steps g s now next → is_in_doubt s ≡ false
-      → (old.is_lost ≡ false → now.is_lost ≡ false) → old.is_lost ≡ false → next.is_lost ≡ false
+      → (is_shut old ≡ false → is_shut now ≡ false) → is_shut old ≡ false → is_shut next ≡ false
   kept_more (Ok done) steps sure kept was = steps.1 (kept was) ∙ sure
-  kept_more (Err bad) same sure kept was = subst (λ (a : Archive S g). a.is_lost ≡ false) (sym same) (kept was)
+  kept_more (Err bad) same sure kept was = subst (λ (a : Archive S g). is_shut a ≡ false) (sym same) (kept was)
 
-  pub performed_more : (s : Served) → in_doubt (calls_of served) ≡ None → (old.is_lost ≡ false → now.is_lost ≡ false)
+  pub performed_more : (s : Served) → in_doubt (calls_of served) ≡ None → (is_shut old ≡ false → is_shut now ≡ false)
       → PerformsAll g old (calls_of served) now → Steps g s now next
       → PerformsAll g old (calls_of (served ++ s ∷ [])) next
   performed_more (Ok done) none kept first steps = λ clean was.

@@ -11,6 +11,7 @@ use Rattle.record_text.specs.declared.refusal.RefusalKind.TheVariants.{OutOfMemo
 use Rattle.archive_core.specs.Machine.{Done}
 use Rattle.store.specs.Calls.{Performs}
 use Rattle.store.specs.Histories.{has_failed, in_doubt, is_storage}
+use Rattle.store.specs.Shut.{is_shut}
 use Rattle.store.specs.declared.archive.Archive.{Archive}
 use Rattle.tables.specs.Answers.{Served, answer_text}
 use Rattle.batch_reading.specs.Input.{AreFirstRows, AreRows, Row}
@@ -48,14 +49,15 @@ abbrev pub answers : List Served → List ℕ
 answers served = flat_map answer_to served
 
 -- ---- the archive and the writer
--- requests performed on an archive that was not lost before, while the disk is clean
+-- requests performed on an archive that took them, while the disk is clean
 abbrev pub PerformsAll : {S : Type 0} → (g : Ghosts S) → Archive S g → List Done → Archive S g → Type 0
 PerformsAll g old calls new =
-    HasCleanDisk (state g new.conn) → old.is_lost ≡ false → Performs (state g old.conn) calls (state g new.conn)
+    HasCleanDisk (state g new.conn) → is_shut old ≡ false → Performs (state g old.conn) calls (state g new.conn)
 
--- what one row does to an archive: its request is performed, which loses the archive where it is in doubt; else nothing
+-- what one row does to an archive: its request is performed, which shuts the archive where it is in doubt; else nothing
 abbrev pub Steps : {S : Type 0} → (g : Ghosts S) → Served → Archive S g → Archive S g → Type 0
-Steps g (Ok done) old new = PerformsAll g old (done ∷ []) new × (old.is_lost ≡ false → new.is_lost ≡ has_failed done.1)
+Steps g (Ok done) old new =
+    PerformsAll g old (done ∷ []) new × (is_shut old ≡ false → is_shut new ≡ has_failed done.1)
 Steps g (Err bad) old new = new ≡ old
 
 -- a beginning of an answer was written: memory was refused, or the writer failed
@@ -84,7 +86,7 @@ pub record Applied {S : Type 0} (g : Ghosts S) (input before after : Option (Lis
   pub all : AreRows input rows
   pub each : AreServed rows served
   pub certain : in_doubt (calls_of served) ≡ None
-  pub kept : old.is_lost ≡ false → new.is_lost ≡ false
+  pub kept : is_shut old ≡ false → is_shut new ≡ false
   pub performed : PerformsAll g old (calls_of served) new
   pub written : Appends before after (answers served)
 
@@ -96,5 +98,5 @@ pub record Ended {S : Type 0} (g : Ghosts S) (kind : RefusalKind) (input before 
   pub first : AreFirstRows input rows
   pub each : AreServed rows served
   pub performed : PerformsAll g old (calls_of served) new
-  pub lost : old.is_lost ≡ false → new.is_lost ≡ is_storage kind
+  pub lost : is_shut old ≡ false → is_shut new ≡ is_storage kind
   pub written : Ends kind served before after

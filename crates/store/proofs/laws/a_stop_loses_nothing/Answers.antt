@@ -4,6 +4,6 @@ use Rattle.store.proofs.Sessions.{of_life}
 use Rattle.store.proofs.laws.a_stop_loses_nothing.Goals as goal
 
 pub returns : goal.returns
-returns g _ before after calls more society c life is = of_life g.S.Store
-    (λ h rows was t l. only_committed (state g.S.Store h) rows t was (g.met.S.Store.settled h.store t was.is_open l))
+returns g c' before after calls more society c life is = of_life g.S.Store
+    c'.an_import_that_is_begun_is_in_no_view.ensures (λ h rows was t l. only_committed (state g.S.Store h) rows t was (g.met.S.Store.settled h.store t was.is_open l))
     more before after calls society c life is

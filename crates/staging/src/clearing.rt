@@ -1,0 +1,114 @@
+//! Single commits that take rows of a batch out.
+
+ghost use Rattle.std.specs.Prelude.{◌≡◌, ◌∷◌, [], false, OnOk};
+ghost use Rattle.sqlite.specs.State.{HasCleanDisk};
+ghost use Rattle.sqlite.specs.Held.{state};
+ghost use Rattle.store_tables.specs.Calls.{Settled};
+ghost use Rattle.store_tables.specs.Rows.{Rows, without_batch_row, without_lines_from};
+ghost use Rattle.store_rows.specs.Writing.{without_all_lines, without_record_rows};
+ghost use Rattle.staging.specs.Clearing.{LeavesEither};
+
+use record_text::RefusalKind;
+use sqlite::{Alter, Connection, Error};
+use store_rows::{remove_lines, remove_rows};
+use store_tables::batches;
+
+/// The database failed.
+#[derive(Drop)]
+pub(crate) struct Failed;
+
+impl From<Error> for Failed {
+    ghost use Rattle.std.specs.Prelude.{⊤};
+
+    ghost from_gives = { λ _ _. ⊤ };
+
+    fn from(_error: Error) -> Failed {
+        Failed
+    }
+}
+
+impl From<RefusalKind> for Failed {
+    ghost use Rattle.std.specs.Prelude.{⊤};
+
+    ghost from_gives = { λ _ _. ⊤ };
+
+    fn from(_kind: RefusalKind) -> Failed {
+        Failed
+    }
+}
+
+/// Takes the lines of these numbers out, in one commit.
+#[tactic(auto, using(crate::proofs::Commits::settles))]
+pub(crate) fn clear_lines<S: Alter>(conn: &mut Connection<S>, numbers: &[u32]) -> Result<(), Failed>
+    requires autocommit { conn.old.in_transaction ≡ false }
+    ensures done { HasCleanDisk (state S.Store conn.new) → OnOk result ((rows : Rows)
+        → Settled (state S.Store conn.old) rows
+        → Settled (state S.Store conn.new) (without_all_lines numbers.now rows)) }
+    ensures crash { HasCleanDisk (state S.Store conn.new) → (rows : Rows) → Settled (state S.Store conn.old) rows
+        → LeavesEither (state S.Store conn.new) rows (without_all_lines numbers.now rows) }
+    ensures clean { HasCleanDisk (state S.Store conn.new) → HasCleanDisk (state S.Store conn.old) }
+    ensures ended { conn.new.in_transaction ≡ false }
+{
+    let mut tx = conn.transaction();
+    remove_lines(&mut tx, numbers)?;
+    tx.commit()?;
+    Ok(())
+}
+
+/// Takes the lines of a number out from a place on, in one commit.
+#[tactic(auto, using(crate::proofs::Commits::settles))]
+pub(crate) fn clear_lines_from<S: Alter>(
+    conn: &mut Connection<S>,
+    number: u32,
+    place: u32,
+) -> Result<(), Failed>
+    requires autocommit { conn.old.in_transaction ≡ false }
+    ensures done { HasCleanDisk (state S.Store conn.new) → OnOk result ((rows : Rows)
+        → Settled (state S.Store conn.old) rows
+        → Settled (state S.Store conn.new) (without_lines_from number place rows)) }
+    ensures crash { HasCleanDisk (state S.Store conn.new) → (rows : Rows) → Settled (state S.Store conn.old) rows
+        → LeavesEither (state S.Store conn.new) rows (without_lines_from number place rows) }
+    ensures clean { HasCleanDisk (state S.Store conn.new) → HasCleanDisk (state S.Store conn.old) }
+    ensures ended { conn.new.in_transaction ≡ false }
+{
+    let mut tx = conn.transaction();
+    batches::delete_lines_from(&mut tx, number, place)?;
+    tx.commit()?;
+    Ok(())
+}
+
+/// Takes the rows of these numbers out of `record`, in one commit.
+#[tactic(auto, using(crate::proofs::Commits::settles))]
+pub(crate) fn clear_rows<S: Alter>(conn: &mut Connection<S>, numbers: &[u32]) -> Result<(), Failed>
+    requires autocommit { conn.old.in_transaction ≡ false }
+    ensures done { HasCleanDisk (state S.Store conn.new) → OnOk result ((rows : Rows)
+        → Settled (state S.Store conn.old) rows
+        → Settled (state S.Store conn.new) (without_record_rows numbers.now rows)) }
+    ensures crash { HasCleanDisk (state S.Store conn.new) → (rows : Rows) → Settled (state S.Store conn.old) rows
+        → LeavesEither (state S.Store conn.new) rows (without_record_rows numbers.now rows) }
+    ensures clean { HasCleanDisk (state S.Store conn.new) → HasCleanDisk (state S.Store conn.old) }
+    ensures ended { conn.new.in_transaction ≡ false }
+{
+    let mut tx = conn.transaction();
+    remove_rows(&mut tx, numbers)?;
+    tx.commit()?;
+    Ok(())
+}
+
+/// Takes the row of a batch out, in one commit.
+#[tactic(auto, using(crate::proofs::Commits::settles))]
+pub(crate) fn clear_batch<S: Alter>(conn: &mut Connection<S>, batch: u32) -> Result<(), Failed>
+    requires autocommit { conn.old.in_transaction ≡ false }
+    ensures done { HasCleanDisk (state S.Store conn.new) → OnOk result ((rows : Rows)
+        → Settled (state S.Store conn.old) rows
+        → Settled (state S.Store conn.new) (without_batch_row batch rows)) }
+    ensures crash { HasCleanDisk (state S.Store conn.new) → (rows : Rows) → Settled (state S.Store conn.old) rows
+        → LeavesEither (state S.Store conn.new) rows (without_batch_row batch rows) }
+    ensures clean { HasCleanDisk (state S.Store conn.new) → HasCleanDisk (state S.Store conn.old) }
+    ensures ended { conn.new.in_transaction ≡ false }
+{
+    let mut tx = conn.transaction();
+    batches::delete_batch(&mut tx, batch)?;
+    tx.commit()?;
+    Ok(())
+}

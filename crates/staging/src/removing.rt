@@ -1,0 +1,180 @@
+//! A batch that is taken out with its rows, in commits of at most 256 rows.
+
+ghost use Rattle.std.specs.Prelude.{◌≡◌, ◌≤◌, ◌==◌, ℕ, List, false, true, OnOk, IfOk, IfErr};
+ghost use Rattle.std.specs.List.{list_any};
+ghost use Rattle.sqlite.specs.State.{HasCleanDisk};
+ghost use Rattle.sqlite.specs.Held.{state};
+ghost use Rattle.record_text.specs.declared.refusal.RefusalKind.TheVariants.{Storage};
+ghost use Rattle.archive_state.specs.Content.{Content};
+ghost use Rattle.store_tables.specs.Calls.{Settled};
+ghost use Rattle.store_tables.specs.Looking.{IsFailure};
+ghost use Rattle.store_tables.specs.Rows.{Rows};
+ghost use Rattle.store_rows.specs.Meaning.{Means, is_closed};
+ghost use Rattle.store_rows.specs.Writing.{without_all_lines, without_record_rows, without_records};
+ghost use Rattle.staged_rows.specs.Removing.{IsAside, without_batch};
+ghost use Rattle.staged_rows.specs.Staging.{AreAllClosed};
+ghost use Rattle.staging.specs.Clearing.{Clears, IsCleared, IsThinned, LeavesMeaning};
+
+use crate::clearing::{Failed, clear_batch, clear_lines, clear_lines_from, clear_rows};
+use record_text::RefusalKind;
+use sqlite::{Alter, Connection};
+use std::alloc::Global;
+use store_tables::batches::{count_lines, numbers_in};
+use store_tables::read_batches;
+
+/// How many rows a commit takes out, at most.
+const ROOM: usize = 256;
+
+/// Takes every open batch out with its rows, in commits of at most 256 rows. Where all are closed, nothing is written.
+///
+/// 80: the database failed. 1: memory was refused. After either some rows of open batches may be left.
+pub fn remove_open<S: Alter>(alloc: Global, conn: &mut Connection<S>) -> Result<(), RefusalKind>
+    requires autocommit { conn.old.in_transaction ≡ false }
+    ensures cleared { HasCleanDisk (state S.Store conn.new)
+        → OnOk result ((society : List ℕ) (c : Content) (rows : Rows) → Settled (state S.Store conn.old) rows
+        → Means rows c → rows.society ≡ society → IsCleared (state S.Store conn.new) society c) }
+    ensures untouched { HasCleanDisk (state S.Store conn.new)
+        → OnOk result ((rows : Rows) → Settled (state S.Store conn.old) rows → AreAllClosed rows
+        → Settled (state S.Store conn.new) rows) }
+    ensures crash { HasCleanDisk (state S.Store conn.new)
+        → (society : List ℕ) (c : Content) (rows : Rows) → Settled (state S.Store conn.old) rows → Means rows c
+        → rows.society ≡ society → LeavesMeaning (state S.Store conn.new) society c }
+    ensures refused { HasCleanDisk (state S.Store conn.new)
+        → IfErr result (λ kind. (c : Content) (rows : Rows) → Settled (state S.Store conn.old) rows → Means rows c
+        → IsFailure kind) }
+    ensures clean { HasCleanDisk (state S.Store conn.new) → HasCleanDisk (state S.Store conn.old) }
+    ensures ended { conn.new.in_transaction ≡ false }
+{
+    let batches = read_batches(alloc, conn)?;
+    'batches: for batch in &batches {
+        if batch.is_open {
+            let numbers = numbers_in(alloc, conn, batch.number)?;
+            remove_batch(conn, batch.number, &numbers)?;
+        }
+    }
+    Ok(())
+}
+
+/// Takes a batch out: the lines of its numbers, then their rows in `record`, then its own row, in commits of at most
+/// 256 rows. Of a batch that is open, all that is left after a stop means what it meant.
+///
+/// 80: the database failed, and some of the rows may be left. Takes no memory outside of it.
+pub fn remove_batch<S: Alter>(
+    conn: &mut Connection<S>,
+    batch: u32,
+    numbers: &[u32],
+) -> Result<(), RefusalKind>
+    requires autocommit { conn.old.in_transaction ≡ false }
+    ensures gone { HasCleanDisk (state S.Store conn.new)
+        → OnOk result ((rows : Rows) → Settled (state S.Store conn.old) rows → Settled (state S.Store conn.new)
+        (without_batch batch numbers.now rows)) }
+    ensures crash { HasCleanDisk (state S.Store conn.new)
+        → (society : List ℕ) (c : Content) (rows : Rows) → Settled (state S.Store conn.old) rows
+        → is_closed batch rows.batches ≡ false → IsAside numbers.now society c rows
+        → LeavesMeaning (state S.Store conn.new) society c }
+    ensures refused { IfErr result (λ kind. kind ≡ Storage) }
+    ensures clean { HasCleanDisk (state S.Store conn.new) → HasCleanDisk (state S.Store conn.old) }
+    ensures ended { conn.new.in_transaction ≡ false }
+{
+    match take_out(conn, batch, numbers) {
+        Ok(()) => Ok(()),
+        Err(_) => Err(RefusalKind::Storage),
+    }
+}
+
+/// The same, but for the refusal.
+fn take_out<S: Alter>(conn: &mut Connection<S>, batch: u32, numbers: &[u32]) -> Result<(), Failed>
+    requires autocommit { conn.old.in_transaction ≡ false }
+    ensures gone { HasCleanDisk (state S.Store conn.new)
+        → OnOk result ((rows : Rows) → Settled (state S.Store conn.old) rows → Settled (state S.Store conn.new)
+        (without_batch batch numbers.now rows)) }
+    ensures crash { HasCleanDisk (state S.Store conn.new)
+        → (society : List ℕ) (c : Content) (rows : Rows) → Settled (state S.Store conn.old) rows
+        → is_closed batch rows.batches ≡ false → IsAside numbers.now society c rows
+        → LeavesMeaning (state S.Store conn.new) society c }
+    ensures clean { HasCleanDisk (state S.Store conn.new) → HasCleanDisk (state S.Store conn.old) }
+    ensures ended { conn.new.in_transaction ≡ false }
+{
+    take_rows_out(conn, numbers)?;
+    clear_batch(conn, batch)
+}
+
+/// Takes the lines of these numbers out, and then their rows in `record`.
+fn take_rows_out<S: Alter>(conn: &mut Connection<S>, numbers: &[u32]) -> Result<(), Failed>
+    requires autocommit { conn.old.in_transaction ≡ false }
+    ensures clears { Clears numbers.now (λ rows after. after ≡ without_records numbers.now rows)
+        (state S.Store conn.old) (state S.Store conn.new) result }
+    ensures ended { conn.new.in_transaction ≡ false }
+{
+    take_lines(conn, numbers)?;
+    take_rows(conn, numbers)
+}
+
+/// Takes the lines of these numbers out, of several numbers in one commit where they are few.
+fn take_lines<S: Alter>(conn: &mut Connection<S>, numbers: &[u32]) -> Result<(), Failed>
+    requires autocommit { conn.old.in_transaction ≡ false }
+    ensures clears { Clears numbers.now (λ rows after. after ≡ without_all_lines numbers.now rows)
+        (state S.Store conn.old) (state S.Store conn.new) result }
+    ensures ended { conn.new.in_transaction ≡ false }
+{
+    let mut first: usize = 0;
+    let mut gathered: usize = 0;
+    'numbers: for at in 0..numbers.len() {
+        let count = thinned(conn, numbers[at])?;
+        if gathered + count > ROOM {
+            clear_lines(conn, &numbers[first..at])?;
+            first = at;
+            gathered = 0;
+        }
+        gathered += count;
+    }
+    clear_lines(conn, &numbers[first..])
+}
+
+/// How many lines a number has, 256 at most: of one that has more the others are taken out, from the last ones on.
+fn thinned<S: Alter>(conn: &mut Connection<S>, number: u32) -> Result<usize, Failed>
+    requires autocommit { conn.old.in_transaction ≡ false }
+    ensures small { IfOk result (λ count. count ≤ 256) }
+    ensures clears { (ns : List ℕ) → list_any (λ n. n == number) ns ≡ true
+        → Clears ns (IsThinned number) (state S.Store conn.old) (state S.Store conn.new) result }
+    ensures ended { conn.new.in_transaction ≡ false }
+{
+    let count = count_lines(conn, number)?;
+    if count <= ROOM {
+        return Ok(count);
+    }
+    let Ok(parts) = u32::try_from(count / ROOM) else {
+        return Err(Failed);
+    };
+    thin(conn, number, parts)?;
+    Ok(ROOM)
+}
+
+/// Takes the lines of a number out, so many times 256, from the last ones on.
+fn thin<S: Alter>(conn: &mut Connection<S>, number: u32, parts: u32) -> Result<(), Failed>
+    requires autocommit { conn.old.in_transaction ≡ false }
+    ensures clears { (ns : List ℕ) → list_any (λ n. n == number) ns ≡ true
+        → Clears ns (IsThinned number) (state S.Store conn.old) (state S.Store conn.new) result }
+    ensures ended { conn.new.in_transaction ≡ false }
+{
+    'parts: for done in 0..parts {
+        clear_lines_from(conn, number, (parts - done).saturating_mul(256))?;
+    }
+    Ok(())
+}
+
+/// Takes the rows of these numbers out of `record`.
+fn take_rows<S: Alter>(conn: &mut Connection<S>, numbers: &[u32]) -> Result<(), Failed>
+    requires autocommit { conn.old.in_transaction ≡ false }
+    ensures clears { Clears numbers.now (λ rows after. after ≡ without_record_rows numbers.now rows)
+        (state S.Store conn.old) (state S.Store conn.new) result }
+    ensures ended { conn.new.in_transaction ≡ false }
+{
+    let mut rest = numbers;
+    'rows: while !rest.is_empty() {
+        let (part, more) = rest.split_at(rest.len().min(ROOM));
+        clear_rows(conn, part)?;
+        rest = more;
+    }
+    Ok(())
+}
