@@ -1,5 +1,5 @@
-//! A society's archive in one SQLite file: made, opened, asked and changed by requests, each in one commit before it is
-//! answered.
+//! A society's archive in one SQLite file: made, opened, asked and changed by requests, each of which is done before it
+//! is answered: an import in steps, and any other in one commit.
 #![tactic(auto)]
 
 mod archive;

@@ -1,6 +1,6 @@
 //! A request to import: the steps of a staged import, one after the other.
 
-ghost use Rattle.std.specs.Prelude.{◌≡◌, ◌≢◌, ℕ, List, [], ◌∷◌, false, true, None, IfOk, IfErr, OnOk, OnErr};
+ghost use Rattle.std.specs.Prelude.{◌≡◌, ◌≢◌, ℕ, List, [], ◌∷◌, false, true, None, IfOk, IfErr, IfSome, OnOk, OnErr};
 ghost use Rattle.std.specs.FinMap.{get};
 ghost use Rattle.sqlite.specs.State.{HasCleanDisk};
 ghost use Rattle.sqlite.specs.Held.{state};
@@ -10,11 +10,10 @@ ghost use Rattle.archive_core.specs.Machine.{import_of};
 ghost use Rattle.archive_core.specs.declared.request.Request.{Request};
 ghost use Rattle.archive_view.specs.Looks.{is_stop};
 ghost use Rattle.store_tables.specs.Calls.{LeavesOnly, Settled};
-ghost use Rattle.store_tables.specs.Rows.{Rows};
 ghost use Rattle.store.specs.Archives.{LeavesArchive};
 ghost use Rattle.store.specs.Calls.{AcknowledgedBy, Acknowledges, LeavesDoneOrNot, OnArchive, Performs};
 ghost use Rattle.store.specs.Histories.{is_storage};
-ghost use Rattle.store.specs.Importing.{HasImport, HasImportOver};
+ghost use Rattle.store.specs.Importing.{HasImport, StaysOn};
 
 use crate::archive::Archive;
 use crate::beginning::begin_on;
@@ -24,16 +23,17 @@ use archive_core::Forest;
 use archive_state::{Answer, Token};
 use record_text::{Refusal, RefusalKind};
 use sqlite::{Alter, Connection};
-use staging::OpenImport;
+use staging::{OpenImport, Progress};
 use std::alloc::Global;
 
 /// Imports a forest into an archive, in commits of at most 256 rows; the last of them publishes all. After any refusal
-/// but 80 the archive is as it was.
-pub(crate) fn import_on<S: Alter>(
+/// but 80 the archive is as it was. How far it is is told to `progress`.
+pub(crate) fn import_on<S: Alter, P: Progress>(
     alloc: Global,
     archive: &mut Archive<S>,
     token: &Token,
     forest: &Forest,
+    progress: &mut P,
 ) -> Result<Answer, Refusal>
     requires kept { archive.old.is_lost ≡ false }
     ensures performs { HasCleanDisk (state S.Store archive.new.conn) → Performs (state S.Store archive.old.conn)
@@ -51,41 +51,71 @@ pub(crate) fn import_on<S: Alter>(
         (λ society c rows. OnOk result (archive.new.failures ≡ 0)) }
 {
     match begin_on(alloc, archive, token, forest) {
-        Ok((answer, Some(import))) => {
-            let mut import = import;
-            match finish_on(alloc, &mut archive.conn, &mut import) {
-                Ok(()) => Ok(answer),
-                Err(kind) => Err(Refusal { kind, at: None }),
-            }
-        }
-        Ok((answer, None)) => Ok(answer),
+        Ok((answer, begun)) => match finish_begun(alloc, &mut archive.conn, begun, progress) {
+            Ok(()) => Ok(answer),
+            Err(kind) => Err(Refusal { kind, at: None }),
+        },
         Err(refusal) => Err(refusal),
+    }
+}
+
+/// Finishes an import that was begun. Where there is none nothing is done.
+pub(crate) fn finish_begun<S: Alter, P: Progress>(
+    alloc: Global,
+    conn: &mut Connection<S>,
+    begun: Option<OpenImport>,
+    progress: &mut P,
+) -> Result<(), RefusalKind>
+    requires autocommit { conn.old.in_transaction ≡ false }
+    ensures none { begun ≡ None → conn.new ≡ conn.old }
+    ensures some { IfErr result (λ _. begun ≢ None) }
+    ensures done { HasCleanDisk (state S.Store conn.new) → OnOk result (IfSome begun (λ i. (society : List ℕ)
+        (c : Content) (r : Request) → (has : HasImport society c r i (state S.Store conn.old))
+        → AcknowledgedBy society c has.2.before r i.changes.answer (state S.Store conn.new))) }
+    ensures undone { HasCleanDisk (state S.Store conn.new) → IfErr result (λ kind. is_storage kind ≡ false
+        → IfSome begun (λ i. (kind ≡ OutOfMemory) × ((society : List ℕ) (c : Content) (r : Request)
+        → (has : HasImport society c r i (state S.Store conn.old))
+        → Settled (state S.Store conn.new) has.2.before))) }
+    ensures crash { HasCleanDisk (state S.Store conn.new) → IfSome begun (λ i. (society : List ℕ) (c : Content)
+        (r : Request) → HasImport society c r i (state S.Store conn.old)
+        → LeavesDoneOrNot (state S.Store conn.new) society c r) }
+    ensures clean { HasCleanDisk (state S.Store conn.new) → HasCleanDisk (state S.Store conn.old) }
+    ensures ended { conn.new.in_transaction ≡ false }
+{
+    match begun {
+        None => Ok(()),
+        Some(import) => {
+            let mut import = import;
+            progress.begun(alloc, &import);
+            finish_on(alloc, conn, &mut import, progress)
+        }
     }
 }
 
 /// Writes the rows of an import that are left, and publishes it. Where memory was refused it is taken out again.
 ///
 /// 1: memory was refused, and the rows are those of before. 80: the database failed, and the import is done or not.
-fn finish_on<S: Alter>(
+fn finish_on<S: Alter, P: Progress>(
     alloc: Global,
     conn: &mut Connection<S>,
     import: &mut OpenImport,
+    progress: &mut P,
 ) -> Result<(), RefusalKind>
     requires autocommit { conn.old.in_transaction ≡ false }
-    ensures done { HasCleanDisk (state S.Store conn.new) → OnOk result ((society : List ℕ) (c : Content)
-        (before : Rows) (r : Request) → HasImportOver society c before r import.old (state S.Store conn.old)
-        → AcknowledgedBy society c before r import.old.changes.answer (state S.Store conn.new)) }
+    ensures done { HasCleanDisk (state S.Store conn.new) → OnOk result ((society : List ℕ) (c : Content) (r : Request)
+        → (has : HasImport society c r import.old (state S.Store conn.old))
+        → AcknowledgedBy society c has.2.before r import.old.changes.answer (state S.Store conn.new)) }
     ensures undone { HasCleanDisk (state S.Store conn.new) → IfErr result (λ kind. is_storage kind ≡ false
-        → (kind ≡ OutOfMemory) × ((society : List ℕ) (c : Content) (before : Rows) (r : Request)
-        → HasImportOver society c before r import.old (state S.Store conn.old)
-        → Settled (state S.Store conn.new) before)) }
-    ensures crash { HasCleanDisk (state S.Store conn.new) → OnErr result ((society : List ℕ) (c : Content) (r : Request)
+        → (kind ≡ OutOfMemory) × ((society : List ℕ) (c : Content) (r : Request)
+        → (has : HasImport society c r import.old (state S.Store conn.old))
+        → Settled (state S.Store conn.new) has.2.before)) }
+    ensures crash { HasCleanDisk (state S.Store conn.new) → (society : List ℕ) (c : Content) (r : Request)
         → HasImport society c r import.old (state S.Store conn.old)
-        → LeavesDoneOrNot (state S.Store conn.new) society c r) }
+        → LeavesDoneOrNot (state S.Store conn.new) society c r }
     ensures clean { HasCleanDisk (state S.Store conn.new) → HasCleanDisk (state S.Store conn.old) }
     ensures ended { conn.new.in_transaction ≡ false }
 {
-    match stage_all(alloc, conn, import) {
+    match stage_all(alloc, conn, import, progress) {
         Ok(()) => publish_on(conn, import),
         Err(kind) => Err(give_up(conn, import, kind)),
     }
@@ -94,20 +124,19 @@ fn finish_on<S: Alter>(
 /// Writes all rows of an import that are left, 256 in each commit.
 ///
 /// 80: the database failed, and further rows are written or not. 1: memory was refused, and the import is still on.
-pub(crate) fn stage_all<S: Alter>(
+fn stage_all<S: Alter, P: Progress>(
     alloc: Global,
     conn: &mut Connection<S>,
     import: &mut OpenImport,
+    progress: &mut P,
 ) -> Result<(), RefusalKind>
     requires autocommit { conn.old.in_transaction ≡ false }
     ensures left { OnOk result (import.new ≡ record import.old { left = [] }) }
-    ensures staged { HasCleanDisk (state S.Store conn.new) → OnOk result ((society : List ℕ) (c : Content)
-        (before : Rows) (r : Request) → HasImportOver society c before r import.old (state S.Store conn.old)
-        → HasImportOver society c before r import.new (state S.Store conn.new)) }
+    ensures staged { HasCleanDisk (state S.Store conn.new)
+        → OnOk result (StaysOn import.old (state S.Store conn.old) import.new (state S.Store conn.new)) }
     ensures stays { HasCleanDisk (state S.Store conn.new) → IfErr result (λ kind. is_storage kind ≡ false
-        → (kind ≡ OutOfMemory) × ((society : List ℕ) (c : Content) (before : Rows) (r : Request)
-        → HasImportOver society c before r import.old (state S.Store conn.old)
-        → HasImportOver society c before r import.new (state S.Store conn.new))) }
+        → (kind ≡ OutOfMemory)
+        × StaysOn import.old (state S.Store conn.old) import.new (state S.Store conn.new)) }
     ensures crash { HasCleanDisk (state S.Store conn.new) → OnErr result ((society : List ℕ) (c : Content) (r : Request)
         → HasImport society c r import.old (state S.Store conn.old)
         → LeavesArchive (state S.Store conn.new) society (λ found. found ≡ c)) }
@@ -115,7 +144,10 @@ pub(crate) fn stage_all<S: Alter>(
     ensures ended { conn.new.in_transaction ≡ false }
 {
     'stages: while import.has_more() {
-        stage_on(alloc, conn, import)?;
+        match stage_on(alloc, conn, import) {
+            Ok(_) => progress.staged(import),
+            Err(kind) => return Err(kind),
+        }
     }
     Ok(())
 }
@@ -129,9 +161,9 @@ fn give_up<S: Alter>(
     requires autocommit { conn.old.in_transaction ≡ false }
     ensures same { is_storage result ≡ false → result ≡ kind }
     ensures gone { HasCleanDisk (state S.Store conn.new) → is_storage result ≡ false
-        → (society : List ℕ) (c : Content) (before : Rows) (r : Request)
-        → HasImportOver society c before r import.now (state S.Store conn.old)
-        → Settled (state S.Store conn.new) before }
+        → (society : List ℕ) (c : Content) (r : Request)
+        → (has : HasImport society c r import.now (state S.Store conn.old))
+        → Settled (state S.Store conn.new) has.2.before }
     ensures crash { HasCleanDisk (state S.Store conn.new) → (society : List ℕ) (c : Content) (r : Request)
         → (is_storage kind ≡ false → HasImport society c r import.now (state S.Store conn.old))
         → LeavesArchive (state S.Store conn.old) society (λ found. found ≡ c)

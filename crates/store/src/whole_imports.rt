@@ -30,12 +30,12 @@ ghost use Rattle.store.specs.Calls.{Acknowledges, OnArchive, Performs};
 ghost use Rattle.store.specs.Histories.{has_failed, is_storage};
 ghost use Rattle.store.specs.Importing.{HasAnswered, HasBegun};
 ghost use Rattle.store.specs.Lives.{IsCall};
-ghost use Rattle.store.specs.Standing.{heard, is_shut, must_wait, standing};
+ghost use Rattle.store.specs.Standing.{heard, must_wait, shuts, standing};
 
 use crate::archive::Archive;
 use crate::beginning::begin_on;
 use crate::failing::has_failed;
-use crate::staged::finish_on;
+use crate::staged::finish_begun;
 use archive_core::Forest;
 use archive_state::{Answer, Token};
 use record_text::{Refusal, RefusalKind};
@@ -55,16 +55,17 @@ impl<S: Alter> Archive<S> {
         forest: Forest,
         progress: &mut P,
     ) -> Result<Answer, Refusal>
-        ensures performs { HasCleanDisk (state S.Store self.new.conn) → is_shut self.old ≡ false
-            → Performs (state S.Store self.old.conn) ((import_of token.now forest, result) ∷ [])
-            (state S.Store self.new.conn) }
+        ensures performs { HasCleanDisk (state S.Store self.new.conn) → shuts self.old.is_lost self.old.import ≡ false
+            → Performs (state S.Store self.old.conn) ((import_of token.now forest, result) ∷ []) (state S.Store self.new.conn) }
         ensures acknowledged { HasCleanDisk (state S.Store self.new.conn)
             → IfOk result (λ answer. Acknowledges (state S.Store self.old.conn) (import_of token.now forest) answer
             (state S.Store self.new.conn)) }
         ensures repeated { HasCleanDisk (state S.Store self.new.conn) → OnArchive (state S.Store self.old.conn)
-            (λ society c rows. get c.receipts token.now ≢ None → LeavesOnly (state S.Store self.new.conn) rows) }
-        ensures lost { is_shut self.old ≡ false → is_shut self.new ≡ has_failed result }
-        ensures failed { is_shut self.old ≡ false → self.new.is_lost ≡ has_failed result }
+            (λ society c rows.
+            get c.receipts token.now ≢ None → LeavesOnly (state S.Store self.new.conn) rows) }
+        ensures lost { shuts self.old.is_lost self.old.import ≡ false
+            → shuts self.new.is_lost self.new.import ≡ has_failed result }
+        ensures failed { shuts self.old.is_lost self.old.import ≡ false → self.new.is_lost ≡ has_failed result }
         ensures alone { self.old.import ≡ None → self.new.import ≡ None }
         ensures reopen { IsTrue self.old.is_lost → (result ≡ Err (refused_at None refusal.Reopen))
             × (self.new ≡ self.old) }
@@ -76,8 +77,9 @@ impl<S: Alter> Archive<S> {
         ensures placed { IfErr result (λ e. is_stop e.kind ≡ true → e.at ≡ None) }
         ensures quiet { HasCleanDisk (state S.Store self.new.conn) → self.old.is_lost ≡ false
             → OnArchive (state S.Store self.old.conn) (λ society c rows. OnOk result (self.new.failures ≡ 0)) }
-        ensures called { (r : Request) → IsCall S.Store self.old.conn (standing r self.old)
-            (heard (is_shut self.old) ((import_of token.now forest, result) ∷ [])) self.new.conn (standing r self.new) }
+        ensures called { (r : Request) → IsCall S.Store self.old.conn (standing r self.old.is_lost self.old.import)
+            (heard (shuts self.old.is_lost self.old.import) ((import_of token.now forest, result) ∷ [])) self.new.conn
+            (standing r self.new.is_lost self.new.import) }
     {
         if self.is_lost {
             return Err(RefusalKind::Reopen.into());
@@ -116,15 +118,10 @@ fn import_whole<S: Alter, P: Progress>(
         (λ society c rows. OnOk result (archive.new.failures ≡ 0)) }
 {
     match begin_given(alloc, archive, token, forest) {
-        Ok((answer, Some(import))) => {
-            let mut import = import;
-            progress.begun(alloc, &import);
-            match finish_on(alloc, &mut archive.conn, &mut import, progress) {
-                Ok(()) => Ok(answer),
-                Err(kind) => Err(Refusal { kind, at: None }),
-            }
-        }
-        Ok((answer, None)) => Ok(answer),
+        Ok((answer, begun)) => match finish_begun(alloc, &mut archive.conn, begun, progress) {
+            Ok(()) => Ok(answer),
+            Err(kind) => Err(Refusal { kind, at: None }),
+        },
         Err(refusal) => Err(refusal),
     }
 }
