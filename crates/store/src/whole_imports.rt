@@ -56,7 +56,8 @@ impl<S: Alter> Archive<S> {
         progress: &mut P,
     ) -> Result<Answer, Refusal>
         ensures performs { HasCleanDisk (state S.Store self.new.conn) → shuts self.old.is_lost self.old.import ≡ false
-            → Performs (state S.Store self.old.conn) ((import_of token.now forest, result) ∷ []) (state S.Store self.new.conn) }
+            → Performs (state S.Store self.old.conn) ((import_of token.now forest, result) ∷ [])
+            (state S.Store self.new.conn) }
         ensures acknowledged { HasCleanDisk (state S.Store self.new.conn)
             → IfOk result (λ answer. Acknowledges (state S.Store self.old.conn) (import_of token.now forest) answer
             (state S.Store self.new.conn)) }
