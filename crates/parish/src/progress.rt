@@ -10,6 +10,7 @@ use store::{OpenImport, Progress, RowCount};
 const LINE: usize = 64;
 
 /// Tells how far an import is: a line on the stream of faults, at most one a second, and one at its end.
+#[derive(Drop)]
 pub(crate) struct Told<'a, C: Clock, F: Write + Device> {
     clock: &'a C,
     faults: &'a mut F,

@@ -20,6 +20,7 @@ pub trait Progress {
 }
 
 /// Nobody is told.
+#[derive(Drop)]
 pub struct Silent;
 
 impl Progress for Silent {

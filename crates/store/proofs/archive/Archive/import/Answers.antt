@@ -5,7 +5,7 @@ use Rattle.store.specs.Histories.{has_failed}
 use Rattle.store.specs.Standing.{asked_by, standing}
 use Rattle.store.proofs.Called.{heard_all, no_import, ready_call, still_call, unheard_lost}
 use Rattle.store.proofs.Committed.{unless_failed}
-use Rattle.store.proofs.whole_imports.Archive.import.Goals as goal
+use Rattle.store.proofs.archive.Archive.import.Goals as goal
 
 pub returns-then-self-clause-called : goal.returns-then-self-clause-called
 returns-then-self-clause-called g c r =
