@@ -67,8 +67,8 @@ FILES = {
 class Imported(Exported):
     """A folder with an archive that files are imported into."""
 
-    def import_(self, given, token="t", **how):
-        return run(self.parish, ("import", self.file, "--token", token), given, **how)
+    def import_(self, given, token="t", *options, **how):
+        return run(self.parish, ("import", self.file, "--token", token, *options), given, **how)
 
     def records(self):
         """What is exported, without the header and the trailer."""
@@ -340,6 +340,45 @@ def an_entry_of_a_file(tools):
         expect(at.apply(b"l,link,2,1,3,same farm\n"), written(b"l,ok,0,0\n"))
 
 
+MANY = between(*(line for n in range(2_000) for line in (f"0 @I{n}@ INDI", "1 BIRT", f"2 PLAC Ashby {n % 50}")))
+
+
+def how_far_it_is(tools):
+    """With --progress standard error has lines `staged <n> of <m> rows` with n going up to m, the number of rows that
+    the archive got. All else is as without it."""
+    for given in (between(), LEE, BORN, MANY):
+        with Imported(tools) as silent, Imported(tools) as at:
+            told = silent.made().import_(given)
+            expect(told, written(told.out))
+            got = at.made().import_(given, "t", "--progress")
+            expect(Outcome(got.out, b"", got.status), told)
+            demand(at.tables() == silent.tables(), "the tables differ")
+            rows = len(at.rows_of("SELECT * FROM record")) + len(at.rows_of("SELECT * FROM line"))
+            lines = re.fullmatch(rb"((?:staged \d+ of %d rows\n)*)staged %d of %d rows\n" % ((rows,) * 3), got.err)
+            demand(lines, f"{rows} rows: {got.err!r}")
+            counts = [int(count) for count in re.findall(rb"staged (\d+) of", got.err)]
+            demand(counts == sorted(set(counts)), f"{rows} rows: {got.err!r}")
+            expect(at.import_(given, "t", "--progress"), told)
+
+
+def how_far_it_is_where_it_is_refused(tools):
+    with Imported(tools) as at:
+        at.made()
+        expect(at.import_(TWICE, "t", "--progress"), refused(60, 10))
+        expect(at.import_(b"", "t", "--progress"), refused(21, 1))
+        expect(at.import_(LEE, "a b", "--progress"), refused(93))
+
+
+def how_far_it_is_on_a_full_device(tools):
+    """What cannot be told changes nothing."""
+    with Imported(tools) as at:
+        at.made()
+        with open("/dev/full", "wb") as full:
+            expect(at.import_(LEE, "t", "--progress", stderr=full), written(LEE_TOLD))
+        with pipe_without_reader() as writing:
+            expect(at.import_(LEE, "u", "--progress", stderr=writing), written(LEE_TOLD.replace(b"1\n", b"3\n", 1)))
+
+
 TESTS = (
     killed_in_an_import,
     refused_memory,
@@ -357,6 +396,9 @@ TESTS = (
     the_samples,
     files_of_other_programs,
     an_entry_of_a_file,
+    how_far_it_is,
+    how_far_it_is_where_it_is_refused,
+    how_far_it_is_on_a_full_device,
 )
 
 

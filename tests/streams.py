@@ -298,6 +298,12 @@ STREAMS = (
     ("--help tells import", told(b"\n  import   Take the GEDCOM file", "--help")),
     ("import --help", told(b"parish import ashby.db --token first-file < ", "import", "--help")),
     ("import --help tells refusals", told(b"\n  60 DuplicateEntry   ", "import", "--help")),
+    ("import --help tells --progress", told(b"\n      --progress  ", "import", "--help")),
+    (
+        "import with --progress of something",
+        refuses_words(b"'--progress", "import", "a.db", "--token", "t", "--progress=1"),
+    ),
+    ("export with --progress", refuses_words(b"'--progress'", "export", "a.db", "--progress")),
     ("import without a file", refuses_words(b"<FILE>", "import", "--token", "t")),
     ("import without a token", refuses_words(b"--token <T>", "import", "a.db")),
     ("import of two files", refuses_words(b"'b.ged'", "import", "a.db", "b.ged", "--token", "t")),

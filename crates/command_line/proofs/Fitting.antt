@@ -70,8 +70,8 @@ fit_of (asked.Apply file) found e has some =
     fit_by (asked.Apply file) found (codes "apply") e has (λ rows words. refl)
 fit_of (asked.Entries file source token) found e has some =
     fit_by (asked.Entries file source token) found (codes "entries") e has (λ rows words. refl)
-fit_of (asked.Import file token) found e has some =
-    fit_by (asked.Import file token) found (codes "import") e has (λ rows words. refl)
+fit_of (asked.Import file token progress) found e has some =
+    fit_by (asked.Import file token progress) found (codes "import") e has (λ rows words. refl)
 fit_of (asked.Export file) found e has some =
     fit_by (asked.Export file) found (codes "export") e has (λ rows words. none_there _ _ _ words.1 words.2)
 fit_of (asked.ExportPublic file today) found e has some =

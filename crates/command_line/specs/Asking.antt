@@ -65,7 +65,7 @@ name_of Check = Some (codes "check")
 name_of (Init file society) = Some (codes "init")
 name_of (Apply file) = Some (codes "apply")
 name_of (Entries file source token) = Some (codes "entries")
-name_of (Import file token) = Some (codes "import")
+name_of (Import file token progress) = Some (codes "import")
 name_of (Export file) = Some (codes "export")
 name_of (ExportPublic file today) = Some (codes "export")
 name_of (Sheet file kind number generations today) = Some (codes "sheet")
@@ -104,9 +104,17 @@ generations_in found = generations_of (word_in found (codes "generations"))
 abbrev pub day_in : Option (Text × List Row) → Option ℤ
 day_in found = day_read (word_in found (codes "today"))
 
--- `--public` is given: the grammar has the word `true` for a flag that is, and else `false`
+-- an option without a value is given: the grammar has the word `true` for one that is, and else `false`
+abbrev pub is_given : Option (Text × List Row) → Text → Bool
+is_given found id = bytes_eq (word_in found id) (codes "true")
+
+-- `--public` is given
 abbrev pub is_public : Option (Text × List Row) → Bool
-is_public found = bytes_eq (word_in found (codes "public")) (codes "true")
+is_public found = is_given found (codes "public")
+
+-- `--progress` is given
+abbrev pub is_told : Option (Text × List Row) → Bool
+is_told found = is_given found (codes "progress")
 
 -- the word of a kind of sheet
 abbrev pub kind_word : SheetKind → Text
@@ -135,8 +143,9 @@ HasWords found (Apply file) = file.now ≡ word_in found (codes "FILE")
 HasWords found (Entries file source token) =
     (file.now ≡ word_in found (codes "FILE")) × (source ≡ number_of (word_in found (codes "source")))
     × (token.now ≡ word_in found (codes "token"))
-HasWords found (Import file token) = (file.now ≡ word_in found (codes "FILE"))
-    × (token.now ≡ word_in found (codes "token"))
+HasWords found (Import file token progress) =
+    (file.now ≡ word_in found (codes "FILE")) × (token.now ≡ word_in found (codes "token"))
+    × (progress ≡ is_told found)
 HasWords found (Export file) =
     (file.now ≡ word_in found (codes "FILE")) × (is_public found ≡ false) × (given_in found (codes "today") ≡ None)
 HasWords found (ExportPublic file today) =

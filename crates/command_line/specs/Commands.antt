@@ -68,9 +68,17 @@ today_rule = needed_rule (codes "today")
 abbrev pub maybe_today_rule : Rule
 maybe_today_rule = option_rule (codes "today")
 
+-- an option without a value, which may be left out
+abbrev pub flag_rule : Text → Rule
+flag_rule name = record (new_rule name) { long = Some name; action = Some SetTrue }
+
 -- `--public`
 abbrev pub public_rule : Rule
-public_rule = record (new_rule (codes "public")) { long = Some (codes "public"); action = Some SetTrue }
+public_rule = flag_rule (codes "public")
+
+-- `--progress`
+abbrev pub progress_rule : Rule
+progress_rule = flag_rule (codes "progress")
 
 -- `--generations G`, which may be left out
 abbrev pub generations_rule : Rule
@@ -94,7 +102,7 @@ abbrev pub entries_shape : Shape
 entries_shape = record (new_shape (codes "entries")) { rules = file_rule ∷ source_rule ∷ token_rule ∷ [] }
 
 abbrev pub import_shape : Shape
-import_shape = record (new_shape (codes "import")) { rules = file_rule ∷ token_rule ∷ [] }
+import_shape = record (new_shape (codes "import")) { rules = file_rule ∷ token_rule ∷ progress_rule ∷ [] }
 
 abbrev pub export_shape : Shape
 export_shape = record (new_shape (codes "export")) { rules = file_rule ∷ public_rule ∷ maybe_today_rule ∷ [] }

@@ -10,6 +10,10 @@ abbrev pub import_words : Text → List Text
 import_words name =
     name ∷ codes "import" ∷ codes "ashby.db" ∷ codes "--token" ∷ codes "first-file" ∷ []
 
+abbrev pub told_import_words : Text → List Text
+told_import_words name =
+    name ∷ codes "import" ∷ codes "ashby.db" ∷ codes "--token" ∷ codes "first-file" ∷ codes "--progress" ∷ []
+
 abbrev pub public_words : Text → List Text
 public_words name =
     name ∷ codes "export" ∷ codes "ashby.db" ∷ codes "--public" ∷ codes "--today" ∷ codes "2024-01-01" ∷ []

@@ -9,6 +9,7 @@ ghost use Rattle.command_line.specs.Commands.{
   kind_rule,
   maybe_today_rule,
   port_rule,
+  progress_rule,
   public_rule,
   record_rule,
   society_rule,
@@ -28,6 +29,8 @@ const SOCIETY_HELP: &str = "The name of the society";
 const SOURCE_HELP: &str = "The number of the register's source, 1 to 4294967295";
 
 const TOKEN_HELP: &str = "The token of the request: 1 to 64 characters from `!` to `~`";
+
+const PROGRESS_HELP: &str = "Tell on standard error how many rows are written";
 
 const KIND_HELP: &str = "The kind of sheet: person, family, pedigree or register";
 
@@ -95,6 +98,17 @@ pub(crate) fn token_arg<'a>(alloc: Global) -> Arg<'a>
         .help(TOKEN_HELP)
         .required(true)
         .action(ArgAction::Set)
+}
+
+/// That it is told how far an import is.
+pub(crate) fn progress_arg<'a>(alloc: Global) -> Arg<'a>
+    ensures rule { rule_of result ≡ progress_rule }
+    ensures local { result.global ≡ false }
+{
+    Arg::new(alloc, "progress")
+        .long("progress")
+        .help(PROGRESS_HELP)
+        .action(ArgAction::SetTrue)
 }
 
 /// The kind of a sheet, which has to be named. Whether it is one is judged where it is read.

@@ -22,8 +22,8 @@ ghost use Rattle.command_line.specs.Commands.{
 };
 
 use crate::arguments::{
-    count_arg, file_arg, generations_arg, kind_arg, maybe_today_arg, port_arg, public_arg,
-    record_arg, society_arg, source_arg, today_arg, token_arg,
+    count_arg, file_arg, generations_arg, kind_arg, maybe_today_arg, port_arg, progress_arg,
+    public_arg, record_arg, society_arg, source_arg, today_arg, token_arg,
 };
 use crate::texts_in::{
     APPLY_ABOUT, APPLY_EXAMPLE, ENTRIES_ABOUT, ENTRIES_EXAMPLE, IMPORT_ABOUT, IMPORT_EXAMPLE,
@@ -114,7 +114,8 @@ fn import_command<'a>(alloc: Global) -> Result<Command<'a>, AllocError>
         .about(IMPORT_ABOUT)
         .after_help(IMPORT_EXAMPLE)
         .arg(file_arg(alloc))?
-        .arg(token_arg(alloc))
+        .arg(token_arg(alloc))?
+        .arg(progress_arg(alloc))
 }
 
 fn export_command<'a>(alloc: Global) -> Result<Command<'a>, AllocError>

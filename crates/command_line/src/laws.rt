@@ -1,18 +1,26 @@
 //! Laws of command lines, over the definitions that the contracts cite.
 
-ghost use Rattle.std.specs.Prelude.{◌≡◌, [], ◌∷◌, Some, codes, true};
+ghost use Rattle.std.specs.Prelude.{◌≡◌, [], ◌∷◌, Some, codes, false, true};
 ghost use Rattle.clap.specs.Words.{Text, subcommand_of};
 ghost use Rattle.command_line.specs.Asking.{
   IsTaken,
   generations_in,
   is_public,
+  is_told,
   kind_in,
   number_of,
   number_up_to,
   word_in,
 };
 ghost use Rattle.command_line.specs.Commands.{program};
-ghost use Rattle.command_line.specs.Examples.{batch_words, import_words, public_words, serve_words, sheet_words};
+ghost use Rattle.command_line.specs.Examples.{
+  batch_words,
+  import_words,
+  public_words,
+  serve_words,
+  sheet_words,
+  told_import_words,
+};
 ghost use Rattle.command_line.specs.declared.tasks.SheetKind.TheVariants.{Pedigree};
 
 /// Each command is taken where it stands alone behind the program's name, whatever that is.
@@ -32,13 +40,17 @@ pub fn a_batch_is_taken()
         ≡ codes "page-12" }
 {}
 
-/// An import is taken as the help of `import` shows it, and has the file and the token that are told there.
+/// An import is taken as the help of `import` shows it, and has the file and the token that are told there; it is told
+/// how far it is where `--progress` is given, and nowhere else.
 pub fn an_import_is_taken()
     ensures taken { (name : Text) → IsTaken (import_words name) }
     ensures file { (name : Text) → word_in (subcommand_of program (import_words name)) (codes "FILE")
         ≡ codes "ashby.db" }
     ensures token { (name : Text) → word_in (subcommand_of program (import_words name)) (codes "token")
         ≡ codes "first-file" }
+    ensures untold { (name : Text) → is_told (subcommand_of program (import_words name)) ≡ false }
+    ensures told_taken { (name : Text) → IsTaken (told_import_words name) }
+    ensures told { (name : Text) → is_told (subcommand_of program (told_import_words name)) ≡ true }
 {}
 
 /// An export for the public is taken as the help of `export` shows it, and is one for the public.

@@ -15,7 +15,7 @@ ghost use Rattle.command_line.specs.Asking.{
 use crate::commands::parish_command;
 use crate::showing::{export_asked, serve_asked, sheet_asked};
 use crate::tasks::{Asked, Refused};
-use crate::words::{number_of, word_of};
+use crate::words::{is_yes, number_of, word_of};
 use clap::error::ErrorKind;
 use clap::{ArgMatches, Error};
 use std::alloc::Global;
@@ -78,6 +78,7 @@ fn command_named<'a>(
         "import" => Ok(Asked::Import {
             file: word_of(given, "FILE"),
             token: word_of(given, "token"),
+            progress: is_yes(word_of(given, "progress")),
         }),
         "export" => export_asked(alloc, given),
         "sheet" => sheet_asked(alloc, given),

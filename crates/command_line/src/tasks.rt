@@ -26,10 +26,11 @@ pub enum Asked<'a> {
         token: &'a str,
     },
     /// `import`: the file of standard input taken into the archive in a file, under a token, and its report on standard
-    /// output. The token may be any word.
+    /// output. The token may be any word. With `progress` standard error is told how far it is.
     Import {
         file: &'a str,
         token: &'a str,
+        progress: bool,
     },
     /// `export`: the whole archive in a file as a GEDCOM file, on standard output.
     Export {

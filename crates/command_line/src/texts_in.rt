@@ -106,6 +106,9 @@ The file is taken in whole or not at all: at a refusal nothing is. It prints
 `line <n>: <word>` for each line of the file that was not taken as it stood.
 Who sends the same file again under T gets the same, and nothing is done twice.
 
+With --progress standard error tells how far it is: at most once a second, and at
+the end, a line `staged <n> of <m> rows`, m being the rows that FILE gets.
+
 Words of the report:
   dangling       its pointer names no record of the file: the line is dropped
   one-sided      a family and a person do not both name the other: dropped
@@ -122,5 +125,6 @@ docs/REFUSALS.md, beside the source of parish, says when each comes and what to
 do; so it does of the others: 1, 40, 80, 82, 83, 94 and 95. docs/KEEPING.md says
 how to move in from another program.
 
-Example:
-  parish import ashby.db --token first-file < family.ged";
+Examples:
+  parish import ashby.db --token first-file < family.ged
+  parish import ashby.db --token first-file --progress < family.ged";

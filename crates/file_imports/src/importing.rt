@@ -15,7 +15,6 @@ ghost use Rattle.file_imports.specs.Importing.{
 ghost use Rattle.interchange.specs.Results.{IsUnreported};
 
 use crate::faults::refusal_of;
-use archive_core::{Command, Request};
 use devices::Device;
 use gedcom_tree::{Forest, read_forest};
 use interchange::report_of;
@@ -24,19 +23,21 @@ use record_text::Refusal;
 use sqlite::Alter;
 use std::alloc::Global;
 use std::io::Read;
-use store::Archive;
+use store::{Archive, Progress};
 
-/// Reads a file of lines, and imports it into the archive: whole or not at all, in one commit, as one request under the
-/// token. It answers what the request is answered, with the report of the file, which is that of its forest alone.
+/// Reads a file of lines, and imports it into the archive: whole or not at all, as one request under the token. It
+/// answers what the request is answered, with the report of the file, which is that of its forest alone. How far it is
+/// is told to `progress`.
 ///
 /// Where the input is no file, or memory or the reader is wanting, the refusal is that of `read_forest`, with its line,
-/// and the archive is not touched. Else it is that of `Archive::perform`, whose place is the line that is refused.
+/// and the archive is not touched. Else it is that of `Archive::import`, whose place is the line that is refused.
 /// Where memory for the report is refused, the request is done all the same, and is answered when it comes again.
-pub fn import<S: Alter, R: Read + Device>(
+pub fn import<S: Alter, R: Read + Device, P: Progress>(
     alloc: Global,
     archive: &mut Archive<S>,
     token: Token,
     input: &mut R,
+    progress: &mut P,
 ) -> Result<(Answer, Report), Refusal>
     ensures imported { IfOk result (λ done. ImportsAll S.Store token (R.remaining input.old) archive.old done.0 done.1
         archive.new) }
@@ -46,17 +47,18 @@ pub fn import<S: Alter, R: Read + Device>(
         (Rose (R.failed input.old) (R.failed input.new))))) }
 {
     match read_forest(alloc, input) {
-        Ok(forest) => import_forest(alloc, archive, token, forest),
+        Ok(forest) => import_forest(alloc, archive, token, forest, progress),
         Err(fault) => Err(refusal_of(fault)),
     }
 }
 
 /// Imports a forest, with its report.
-fn import_forest<S: Alter>(
+fn import_forest<S: Alter, P: Progress>(
     alloc: Global,
     archive: &mut Archive<S>,
     token: Token,
     forest: Forest,
+    progress: &mut P,
 ) -> Result<(Answer, Report), Refusal>
     ensures imported { IfOk result (λ done. Steps S.Store (Ok (import_request token forest, Ok done.0)) archive.old
         archive.new × (done.1 ≡ report_said forest)) }
@@ -65,11 +67,7 @@ fn import_forest<S: Alter>(
         × IsUnreported forest e)) }
 {
     let report = report_of(alloc, &forest);
-    let request = Request {
-        token,
-        command: Command::Import(forest),
-    };
-    match perform_once(alloc, archive, request) {
+    match import_once(alloc, archive, token, forest, progress) {
         Ok(answer) => match report {
             Ok(report) => Ok((answer, report)),
             Err(why) => Err(why),
@@ -81,15 +79,17 @@ fn import_forest<S: Alter>(
     }
 }
 
-/// Performs a request that is not asked again.
-fn perform_once<S: Alter>(
+/// Performs the request of an import, under a token that is not used again.
+fn import_once<S: Alter, P: Progress>(
     alloc: Global,
     archive: &mut Archive<S>,
-    request: Request,
+    token: Token,
+    forest: Forest,
+    progress: &mut P,
 ) -> Result<Answer, Refusal>
-    ensures { Steps S.Store (Ok (request, result)) archive.old archive.new }
+    ensures { Steps S.Store (Ok (import_request token forest, result)) archive.old archive.new }
 {
-    let outcome = archive.perform(alloc, &request);
-    drop(request);
+    let outcome = archive.import(alloc, &token, forest, progress);
+    drop(token);
     outcome
 }

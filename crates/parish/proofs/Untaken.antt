@@ -26,7 +26,7 @@ module _ {R W D : Type 0} {g : disk.Ghosts D} (reader : read.Ghosts R) (reads : 
   untaken (asked.Init file society) is did = absurd (none is.0)
   untaken (asked.Apply file) is did = absurd (none is.0)
   untaken (asked.Entries file source token) is did = absurd (none is.0)
-  untaken (asked.Import file token) is did = absurd (none is.0)
+  untaken (asked.Import file token progress) is did = absurd (none is.0)
   untaken (asked.Export file) is did = absurd (none is.0)
   untaken (asked.ExportPublic file today) is did = absurd (none is.0)
   untaken (asked.Sheet file which number generations today) is did = absurd (none is.0)

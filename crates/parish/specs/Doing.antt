@@ -1,6 +1,6 @@
 -- How the commands end on their streams: by the bytes of the reader and of the writer before and after, and by their
 -- counts of failures.
-use Rattle.std.specs.Prelude.{◌≡◌, ℕ, ℤ, List, Option, None}
+use Rattle.std.specs.Prelude.{◌≡◌, ℕ, ℤ, Bool, true, false, List, Option, None}
 use Rattle.std.specs.declared.io.Read as read
 use Rattle.std.specs.declared.io.Write as write
 use Rattle.sqlite.specs.Held.{Held}
@@ -31,6 +31,12 @@ use Rattle.parish.specs.Auditing.{AuditEnds}
 use Rattle.parish.specs.Ends.{ApplyEnds, CheckEnds, EntriesEnds, ExportEnds, ImportEnds, InitEnds, NormEnds}
 use Rattle.parish.specs.Shown.{PublicEnds, RoomEnds, SheetEnds}
 use Rattle.parish.specs.declared.visits.Visits.{Visits}
+
+-- something may be told on the stream of faults though the work is done
+abbrev pub tells : Asked → Bool
+tells (Apply file) = true
+tells (Import file token progress) = progress
+tells _ = false
 
 module _ {R W : Type 0} (reader : read.Ghosts R) (reads : device.Ghosts R) (writer : write.Ghosts W)
     (writes : device.Ghosts W) where
@@ -110,7 +116,8 @@ module _ {R W : Type 0} (reader : read.Ghosts R) (reads : device.Ghosts R) (writ
     Does (Apply file) = Applies image status input rest output written quiet told left × (room ≡ None)
     Does (Entries file source token) = EntersBatch image token.now source status input rest output written left
         × (room ≡ None)
-    Does (Import file token) = ImportsFile image token.now status input rest output written left × (room ≡ None)
+    Does (Import file token progress) = ImportsFile image token.now status input rest output written left
+        × (room ≡ None)
     Does (Export file) = Exports image status output written left × (rest ≡ input) × (room ≡ None)
     Does (ExportPublic file today) = Publishes image today status output written left × (rest ≡ input) × (room ≡ None)
     Does (Sheet file which number generations today) =

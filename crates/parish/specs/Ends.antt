@@ -16,6 +16,7 @@ use Rattle.std.specs.Prelude.{
   Ok,
   Err,
   codes,
+  true,
 }
 use Rattle.std.specs.Fmt.{decimal}
 use Rattle.std.specs.Io.KnownBytes.{Appends, Keeps}
@@ -28,7 +29,9 @@ use Rattle.archive_commands.specs.Entering.{Entered, Unentered}
 use Rattle.archive_commands.specs.Exporting.{Exported, Unexported}
 use Rattle.archive_commands.specs.Importing.{ImportedAll, Unimported}
 use Rattle.archive_commands.specs.Made.{IsMadeIn, Unmade}
-use Rattle.command_line.specs.Asking.{IsTaken, command_named}
+use Rattle.clap.specs.Words.{subcommand_of}
+use Rattle.command_line.specs.Asking.{IsTaken, command_named, is_told}
+use Rattle.command_line.specs.Commands.{program}
 use Rattle.devices.specs.Devices.{AppendsBeginning}
 use Rattle.gedcom_rules.specs.Faults.{Fault}
 use Rattle.gedcom_tree.specs.File.{ReadsFile}
@@ -47,6 +50,10 @@ use Rattle.store.specs.Histories.{Outcome}
 -- the words are those of this command, with nothing that it does not take
 abbrev pub AreOf : List (List ℕ) → List ℕ → Type 0
 AreOf words name = IsTaken words × (command_named words ≡ Some name)
+
+-- the words are those of an import that is told how far it is
+abbrev pub AreOfToldImport : List (List ℕ) → Type 0
+AreOfToldImport words = AreOf words (codes "import") × (is_told (subcommand_of program words) ≡ true)
 
 -- ---- norm
 -- why it was not done: no forest was read, and nothing is written; or a beginning of its text is. The first type says

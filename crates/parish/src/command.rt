@@ -6,6 +6,7 @@ ghost use Rattle.std.specs.Prelude.{
   ◌⊎◌,
   ◌≤◌,
   codes,
+  false,
   if◌then◌else◌,
   is_ok,
   map,
@@ -19,19 +20,19 @@ ghost use Rattle.std.specs.Prelude.{
 ghost use Rattle.std.specs.Io.KnownBytes.{Appends};
 ghost use Rattle.std.specs.IoError.{error_kind};
 ghost use Rattle.sqlite_wal.specs.Files.{image_at};
-ghost use Rattle.command_line.specs.Asking.{HasWords, IsTaken, name_of};
+ghost use Rattle.command_line.specs.Asking.{HasWords, IsTaken};
 ghost use Rattle.devices.specs.Devices.{AppendsBeginning, Rose};
 ghost use Rattle.gedcom_rules.specs.Views.{fault_view};
 ghost use Rattle.gedcom_tree.specs.Streams.{NotWritten};
-ghost use Rattle.parish.specs.Doing.{Checks, Does, DoesWords, IsWanting, Normalises};
-ghost use Rattle.parish.specs.Ends.{AreOf, Told, Untold};
+ghost use Rattle.parish.specs.Doing.{Checks, Does, DoesWords, IsWanting, Normalises, tells};
+ghost use Rattle.parish.specs.Ends.{AreOf, AreOfToldImport, Told, Untold};
 
 use crate::audits::audited;
 use crate::batches::entered;
-use crate::imports::imported;
+use crate::imports::{imported, take_in};
 use crate::telling::{finished, refuse, refuse_words, status_of};
 use crate::visits::{Visits, opened, sheet_of};
-use archive_commands::{OpenFile, apply, entries, export, import, init};
+use archive_commands::{OpenFile, apply, entries, export, init};
 use audit_commands::audit;
 use command_line::{Asked, Refused, read_words};
 use gedcom_tree::{
@@ -59,9 +60,9 @@ const WRITE_FAILED: TreeFault = TreeFault {
 /// serves the room then.
 ///
 /// Results go to `output`, a refusal goes to `faults` as one line, and so does what is wrong with a row of `apply` that
-/// is refused, and what `audit` finds wrong. Where `faults` fails too, the status tells alone. Where the words are
-/// refused nothing is read, and nothing written elsewhere. Words that are taken are never refused: what they name is
-/// done, with 0, or 1 and a reason.
+/// is refused, what `audit` finds wrong, and with `--progress` how far an import is. Where `faults` fails too, the
+/// status tells alone. Where the words are refused nothing is read, and nothing written elsewhere. Words that are taken
+/// are never refused: what they name is done, with 0, or 1 and a reason.
 pub fn command<S: Start, R: Read + Device, W: Write + Device, F: Write + Device>(
     rt: &HostRuntime,
     words: &[String],
@@ -71,7 +72,8 @@ pub fn command<S: Start, R: Read + Device, W: Write + Device, F: Write + Device>
     faults: &mut F,
 ) -> (u8, Option<OpenFile<S>>, Option<Visits>)
     ensures status { result.0 ≤ 2 }
-    ensures done { result.0 ≡ 0 → ¬ (AreOf (map string_bytes words.now) (codes "apply")) → faults.new ≡ faults.old }
+    ensures done { result.0 ≡ 0 → ¬ (AreOf (map string_bytes words.now) (codes "apply"))
+        → ¬ (AreOfToldImport (map string_bytes words.now)) → faults.new ≡ faults.old }
     ensures words { result.0 ≡ 2 → (input.new ≡ input.old) × (output.new ≡ output.old) × (result.1 ≡ None)
         × (result.2 ≡ None) }
     ensures does { IsTaken (map string_bytes words.now)
@@ -101,7 +103,7 @@ fn work<S: Start, R: Read + Device, W: Write + Device, F: Write + Device>(
 ) -> (u8, Option<OpenFile<S>>, Option<Visits>)
     requires words { (found : _) × HasWords found asked }
     ensures status { result.0 ≤ 1 }
-    ensures done { result.0 ≡ 0 → ¬ (name_of asked.entry ≡ Some (codes "apply")) → faults.new ≡ faults.old }
+    ensures done { result.0 ≡ 0 → tells asked.entry ≡ false → faults.new ≡ faults.old }
     ensures does { Does R.Read R.Device W.Write W.Device (image_at S.Start) result.0 input.old input.new output.old
         output.new (F.contents faults.old) (F.contents faults.new) result.1 result.2 asked.entry }
 {
@@ -144,12 +146,14 @@ fn work<S: Start, R: Read + Device, W: Write + Device, F: Write + Device>(
             output,
             faults,
         ),
-        Asked::Import { file, token } => imported(
-            rt.alloc(),
-            import(rt, file, token, start, input),
-            output,
-            faults,
-        ),
+        Asked::Import {
+            file,
+            token,
+            progress,
+        } => {
+            let done = take_in(rt, file, token, progress, start, input, faults);
+            imported(rt.alloc(), done, output, faults)
+        }
         Asked::Show { text } => (status_of(show(output, &text), faults), None, None),
     }
 }

@@ -1,22 +1,50 @@
-//! What is told of an import.
+//! An import, and what is told of it.
 
-ghost use Rattle.std.specs.Prelude.{◌≡◌, ◌≤◌, IfErr, IfOk, None, OnErr, OnOk};
+ghost use Rattle.std.specs.Prelude.{◌≡◌, ◌≤◌, IfErr, IfOk, None, OnErr, OnOk, false};
 ghost use Rattle.std.specs.Io.KnownBytes.{Appends};
+ghost use Rattle.sqlite_wal.specs.Files.{image_at};
+ghost use Rattle.archive_commands.specs.Importing.{ImportedAll, Unimported};
 ghost use Rattle.devices.specs.Devices.{AppendsBeginning, Rose};
 ghost use Rattle.file_imports.specs.Telling as telling;
 ghost use Rattle.record_text.specs.declared.refusal.Refusal.{Refusal};
 ghost use Rattle.parish.specs.Ends.{IsToldImport, IsUntoldImport, IsUnwritten};
 
+use crate::progress::Told;
 use crate::telling::status_of;
 use crate::visits::Visits;
-use archive_commands::OpenFile;
+use archive_commands::{OpenFile, import};
 use file_imports::import_text;
 use gedcom_tree::{Device, TransferError, write_bytes};
 use receipts::{Answer, Report};
 use record_text::{Refusal, RefusalKind, RefusalText, Unit};
 use sqlite::Start;
 use std::alloc::Global;
-use std::io::Write;
+use std::io::{Read, Write};
+use std::rt::HostRuntime;
+use store::Silent;
+
+/// Takes the file of the input into an archive. With `progress` the faults are told how far it is.
+pub(crate) fn take_in<S: Start, R: Read + Device, F: Write + Device>(
+    rt: &HostRuntime,
+    file: &str,
+    token: &str,
+    progress: bool,
+    start: S,
+    input: &mut R,
+    faults: &mut F,
+) -> (Result<(Answer, Report), Refusal>, Option<OpenFile<S>>)
+    ensures imported { IfOk result.0 (λ done. ImportedAll (image_at S.Start) token.now (R.remaining input.old)
+        done.0 done.1 result.1) }
+    ensures refused { IfErr result.0 (λ e. Unimported (image_at S.Start) token.now (R.remaining input.old) e
+        (Rose (R.failed input.old) (R.failed input.new)) result.1) }
+    ensures silent { progress ≡ false → faults.new ≡ faults.old }
+{
+    if progress {
+        import(rt, file, token, start, input, &mut Told::new(rt, faults))
+    } else {
+        import(rt, file, token, start, input, &mut Silent)
+    }
+}
 
 /// The status of a file that was imported into an archive, after its lines on the output, or of one that was not, after
 /// the line of its refusal, with the line of the file that is to blame. The connection is handed on.

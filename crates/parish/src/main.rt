@@ -13,6 +13,7 @@ mod audits;
 mod batches;
 mod command;
 mod imports;
+mod progress;
 mod telling;
 mod visits;
 

@@ -1,5 +1,6 @@
 mod Cleared
 mod Commits
+mod Counting
 mod Cursors
 mod Opening
 mod Steps

@@ -4,9 +4,11 @@
 mod clearing;
 mod cursor;
 mod opened;
+mod progress;
 mod removing;
 mod writing;
 
 pub use opened::OpenImport;
+pub use progress::{Progress, RowCount, Silent};
 pub use removing::{remove_batch, remove_open};
 pub use writing::{publish_rows, stage_rows};

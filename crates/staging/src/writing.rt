@@ -26,7 +26,7 @@ use store_tables::{batches, rows};
 use stored_lines::StoredLine;
 
 /// How many rows a stage writes.
-const STAGE: u32 = 256;
+pub(crate) const STAGE: u32 = 256;
 
 /// Writes the next 256 rows of an import, or all that are left.
 ///

@@ -15,5 +15,7 @@ mod performing;
 mod reading;
 mod staged;
 mod viewing;
+mod whole_imports;
 
 pub use archive::{Archive, society_named};
+pub use staging::{OpenImport, Progress, RowCount, Silent};

@@ -25,6 +25,7 @@ use archive_core::{Command, Request};
 use archive_state::{Answer, Changes};
 use record_text::{Refusal, RefusalKind};
 use sqlite::{Alter, Connection};
+use staging::Silent;
 use std::alloc::Global;
 use store_tables::connection::still_answers;
 
@@ -51,7 +52,9 @@ pub(crate) fn perform_on<S: Alter>(
         (λ society c rows. OnOk result (archive.new.failures ≡ 0)) }
 {
     match &request.command {
-        Command::Import(forest) => import_on(alloc, archive, &request.token, forest),
+        Command::Import(forest) => {
+            import_on(alloc, archive, &request.token, forest, &mut Silent)
+        }
         _ => perform_at_once(alloc, archive, request),
     }
 }

@@ -23,16 +23,17 @@ use archive_core::Forest;
 use archive_state::{Answer, Token};
 use record_text::{Refusal, RefusalKind};
 use sqlite::{Alter, Connection};
-use staging::OpenImport;
+use staging::{OpenImport, Progress};
 use std::alloc::Global;
 
 /// Imports a forest into an archive, in commits of at most 256 rows; the last of them publishes all. After any refusal
-/// but 80 the archive is as it was.
-pub(crate) fn import_on<S: Alter>(
+/// but 80 the archive is as it was. How far it is is told to `progress`.
+pub(crate) fn import_on<S: Alter, P: Progress>(
     alloc: Global,
     archive: &mut Archive<S>,
     token: &Token,
     forest: &Forest,
+    progress: &mut P,
 ) -> Result<Answer, Refusal>
     requires kept { archive.old.is_lost ≡ false }
     ensures performs { HasCleanDisk (state S.Store archive.new.conn) → Performs (state S.Store archive.old.conn)
@@ -50,7 +51,7 @@ pub(crate) fn import_on<S: Alter>(
         (λ society c rows. OnOk result (archive.new.failures ≡ 0)) }
 {
     match begin_on(alloc, archive, token, forest) {
-        Ok((answer, begun)) => match finish_begun(alloc, &mut archive.conn, begun) {
+        Ok((answer, begun)) => match finish_begun(alloc, &mut archive.conn, begun, progress) {
             Ok(()) => Ok(answer),
             Err(kind) => Err(Refusal { kind, at: None }),
         },
@@ -59,10 +60,11 @@ pub(crate) fn import_on<S: Alter>(
 }
 
 /// Finishes an import that was begun. Where there is none nothing is done.
-fn finish_begun<S: Alter>(
+pub(crate) fn finish_begun<S: Alter, P: Progress>(
     alloc: Global,
     conn: &mut Connection<S>,
     begun: Option<OpenImport>,
+    progress: &mut P,
 ) -> Result<(), RefusalKind>
     requires autocommit { conn.old.in_transaction ≡ false }
     ensures none { begun ≡ None → conn.new ≡ conn.old }
@@ -84,7 +86,8 @@ fn finish_begun<S: Alter>(
         None => Ok(()),
         Some(import) => {
             let mut import = import;
-            finish_on(alloc, conn, &mut import)
+            progress.begun(alloc, &import);
+            finish_on(alloc, conn, &mut import, progress)
         }
     }
 }
@@ -92,10 +95,11 @@ fn finish_begun<S: Alter>(
 /// Writes the rows of an import that are left, and publishes it. Where memory was refused it is taken out again.
 ///
 /// 1: memory was refused, and the rows are those of before. 80: the database failed, and the import is done or not.
-fn finish_on<S: Alter>(
+fn finish_on<S: Alter, P: Progress>(
     alloc: Global,
     conn: &mut Connection<S>,
     import: &mut OpenImport,
+    progress: &mut P,
 ) -> Result<(), RefusalKind>
     requires autocommit { conn.old.in_transaction ≡ false }
     ensures done { HasCleanDisk (state S.Store conn.new) → OnOk result ((society : List ℕ) (c : Content) (r : Request)
@@ -111,7 +115,7 @@ fn finish_on<S: Alter>(
     ensures clean { HasCleanDisk (state S.Store conn.new) → HasCleanDisk (state S.Store conn.old) }
     ensures ended { conn.new.in_transaction ≡ false }
 {
-    match stage_all(alloc, conn, import) {
+    match stage_all(alloc, conn, import, progress) {
         Ok(()) => publish_on(conn, import),
         Err(kind) => Err(give_up(conn, import, kind)),
     }
@@ -120,10 +124,11 @@ fn finish_on<S: Alter>(
 /// Writes all rows of an import that are left, 256 in each commit.
 ///
 /// 80: the database failed, and further rows are written or not. 1: memory was refused, and the import is still on.
-pub(crate) fn stage_all<S: Alter>(
+fn stage_all<S: Alter, P: Progress>(
     alloc: Global,
     conn: &mut Connection<S>,
     import: &mut OpenImport,
+    progress: &mut P,
 ) -> Result<(), RefusalKind>
     requires autocommit { conn.old.in_transaction ≡ false }
     ensures left { OnOk result (import.new ≡ record import.old { left = [] }) }
@@ -140,7 +145,7 @@ pub(crate) fn stage_all<S: Alter>(
 {
     'stages: while import.has_more() {
         match stage_on(alloc, conn, import) {
-            Ok(_) => {}
+            Ok(_) => progress.staged(import),
             Err(kind) => return Err(kind),
         }
     }

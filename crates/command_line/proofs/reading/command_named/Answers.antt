@@ -15,4 +15,8 @@ returns-in-entries-clause-words c = (
 )
 
 pub returns-in-import-clause-words : goal.returns-in-import-clause-words
-returns-in-import-clause-words c = (c.word_of-in-import.ensures, c.word_of-in-import-2.ensures)
+returns-in-import-clause-words c = (
+  c.word_of-in-import.ensures,
+  c.word_of-in-import-2.ensures,
+  rw (c.is_yes.ensures, c.word_of-in-import-3.ensures) refl,
+)

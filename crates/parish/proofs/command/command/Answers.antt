@@ -1,24 +1,44 @@
-use Rattle.std.proofs.Common.{◌≡◌, inl, inr, refl, subst, codes, map, string_bytes}
-use Rattle.std.specs.Prelude.{List, ℕ, Option, Some, None, IfSome}
+use Rattle.std.proofs.Common.{◌≡◌, inl, inr, refl, sym, codes, map, string_bytes}
+use Rattle.std.specs.Prelude.{List, ℕ, Bool, true, false, Some, IfSome}
 use Rattle.clap.specs.Words.{subcommand_of}
-use Rattle.command_line.specs.Asking.{IsTaken, command_named, name_of}
+use Rattle.command_line.specs.Asking.{HasWords, IsTaken, command_named, is_told, name_of}
 use Rattle.command_line.specs.Commands.{program}
+use Rattle.command_line.specs.declared.tasks.Asked.{Asked}
+use Rattle.command_line.specs.declared.tasks.Asked.TheVariants as asked
 use Rattle.sqlite_wal.specs.Files.{image_at}
-use Rattle.parish.specs.Ends.{AreOf}
+use Rattle.parish.specs.Doing.{tells}
+use Rattle.parish.specs.Ends.{AreOf, AreOfToldImport}
 use Rattle.parish.proofs.Untaken.{untaken}
 use Rattle.parish.proofs.command.command.Goals as goal
 
--- what is asked for has the name of no command but that of the words
-asked_alone : (o : Option (List ℕ)) (words : List (List ℕ)) (name : List ℕ)
-    → IfSome o (λ n. IsTaken words × (command_named words ≡ Some n)) → o ≡ Some name → AreOf words name
-asked_alone o words name is e =
-    subst (λ (x : Option (List ℕ)). IfSome x (λ n. IsTaken words × (command_named words ≡ Some n))) e is
+-- of an import nothing is told but where it is asked for
+untold : (progress : Bool) (words : List (List ℕ)) → AreOf words (codes "import")
+    → progress ≡ is_told (subcommand_of program words) → ¬ (AreOfToldImport words) → progress ≡ false
+untold false words of is no_import = refl
+untold true words of is no_import = absurd (no_import (of, sym is))
+
+-- what is asked for tells nothing where it is done, but for those two
+quiet : (a : Asked) (words : List (List ℕ)) → IfSome (name_of a) (λ n. IsTaken words × (command_named words ≡ Some n))
+    → HasWords (subcommand_of program words) a → ¬ (AreOf words (codes "apply")) → ¬ (AreOfToldImport words)
+    → tells a ≡ false
+quiet (asked.Apply file) words of has no_apply no_import = absurd (no_apply of)
+quiet (asked.Import file token progress) words of has no_apply no_import = untold progress words of has.2 no_import
+quiet asked.Norm words of has no_apply no_import = refl
+quiet asked.Check words of has no_apply no_import = refl
+quiet (asked.Init file society) words of has no_apply no_import = refl
+quiet (asked.Entries file source token) words of has no_apply no_import = refl
+quiet (asked.Export file) words of has no_apply no_import = refl
+quiet (asked.ExportPublic file today) words of has no_apply no_import = refl
+quiet (asked.Sheet file which number generations today) words of has no_apply no_import = refl
+quiet (asked.Serve file port count today) words of has no_apply no_import = refl
+quiet (asked.Audit file) words of has no_apply no_import = refl
+quiet (asked.Show text) words of has no_apply no_import = refl
 
 pub returns-in-Ok-clause-done : goal.returns-in-Ok-clause-done
-returns-in-Ok-clause-done g c = λ zero other.
+returns-in-Ok-clause-done g c = λ zero no_apply no_import.
     c.work.ensures.done zero
-    (λ is. other (asked_alone (name_of c.in-Ok.asked) (map string_bytes c.args.words.now) (codes "apply")
-    c.in-Ok.ensures.asked.0 is))
+    (quiet c.in-Ok.asked (map string_bytes c.args.words.now) c.in-Ok.ensures.asked.0 c.in-Ok.ensures.asked.1
+    no_apply no_import)
 
 pub returns-in-Ok-clause-does : goal.returns-in-Ok-clause-does
 returns-in-Ok-clause-does g c = λ taken. inr (c.in-Ok.asked, c.in-Ok.ensures.asked, c.work.ensures.does)

@@ -1,7 +1,7 @@
-use Rattle.std.proofs.Common.{SFits, ap, refl, rules, subst, w32}
+use Rattle.std.proofs.Common.{SFits, ap, refl, rules, sym, true≢false, w32, ◌∙◌}
 use Rattle.std.proofs.lemmas.Int.{to_z-of_z}
 use Rattle.sqlite_wal.specs.Files.{image_at}
-use Rattle.command_line.specs.Asking.{HasWords, name_of}
+use Rattle.parish.specs.Doing.{tells}
 use Rattle.parish.proofs.Audited.{audit_ends}
 use Rattle.parish.proofs.Ending.{apply_ends, export_ends, init_ends}
 use Rattle.parish.proofs.Entered.{entries_ends}
@@ -33,7 +33,7 @@ returns-in-Apply-clause-does g c =
     )
 
 pub returns-in-Apply-clause-done : goal.returns-in-Apply-clause-done
-returns-in-Apply-clause-done g c = λ _ other. absurd (other (ap name_of c.in-Apply.is))
+returns-in-Apply-clause-done g c = λ _ quiet. absurd (true≢false (sym (ap tells c.in-Apply.is) ∙ quiet))
 
 pub returns-in-Entries-clause-does : goal.returns-in-Entries-clause-does
 returns-in-Entries-clause-does g c =
@@ -47,13 +47,17 @@ returns-in-Entries-clause-does g c =
 
 pub returns-in-Import-clause-does : goal.returns-in-Import-clause-does
 returns-in-Import-clause-does g c =
-    let did = c.import.ensures in
+    let did = c.take_in-done.ensures in
     let ended = c.imported.ensures in
     rw c.in-Import.is (
-      import_ends (image_at g.S.Start) c.import.result.0 _ c.imported.result.0 _ _ _ _ _ c.import.result.1
+      import_ends (image_at g.S.Start) c.take_in-done.result.0 _ c.imported.result.0 _ _ _ _ _ c.take_in-done.result.1
           c.imported.result.1 ended.left ended.status did.imported did.refused ended.told ended.untold,
       ended.alone,
     )
+
+pub returns-in-Import-clause-done : goal.returns-in-Import-clause-done
+returns-in-Import-clause-done g c = λ zero quiet.
+    c.imported.ensures.done zero ∙ c.take_in-done.ensures.silent (sym (ap tells c.in-Import.is) ∙ quiet)
 
 pub returns-in-Export-clause-does : goal.returns-in-Export-clause-does
 returns-in-Export-clause-does g c =

@@ -1,0 +1,11 @@
+use Rattle.staging.proofs.Counting.{all_counted, next_counted}
+use Rattle.staging.proofs.progress.count_rows.Goals as goal
+
+pub puts-preserved : goal.puts-preserved
+puts-preserved c =
+    next_counted c.args.puts.now c.puts.put-index c.put-item.result c.puts.count c.in_ok-count_lines.field-0
+    c.saturating_add-count.result _ c.puts-test.true c.put-item.is c.in_ok-count_lines.ensures
+    c.saturating_add-count.ensures c.puts.invariant
+
+pub returns : goal.returns
+returns c batch = all_counted batch c.args.puts.now c.puts.put-index c.puts.count _ c.puts-test.false c.puts.invariant

@@ -1,0 +1,77 @@
+//! How far an import is, for whoever wants to be told.
+
+ghost use Rattle.std.specs.Prelude.{◌≡◌, ◌+◌, ◌-◌, ◌^◌, ℕ, IfOk, length, min};
+ghost use Rattle.records.specs.Stored.{stored};
+ghost use Rattle.staged_rows.specs.Staging.{rows_of_import};
+
+use crate::opened::OpenImport;
+use crate::writing::STAGE;
+use archive_state::Numbered;
+use records::{Record, lines_of};
+use std::alloc::{AllocError, Global};
+
+/// Who is told how far an import is. It promises nothing, and what becomes of the import does not depend on it.
+pub trait Progress {
+    /// An import is open, of which no row is written yet.
+    fn begun(&mut self, alloc: Global, import: &OpenImport);
+
+    /// Rows of an import are written: the next 256, or all that were left.
+    fn staged(&mut self, import: &OpenImport);
+}
+
+/// Nobody is told.
+#[derive(Drop)]
+pub struct Silent;
+
+impl Progress for Silent {
+    fn begun(&mut self, _alloc: Global, _import: &OpenImport) {}
+
+    fn staged(&mut self, _import: &OpenImport) {}
+}
+
+/// How many rows of an import are written, and how many it has. Each number stops at 2^64 - 1.
+#[derive(Clone, Copy)]
+pub struct RowCount {
+    pub written: usize,
+    pub all: usize,
+}
+
+impl RowCount {
+    /// Of an import of which no row is written. The lines of each of its records are made and given up again.
+    pub fn new(alloc: Global, import: &OpenImport) -> Result<RowCount, AllocError>
+        ensures { IfOk result (λ rows. (rows.written ≡ 0)
+            × (rows.all ≡ min (length (rows_of_import import.now.batch import.now.changes.puts)) (2 ^ 64 - 1))) }
+    {
+        Ok(RowCount {
+            written: 0,
+            all: count_rows(alloc, &import.changes.puts)?,
+        })
+    }
+
+    /// A stage more: 256 rows are written, or all that were left.
+    pub fn go_on(&mut self)
+        ensures same { self.new.all ≡ self.old.all }
+        ensures counted { (left : ℕ) → self.old.written + left ≡ self.old.all
+            → self.new.written + (left - 256) ≡ self.new.all }
+    {
+        self.written = self.written.saturating_add(STAGE as usize).min(self.all);
+    }
+}
+
+/// How many rows the import of these records has: one for each record, and one for each of its lines.
+fn count_rows(alloc: Global, puts: &[Numbered]) -> Result<usize, AllocError>
+    ensures { IfOk result (λ n. (batch : ℕ) → n ≡ min (length (rows_of_import batch puts.now)) (2 ^ 64 - 1)) }
+{
+    let mut count = puts.len();
+    'puts: for put in puts {
+        count = count.saturating_add(count_lines(alloc, &put.record)?);
+    }
+    Ok(count)
+}
+
+/// How many lines a record is kept as.
+fn count_lines(alloc: Global, record: &Record) -> Result<usize, AllocError>
+    ensures { IfOk result (λ n. n ≡ length (stored «record».now)) }
+{
+    Ok(lines_of(alloc, record)?.len())
+}
