@@ -33,11 +33,12 @@ use Rattle.store_tables.specs.Calls.{Settled}
 use Rattle.store_tables.specs.Rows.{Rows}
 use Rattle.store.specs.Archives.{HasArchive, LeavesArchive}
 use Rattle.store.specs.Calls.{Performs, Stays}
-use Rattle.store.specs.Histories.{MayBeFound, in_doubt}
+use Rattle.store.specs.Histories.{AreLost, MayBeFound, Outcome, in_doubt}
 use Rattle.store.specs.Importing.{Has}
 use Rattle.store.specs.Lives.{GoesOn, IsCall, IsStill}
-use Rattle.store.specs.Standing.{Standing, heard, shuts}
+use Rattle.store.specs.Standing.{Standing, asked_by, heard, shuts, standing}
 use Rattle.store.proofs.Imports.{InNoView, has_the_archive}
+use Rattle.store.proofs.Running.{none_in_doubt}
 
 -- tables that stay settled have what they had
 pub still_has : (o : Option (Request × Import)) (old new : State) (society : List ℕ) (c : Content)
@@ -68,6 +69,9 @@ pub heard_all : (lost : Bool) (i : Option Import) (calls : List Done) → lost �
     → heard (shuts lost i) calls ≡ calls
 heard_all lost i calls kept none = ap (λ (o : Option Import). heard (shuts lost o) calls) none
     ∙ ap (λ b. heard b calls) kept
+
+pub is_free : (lost : Bool) (i : Option Import) → lost ≡ false → i ≡ None → shuts lost i ≡ false
+is_free lost i kept none = ap (λ (o : Option Import). shuts lost o) none ∙ kept
 
 module _ {S : Type 0} (g : Ghosts S) (old new : Held S) (was is : Standing) where
   -- the call was refused for how the archive stands
@@ -121,3 +125,26 @@ module _ {S : Type 0} (g : Ghosts S) (old new : Held S) (was is : Standing) wher
     crash = λ now society c has t l. leaves now society c has t l;
     clean = clean;
   })
+
+-- requests one after the other
+pub run_call : {S : Type 0} (g : Ghosts S) (old new : Held S) (r : Request) (rs : List Request) (os : List Outcome)
+    (lost is_lost : Bool) (o n : Option Import)
+    → (o ≡ None → AreLost lost os is_lost × (n ≡ None))
+    → (lost ≡ true → (new ≡ old) × (is_lost ≡ lost) × (n ≡ o))
+    → (lost ≡ false → is_some o ≡ true → (new ≡ old) × (is_lost ≡ lost) × (n ≡ o))
+    → (HasCleanDisk (state g new) → shuts lost o ≡ false → Performs (state g old) (zip rs os) (state g new))
+    → IsCall g old (standing r lost o) (heard (shuts lost o) (zip rs os)) new (standing r is_lost n)
+run_call g old new r rs os true is_lost o n alone gone waits did =
+    let still = gone refl in
+    still_call g old new (standing r true o) (standing r is_lost n) (heard (shuts true o) (zip rs os))
+    (unheard_lost true o (zip rs os) refl) still.0
+    (ap (λ (l : Bool). standing r l n) still.1 ∙ ap (standing r true) still.2)
+run_call g old new r rs os false is_lost (Some i) n alone gone waits did =
+    let still = waits refl refl in
+    still_call g old new (standing r false (Some i)) (standing r is_lost n) [] refl still.0
+    (ap (λ (l : Bool). standing r l n) still.1 ∙ ap (standing r false) still.2)
+run_call g old new r rs os false is_lost None n alone gone waits did =
+    let goes = alone refl in
+    ready_call g old new (standing r false None) (standing r is_lost n) (zip rs os) refl refl
+    (ap (asked_by r) goes.1) (λ sure. none_in_doubt rs os (subst (λ b. AreLost false os b) sure goes.0))
+    (λ clean. did clean refl)

@@ -5,6 +5,7 @@ mod Committed
 pub mod Histories
 mod Imports
 mod Looked
+mod OpenCalls
 pub mod Opened
 mod Recognised
 mod Running

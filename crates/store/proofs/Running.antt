@@ -22,7 +22,7 @@ use Rattle.std.proofs.Common.{
   arith,
   true≢false,
 }
-use Rattle.std.specs.List.{zip}
+use Rattle.std.specs.List.{AllByRecursion, zip}
 use Rattle.sqlite.specs.Held.{Held, state}
 use Rattle.sqlite.specs.State.{HasCleanDisk, State}
 use Rattle.sqlite_trees.specs.declared.store.Store.{Ghosts}
@@ -31,6 +31,7 @@ use Rattle.store_tables.specs.Calls.{LeavesOnly, Settled}
 use Rattle.store_tables.specs.Rows.{Rows}
 use Rattle.store.specs.Calls.{Performs}
 use Rattle.store.specs.Histories.{AreLost, Outcome, has_failed, in_doubt, must_reopen}
+use Rattle.store.specs.Standing.{must_wait}
 use Rattle.store.proofs.Histories.{performs_still, performs_then}
 
 pub zip_none : (rs : List Request) → zip {X = Outcome} rs [] ≡ []
@@ -50,6 +51,12 @@ lost_then true m n [] o h lost goes = lost h
 lost_then false m n [] o h lost goes = goes h
 lost_then true m n (p ∷ os) o h lost goes = (h.0, lost_then true m n os o h.1 lost goes)
 lost_then false m n (p ∷ os) o h lost goes = lost_then (has_failed p) m n os o h lost goes
+
+-- while an import is open each is refused
+pub all_wait : (os : List Outcome) (o : Outcome) → AllByRecursion (λ (p : Outcome). p ≡ must_wait) os → o ≡ must_wait
+    → AllByRecursion (λ (p : Outcome). p ≡ must_wait) (os ++ o ∷ [])
+all_wait [] o h is = (is, tt)
+all_wait (p ∷ os) o h is = (h.0, all_wait os o h.1 is)
 
 stays_lost : (os : List Outcome) (m : Bool) → AreLost true os m → m ≡ true
 stays_lost [] m h = h

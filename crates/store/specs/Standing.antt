@@ -40,6 +40,12 @@ heard shut calls = cond shut [] calls
 abbrev pub must_wait : Outcome
 must_wait = Err (refused_at None ImportOpen)
 
+-- what the beginning of an import tells, by what it was answered or is to be answered, and the import that is open then
+abbrev pub begun_told : Result (Answer × Option Import) Refusal → Result (Option Answer) Refusal × Option Import
+begun_told (Ok (answer, None)) = (Ok (Some answer), None)
+begun_told (Ok (answer, Some i)) = (Ok None, Some i)
+begun_told (Err e) = (Err e, None)
+
 -- a request to import, by what its beginning answered: an import that is open is no request that was done yet
 abbrev pub begun_as : Request → Result (Option Answer) Refusal → List Done
 begun_as r (Ok None) = []

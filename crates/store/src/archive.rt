@@ -3,7 +3,6 @@
 ghost use Rattle.std.specs.Prelude.{
   ◌≡◌,
   ◌≢◌,
-  ◌⊎◌,
   ◌↔◌,
   ⊤,
   true,
@@ -25,6 +24,7 @@ ghost use Rattle.std.specs.Prelude.{
   IfSome,
   IfNone,
   OnOk,
+  OnErr,
   IsSome,
   IsTrue,
   MatchOption,
@@ -46,24 +46,22 @@ ghost use Rattle.store_tables.specs.Schema.{no_schema};
 ghost use Rattle.archive_audits.specs.Judging.{Judges, Tells, without_fault};
 ghost use Rattle.store.specs.Adopting.{IsRecognised, LeavesRefused, LeavesStore, RefusesToAdopt, TakesUp, is_foreign};
 ghost use Rattle.store.specs.Archives.{HasArchive, Keeps, LeavesArchive};
-ghost use Rattle.store.specs.Calls.{Acknowledges, OnArchive, Performs, Reads};
+ghost use Rattle.store.specs.Calls.{Acknowledges, LeavesDoneOrNot, OnArchive, Performs, Reads};
 ghost use Rattle.store.specs.Creating.{IsSociety, RefusesToCreate, RefusesToMake};
 ghost use Rattle.store.specs.Histories.{
   AreLost,
-  MayBeFound,
   Outcome,
   has_broken,
   has_failed,
   is_storage,
   loses,
 };
-ghost use Rattle.store.specs.Importing.{HasAnswered, HasBegun, HasImport};
+ghost use Rattle.store.specs.Importing.{HasAnswered, HasBegun, HasImport, HasPublished, StaysOn};
 ghost use Rattle.store.specs.Lives.{IsCall, IsOpenedOver, IsRefusedOver};
 ghost use Rattle.store.specs.Standing.{
   begun_as,
   heard,
   must_wait,
-  published_as,
   published_by,
   shuts,
   standing,
@@ -73,7 +71,7 @@ use crate::adopting::take_up;
 use crate::auditing::{self, audit_on};
 use crate::beginning::begin_on;
 use crate::failing::{has_broken, has_failed, loses};
-use crate::importing::{abandon_on, publish_on, stage_on};
+use crate::open_imports::{abandon_open, publish_open, stage_open, told};
 use crate::performing::perform_on;
 use crate::reading::{society_on, state_on};
 use archive_core::{Forest, Request};
@@ -294,21 +292,10 @@ impl<S: Alter> Archive<S> {
             return Err(RefusalKind::ImportOpen.into());
         }
         let begun = begin_on(alloc, self, token, forest);
-        self.is_lost = loses(&begun);
-        match begun {
-            Ok((_, Some(import))) => {
-                self.import = Some(import);
-                Ok(None)
-            }
-            Ok((answer, None)) => {
-                self.import = None;
-                Ok(Some(answer))
-            }
-            Err(refusal) => {
-                self.import = None;
-                Err(refusal)
-            }
-        }
+        let (outcome, import) = told(begun);
+        self.is_lost = loses(&outcome);
+        self.import = import;
+        outcome
     }
 
     /// Writes the next 256 rows of the import that is open, or all that are left, in one commit, and answers whether
@@ -320,21 +307,21 @@ impl<S: Alter> Archive<S> {
         ensures left { IfOk result (λ more. IfSome self.old.import (λ i.
             (self.new.import ≡ Some (record i { left = drop 256 i.left }))
             × ((more ≡ false) ↔ (drop 256 i.left ≡ [])))) }
-        ensures staged { HasCleanDisk (state S.Store self.new.conn)
-            → IfOk result (λ _. IfSome self.old.import (λ i. (society : List ℕ) (c : Content) (r : Request)
+        ensures staged { HasCleanDisk (state S.Store self.new.conn) → OnOk result (IfSome self.old.import (λ i.
+            StaysOn i (state S.Store self.old.conn) (record i { left = drop 256 i.left })
+            (state S.Store self.new.conn))) }
+        ensures stays { HasCleanDisk (state S.Store self.new.conn) → self.old.is_lost ≡ false
+            → IfErr result (λ kind. is_storage kind ≡ false → IfSome self.old.import (λ i.
+            (kind ≡ refusal.OutOfMemory) × (self.new.import ≡ self.old.import)
+            × StaysOn i (state S.Store self.old.conn) i (state S.Store self.new.conn))) }
+        ensures crash { HasCleanDisk (state S.Store self.new.conn) → self.old.is_lost ≡ false
+            → IfSome self.old.import (λ i. (society : List ℕ) (c : Content) (r : Request)
             → HasImport society c r i (state S.Store self.old.conn)
-            → HasImport society c r (record i { left = drop 256 i.left }) (state S.Store self.new.conn))) }
-        ensures nothing_left { IfSome self.old.import (λ i. i.left ≡ [] → self.new.conn ≡ self.old.conn) }
-        ensures stays { HasCleanDisk (state S.Store self.new.conn) → IfErr result (λ kind. is_storage kind ≡ false
-            → (self.new.import ≡ self.old.import) × IfSome self.old.import (λ i.
-            (society : List ℕ) (c : Content) (r : Request) → HasImport society c r i (state S.Store self.old.conn)
-            → HasImport society c r i (state S.Store self.new.conn))) }
-        ensures told { self.old.is_lost ≡ false → IsSome self.old.import
-            → IfErr result (λ kind. (kind ≡ refusal.OutOfMemory) ⊎ (kind ≡ refusal.Storage)) }
+            → LeavesArchive (state S.Store self.new.conn) society (λ found. found ≡ c)) }
         ensures lost { self.old.is_lost ≡ false → self.new.is_lost ≡ has_broken result }
         ensures reopen { IsTrue self.old.is_lost → (result ≡ Err refusal.Reopen) × (self.new ≡ self.old) }
         ensures none { self.old.is_lost ≡ false → self.old.import ≡ None → (result ≡ Err refusal.NoImport)
-            × (self.new ≡ self.old) }
+            × (self.new.conn ≡ self.old.conn) × (self.new.import ≡ None) }
         ensures called { (r : Request) → IsCall S.Store self.old.conn
             (standing r self.old.is_lost self.old.import) [] self.new.conn
             (standing r self.new.is_lost self.new.import) }
@@ -342,10 +329,7 @@ impl<S: Alter> Archive<S> {
         if self.is_lost {
             return Err(RefusalKind::Reopen);
         }
-        let staged = match &mut self.import {
-            Some(import) => stage_on(alloc, &mut self.conn, import),
-            None => return Err(RefusalKind::NoImport),
-        };
+        let staged = stage_open(alloc, &mut self.conn, &mut self.import);
         self.is_lost = has_broken(&staged);
         staged
     }
@@ -356,47 +340,35 @@ impl<S: Alter> Archive<S> {
     /// 85: no import is open. 86: rows of it are left to be written; it stays open. 80: the database failed, and the
     /// import is done or not. Takes no memory outside of the database.
     pub fn publish(&mut self) -> Result<Answer, RefusalKind>
-        ensures done { HasCleanDisk (state S.Store self.new.conn)
-            → IfOk result (λ answer. IfSome self.old.import (λ i. (society : List ℕ) (c : Content) (r : Request)
+        ensures done { HasCleanDisk (state S.Store self.new.conn) → IfOk result (λ answer. IfSome self.old.import (λ i.
+            (answer ≡ i.changes.answer) × ((society : List ℕ) (c : Content) (r : Request)
+            → (has : HasImport society c r i (state S.Store self.old.conn))
+            → HasPublished society c has.2.before r i (state S.Store self.new.conn)))) }
+        ensures crash { HasCleanDisk (state S.Store self.new.conn) → self.old.is_lost ≡ false
+            → IfSome self.old.import (λ i. i.left ≡ [] → (society : List ℕ) (c : Content) (r : Request)
             → HasImport society c r i (state S.Store self.old.conn)
-            → (after : Content) × Does c r (Ok answer) after
-            × HasArchive society after (state S.Store self.new.conn))) }
-        ensures crash { HasCleanDisk (state S.Store self.new.conn)
-            → IfSome self.old.import (λ i. (society : List ℕ) (c : Content) (r : Request)
-            → HasImport society c r i (state S.Store self.old.conn) → LeavesArchive (state S.Store self.new.conn) society
-            (MayBeFound c ((r, published_as r result) ∷ []))) }
+            → LeavesDoneOrNot (state S.Store self.new.conn) society c r) }
         ensures closed { OnOk result (self.new.import ≡ None) }
+        ensures kept { OnErr result (self.new.import ≡ self.old.import) }
         ensures unfinished { self.old.is_lost ≡ false → IfSome self.old.import (λ i. i.left ≢ []
-            → (result ≡ Err refusal.NotAllStaged) × (self.new ≡ self.old)) }
+            → (result ≡ Err refusal.NotAllStaged) × (self.new.conn ≡ self.old.conn)) }
         ensures told { self.old.is_lost ≡ false → IfSome self.old.import (λ i. i.left ≡ []
             → IfErr result (λ kind. kind ≡ refusal.Storage)) }
         ensures lost { self.old.is_lost ≡ false → self.new.is_lost ≡ has_broken result }
         ensures reopen { IsTrue self.old.is_lost → (result ≡ Err refusal.Reopen) × (self.new ≡ self.old) }
         ensures none { self.old.is_lost ≡ false → self.old.import ≡ None → (result ≡ Err refusal.NoImport)
-            × (self.new ≡ self.old) }
-        ensures called { (r : Request) → IsCall S.Store self.old.conn (standing r self.old.is_lost self.old.import)
-            (published_by r result) self.new.conn (standing r self.new.is_lost self.new.import) }
+            × (self.new.conn ≡ self.old.conn) × (self.new.import ≡ None) }
+        ensures called { (r : Request) → IsCall S.Store self.old.conn
+            (standing r self.old.is_lost self.old.import) (published_by r result) self.new.conn
+            (standing r self.new.is_lost self.new.import) }
     {
         if self.is_lost {
             return Err(RefusalKind::Reopen);
         }
-        let Some(import) = &self.import else {
-            return Err(RefusalKind::NoImport);
-        };
-        if import.has_more() {
-            return Err(RefusalKind::NotAllStaged);
-        }
-        let answer = import.changes().answer;
-        match publish_on(&mut self.conn, import) {
-            Ok(()) => {
-                self.import = None;
-                Ok(answer)
-            }
-            Err(kind) => {
-                self.is_lost = true;
-                Err(kind)
-            }
-        }
+        an_import_that_is_begun_is_in_no_view();
+        let published = publish_open(&mut self.conn, &mut self.import);
+        self.is_lost = has_broken(&published);
+        published
     }
 
     /// Gives the import up that is open: its rows are taken out again, in commits of at most 256 rows.
@@ -408,7 +380,7 @@ impl<S: Alter> Archive<S> {
             → OnOk result (IfSome self.old.import (λ i. (society : List ℕ) (c : Content) (r : Request)
             → (has : HasImport society c r i (state S.Store self.old.conn))
             → Settled (state S.Store self.new.conn) has.2.before × Keeps society c has.2.before)) }
-        ensures crash { HasCleanDisk (state S.Store self.new.conn)
+        ensures crash { HasCleanDisk (state S.Store self.new.conn) → self.old.is_lost ≡ false
             → IfSome self.old.import (λ i. (society : List ℕ) (c : Content) (r : Request)
             → HasImport society c r i (state S.Store self.old.conn)
             → LeavesArchive (state S.Store self.new.conn) society (λ found. found ≡ c)) }
@@ -418,7 +390,7 @@ impl<S: Alter> Archive<S> {
         ensures lost { self.old.is_lost ≡ false → self.new.is_lost ≡ has_broken result }
         ensures reopen { IsTrue self.old.is_lost → (result ≡ Err refusal.Reopen) × (self.new ≡ self.old) }
         ensures none { self.old.is_lost ≡ false → self.old.import ≡ None → (result ≡ Err refusal.NoImport)
-            × (self.new ≡ self.old) }
+            × (self.new.conn ≡ self.old.conn) × (self.new.import ≡ None) }
         ensures called { (r : Request) → IsCall S.Store self.old.conn
             (standing r self.old.is_lost self.old.import) [] self.new.conn
             (standing r self.new.is_lost self.new.import) }
@@ -426,19 +398,9 @@ impl<S: Alter> Archive<S> {
         if self.is_lost {
             return Err(RefusalKind::Reopen);
         }
-        let Some(import) = &self.import else {
-            return Err(RefusalKind::NoImport);
-        };
-        match abandon_on(&mut self.conn, import) {
-            Ok(()) => {
-                self.import = None;
-                Ok(())
-            }
-            Err(kind) => {
-                self.is_lost = true;
-                Err(kind)
-            }
-        }
+        let given_up = abandon_open(&mut self.conn, &mut self.import);
+        self.is_lost = has_broken(&given_up);
+        given_up
     }
 
     /// All that the archive holds.

@@ -11,6 +11,7 @@ mod deciding;
 mod failing;
 mod importing;
 pub mod laws;
+mod open_imports;
 mod performing;
 mod reading;
 mod staged;

@@ -7,6 +7,7 @@ use Rattle.std.proofs.Common.{
   ◌++◌,
   ◌∷◌,
   [],
+  None,
   arith,
   ap,
   sym,
@@ -15,26 +16,28 @@ use Rattle.std.proofs.Common.{
   drop,
   false,
   true,
+  is_some,
   length,
   refl,
   vec_len,
   vec_capacity,
 }
 use Rattle.std.proofs.lemmas.List.{length_push}
-use Rattle.std.specs.List.{zip}
+use Rattle.std.specs.List.{AllByRecursion, zip}
 use Rattle.sqlite.specs.Held.{state}
 use Rattle.store_tables.proofs.Loops.{item_left}
 use Rattle.store_tables.proofs.Queries.{only_committed}
 use Rattle.store.specs.Calls.{Performs}
-use Rattle.store.specs.Histories.{AreLost}
-use Rattle.store.proofs.Called.{run_call}
-use Rattle.store.proofs.Running.{clean_before, lost_then, one_more, performs_none, zip_none}
+use Rattle.store.specs.Histories.{AreLost, Outcome}
+use Rattle.store.specs.Standing.{must_wait}
+use Rattle.store.proofs.Called.{is_free, not_shut, run_call}
+use Rattle.store.proofs.Running.{all_wait, clean_before, lost_then, one_more, performs_none, zip_none}
 use Rattle.store.proofs.archive.Archive.run.Goals as goal
 
 pub requests-init : goal.requests-init
 requests-init g c =
-    let conn = c.args.self.now.conn in
-    let start = state g.S.Store conn in
+    let was = c.args.self.now in
+    let start = state g.S.Store was.conn in
     let rs = c.args.requests.now in
     let none : c.in_ok-outcomes.outcomes.items ≡ [] = search rules in
     let short : vec_len c.in_ok-outcomes.outcomes ≡ 0 = search rules in
@@ -44,10 +47,11 @@ requests-init g c =
       room,
       λ clean sure. subst (λ os. Performs start (zip rs os) start) (sym none)
           (subst (λ calls. Performs start calls start) (sym (zip_none rs))
-          (performs_none start (λ rows was t l. only_committed start rows t was
-          (g.met.S.Store.settled conn.store t was.is_open l)) clean)),
-      subst (λ os. AreLost c.args.self.now.is_lost os c.args.self.now.is_lost) (sym none) refl,
+          (performs_none start (λ rows settled t l. only_committed start rows t settled
+          (g.met.S.Store.settled was.conn.store t settled.is_open l)) clean)),
+      λ alone. (subst (λ os. AreLost was.is_lost os was.is_lost) (sym none) refl, alone),
       λ lost. refl,
+      λ kept waits. (subst (λ os. AllByRecursion (λ (o : Outcome). o ≡ must_wait) os) (sym none) tt, refl),
     )
 
 pub requests-preserved : goal.requests-preserved
@@ -72,22 +76,46 @@ requests-preserved g c =
       len,
       room,
       λ clean sure.
+          let free = not_shut start.is_lost start.import sure in
+          let alone = inv.4 free.1 in
           let goes : now.is_lost ≡ false → Performs (state g.S.Store now.conn) ((r, o) ∷ [])
-          (state g.S.Store next.conn) = λ kept. did.performs clean kept in
+          (state g.S.Store next.conn) =
+              λ kept. did.performs clean (is_free now.is_lost now.import kept alone.1) in
           subst (λ xs. Performs (state g.S.Store start.conn) (zip rs xs) (state g.S.Store next.conn)) (sym items)
           (one_more g.S.Store start.conn now.conn next.conn now.is_lost rs (drop (i + 1) rs) os r o here
           (omega (arith, inv.0, c.requests-test.true))
-          (subst (λ b. AreLost b os now.is_lost) sure inv.4)
+          (subst (λ b. AreLost b os now.is_lost) free.0 alone.0)
           (inv.3 (clean_before g.S.Store now.conn next.conn now.is_lost r o goes stays clean) sure) goes stays),
-      subst (λ xs. AreLost start.is_lost xs next.is_lost) (sym items)
-          (lost_then start.is_lost now.is_lost next.is_lost os o inv.4 (λ lost. let again = did.reopen lost in
-          (again.0, ap (λ a. a.is_lost) again.1 ∙ lost)) (λ kept. did.lost kept)),
+      λ none.
+          let alone = inv.4 none in (
+            subst (λ xs. AreLost start.is_lost xs next.is_lost) (sym items)
+                (lost_then start.is_lost now.is_lost next.is_lost os o alone.0 (λ lost.
+                let again = did.reopen lost in
+                (again.0, ap (λ a. a.is_lost) again.1 ∙ lost))
+                (λ kept. did.failed (is_free now.is_lost now.import kept alone.1))),
+            did.alone alone.1,
+          ),
       λ lost. let was = inv.5 lost in (did.reopen (ap (λ a. a.is_lost) was ∙ lost)).1 ∙ was,
+      λ kept waits.
+          let was = inv.6 kept waits in
+          let again = did.waits (ap (λ a. a.is_lost) was.1 ∙ kept) (ap (λ a. is_some a.import) was.1 ∙ waits) in (
+            subst (λ xs. AllByRecursion (λ (p : Outcome). p ≡ must_wait) xs) (sym items)
+                (all_wait os o was.0 again.0),
+            again.1 ∙ was.1,
+          ),
     )
 
 pub returns-clause-called : goal.returns-clause-called
-returns-clause-called g c =
+returns-clause-called g c r =
     let inv = c.requests.invariant in
-    run_call g.S.Store c.args.self.now.conn c.requests.self.conn c.args.self.now.is_lost c.requests.self.is_lost
-    c.args.requests.now c.requests.outcomes.items inv.4
-    (λ lost. (ap (λ a. a.conn) (inv.5 lost), ap (λ a. a.is_lost) (inv.5 lost) ∙ lost)) inv.3
+    let was = c.args.self.now in
+    let now = c.requests.self in
+    run_call g.S.Store was.conn now.conn r c.args.requests.now c.requests.outcomes.items was.is_lost now.is_lost
+    was.import now.import inv.4
+    (λ lost.
+    let same = inv.5 lost in
+    (ap (λ a. a.conn) same, ap (λ a. a.is_lost) same, ap (λ a. a.import) same))
+    (λ kept waits.
+    let same = (inv.6 kept waits).1 in
+    (ap (λ a. a.conn) same, ap (λ a. a.is_lost) same, ap (λ a. a.import) same))
+    inv.3
