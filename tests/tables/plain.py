@@ -28,6 +28,7 @@ class Tables:
     def __init__(self, society: str) -> None:
         self.next = 1
         self.society = society
+        self.batches = {0: 0}
         self.records: dict[int, tuple[str, int]] = {}
         self.lines: list[tuple[object, ...]] = []
         self.receipts: list[tuple[object, ...]] = []
@@ -59,6 +60,27 @@ class Tables:
         keep, gone, _ = self.slips[number]
         self.slips[number] = (keep, gone, 1)
 
+    def open(self, batch: int) -> None:
+        self.batches[batch] = 1
+
+    def stage(self, batch: int, staged: list[tuple[object, ...]]) -> None:
+        """Rows of an import that is open: of a number and its kind, or of a number, a place and a line."""
+        for number, *row in staged:
+            if len(row) == 1:
+                self.records[number] = (row[0], batch)
+            else:
+                self.lines.append((following(self.lines), number, row[0], *fields(row[1])))
+
+    def publish(self, batch: int, after: int) -> None:
+        self.batches[batch] = 0
+        self.next = after
+
+    def remove(self, batch: int) -> None:
+        gone = {number for number, (_, own) in self.records.items() if own == batch}
+        self.lines = [row for row in self.lines if row[1] not in gone]
+        self.records = {number: row for number, row in self.records.items() if number not in gone}
+        del self.batches[batch]
+
     def rows(self, table: str) -> list[tuple[object, ...]]:
         return {
             "record": [(number, *row) for number, row in sorted(self.records.items())],
@@ -66,7 +88,7 @@ class Tables:
             "receipt": self.receipts,
             "slip": [(number, *row) for number, row in sorted(self.slips.items())],
             "slip_line": self.slip_lines,
-            "batch": [(0, 0)],
+            "batch": sorted(self.batches.items()),
             "meta": [(1, self.next, self.society)],
         }[table]
 

@@ -13,6 +13,7 @@ sys.dont_write_bytecode = True
 HERE = pathlib.Path(__file__).resolve().parent
 sys.path.append(str(HERE.parent / "archive"))
 
+import imports  # noqa: E402
 import memory  # noqa: E402
 import scenes  # noqa: E402
 from asking import differences, given_to  # noqa: E402
@@ -22,15 +23,16 @@ PROGRAM = HERE.parents[1] / "crates/archive_rows/out/archive_rows"
 
 def main():
     count, failures = 0, []
-    for scene in scenes.scenes():
+    for scene in (*scenes.scenes(), *imports.scenes()):
         cases = list(scenes.cases(scene))
         count += len(cases)
         failures += differences(PROGRAM, cases)
-    # refused memory: each growth of one short scene in turn; inside SQLite it is an error of the database
+    # refused memory: each growth of two short scenes in turn; inside SQLite it is an error of the database
     refusals = (memory.REFUSED, "80 Storage\n", "out of memory\n")
-    wrong = memory.fault(PROGRAM, given_to(list(scenes.cases(scenes.slips()))), refusals)
-    count += 1
-    failures += [f"memory refused: {wrong}"] if wrong else []
+    for scene in (scenes.slips(), imports.short()):
+        wrong = memory.fault(PROGRAM, given_to(list(scenes.cases(scene))), refusals)
+        count += 1
+        failures += [f"memory refused: {scene.name}: {wrong}"] if wrong else []
     for failure in failures:
         print(f"failed: {failure}")
     print(f"{count - len(failures)} passed, {len(failures)} failed")

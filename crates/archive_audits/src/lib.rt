@@ -1,6 +1,6 @@
 //! Are the tables of an archive good? They are read whole, and what they mean is judged by the rule of a sound archive.
 //!
-//! It uses `store_rows`, which reads the tables, `audit`, which judges, and `store` for the archive.
+//! It uses `store_rows`, which reads the tables, and `audit`, which judges.
 //!
 //! Callers may rely on: an answer only where the tables are good, 40 only where they are not, and nothing is written.
 #![tactic(auto)]
@@ -8,4 +8,4 @@
 mod judging;
 mod reading;
 
-pub use reading::audit;
+pub use reading::judge_tables;

@@ -1,6 +1,6 @@
 -- An archive taken up in a file, by what the file and its log held as they were opened. Rules of our own.
 use Rattle.std.specs.Prelude.{◌≡◌, ◌⊎◌, ℕ, true, false, List, Option, None, Some, IsSomeAnd}
-use Rattle.sqlite.specs.Files.{HoldsDatabase, file_state}
+use Rattle.sqlite.specs.Files.{HoldsDatabase, file_state, over_files}
 use Rattle.sqlite.specs.Held.{Held}
 use Rattle.sqlite.specs.State.{State, HasCleanDisk}
 use Rattle.sqlite.specs.Tree.{Trees}
@@ -11,7 +11,7 @@ use Rattle.archive_state.specs.Content.{Content}
 use Rattle.record_text.specs.declared.refusal.RefusalKind.{RefusalKind}
 use Rattle.record_text.specs.declared.refusal.RefusalKind.TheVariants.{NotAnArchive, Storage}
 use Rattle.store_tables.specs.Looking.{IsFailure}
-use Rattle.store.specs.Adopting.{is_foreign}
+use Rattle.store.specs.Adopting.{HasNoImport, IsRecognised, is_foreign}
 use Rattle.store.specs.Archives.{HasArchive, IsArchive, LeavesArchive}
 
 -- of each archive that the file with its log held, by its society and what it holds
@@ -28,6 +28,10 @@ OnHeld image P s = HasCleanDisk s
 abbrev pub IsTakenUp : Image → State → Type 0
 IsTakenUp image s = OnHeld image (λ society c. HasArchive society c s) s
 
+-- no import is open on it
+abbrev pub IsFinished : Image → State → Type 0
+IsFinished image s = HasCleanDisk s → WhereHeld image (λ _ _. HasNoImport s)
+
 -- why no file was opened: 82, there is none; 80, it cannot be opened
 abbrev pub IsUnopened : RefusalKind → Type 0
 IsUnopened kind = (kind ≡ NotAnArchive) ⊎ (kind ≡ Storage)
@@ -37,12 +41,22 @@ IsUnopened kind = (kind ≡ NotAnArchive) ⊎ (kind ≡ Storage)
 abbrev pub IsLeft : Image → RefusalKind → State → Type 0
 IsLeft image kind s = OnHeld image (λ _ _. IsFailure kind) s
 
--- what the file with its log held is all that a crash leaves; and a store that is refused for what it is, with 82 or
--- 83, shows that and has it committed, as it did before
-abbrev pub IsAsHeld : Image → RefusalKind → State → Type 0
-IsAsHeld image kind s = HasCleanDisk s → (t : Trees) → HoldsDatabase image t
-    → ((left : Trees) → s.may_leave left → left ≡ t)
+-- these tables are all that a crash leaves; and a store that is refused for what it is, with 82 or 83, shows them and
+-- has them committed
+abbrev pub LeavesJust : Trees → RefusalKind → State → Type 0
+LeavesJust t kind s = ((left : Trees) → s.may_leave left → left ≡ t)
     × (is_foreign kind ≡ true → (s.now.trees ≡ t) × (s.committed.trees ≡ t))
+
+-- a connection that was opened over these tables was recognised
+abbrev pub WereRecognised : {D : Type 0} → disk.Ghosts D → Trees → Type 0
+WereRecognised {D} g t = (opened : Held (FileStore D g)) × ((file_state opened).committed.trees ≡ t)
+    × IsRecognised (over_files {D = D} {g = g}) (file_state opened)
+
+-- what the file with its log held is left as it was; or it was recognised, and memory was refused or the database
+-- failed while imports were taken out of it
+abbrev pub IsAsHeld : {D : Type 0} → disk.Ghosts D → Image → RefusalKind → State → Type 0
+IsAsHeld g image kind s = HasCleanDisk s → (t : Trees) → HoldsDatabase image t
+    → LeavesJust t kind s ⊎ (IsFailure kind × WereRecognised g t)
 
 module _ {D : Type 0} {g : disk.Ghosts D} where
   -- a file was opened, and P of the archive that it held
@@ -53,4 +67,4 @@ module _ {D : Type 0} {g : disk.Ghosts D} where
   abbrev pub Unopened : Image → RefusalKind → Option (Held (FileStore D g)) → Type 0
   Unopened image kind None = IsUnopened kind
   Unopened image kind (Some conn) = (conn.in_transaction ≡ false) × IsLeft image kind (file_state conn)
-      × IsAsHeld image kind (file_state conn)
+      × IsAsHeld g image kind (file_state conn)

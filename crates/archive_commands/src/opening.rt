@@ -7,7 +7,7 @@ ghost use Rattle.sqlite_wal.specs.Files.{image_at};
 ghost use Rattle.record_text.specs.declared.refusal.RefusalKind.TheVariants.{BadText, OutOfMemory};
 ghost use Rattle.store.specs.Creating.{IsSociety};
 ghost use Rattle.archive_commands.specs.Made.{IsMadeFor, Unmade};
-ghost use Rattle.archive_commands.specs.Opening.{IsTakenUp, Unopened};
+ghost use Rattle.archive_commands.specs.Opening.{IsFinished, IsTakenUp, Unopened};
 
 use record_text::RefusalKind;
 use sqlite::{Connection, FileFrom, FileStore, Start};
@@ -19,8 +19,9 @@ use store::{Archive, society_named};
 /// The connection over a file and its log. `S` is what they held as they were opened.
 pub type OpenFile<S> = Connection<FileStore<FileFrom<S>>>;
 
-/// The archive in a file. The file is looked for first, since to open a file that is not there would make it. Where the
-/// refusal came after the file was opened, its connection is handed back.
+/// The archive in a file. The file is looked for first, since to open a file that is not there would make it. Imports
+/// that were left open are taken out of it. Where the refusal came after the file was opened, its connection is handed
+/// back.
 ///
 /// 82: there is no file, or it has no archive. 83: a later program made it. 80: the file cannot be opened or is no
 /// database, or the database failed. 1: memory was refused.
@@ -31,6 +32,7 @@ pub fn open<S: Start>(
 ) -> Result<Archive<FileStore<FileFrom<S>>>, (RefusalKind, Option<OpenFile<S>>)>
     ensures opened { IfOk result (λ taken. (taken.is_lost ≡ false) × IsTakenUp (image_at S.Start)
         (file_state taken.conn)) }
+    ensures finished { IfOk result (λ taken. IsFinished (image_at S.Start) (file_state taken.conn)) }
     ensures quiet { IfOk result (λ taken. taken.failures ≡ 0) }
     ensures refused { IfErr result (λ e. Unopened (image_at S.Start) e.0 e.1) }
 {
@@ -50,11 +52,12 @@ fn open_file<S: Start>(
 ) -> Result<Archive<FileStore<FileFrom<S>>>, (RefusalKind, Option<OpenFile<S>>)>
     ensures opened { IfOk result (λ taken. (taken.is_lost ≡ false) × IsTakenUp (image_at S.Start)
         (file_state taken.conn)) }
+    ensures finished { IfOk result (λ taken. IsFinished (image_at S.Start) (file_state taken.conn)) }
     ensures quiet { IfOk result (λ taken. taken.failures ≡ 0) }
     ensures refused { IfErr result (λ e. Unopened (image_at S.Start) e.0 e.1) }
 {
     match Connection::open_from(rt, file, false, start) {
-        Ok(conn) => match Archive::adopt(conn) {
+        Ok(conn) => match Archive::adopt(rt.alloc(), conn) {
             Ok(archive) => Ok(archive),
             Err((kind, conn)) => Err((kind, Some(conn))),
         },

@@ -2,6 +2,7 @@
 
 use crate::asking::{ask, ask_state, ask_tables, question_of};
 use crate::changing::change;
+use crate::importing::answer_import;
 use crate::lines::say_of_lines;
 use crate::planning::{plan, write_planned};
 use crate::printed::{say_refusal, say_refusals, say_report};
@@ -63,6 +64,9 @@ fn answer_asked(
         "read" => say_read(alloc, &session.lines, word(words, 1), out),
         "plan" => plan(alloc, session, words),
         "write" => write_planned(alloc, session, words),
+        "open" | "stage" | "publish" | "remove" | "clear" => {
+            answer_import(alloc, session, words, out)
+        }
         "create" | "load" | "society" | "version" => answer_tables(alloc, session, words, out),
         _ => answer_plain(alloc, session, words, out),
     }

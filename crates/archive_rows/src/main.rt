@@ -6,6 +6,7 @@ mod answering;
 mod asking;
 mod changing;
 mod fields;
+mod importing;
 mod lines;
 mod planning;
 mod printed;

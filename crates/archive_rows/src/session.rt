@@ -3,6 +3,7 @@
 use archive_state::{Answer, Changes, State};
 use records::StoredLine;
 use sqlite::{Connection, MemStore};
+use staging::OpenImport;
 use std::alloc::{AllocError, Global};
 
 /// What rows change.
@@ -14,8 +15,10 @@ pub(crate) struct Session {
     pub(crate) lines: Vec<StoredLine>,
     /// What rows change one by one, or what was read last of the tables.
     pub(crate) state: State,
-    /// What the next row `write` writes to the tables.
+    /// What the next row `write` writes to the tables, or the next row `open` imports.
     pub(crate) planned: Changes,
+    /// The import that is open.
+    pub(crate) import: Option<OpenImport>,
 }
 
 impl Session {
@@ -25,6 +28,7 @@ impl Session {
             lines: Vec::new(alloc),
             state: State::new(alloc),
             planned: nothing(alloc),
+            import: None,
         })
     }
 }

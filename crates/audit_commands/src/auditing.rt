@@ -21,16 +21,16 @@ pub fn audit<S: Start>(
     file: &str,
     start: S,
 ) -> (
-    Result<usize, (RefusalKind, Option<Fault>)>,
+    Result<u32, (RefusalKind, Option<Fault>)>,
     Option<OpenFile<S>>,
 )
     ensures audited { IfOk result.0 (λ n. Audited (image_at S.Start) n result.1) }
     ensures refused { IfErr result.0 (λ e. Unaudited (image_at S.Start) e.0 e.1 result.1) }
 {
     match open(rt, file, start) {
-        Ok(archive) => {
-            let (outcome, conn) = archive_audits::audit(rt.alloc(), archive);
-            (outcome, Some(conn))
+        Ok(mut archive) => {
+            let outcome = archive.audit_with_fault(rt.alloc());
+            (outcome, Some(archive.into_connection()))
         }
         Err((kind, left)) => (Err((kind, None)), left),
     }

@@ -50,7 +50,7 @@ pub fn visit<S: Alter>(
     requires { conn.in_transaction ≡ false }
     ensures { result.1.in_transaction ≡ false }
 {
-    match Archive::adopt(conn) {
+    match Archive::adopt(alloc, conn) {
         Ok(mut archive) => {
             let told = tell(alloc, &mut archive, asked);
             (visited(told), archive.into_connection())

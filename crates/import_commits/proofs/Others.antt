@@ -11,7 +11,6 @@ use Rattle.std.proofs.Common.{
   ◌∷◌,
   cond,
   filter,
-  refl,
   sym,
   ap,
   subst,

@@ -20,7 +20,7 @@ use std::io::{Cursor, Write};
 const LINE: usize = 256;
 
 /// What an audit answers: how many records the archive has, or the refusal, with what breaks a rule where it is known.
-pub(crate) type Judged = Result<usize, (RefusalKind, Option<Fault>)>;
+pub(crate) type Judged = Result<u32, (RefusalKind, Option<Fault>)>;
 
 /// The status of an archive in a file that was judged, after its line on the output where it is sound; else after what
 /// breaks a rule and the line of the refusal. The connection is handed on.
@@ -70,7 +70,7 @@ fn tell<W: Write + Device, F: Write + Device>(
 /// Tells that an archive is sound, and how many records it has. At an error a beginning of the line was written.
 fn tell_sound<W: Write + Device>(
     alloc: Global,
-    records: usize,
+    records: u32,
     output: &mut W,
 ) -> Result<(), RefusalKind>
     ensures ok { OnOk result (Appends (W.contents output.old) (W.contents output.new) (sound_text records)) }
@@ -87,7 +87,7 @@ fn tell_sound<W: Write + Device>(
 }
 
 /// How many records a sound archive has. Refused only for want of memory.
-fn sound_line(alloc: Global, records: usize) -> Result<String, AllocError>
+fn sound_line(alloc: Global, records: u32) -> Result<String, AllocError>
     ensures { IfOk result (λ line. string_bytes line ≡ sound_text records) }
 {
     format!(in alloc; "sound: {records} records\n")

@@ -1,5 +1,5 @@
 -- Calls in a transaction that is committed.
-use Rattle.std.proofs.Common.{◌≡◌, false, true, refl, sym, ap, subst, ◌∙◌}
+use Rattle.std.proofs.Common.{false, true, refl, sym, ap, subst, ◌∙◌}
 use Rattle.sqlite.specs.Effect.{Database}
 use Rattle.sqlite.specs.State.{Shows, State}
 use Rattle.store_tables.specs.Calls.{Follows, Good, Settled}

@@ -1,12 +1,13 @@
 //! A batch that is taken out with its rows, in commits of at most 256 rows.
 
-ghost use Rattle.std.specs.Prelude.{◌≡◌, ◌≤◌, ◌==◌, ℕ, List, false, true, OnOk, IfOk, IfErr};
+ghost use Rattle.std.specs.Prelude.{◌≡◌, ◌⊎◌, ◌≤◌, ◌==◌, ℕ, List, false, true, OnOk, IfOk, IfErr};
 ghost use Rattle.std.specs.List.{list_any};
 ghost use Rattle.sqlite.specs.State.{HasCleanDisk};
 ghost use Rattle.sqlite.specs.Held.{state};
-ghost use Rattle.record_text.specs.declared.refusal.RefusalKind.TheVariants.{Storage};
+ghost use Rattle.record_text.specs.declared.refusal.RefusalKind.TheVariants.{OutOfMemory, Storage};
 ghost use Rattle.archive_state.specs.Content.{Content};
-ghost use Rattle.store_tables.specs.Calls.{Settled};
+ghost use Rattle.store_tables.specs.Batches as rows_of;
+ghost use Rattle.store_tables.specs.Calls.{LeavesOnly, Settled};
 ghost use Rattle.store_tables.specs.Looking.{IsFailure};
 ghost use Rattle.store_tables.specs.Rows.{Rows};
 ghost use Rattle.store_rows.specs.Meaning.{Means, is_closed};
@@ -14,6 +15,7 @@ ghost use Rattle.store_rows.specs.Writing.{without_all_lines, without_record_row
 ghost use Rattle.staged_rows.specs.Removing.{IsAside, without_batch};
 ghost use Rattle.staged_rows.specs.Staging.{AreAllClosed};
 ghost use Rattle.staging.specs.Clearing.{Clears, IsCleared, IsThinned, LeavesMeaning};
+ghost use Rattle.staging.specs.Opening.{LeavesOne};
 
 use crate::clearing::{Failed, clear_batch, clear_lines, clear_lines_from, clear_rows};
 use record_text::RefusalKind;
@@ -36,23 +38,52 @@ pub fn remove_open<S: Alter>(alloc: Global, conn: &mut Connection<S>) -> Result<
     ensures untouched { HasCleanDisk (state S.Store conn.new)
         → OnOk result ((rows : Rows) → Settled (state S.Store conn.old) rows → AreAllClosed rows
         → Settled (state S.Store conn.new) rows) }
+    ensures idle { HasCleanDisk (state S.Store conn.new) → (rows : Rows) → Settled (state S.Store conn.old) rows
+        → AreAllClosed rows → LeavesOnly (state S.Store conn.new) rows }
     ensures crash { HasCleanDisk (state S.Store conn.new)
         → (society : List ℕ) (c : Content) (rows : Rows) → Settled (state S.Store conn.old) rows → Means rows c
         → rows.society ≡ society → LeavesMeaning (state S.Store conn.new) society c }
     ensures refused { HasCleanDisk (state S.Store conn.new)
-        → IfErr result (λ kind. (c : Content) (rows : Rows) → Settled (state S.Store conn.old) rows → Means rows c
-        → IsFailure kind) }
+        → IfErr result (λ kind. (rows : Rows) → Settled (state S.Store conn.old) rows → IsFailure kind) }
+    ensures stays { HasCleanDisk (state S.Store conn.new) → IfErr result (λ kind. (society : List ℕ) (c : Content)
+        (rows : Rows) → Settled (state S.Store conn.old) rows → Means rows c → rows.society ≡ society
+        → (kind ≡ Storage) ⊎ LeavesOne (state S.Store conn.new) society c) }
     ensures clean { HasCleanDisk (state S.Store conn.new) → HasCleanDisk (state S.Store conn.old) }
     ensures ended { conn.new.in_transaction ≡ false }
 {
     let batches = read_batches(alloc, conn)?;
     'batches: for batch in &batches {
         if batch.is_open {
-            let numbers = numbers_in(alloc, conn, batch.number)?;
-            remove_batch(conn, batch.number, &numbers)?;
+            remove_found(alloc, conn, batch.number)?;
         }
     }
     Ok(())
+}
+
+/// Takes a batch out with all rows that it has.
+///
+/// 80: the database failed, and some of the rows may be left. 1: memory was refused, and all of them are left.
+fn remove_found<S: Alter>(
+    alloc: Global,
+    conn: &mut Connection<S>,
+    batch: u32,
+) -> Result<(), RefusalKind>
+    requires autocommit { conn.old.in_transaction ≡ false }
+    ensures gone { HasCleanDisk (state S.Store conn.new)
+        → OnOk result ((rows : Rows) → Settled (state S.Store conn.old) rows → Settled (state S.Store conn.new)
+        (without_batch batch (rows_of.numbers_in batch rows) rows)) }
+    ensures crash { HasCleanDisk (state S.Store conn.new)
+        → (society : List ℕ) (c : Content) (rows : Rows) → Settled (state S.Store conn.old) rows
+        → is_closed batch rows.batches ≡ false → Means rows c → rows.society ≡ society
+        → LeavesMeaning (state S.Store conn.new) society c }
+    ensures stays { HasCleanDisk (state S.Store conn.new) → IfErr result (λ kind. (rows : Rows)
+        → Settled (state S.Store conn.old) rows
+        → (kind ≡ Storage) ⊎ ((kind ≡ OutOfMemory) × LeavesOnly (state S.Store conn.new) rows)) }
+    ensures clean { HasCleanDisk (state S.Store conn.new) → HasCleanDisk (state S.Store conn.old) }
+    ensures ended { conn.new.in_transaction ≡ false }
+{
+    let numbers = numbers_in(alloc, conn, batch)?;
+    remove_batch(conn, batch, &numbers)
 }
 
 /// Takes a batch out: the lines of its numbers, then their rows in `record`, then its own row, in commits of at most
@@ -121,12 +152,13 @@ fn take_lines<S: Alter>(conn: &mut Connection<S>, numbers: &[u32]) -> Result<(),
     let mut gathered: usize = 0;
     'numbers: for at in 0..numbers.len() {
         let count = thinned(conn, numbers[at])?;
-        if gathered + count > ROOM {
-            clear_lines(conn, &numbers[first..at])?;
-            first = at;
-            gathered = 0;
+        if gathered + count <= ROOM {
+            gathered += count;
+            continue;
         }
-        gathered += count;
+        clear_lines(conn, &numbers[first..at])?;
+        first = at;
+        gathered = count;
     }
     clear_lines(conn, &numbers[first..])
 }

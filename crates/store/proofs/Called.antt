@@ -13,6 +13,7 @@ use Rattle.std.proofs.Common.{
   Option,
   None,
   Some,
+  is_some,
   refl,
   sym,
   ap,
@@ -35,7 +36,7 @@ use Rattle.store.specs.Calls.{Performs, Stays}
 use Rattle.store.specs.Histories.{MayBeFound, in_doubt}
 use Rattle.store.specs.Importing.{Has}
 use Rattle.store.specs.Lives.{GoesOn, IsCall, IsStill}
-use Rattle.store.specs.Standing.{Standing, asked_by, heard}
+use Rattle.store.specs.Standing.{Standing, heard, shuts}
 use Rattle.store.proofs.Imports.{InNoView, has_the_archive}
 
 -- tables that stay settled have what they had
@@ -43,6 +44,30 @@ pub still_has : (o : Option (Request × Import)) (old new : State) (society : Li
     → ((rows : Rows) → Settled old rows → Settled new rows) → Has society c o old → Has society c o new
 still_has None old new society c same has = (has.0, same has.0 has.1, has.2)
 still_has (Some both) old new society c same has = (has.0, same has.0 has.1, has.2)
+
+-- requests on a lost archive, and on one with an import, are not heard
+pub unheard_lost : (lost : Bool) (i : Option Import) (calls : List Done) → lost ≡ true → heard (shuts lost i) calls ≡ []
+unheard_lost lost None calls e = ap (λ b. heard b calls) e
+unheard_lost lost (Some i) calls e = refl
+
+pub unheard_open : (lost : Bool) (i : Option Import) (calls : List Done) → is_some i ≡ true
+    → heard (shuts lost i) calls ≡ []
+unheard_open lost None calls e = absurd (true≢false (sym e))
+unheard_open lost (Some i) calls e = refl
+
+-- an archive that takes requests has no import, and is not lost
+pub no_import : (i : Option Import) → is_some i ≡ false → i ≡ None
+no_import None e = refl
+no_import (Some i) e = absurd (true≢false e)
+
+pub not_shut : (lost : Bool) (i : Option Import) → shuts lost i ≡ false → (lost ≡ false) × (i ≡ None)
+not_shut lost None e = (e, refl)
+not_shut lost (Some i) e = absurd (true≢false e)
+
+pub heard_all : (lost : Bool) (i : Option Import) (calls : List Done) → lost ≡ false → i ≡ None
+    → heard (shuts lost i) calls ≡ calls
+heard_all lost i calls kept none = ap (λ (o : Option Import). heard (shuts lost o) calls) none
+    ∙ ap (λ b. heard b calls) kept
 
 module _ {S : Type 0} (g : Ghosts S) (old new : Held S) (was is : Standing) where
   -- the call was refused for how the archive stands

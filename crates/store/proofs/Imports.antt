@@ -1,27 +1,30 @@
 -- What an archive with an import on it is, and becomes.
 use Rattle.std.proofs.Common.{
   ◌≡◌,
+  ◌≢◌,
   ◌⊎◌,
   inl,
   inr,
   ℕ,
-  Bool,
   true,
   false,
   List,
   [],
+  filter,
   take,
   drop,
   Option,
   None,
   Some,
   Ok,
+  Err,
   refl,
-  sym,
   subst,
   ◌∙◌,
   true≢false,
 }
+use Rattle.std.specs.Prelude.{◌==◌, IfSome, MatchOption, OnOk, Result}
+use Rattle.std.specs.FinMap.{get}
 use Rattle.sqlite.specs.State.{State}
 use Rattle.sqlite.specs.Tree.{Trees}
 use Rattle.record_text.specs.declared.refusal.RefusalKind.{RefusalKind}
@@ -30,23 +33,45 @@ use Rattle.archive_state.specs.Applied.{applied}
 use Rattle.archive_state.specs.Changes.{Changes}
 use Rattle.archive_state.specs.Content.{Content}
 use Rattle.archive_state.specs.Sound.{IsSound}
+use Rattle.archive_state.specs.declared.changes.Kept.{Kept}
+use Rattle.archive_looks.specs.Exact.{ChangesNothing}
+use Rattle.receipts.specs.declared.answer.Receipt.{Receipt}
+use Rattle.import_steps.specs.Imports.{OnlyAdds}
+use Rattle.archive_core.specs.Applied.{Decides}
+use Rattle.archive_core.specs.Exact.{IsExactFor}
+use Rattle.archive_core.specs.Machine.{Does, outcome}
+use Rattle.archive_core.specs.Words.{HasUtf8Words}
 use Rattle.archive_core.specs.declared.request.Request.{Request}
 use Rattle.archive_core.proofs.Serving.{request_sound}
 use Rattle.record_shapes.specs.Lists.{EachOf}
-use Rattle.store_tables.specs.Calls.{Good, Settled}
-use Rattle.store_tables.specs.Rows.{Rows}
+use Rattle.store_tables.specs.Calls.{Good, LeavesOnly, Settled}
+use Rattle.store_tables.specs.Rows.{LineRow, RecordRow, Rows, with_batch}
 use Rattle.store_rows.specs.Meaning.{AllShallow, Means, is_closed}
 use Rattle.store_rows.specs.Shallow.{IsShallowPut}
 use Rattle.staged_rows.specs.Removing.{IsAside, without_batch}
-use Rattle.staged_rows.specs.Staging.{IsFresh, numbers_of, with_published, with_staged}
-use Rattle.import_commits.specs.Commits.{LeavesEither}
+use Rattle.staged_rows.specs.Staging.{IsFresh, numbers_of, rows_of_import, with_published, with_staged}
 use Rattle.staging.specs.Opened.{Import}
-use Rattle.import_commits.specs.Commits.{IsAddition, IsBegun}
-use Rattle.store.specs.Archives.{HasArchive, IsArchive, Keeps, LeavesArchive}
+use Rattle.staging.specs.Clearing.{LeavesMeaning}
+use Rattle.import_commits.specs.Commits.{
+  IsAddition,
+  IsBegun,
+  IsNextBatch,
+  LeavesBegun,
+  LeavesEither,
+  LeavesPublished,
+}
+use Rattle.store.specs.Archives.{HasArchive, Keeps, LeavesArchive}
+use Rattle.store.specs.Calls.{KeepsRows}
 use Rattle.store.specs.Histories.{is_storage}
-use Rattle.store.specs.Importing.{Has, IsAccepted, KeepsImport}
+use Rattle.store.specs.Importing.{Has, HasAnswered, HasBegun, KeepsImport}
+use Rattle.store.proofs.Committed.{nothing_changes}
+use Rattle.store.proofs.Unchanged.{applies_nothing}
 
 -- laws of import_commits
+abbrev pub IsNew : Type 0
+IsNew = (batch : ℕ) (rows : Rows) (t : Trees) (c : Content) (changes : Changes) → Good rows t
+    → IsNextBatch batch rows → Means rows c → IsAddition c changes → IsFresh batch changes.puts rows
+
 abbrev pub InNoView : Type 0
 InNoView = (before rows : Rows) (i : Import) (c : Content) → IsBegun before i rows
     → IsFresh i.batch i.changes.puts before → IsAddition c i.changes → Means before c
@@ -61,6 +86,14 @@ IsWhole = (before rows : Rows) (i : Import) (c : Content) → IsBegun before i r
     → IsFresh i.batch i.changes.puts before → IsAddition c i.changes → Means before c → i.left ≡ []
     → Means (with_published i.batch i.changes rows) (applied c i.changes)
     × ((with_published i.batch i.changes rows).society ≡ before.society)
+
+abbrev pub LeavesOthers : Type 0
+LeavesOthers = (before rows : Rows) (i : Import) (c : Content) (m : ℕ) → IsBegun before i rows
+    → IsAddition c i.changes → i.left ≡ [] → get c.records m ≡ get (applied c i.changes).records m
+    → (filter (λ (l : LineRow). l.no == m) (with_published i.batch i.changes rows).lines ≡ filter
+    (λ (l : LineRow). l.no == m) before.lines)
+    × (filter (λ (r : RecordRow). r.no == m) (with_published i.batch i.changes rows).records ≡ filter
+    (λ (r : RecordRow). r.no == m) before.records)
 
 abbrev pub CanBeRead : Type 0
 CanBeRead = (c : Content) (changes : Changes) → IsAddition c changes → EachOf IsShallowPut changes.puts → AllShallow c
@@ -77,24 +110,141 @@ LeavesWhatWas = (before rows : Rows) (i : Import) (c : Content) → IsBegun befo
     → without_batch i.batch (numbers_of i.changes.puts) rows ≡ before
 
 -- ---- while it is open
+still_keeps : InNoView → (society : List ℕ) (c : Content) (before rows : Rows) (i : Import) → IsBegun before i rows
+    → IsFresh i.batch i.changes.puts before → IsAddition c i.changes → Keeps society c before → Keeps society c rows
+still_keeps law society c before rows i begun fresh adds keeps =
+    let seen = law before rows i c begun fresh adds keeps.means in
+    record {
+      means = seen.0;
+      shallow = keeps.shallow;
+      sound = keeps.sound;
+      society_is = seen.1 ∙ keeps.society_is;
+    }
+
 pub keeps_archive : InNoView → (society : List ℕ) (c : Content) (r : Request) (i : Import) (rows : Rows)
     → KeepsImport society c r i rows → Keeps society c rows
 keeps_archive law society c r i rows has =
-    let seen = law has.before rows i c has.begun has.fresh has.accepted.adds has.keeps.means in
-    record {
-      means = seen.0;
-      shallow = has.keeps.shallow;
-      sound = has.keeps.sound;
-      society_is = seen.1 ∙ has.keeps.society_is;
-    }
+    still_keeps law society c has.before rows i has.begun has.fresh has.accepted.adds has.keeps
 
 pub has_the_archive : InNoView → (society : List ℕ) (c : Content) (o : Option (Request × Import)) (s : State)
     → Has society c o s → HasArchive society c s
 has_the_archive law society c None s has = has
 has_the_archive law society c (Some (r, i)) s has = (has.0, has.1, keeps_archive law society c r i has.0 has.2)
 
+-- ---- what is said of an import that may be there
+pub some_then : {A : Type 0} (P : Type 0) (Q R S : A → Type 0) (o : Option A) → MatchOption o P Q
+    → IfSome o R → ((x : A) → Q x → R x → S x) → IfSome o S
+some_then P Q R S None whole more f = tt
+some_then P Q R S (Some x) whole more f = f x whole more
+
+pub none_then : {A : Type 0} (P : Type 0) (Q : A → Type 0) (o : Option A) → MatchOption o P Q → o ≡ None → P
+none_then P Q None whole none = whole
+none_then P Q (Some x) whole none = absurd cc
+
+pub ok_both : {A E P Q R : Type 0} (r : Result A E) → (P → Q → R) → OnOk r P → OnOk r Q → OnOk r R
+ok_both (Ok a) f p q = f p q
+ok_both (Err e) f p q = tt
+
+-- ---- it is begun
+-- the import of these changes of which no row is written
+abbrev pub first_of : ℕ → Changes → Import
+first_of batch changes = record { batch = batch; changes = changes; left = rows_of_import batch changes.puts }
+
+begins : (batch : ℕ) (changes : Changes) (rows : Rows)
+    → IsBegun rows (first_of batch changes) (with_batch batch true rows)
+begins batch changes rows = record { done = []; parts = refl; rows_are = refl }
+
+pub adds_of : (c : Content) (changes : Changes) → OnlyAdds c changes → IsSound c → IsAddition c changes
+adds_of c changes adds sound =
+    record { once = adds.once; free = adds.free sound; removals = adds.removals; slip = adds.slip }
+
+-- whether an answer is kept for a request, by whether one is to be kept
+none_is_there : (N P : Type 0) (o : Option Receipt) → (N → ⊥) → MatchOption o P (λ _. N) → o ≡ None
+none_is_there N P None off h = refl
+none_is_there N P (Some receipt) off h = absurd (off h)
+
+one_is_there : (N P : Type 0) (o : Option Receipt) → (P → ⊥) → MatchOption o P (λ _. N) → o ≢ None
+one_is_there N P None off h e = off h
+one_is_there N P (Some receipt) off h e = absurd cc
+
+some_is_not : (k : Kept) (o : Option Kept) → o ≡ None → o ≡ Some k → ⊥
+some_is_not k o none some = absurd cc
+
+pub none_is_kept : (c : Content) (r : Request) (changes : Changes) → IsExactFor c r changes → changes.kept ≢ None
+    → get c.receipts r.token ≡ None
+none_is_kept c r changes exact anew =
+    none_is_there (ChangesNothing c changes) _ (get c.receipts r.token) (λ nothing. anew nothing.kept) exact.0
+
+pub one_is_kept : (c : Content) (r : Request) (changes : Changes) → IsExactFor c r changes → changes.kept ≡ None
+    → get c.receipts r.token ≢ None
+one_is_kept c r changes exact none =
+    one_is_there (ChangesNothing c changes) _ (get c.receipts r.token) (some_is_not _ changes.kept none) exact.0
+
+-- the answer was kept before
+pub has_answered : (c : Content) (rows : Rows) (r : Request) (changes : Changes) (s : State)
+    → Decides c (Ok changes) (outcome c r) → IsExactFor c r changes → changes.kept ≡ None → Settled s rows
+    → HasAnswered c rows r changes.answer s
+has_answered c rows r changes s decided exact none settled =
+    let same = applies_nothing c changes (nothing_changes c r changes exact none) in
+    (subst (λ d. Does c r (Ok changes.answer) d) same decided, settled, one_is_kept c r changes exact none)
+
+module _ (seen : InNoView) (law : IsNew) (society : List ℕ) (c : Content) (rows : Rows) (changes : Changes)
+    (old : State) (was : Settled old rows) (keeps : Keeps society c rows) (only : OnlyAdds c changes) where
+  abbrev adds : IsAddition c changes
+  adds = adds_of c changes only keeps.sound
+
+  fresh_of : (batch : ℕ) → IsNextBatch batch rows → IsFresh batch changes.puts rows
+  fresh_of batch next = law batch rows old.now.trees c changes was.good next keeps.means adds
+
+  pub has_begun : (r : Request) (batch : ℕ) (s : State) → Decides c (Ok changes) (outcome c r)
+      → IsExactFor c r changes → HasUtf8Words r.command → changes.kept ≢ None → IsNextBatch batch rows
+      → Settled s (with_batch batch true rows) → HasBegun society c rows r changes.answer (first_of batch changes) s
+  has_begun r batch s decided exact words anew next now = (
+    (
+      with_batch batch true rows,
+      now,
+      record {
+        before = rows;
+        keeps = keeps;
+        fresh = fresh_of batch next;
+        begun = begins batch changes rows;
+        accepted = record {
+          new = none_is_kept c r changes exact anew;
+          accepted = decided;
+          words = words;
+          adds = adds;
+        };
+      },
+    ),
+    refl,
+    refl,
+    refl,
+  )
+
+  -- whatever a stop leaves is the archive of before
+  pub begin_leaves : (s : State) → LeavesBegun s rows → LeavesArchive s society (λ found. found ≡ c)
+  begin_leaves s leaves t l = elim (leaves t l) [
+    | inl good ↦ (c, refl, (rows, good, keeps))
+    | inr next ↦
+        let after = with_batch next.0 true rows in (
+          c,
+          refl,
+          (
+            after,
+            next.2,
+            still_keeps seen society c rows after (first_of next.0 changes) (begins next.0 changes rows)
+                (fresh_of next.0 next.1) adds keeps,
+          ),
+        )
+  ]
+
+-- nothing was committed
+pub only_leaves : (society : List ℕ) (c : Content) (rows : Rows) (s : State) → Keeps society c rows
+    → LeavesOnly s rows → LeavesArchive s society (λ found. found ≡ c)
+only_leaves society c rows s keeps only t l = (c, refl, (rows, only t l, keeps))
+
 -- ---- a stage
-pub stage_keeps : GoesOn → (n : ℕ) (society : List ℕ) (c : Content) (r : Request) (i : Import) (rows : Rows)
+abbrev pub stage_keeps : GoesOn → (n : ℕ) (society : List ℕ) (c : Content) (r : Request) (i : Import) (rows : Rows)
     → KeepsImport society c r i rows
     → KeepsImport society c r (record i { left = drop n i.left }) (with_staged (take n i.left) rows)
 stage_keeps law n society c r i rows has = record {
@@ -136,16 +286,25 @@ published_keeps whole read society c r i rows has none puts =
       society_is = made.1 ∙ has.keeps.society_is;
     }
 
+pub published_rows : LeavesOthers → (society : List ℕ) (c : Content) (r : Request) (i : Import) (rows : Rows)
+    → (has : KeepsImport society c r i rows) → i.left ≡ []
+    → KeepsRows c (applied c i.changes) has.before (with_published i.batch i.changes rows)
+published_rows law society c r i rows has none m same =
+    law has.before rows i c m has.begun has.accepted.adds none same
+
 pub publish_leaves : InNoView → IsWhole → CanBeRead → (society : List ℕ) (c : Content) (r : Request) (i : Import)
-    (rows : Rows) (s : State) → KeepsImport society c r i rows → i.left ≡ [] → EachOf IsShallowPut i.changes.puts
-    → LeavesEither s rows (with_published i.batch i.changes rows)
+    (rows : Rows) (s : State) → KeepsImport society c r i rows → i.left ≡ [] → LeavesPublished s rows i
     → LeavesArchive s society (λ found. (found ≡ c) ⊎ (found ≡ applied c i.changes))
-publish_leaves seen whole read society c r i rows s has none puts either t l = elim (either t l) [
+publish_leaves seen whole read society c r i rows s has none either t l = elim (either t l) [
   | inl good ↦ (c, inl refl, (rows, good, keeps_archive seen society c r i rows has))
   | inr good ↦ (
     applied c i.changes,
     inr refl,
-    (with_published i.batch i.changes rows, good, published_keeps whole read society c r i rows has none puts),
+    (
+      with_published i.batch i.changes rows,
+      good.0,
+      published_keeps whole read society c r i rows has none (good.1 none),
+    ),
   )
 ]
 

@@ -1,3 +1,5 @@
+mod Adopted
+mod Audited
 mod Called
 mod Committed
 pub mod Histories

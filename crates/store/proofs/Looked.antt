@@ -16,7 +16,7 @@ use Rattle.store.specs.Archives.{HasArchive, Keeps}
 use Rattle.store.specs.Calls.{Reads}
 use Rattle.store.specs.Histories.{is_storage}
 
-storage_is : (k : RefusalKind) → is_storage k ≡ true → k ≡ Storage
+pub storage_is : (k : RefusalKind) → is_storage k ≡ true → k ≡ Storage
 storage_is Storage e = refl
 storage_is _ e = absurd (true≢false (sym e))
 

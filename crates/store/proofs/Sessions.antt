@@ -136,14 +136,22 @@ module _ {S : Type 0} (g : Ghosts S) where
         (subst (λ xs. MayBeFound c xs left.0) (sym s.4) left.1) in
         (left.0, all.0, left.2, all.1, all.2)
 
+    on_opening : (before after : Trees) (calls : List Done) (society : List ℕ) (c : Content)
+        → Session g before calls after → IsArchive society c before
+        → (found : Content) × (dones : List Done) × IsArchive society found after × Counts calls dones
+        × Runs c dones found
+    on_opening before after calls society c (inl s) is = on_session s.0 after calls society c s.2 (s.1 society c is)
+    on_opening before after calls society c (inr s) is =
+        let left = s.1 society c is after s.4 in
+        (left.0, [], left.2, subst (λ xs. Counts xs []) (sym s.3) (inl refl), left.1)
+
     pub of_life : (more : List (List Done)) (before after : Trees) (calls : List Done) (society : List ℕ)
         (c : Content) → Life g before calls more after → IsArchive society c before
         → (found : Content) × (dones : List Done) × IsArchive society found after × CountInAll calls more dones
         × Runs c dones found
-    of_life [] before after calls society c life is =
-        on_session life.0 after calls society c life.2 (life.1 society c is)
+    of_life [] before after calls society c life is = on_opening before after calls society c life is
     of_life (next ∷ more) before after calls society c life is =
-        let one = on_session life.1.0 life.0 calls society c life.1.2 (life.1.1 society c is) in
+        let one = on_opening before life.0 calls society c life.1 is in
         let rest = of_life more life.0 after next society one.0 life.2 one.2 in (
           rest.0,
           one.1 ++ rest.1,

@@ -17,6 +17,11 @@ use Rattle.store.specs.Standing.{Standing, ready}
 abbrev pub IsOpenedOver : Trees → State → Type 0
 IsOpenedOver t s = (society : List ℕ) (c : Content) → IsArchive society c t → HasArchive society c s
 
+-- a connection that was opened over these tables, on which the archive was not taken up: a crash leaves what they hold
+abbrev pub IsRefusedOver : Trees → State → Type 0
+IsRefusedOver t s = (society : List ℕ) (c : Content) → IsArchive society c t
+    → LeavesArchive s society (λ found. found ≡ c)
+
 -- ---- the calls of a session, on a connection, by how its archive stood before each and stands after it
 -- requests that are done, by a call on an archive that is not lost, which may be none, as of a call that reads or writes
 -- rows of an import. Unless the database failed, they are a run of the machine, and the archive has what it leaves; in
@@ -63,10 +68,16 @@ abbrev pub SessionOn : {S : Type 0} → Ghosts S → Held S → List Done → Tr
 SessionOn {S} g first calls after = (last : Held S) × (all : List Call) × Serves g first ready all last
     × HasCleanDisk (state g last) × (calls ≡ requests_of all) × (state g last).may_leave after
 
--- a session: an archive is opened over these tables, is called, and is stopped, which leaves those tables
+-- an archive is not taken up over these tables, and that is stopped, which leaves those tables: nothing was asked of it
+abbrev pub IsRefusedSession : {S : Type 0} → Ghosts S → Trees → List Done → Trees → Type 0
+IsRefusedSession {S} g before calls after = (last : Held S) × IsRefusedOver before (state g last)
+    × HasCleanDisk (state g last) × (calls ≡ []) × (state g last).may_leave after
+
+-- a session: an archive is opened over these tables, is called, and is stopped, which leaves those tables; or it is
+-- stopped before it is taken up
 abbrev pub Session : {S : Type 0} → Ghosts S → Trees → List Done → Trees → Type 0
-Session {S} g before calls after = (first : Held S) × IsOpenedOver before (state g first)
-    × SessionOn g first calls after
+Session {S} g before calls after = ((first : Held S) × IsOpenedOver before (state g first)
+    × SessionOn g first calls after) ⊎ IsRefusedSession g before calls after
 
 -- a session, and then others
 abbrev pub Life : {S : Type 0} → Ghosts S → Trees → List Done → List (List Done) → Trees → Type 0

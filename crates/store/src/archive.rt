@@ -31,7 +31,7 @@ ghost use Rattle.std.specs.Prelude.{
 };
 ghost use Rattle.std.specs.List.{AllByRecursion, zip};
 ghost use Rattle.std.specs.String.{string_bytes};
-ghost use Rattle.std.specs.FinMap.{get};
+ghost use Rattle.std.specs.FinMap.{get, keys};
 ghost use Rattle.sqlite.specs.State.{HasCleanDisk};
 ghost use Rattle.sqlite.specs.Held.{state};
 ghost use Rattle.sqlite.specs.Tree.{Trees};
@@ -43,7 +43,8 @@ ghost use Rattle.archive_core.specs.declared.request.Request.{Request};
 ghost use Rattle.archive_state.specs.Content.{Content, nothing};
 ghost use Rattle.store_tables.specs.Calls.{IsAsItWas, Settled, SettledBlank, LeavesOnly};
 ghost use Rattle.store_tables.specs.Schema.{no_schema};
-ghost use Rattle.store.specs.Adopting.{IsRecognised, LeavesStore, RefusesToAdopt, is_foreign};
+ghost use Rattle.archive_audits.specs.Judging.{Judges, Tells, without_fault};
+ghost use Rattle.store.specs.Adopting.{IsRecognised, LeavesRefused, LeavesStore, RefusesToAdopt, TakesUp, is_foreign};
 ghost use Rattle.store.specs.Archives.{HasArchive, Keeps, LeavesArchive};
 ghost use Rattle.store.specs.Calls.{Acknowledges, OnArchive, Performs, Reads};
 ghost use Rattle.store.specs.Creating.{IsSociety, RefusesToCreate, RefusesToMake};
@@ -57,7 +58,7 @@ ghost use Rattle.store.specs.Histories.{
   loses,
 };
 ghost use Rattle.store.specs.Importing.{HasAnswered, HasBegun, HasImport};
-ghost use Rattle.store.specs.Lives.{IsCall, IsOpenedOver};
+ghost use Rattle.store.specs.Lives.{IsCall, IsOpenedOver, IsRefusedOver};
 ghost use Rattle.store.specs.Standing.{
   begun_as,
   heard,
@@ -68,13 +69,17 @@ ghost use Rattle.store.specs.Standing.{
   standing,
 };
 
+use crate::adopting::take_up;
+use crate::auditing::{self, audit_on};
 use crate::beginning::begin_on;
 use crate::failing::{has_broken, has_failed, loses};
 use crate::importing::{abandon_on, publish_on, stage_on};
 use crate::performing::perform_on;
-use crate::reading::{recognise, society_on, state_on};
+use crate::reading::{society_on, state_on};
 use archive_core::{Forest, Request};
 use archive_state::{Answer, State, Token};
+use audit::Fault;
+use import_commits::laws::an_import_that_is_begun_is_in_no_view;
 use record_text::{Refusal, RefusalKind, Text};
 use sqlite::{Alter, Connection};
 use staging::OpenImport;
@@ -125,13 +130,17 @@ impl<S: Alter> Archive<S> {
         }
     }
 
-    /// The archive that a store has. At a refusal the connection is handed back.
+    /// The archive that a store has. Imports that were left open are taken out of it; where none was, nothing is
+    /// written. At a refusal the connection is handed back.
     ///
     /// 82: the store has no archive. 83: a later program wrote it. 80: the database failed. 1: memory was refused.
-    pub fn adopt(mut conn: Connection<S>) -> Result<Archive<S>, (RefusalKind, Connection<S>)>
+    pub fn adopt(
+        alloc: Global,
+        mut conn: Connection<S>,
+    ) -> Result<Archive<S>, (RefusalKind, Connection<S>)>
         requires autocommit { conn.in_transaction ≡ false }
         ensures adopted { IfOk result (λ made. (made.is_lost ≡ false)
-            × (HasCleanDisk (state S.Store made.conn) → Reads {A = Unit {0}} (λ _ _ _. ⊤) (state S.Store conn) (Ok tt)
+            × (HasCleanDisk (state S.Store made.conn) → TakesUp (state S.Store conn) (Ok tt)
             (state S.Store made.conn))) }
         ensures recognised { IfOk result (λ made. HasCleanDisk (state S.Store made.conn)
             → IsRecognised S.Store (state S.Store conn)) }
@@ -139,17 +148,20 @@ impl<S: Alter> Archive<S> {
         ensures idle { IfOk result (λ made. (made.import ≡ None) × (shuts made.is_lost made.import ≡ false)) }
         ensures begins { IfOk result (λ made. HasCleanDisk (state S.Store made.conn) → (t : Trees)
             → IsOpenedOver t (state S.Store conn) → IsOpenedOver t (state S.Store made.conn)) }
-        ensures taken { IfOk result (λ made. LeavesStore (state S.Store conn) (state S.Store made.conn)) }
-        ensures left { IfErr result (λ e. LeavesStore (state S.Store conn) (state S.Store e.1)) }
+        ensures left { IfErr result (λ e. LeavesRefused S.Store (state S.Store conn) e.0 (state S.Store e.1)) }
+        ensures foreign { IfErr result (λ e. is_foreign e.0 ≡ true
+            → LeavesStore (state S.Store conn) (state S.Store e.1)) }
         ensures unchanged { IfErr result (λ e. HasCleanDisk (state S.Store e.1) → is_foreign e.0 ≡ true
             → IsAsItWas (state S.Store conn) (state S.Store e.1)) }
         ensures refused { IfErr result (λ e. HasCleanDisk (state S.Store e.1)
-            → Reads {A = Unit {0}} (λ _ _ _. ⊤) (state S.Store conn) (Err e.0) (state S.Store e.1)) }
+            → TakesUp (state S.Store conn) (Err e.0) (state S.Store e.1)) }
+        ensures stopped { IfErr result (λ e. HasCleanDisk (state S.Store e.1) → (t : Trees)
+            → IsOpenedOver t (state S.Store conn) → IsRefusedOver t (state S.Store e.1)) }
         ensures told { IfErr result (λ e. HasCleanDisk (state S.Store e.1) → RefusesToAdopt S.Store
             (state S.Store conn) e.0) }
         ensures ended { IfErr result (λ e. e.1.in_transaction ≡ false) }
     {
-        match recognise(&mut conn) {
+        match take_up(alloc, &mut conn) {
             Ok(()) => Ok(Archive {
                 conn,
                 is_lost: false,
@@ -160,8 +172,8 @@ impl<S: Alter> Archive<S> {
         }
     }
 
-    /// Does a request, and then answers: in one commit, or an import in its steps (`begin_import`, `stage`, `publish`). A
-    /// request whose token is kept is answered as before, and nothing is written.
+    /// Does a request, and then answers: an import in commits of at most 256 rows, of which the last publishes it, and
+    /// any other in one commit. A request whose token is kept is answered as before, and nothing is written.
     ///
     /// Any refusal but 80 leaves the archive as it was. 80: the database failed, and the request is done or not; the
     /// archive has to be opened again, and each later call answers 81. 84: an import is open.
@@ -446,6 +458,7 @@ impl<S: Alter> Archive<S> {
         if self.is_lost {
             return Err(RefusalKind::Reopen);
         }
+        an_import_that_is_begun_is_in_no_view();
         let read = state_on(alloc, &mut self.conn);
         self.is_lost = has_broken(&read);
         read
@@ -467,6 +480,7 @@ impl<S: Alter> Archive<S> {
         if self.is_lost {
             return Err(RefusalKind::Reopen);
         }
+        an_import_that_is_begun_is_in_no_view();
         let read = society_on(alloc, &mut self.conn);
         self.is_lost = has_broken(&read);
         read
@@ -490,6 +504,56 @@ impl<S: Alter> Archive<S> {
             import: _,
         } = self;
         conn
+    }
+
+    /// How many records the archive has, where its tables are good. Nothing is changed.
+    ///
+    /// 40: the tables are not good: they cannot be read, as where somebody else wrote them, or what they mean is not
+    /// sound. 80: the database failed. 81: it failed before. 1: memory was refused.
+    pub fn audit(&mut self, alloc: Global) -> Result<u32, RefusalKind>
+        ensures judged { HasCleanDisk (state S.Store self.new.conn) → self.old.is_lost ≡ false
+            → Judges (state S.Store self.old.conn) result }
+        ensures reads { HasCleanDisk (state S.Store self.new.conn) → self.old.is_lost ≡ false
+            → Reads (λ _ c n. n ≡ length (keys c.records)) (state S.Store self.old.conn) result
+            (state S.Store self.new.conn) }
+        ensures lost { self.old.is_lost ≡ false → self.new.is_lost ≡ has_broken result }
+        ensures reopen { IsTrue self.old.is_lost → (result ≡ Err refusal.Reopen) × (self.new ≡ self.old) }
+        ensures open { self.new.import ≡ self.old.import }
+        ensures called { (r : Request) → IsCall S.Store self.old.conn
+            (standing r self.old.is_lost self.old.import) [] self.new.conn
+            (standing r self.new.is_lost self.new.import) }
+        ensures uncounted { self.new.failures ≡ self.old.failures }
+    {
+        match self.audit_with_fault(alloc) {
+            Ok(records) => Ok(records),
+            Err((kind, _)) => Err(kind),
+        }
+    }
+
+    /// The same, and what breaks a rule, where a 40 says that what the tables mean is not sound.
+    pub fn audit_with_fault(&mut self, alloc: Global) -> Result<u32, (RefusalKind, Option<Fault>)>
+        ensures judged { HasCleanDisk (state S.Store self.new.conn) → self.old.is_lost ≡ false
+            → Judges (state S.Store self.old.conn) (without_fault result) }
+        ensures told { HasCleanDisk (state S.Store self.new.conn) → self.old.is_lost ≡ false
+            → Tells (state S.Store self.old.conn) result }
+        ensures reads { HasCleanDisk (state S.Store self.new.conn) → self.old.is_lost ≡ false
+            → Reads (λ _ c n. n ≡ length (keys c.records)) (state S.Store self.old.conn) (without_fault result)
+            (state S.Store self.new.conn) }
+        ensures lost { self.old.is_lost ≡ false → self.new.is_lost ≡ has_broken (without_fault result) }
+        ensures reopen { IsTrue self.old.is_lost → (result ≡ Err (refusal.Reopen, None)) × (self.new ≡ self.old) }
+        ensures open { self.new.import ≡ self.old.import }
+        ensures called { (r : Request) → IsCall S.Store self.old.conn
+            (standing r self.old.is_lost self.old.import) [] self.new.conn
+            (standing r self.new.is_lost self.new.import) }
+        ensures uncounted { self.new.failures ≡ self.old.failures }
+    {
+        if self.is_lost {
+            return Err((RefusalKind::Reopen, None));
+        }
+        an_import_that_is_begun_is_in_no_view();
+        let audit = audit_on(alloc, &mut self.conn);
+        self.is_lost = auditing::has_failed(&audit);
+        audit
     }
 }
 

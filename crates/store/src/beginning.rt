@@ -1,6 +1,6 @@
 //! An import is decided, and begun on the connection of an archive.
 
-ghost use Rattle.std.specs.Prelude.{◌≡◌, ◌≢◌, true, false, None, Ok, Err, IfOk, IfErr, IfSome, OnOk};
+ghost use Rattle.std.specs.Prelude.{◌≡◌, ◌≢◌, true, false, None, Ok, Err, IfOk, IfErr, IfSome, MatchOption, OnOk};
 ghost use Rattle.std.specs.FinMap.{get};
 ghost use Rattle.sqlite.specs.State.{HasCleanDisk};
 ghost use Rattle.sqlite.specs.Held.{state};
@@ -119,16 +119,13 @@ fn open_import<S: Alter>(
     changes: Changes,
 ) -> Result<Option<OpenImport>, RefusalKind>
     requires autocommit { conn.old.in_transaction ≡ false }
-    ensures again { changes.kept ≡ None → (result ≡ Ok None) × (conn.new ≡ conn.old) }
-    ensures anew { changes.kept ≢ None → IfOk result (λ import. import ≢ None) }
-    ensures whole { IfOk result (λ import. IfSome import (λ i. i ≡ record {
-      batch = i.batch;
-      changes = changes;
-      left = rows_of_import i.batch changes.puts;
-    })) }
+    ensures again { changes.kept ≡ None → conn.new ≡ conn.old }
+    ensures whole { IfOk result (λ import. MatchOption import (changes.kept ≡ None) (λ i. (changes.kept ≢ None)
+        × (i ≡ record { batch = i.batch; changes = changes; left = rows_of_import i.batch changes.puts }))) }
     ensures begun { HasCleanDisk (state S.Store conn.new) → IfOk result (λ import. IfSome import (λ i.
         (rows : Rows) → Settled (state S.Store conn.old) rows → IsNextBatch i.batch rows
         × Settled (state S.Store conn.new) (with_batch i.batch true rows))) }
+    ensures kept { IfErr result (λ _. changes.kept ≢ None) }
     ensures crash { changes.kept ≢ None → HasCleanDisk (state S.Store conn.new)
         → (rows : Rows) → Settled (state S.Store conn.old) rows → LeavesBegun (state S.Store conn.new) rows }
     ensures refused { HasCleanDisk (state S.Store conn.new) → IfErr result (λ kind. is_storage kind ≡ false
@@ -140,8 +137,10 @@ fn open_import<S: Alter>(
     if changes.kept.is_none() {
         return Ok(None);
     }
-    let import = begin(alloc, conn, changes)?;
-    Ok(Some(import))
+    match begin(alloc, conn, changes) {
+        Ok(import) => Ok(Some(import)),
+        Err(kind) => Err(kind),
+    }
 }
 
 /// What the import of a forest changes in an archive. It is refused as by `decide_import`, and with 80 where a look

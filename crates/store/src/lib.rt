@@ -2,7 +2,9 @@
 //! is answered: an import in steps, and any other in one commit.
 #![tactic(auto)]
 
+mod adopting;
 mod archive;
+mod auditing;
 mod beginning;
 mod committing;
 mod deciding;

@@ -11,6 +11,7 @@ returns-clause-done g c clean rows was =
     let old = state g.S.Store c.args.conn.now in
     let mid = state g.S.Store c.remove_lines.new.tx.conn.now in
     let new = state g.S.Store c.conn-2-1.given.0 in
-    let follows : Follows (record old { in_transaction = true }) mid (without_all_lines c.args.numbers.now) = search rules in
+    let follows : Follows (record old { in_transaction = true }) mid (without_all_lines c.args.numbers.now) =
+    search rules in
     let shows : Shows mid new mid.now mid.now false = search rules in
     settles old mid new (without_all_lines c.args.numbers.now) rows follows shows was

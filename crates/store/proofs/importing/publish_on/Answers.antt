@@ -1,25 +1,25 @@
 use Rattle.sqlite.specs.Held.{state}
 use Rattle.staged_rows.specs.Staging.{with_published}
-use Rattle.store_tables.proofs.Calls.{on_ok}
-use Rattle.store.proofs.Imports.{publish_leaves, published_keeps}
+use Rattle.store.proofs.Imports.{ok_both, publish_leaves, published_keeps, published_rows}
 use Rattle.store.proofs.importing.publish_on.Goals as goal
 
 pub returns-clause-published : goal.returns-clause-published
 returns-clause-published g c clean =
     let import = c.args.import.now in
-    on_ok c.publish.result (λ did society content r has none. (
+    ok_both c.publish.result (λ did shallow society content r has none. (
       has.2.accepted.accepted,
       (
         with_published import.batch import.changes has.0,
         did has.0 has.1,
         published_keeps c.a_published_import_is_whole.ensures c.what_an_import_adds_can_be_read.ensures society content
-            r import has.0 has.2 none (c.publish.ensures.shallow none),
+            r import has.0 has.2 none (shallow none),
+        published_rows c.a_published_import_leaves_the_rows_of_other_numbers.ensures society content r import has.0
+            has.2 none,
       ),
-    )) (c.publish.ensures.published clean)
+    )) (c.publish.ensures.published clean) c.publish.ensures.shallow
 
 pub returns-clause-crash : goal.returns-clause-crash
 returns-clause-crash g c clean society content r has none t l =
     publish_leaves c.an_import_that_is_begun_is_in_no_view.ensures c.a_published_import_is_whole.ensures
     c.what_an_import_adds_can_be_read.ensures society content r c.args.import.now has.0
-    (state g.S.Store c.publish.new.conn) has.2 none (c.publish.ensures.shallow none)
-    (c.publish.ensures.crash clean has.0 has.1) t l
+    (state g.S.Store c.publish.new.conn) has.2 none (c.publish.ensures.crash clean has.0 has.1) t l

@@ -1,7 +1,6 @@
 use Rattle.std.proofs.Common.{◌≡◌, arith, inl, inr, false, refl, subst, sym, take, ◌∙◌}
 use Rattle.sqlite.specs.Held.{state}
 use Rattle.sqlite.specs.State.{HasCleanDisk}
-use Rattle.sqlite.specs.Tree.{Trees}
 use Rattle.staged_rows.specs.Staging.{with_staged}
 use Rattle.store.specs.Histories.{is_storage}
 use Rattle.store.specs.Importing.{HasImport}
@@ -42,10 +41,11 @@ returns-in-Err-clause-stays g c clean sure =
     let same = after.same sure in
     let before : HasCleanDisk (state g.S.Store c.stage.new.conn) = omega (arith, after.survives.clean, clean) in
     let want = memory_of c.in-Err.kind c.in-Err.ensures.refused (subst (λ k. is_storage k ≡ false) same sure) in
-    let undone = c.in-Err.ensures.undone before want in (
+    let undone = c.in-Err.ensures.undone before want in
+    let new = state g.S.Store c.refusal_after.new.conn in (
       same ∙ want,
       undone.0,
       λ society content r has. subst
-      (λ i. (still : HasImport society content r i (state g.S.Store c.refusal_after.new.conn)) × (still.2.before ≡ has.2.before))
-      (sym undone.0) ((has.0, after.settled clean sure has.0 (undone.1 has.0 has.1), has.2), refl),
+          (λ i. (still : HasImport society content r i new) × (still.2.before ≡ has.2.before)) (sym undone.0)
+          ((has.0, after.settled clean sure has.0 (undone.1 has.0 has.1), has.2), refl),
     )

@@ -1,0 +1,245 @@
+-- Open batches that are taken out, one after the other.
+use Rattle.std.proofs.Common.{
+  ◌≡◌,
+  ℕ,
+  Bool,
+  true,
+  false,
+  not,
+  List,
+  [],
+  ◌∷◌,
+  ◌++◌,
+  filter,
+  cond,
+  Result,
+  Ok,
+  refl,
+  sym,
+  ap,
+  ap₂,
+  subst,
+  ◌∙◌,
+  append_assoc,
+  arith,
+}
+use Rattle.std.specs.Prelude.{◌==◌, ◌&&◌, ◌||◌, ◌<◌, ◌⊎◌}
+use Rattle.std.specs.List.{AllByRecursion, list_any}
+use Rattle.std.proofs.lemmas.Bool.Decides.{nat_tests}
+use Rattle.std.proofs.lemmas.List.{append-nil}
+use Rattle.sqlite.specs.State.{State, HasCleanDisk}
+use Rattle.sqlite.specs.Tree.{IsAscending}
+use Rattle.archive_state.specs.Content.{Content}
+use Rattle.store_tables.specs.Batches.{numbers_in}
+use Rattle.store_tables.specs.Calls.{LeavesOnly, Settled}
+use Rattle.store_tables.specs.Rows.{Rows, BatchRow}
+use Rattle.record_shapes.specs.Lists.{EachOf}
+use Rattle.store_rows.specs.Meaning.{Means, has_record, is_closed}
+use Rattle.staged_rows.specs.Removing.{IsAside, without_batch}
+use Rattle.staged_rows.specs.Staging.{AreAllClosed}
+use Rattle.staged_rows.proofs.Taken.{batches_stay, numbers_unrecorded, taken_out}
+use Rattle.staging.specs.Clearing.{IsCleared, LeavesMeaning}
+
+-- ---- batches in the order of their numbers
+abbrev pub Rises : List BatchRow → Type 0
+Rises = IsAscending (λ (a b : BatchRow). a.no < b.no)
+
+abbrev pub AllClosed : List BatchRow → Type 0
+AllClosed = AllByRecursion (λ (b : BatchRow). not b.is_open ≡ true)
+
+same_no : (n : ℕ) → (n == n) ≡ true
+same_no n = grind (arith, nat_tests)
+
+other_no : (m n : ℕ) → m < n → (m == n) ≡ false
+other_no m n low = grind (arith, nat_tests, low)
+
+later_no : (m n : ℕ) → m < n → (n == m) ≡ false
+later_no m n low = grind (arith, nat_tests, low)
+
+at_middle : {X : Type 0} (P : X → Type 0) (xs : List X) (y : X) (ys : List X) → AllByRecursion P (xs ++ y ∷ ys) → P y
+at_middle P [] y ys all = all.0
+at_middle P (x ∷ xs) y ys all = at_middle P xs y ys all.1
+
+one_behind : {X : Type 0} (P : X → Type 0) (xs : List X) (y : X) → AllByRecursion P xs → P y
+    → AllByRecursion P (xs ++ y ∷ [])
+one_behind P [] y all last = (last, tt)
+one_behind P (x ∷ xs) y all last = (all.0, one_behind P xs y all.1 last)
+
+module _ (b : BatchRow) where
+  abbrev stays : BatchRow → Bool
+  stays x = not (x.no == b.no)
+
+  abbrev is_it : BatchRow → Bool
+  is_it x = (x.no == b.no) && not x.is_open
+
+  all_stay : (bs : List BatchRow) → AllByRecursion (λ (x : BatchRow). b.no < x.no) bs → filter stays bs ≡ bs
+  all_stay [] above = refl
+  all_stay (x ∷ bs) above =
+      ap (λ t. cond (not t) (x ∷ filter stays bs) (filter stays bs)) (later_no b.no x.no above.0)
+      ∙ ap (λ ys. x ∷ ys) (all_stay bs above.1)
+
+  none_is_it : (bs : List BatchRow) → AllByRecursion (λ (x : BatchRow). b.no < x.no) bs → list_any is_it bs ≡ false
+  none_is_it [] above = refl
+  none_is_it (x ∷ bs) above =
+      ap₂ (λ s t. (s && not x.is_open) || t) (later_no b.no x.no above.0) (none_is_it bs above.1)
+
+  -- it alone is taken out
+  pub it_goes : (before left : List BatchRow) → Rises (before ++ b ∷ left)
+      → filter stays (before ++ b ∷ left) ≡ before ++ left
+  it_goes [] left rise =
+      ap (λ t. cond (not t) (b ∷ filter stays left) (filter stays left)) (same_no b.no) ∙ all_stay left rise.0
+  it_goes (x ∷ before) left rise =
+      let low = at_middle (λ (y : BatchRow). x.no < y.no) before b left rise.0 in
+      let rest = filter stays (before ++ b ∷ left) in
+      ap (λ t. cond (not t) (x ∷ rest) rest) (other_no x.no b.no low)
+      ∙ ap (λ ys. x ∷ ys) (it_goes before left rise.1)
+
+  -- an open one is not closed
+  pub it_is_open : b.is_open ≡ true → (before left : List BatchRow) → Rises (before ++ b ∷ left)
+      → is_closed b.no (before ++ b ∷ left) ≡ false
+  it_is_open is [] left rise =
+      ap₂ (λ s t. s || t) (ap₂ (λ s t. s && not t) (same_no b.no) is) (none_is_it left rise.0)
+  it_is_open is (x ∷ before) left rise =
+      let low = at_middle (λ (y : BatchRow). x.no < y.no) before b left rise.0 in
+      ap₂ (λ s t. (s && not x.is_open) || t) (other_no x.no b.no low) (it_is_open is before left rise.1)
+
+-- numbers of a batch that is not closed have no record
+pub numbers_aside : (s : State) (batch : ℕ) (ns society : List ℕ) (c : Content) (rows : Rows) → Settled s rows
+    → is_closed batch rows.batches ≡ false → Means rows c → rows.society ≡ society → ns ≡ numbers_in batch rows
+    → IsAside ns society c rows
+numbers_aside s batch ns society c rows settled unclosed meant is all = record {
+  means = meant;
+  society_is = is;
+  unrecorded = subst (EachOf (λ n. has_record n rows ≡ false)) (sym all)
+      (numbers_unrecorded batch rows s.now.trees settled.good unclosed);
+}
+
+-- ---- what becomes of the rows, until these batches are left
+pub record HasCleared (left : List BatchRow) (rows here : Rows) : Type 0 where
+  pub means : (c : Content) → Means rows c → Means here c × (here.society ≡ rows.society)
+  pub before : List BatchRow
+  pub closed : AllClosed before
+  pub batches : here.batches ≡ before ++ left
+  -- where none was open, nothing was done
+  pub untouched : AreAllClosed rows → here ≡ rows
+
+none_cleared : (rows : Rows) (left : List BatchRow) → left ≡ rows.batches → HasCleared left rows rows
+none_cleared rows left all = record {
+  means = λ c was. (was, refl);
+  before = [];
+  closed = tt;
+  batches = sym all;
+  untouched = λ closed. refl;
+}
+
+one_closed : (b : BatchRow) (left : List BatchRow) (rows here : Rows) → b.is_open ≡ false
+    → HasCleared (b ∷ left) rows here → HasCleared left rows here
+one_closed b left rows here is was = record {
+  means = was.means;
+  before = was.before ++ b ∷ [];
+  closed = one_behind (λ (x : BatchRow). not x.is_open ≡ true) was.before b was.closed (ap not is);
+  batches = was.batches ∙ sym (append_assoc was.before (b ∷ []) left);
+  untouched = was.untouched;
+}
+
+both_ways : (a : Bool) → a ≡ true → not a ≡ true → ⊥
+both_ways true is no_more = absurd cc
+both_ways false is no_more = absurd cc
+
+-- where none was open, none is open that is left
+pub none_is_open : (b : BatchRow) (left : List BatchRow) (rows here : Rows) → b.is_open ≡ true
+    → HasCleared (b ∷ left) rows here → AreAllClosed rows → ⊥
+none_is_open b left rows here is was all =
+    let closed : AllClosed (was.before ++ b ∷ left) =
+    subst AllClosed was.batches (subst AreAllClosed (sym (was.untouched all)) all) in
+    both_ways b.is_open is (at_middle (λ (x : BatchRow). not x.is_open ≡ true) was.before b left closed)
+
+one_gone : (s : State) (b : BatchRow) (left : List BatchRow) (rows here : Rows) → b.is_open ≡ true → Settled s here
+    → HasCleared (b ∷ left) rows here → HasCleared left rows (without_batch b.no (numbers_in b.no here) here)
+one_gone s b left rows here is settled was =
+    let ns = numbers_in b.no here in
+    let rise : Rises (was.before ++ b ∷ left) = subst Rises was.batches settled.good.holds.batches.rise in
+    let unclosed : is_closed b.no here.batches ≡ false =
+    ap (is_closed b.no) was.batches ∙ it_is_open b is was.before left rise in
+    record {
+      means = λ c meant.
+          let now = was.means c meant in
+          let aside = numbers_aside s b.no ns here.society c here settled unclosed now.0 refl refl in
+          let out = taken_out b.no ns here.society here c aside unclosed in
+          (out.0, out.1 ∙ now.1);
+      before = was.before;
+      closed = was.closed;
+      batches = ap (filter (λ (x : BatchRow). not (x.no == b.no))) (batches_stay ns here ∙ was.batches)
+          ∙ it_goes b was.before left rise;
+      untouched = λ all. absurd (none_is_open b left rows here is was all);
+    }
+
+-- ---- the calls
+pub record IsClearing (old now : State) (left : List BatchRow) : Type 0 where
+  pub leads : HasCleanDisk now → (rows : Rows) → Settled old rows
+      → (here : Rows) × Settled now here × HasCleared left rows here
+  pub clean : HasCleanDisk now → HasCleanDisk old
+
+pub begins : (old now : State) (left : List BatchRow)
+    → (HasCleanDisk now → (rows : Rows) → Settled old rows → left ≡ rows.batches)
+    → (HasCleanDisk now → (rows : Rows) → Settled old rows → Settled now rows)
+    → (HasCleanDisk now → HasCleanDisk old) → IsClearing old now left
+begins old now left read same clean = record {
+  leads = λ still rows was. (rows, same still rows was, none_cleared rows left (read still rows was));
+  clean = clean;
+}
+
+pub goes_past : (old now : State) (b : BatchRow) (left : List BatchRow) → b.is_open ≡ false
+    → IsClearing old now (b ∷ left) → IsClearing old now left
+goes_past old now b left is way = record {
+  leads = λ clean rows was.
+      let came = way.leads clean rows was in
+      (came.0, came.1, one_closed b left rows came.0 is came.2);
+  clean = way.clean;
+}
+
+pub takes_out : (old mid new : State) (b : BatchRow) (left : List BatchRow) → b.is_open ≡ true
+    → IsClearing old mid (b ∷ left)
+    → (HasCleanDisk new → (rows : Rows) → Settled mid rows
+    → Settled new (without_batch b.no (numbers_in b.no rows) rows))
+    → (HasCleanDisk new → HasCleanDisk mid) → IsClearing old new left
+takes_out old mid new b left is way gone kept = record {
+  leads = λ clean rows was.
+      let came = way.leads (kept clean) rows was in (
+        without_batch b.no (numbers_in b.no came.0) came.0,
+        gone clean came.0 came.1,
+        one_gone mid b left rows came.0 is came.1 came.2,
+      );
+  clean = λ clean. way.clean (kept clean);
+}
+
+-- an open batch that is next is not closed in what is here
+pub next_is_open : (s : State) (b : BatchRow) (left : List BatchRow) (rows here : Rows) → b.is_open ≡ true
+    → Settled s here → HasCleared (b ∷ left) rows here → is_closed b.no here.batches ≡ false
+next_is_open s b left rows here is settled was =
+    ap (is_closed b.no) was.batches
+    ∙ it_is_open b is was.before left (subst Rises was.batches settled.good.holds.batches.rise)
+
+-- ---- the end
+pub clears : (old now : State) → IsClearing old now [] → HasCleanDisk now → (society : List ℕ) (c : Content)
+    (rows : Rows) → Settled old rows → Means rows c → rows.society ≡ society → IsCleared now society c
+clears old now way clean society c rows was meant is =
+    let came = way.leads clean rows was in
+    let means = came.2.means c meant in (
+      came.0,
+      came.1,
+      means.0,
+      means.1 ∙ is,
+      subst AllClosed (sym (came.2.batches ∙ append-nil came.2.before)) came.2.closed,
+    )
+
+pub touches_nothing : (old now : State) → IsClearing old now [] → HasCleanDisk now → (rows : Rows) → Settled old rows
+    → AreAllClosed rows → Settled now rows
+touches_nothing old now way clean rows was closed =
+    let came = way.leads clean rows was in
+    subst (Settled now) (came.2.untouched closed) came.1
+
+-- ---- a stop
+pub leaves_meaning : (s : State) (society : List ℕ) (c : Content) (rows : Rows) → LeavesOnly s rows → Means rows c
+    → rows.society ≡ society → LeavesMeaning s society c
+leaves_meaning s society c rows only meant is t leaves = (rows, only t leaves, meant, is)

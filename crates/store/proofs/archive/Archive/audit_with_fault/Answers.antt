@@ -1,0 +1,17 @@
+use Rattle.std.proofs.Common.{refl}
+use Rattle.archive_audits.specs.Judging.{without_fault}
+use Rattle.store.specs.Histories.{has_broken}
+use Rattle.store.specs.Standing.{standing}
+use Rattle.store.proofs.Called.{read_call, still_call}
+use Rattle.store.proofs.archive.Archive.audit_with_fault.Goals as goal
+
+pub returns-then-self-clause-called : goal.returns-then-self-clause-called
+returns-then-self-clause-called g c r = still_call g.S.Store _ _ _ _ _ refl refl refl
+
+pub returns-clause-called : goal.returns-clause-called
+returns-clause-called g c r =
+    let was = c.args.self.now in
+    read_call g.S.Store was.conn c.audit_on-audit.new.conn (standing r was.is_lost was.import)
+    (standing r c.has_failed-self.result was.import) c.an_import_that_is_begun_is_in_no_view.ensures
+    (has_broken (without_fault c.audit_on-audit.result)) c.if-self.false refl c.has_failed-self.ensures
+    (λ clean. (c.audit_on-audit.ensures.reads clean).stays)

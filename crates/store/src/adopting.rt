@@ -1,0 +1,157 @@
+//! An archive that is taken up: imports that were left open are taken out of it.
+
+ghost use Rattle.std.specs.Prelude.{◌≡◌, ℕ, List, true, false, IfErr, IsTrue, OnOk};
+ghost use Rattle.std.specs.List.{list_any};
+ghost use Rattle.sqlite.specs.State.{HasCleanDisk, Survives};
+ghost use Rattle.sqlite.specs.Held.{state};
+ghost use Rattle.archive_state.specs.Content.{Content};
+ghost use Rattle.store_tables.specs.Calls.{IsAsItWas, LeavesOnly, Settled};
+ghost use Rattle.store_tables.specs.Looking.{IsFailure, Looks};
+ghost use Rattle.store_tables.specs.Rows as rows;
+ghost use Rattle.store_tables.specs.Rows.{Rows};
+ghost use Rattle.store.specs.Adopting.{
+  HasNoImport,
+  IsRecognised,
+  KeepsArchive,
+  LeavesRefused,
+  LeavesStore,
+  RefusesToAdopt,
+  TakesUp,
+  is_foreign,
+};
+ghost use Rattle.store.specs.Archives.{HasArchive, LeavesArchive};
+ghost use Rattle.store.specs.Histories.{has_broken, is_storage};
+
+use crate::reading::recognise;
+use record_text::RefusalKind;
+use sqlite::{Alter, Connection};
+use staging::remove_open;
+use std::alloc::Global;
+use store_tables::{BatchRow, check_version, read_batches};
+
+/// Takes up the archive of a store. After any refusal but 80 the connection still answers.
+pub(crate) fn take_up<S: Alter>(alloc: Global, conn: &mut Connection<S>) -> Result<(), RefusalKind>
+    requires autocommit { conn.old.in_transaction ≡ false }
+    ensures takes { HasCleanDisk (state S.Store conn.new)
+        → TakesUp (state S.Store conn.old) result (state S.Store conn.new) }
+    ensures told { HasCleanDisk (state S.Store conn.new)
+        → IfErr result (RefusesToAdopt S.Store (state S.Store conn.old)) }
+    ensures recognised { HasCleanDisk (state S.Store conn.new)
+        → OnOk result (IsRecognised S.Store (state S.Store conn.old)) }
+    ensures left { IfErr result (λ kind. LeavesRefused S.Store (state S.Store conn.old) kind
+        (state S.Store conn.new)) }
+    ensures foreign { IfErr result (λ kind. is_foreign kind ≡ true → LeavesStore (state S.Store conn.old)
+        (state S.Store conn.new)) }
+    ensures unchanged { HasCleanDisk (state S.Store conn.new) → IfErr result (λ kind. is_foreign kind ≡ true
+        → IsAsItWas (state S.Store conn.old) (state S.Store conn.new)) }
+    ensures ended { conn.new.in_transaction ≡ false }
+{
+    match recognise(conn) {
+        Ok(()) => remove_imports(alloc, conn),
+        Err(kind) => Err(kind),
+    }
+}
+
+/// Takes out imports that were left open. Where none was, nothing is written.
+///
+/// 80: the database failed. 1: memory was refused, and the connection still answers. After either some rows of these
+/// imports may be left.
+fn remove_imports<S: Alter>(alloc: Global, conn: &mut Connection<S>) -> Result<(), RefusalKind>
+    requires autocommit { conn.old.in_transaction ≡ false }
+    ensures takes { HasCleanDisk (state S.Store conn.new)
+        → TakesUp (state S.Store conn.old) result (state S.Store conn.new) }
+    ensures failure { IfErr result IsFailure }
+    ensures clean { HasCleanDisk (state S.Store conn.new) → HasCleanDisk (state S.Store conn.old) }
+    ensures ended { conn.new.in_transaction ≡ false }
+{
+    match has_open(alloc, conn) {
+        Ok(true) => remove_them(alloc, conn),
+        Ok(false) => Ok(()),
+        Err(kind) => Err(failure_after(conn, kind)),
+    }
+}
+
+/// Whether an import was left open.
+fn has_open<S: Alter>(alloc: Global, conn: &mut Connection<S>) -> Result<bool, RefusalKind>
+    requires autocommit { conn.old.in_transaction ≡ false }
+    ensures looks { Looks (λ held some. some ≡ list_any (λ (b : rows.BatchRow). b.is_open) held.batches)
+        (state S.Store conn.old) (state S.Store conn.new) result }
+    ensures ended { conn.new.in_transaction ≡ false }
+{
+    match read_batches(alloc, conn) {
+        Ok(batches) => Ok(is_any_open(&batches)),
+        Err(kind) => Err(kind),
+    }
+}
+
+fn is_any_open(batches: &[BatchRow]) -> bool
+    ensures { result ≡ list_any (λ (b : rows.BatchRow). b.is_open) batches.now }
+{
+    batches.iter().any(|batch| batch.is_open)
+}
+
+/// Takes out imports of which one is open, at least. Refusals as of `remove_imports`.
+fn remove_them<S: Alter>(alloc: Global, conn: &mut Connection<S>) -> Result<(), RefusalKind>
+    requires autocommit { conn.old.in_transaction ≡ false }
+    ensures keeps { HasCleanDisk (state S.Store conn.new)
+        → KeepsArchive (state S.Store conn.old) (has_broken result) (state S.Store conn.new) }
+    ensures finished { HasCleanDisk (state S.Store conn.new)
+        → OnOk result ((society : List ℕ) (c : Content) → HasArchive society c (state S.Store conn.old)
+        → HasNoImport (state S.Store conn.new)) }
+    ensures failure { IfErr result IsFailure }
+    ensures clean { HasCleanDisk (state S.Store conn.new) → HasCleanDisk (state S.Store conn.old) }
+    ensures ended { conn.new.in_transaction ≡ false }
+{
+    match remove_open(alloc, conn) {
+        Ok(()) => Ok(()),
+        Err(kind) => Err(failure_after(conn, kind)),
+    }
+}
+
+/// What the removal is refused with: 1 where memory was refused and the connection still answers, else 80.
+fn failure_after<S: Alter>(conn: &mut Connection<S>, kind: RefusalKind) -> RefusalKind
+    requires autocommit { conn.old.in_transaction ≡ false }
+    ensures archive { HasCleanDisk (state S.Store conn.new) → is_storage result ≡ false
+        → (society : List ℕ) (c : Content) → LeavesArchive (state S.Store conn.old) society (λ found. found ≡ c)
+        → HasArchive society c (state S.Store conn.new) }
+    ensures settled { HasCleanDisk (state S.Store conn.new) → is_storage result ≡ false → (rows : Rows)
+        → LeavesOnly (state S.Store conn.old) rows → Settled (state S.Store conn.new) rows }
+    ensures same { is_storage result ≡ false → result ≡ kind }
+    ensures failure { IsFailure result }
+    ensures survives { Survives (state S.Store conn.old) (state S.Store conn.new) (λ _. ⊥) }
+    ensures ended { conn.new.in_transaction ≡ false }
+{
+    match kind {
+        RefusalKind::OutOfMemory => {
+            if shows_version(conn) {
+                RefusalKind::OutOfMemory
+            } else {
+                RefusalKind::Storage
+            }
+        }
+        _ => RefusalKind::Storage,
+    }
+}
+
+/// Whether the connection still shows the version of its archive. Then it has what was committed last.
+fn shows_version<S: Alter>(conn: &mut Connection<S>) -> bool
+    requires autocommit { conn.old.in_transaction ≡ false }
+    ensures archive { HasCleanDisk (state S.Store conn.new) → IsTrue result → (society : List ℕ) (c : Content)
+        → LeavesArchive (state S.Store conn.old) society (λ found. found ≡ c)
+        → HasArchive society c (state S.Store conn.new) }
+    ensures settled { HasCleanDisk (state S.Store conn.new) → IsTrue result → (rows : Rows)
+        → LeavesOnly (state S.Store conn.old) rows → Settled (state S.Store conn.new) rows }
+    ensures survives { Survives (state S.Store conn.old) (state S.Store conn.new) (λ _. ⊥) }
+    ensures ended { conn.new.in_transaction ≡ false }
+{
+    match check_version(conn) {
+        Ok(()) => {
+            // For what they ensure: with no transaction the connection shows what was committed, and the trees obey
+            // the schema.
+            conn.is_autocommit();
+            conn.schema();
+            true
+        }
+        Err(_) => false,
+    }
+}
