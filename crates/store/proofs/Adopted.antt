@@ -22,7 +22,7 @@ use Rattle.std.proofs.Common.{
   subst,
   true≢false,
 }
-use Rattle.std.specs.Prelude.{◌||◌, ⊤, IfErr, IsTrue, OnOk, Result}
+use Rattle.std.specs.Prelude.{◌||◌, ◌&&◌, ⊤, IfErr, IsTrue, OnOk, Result}
 use Rattle.std.specs.List.{AllByRecursion, list_any}
 use Rattle.sqlite.specs.Effect.{Database}
 use Rattle.sqlite.specs.Order.{Row}
@@ -31,13 +31,13 @@ use Rattle.sqlite.specs.Tree.{Trees}
 use Rattle.sqlite.specs.declared.types.Value.TheVariants.{Int}
 use Rattle.archive_state.specs.Content.{Content}
 use Rattle.record_text.specs.declared.refusal.RefusalKind.{RefusalKind}
-use Rattle.store_rows.specs.Meaning.{Means}
+use Rattle.store_rows.specs.Meaning.{Means, is_closed}
 use Rattle.store_tables.specs.Calls.{Good, LeavesOnly, Settled}
 use Rattle.store_tables.specs.Looking.{IsFailure, Looks}
 use Rattle.store_tables.specs.Rows.{BatchRow, Rows, batch_values}
 use Rattle.store_tables.proofs.Reopening.{sound_once}
 use Rattle.staging.specs.Clearing.{IsCleared, LeavesMeaning}
-use Rattle.store.specs.Adopting.{HasNoImport, KeepsArchive, TakesUp}
+use Rattle.store.specs.Adopting.{HasNoImport, KeepsArchive, TakesUp, has_import}
 use Rattle.store.specs.Archives.{HasArchive, Keeps, LeavesArchive}
 use Rattle.store.specs.Calls.{Reads, Stays}
 use Rattle.store.specs.Histories.{has_broken, is_storage}
@@ -91,7 +91,15 @@ no_import s rows was none others still =
 
 -- ---- a look at the batches
 abbrev pub Finds : Rows → Bool → Type 0
-Finds rows some = some ≡ list_any is_open rows.batches
+Finds rows some = some ≡ has_import rows.batches
+
+none_of_two : (a b : Bool) → a ≡ true → false ≡ (a && b) → b ≡ false
+none_of_two true b there none = sym none
+none_of_two false b there none = absurd (true≢false (sym there))
+
+not_both : (a b : Bool) → true ≡ (a && b) → b ≡ false → true ≡ false
+not_both true b both none = both ∙ none
+not_both false b both none = both
 
 pub none_found : (old new : State) → HasCleanDisk new → Looks Finds old new (Ok false) → TakesUp old (Ok tt) new
 none_found old new clean looks = record {
@@ -101,7 +109,9 @@ none_found old new clean looks = record {
     clean = looks.clean clean;
   };
   finished = λ society c has.
-      no_import new has.0 (looks.same clean has.0 has.1) (sym (looks.read clean has.0 has.1));
+      no_import new has.0 (looks.same clean has.0 has.1)
+      (none_of_two (is_closed 0 has.0.batches) (list_any is_open has.0.batches) has.2.means.batch
+      (looks.read clean has.0 has.1));
   refused = tt;
   untouched = λ rows was all. ((λ sure. looks.same clean rows was), looks.crash clean rows was);
 }
@@ -162,7 +172,9 @@ module _ (old mid new : State) (r : Result (Unit {0}) RefusalKind) where
         finished = finished_on has done;
         refused = refused_on failure;
         untouched = λ rows was all.
-            absurd (true≢false (looks.read before rows was ∙ none_open rows.batches all));
+            absurd (true≢false
+            (not_both (is_closed 0 rows.batches) (list_any is_open rows.batches) (looks.read before rows was)
+            (none_open rows.batches all)));
       }
 
   -- the store was recognised first

@@ -63,7 +63,8 @@ stays_then i j k old mid new first next society c r has =
 pub goes_on : (first now next : Import) (left : List StagedRow) → now ≡ record first { left = now.left }
     → next ≡ record now { left = left } → next ≡ record first { left = next.left }
 goes_on first now next left was is =
-    is ∙ ap (λ (i : Import). record i { left = left }) was ∙ ap (λ (i : Import). record first { left = i.left }) (sym is)
+    is ∙ ap (λ (i : Import). record i { left = left }) was
+    ∙ ap (λ (i : Import). record first { left = i.left }) (sym is)
 
 some_long : (rows : List StagedRow) → rows ≢ [] → 0 < length rows
 some_long [] some = absurd (some refl)

@@ -1,5 +1,5 @@
 -- Why a store is refused where it is no archive of this program, and what becomes of one that is. Rules of our own.
-use Rattle.std.specs.Prelude.{◌≡◌, ◌⊎◌, Bool, true, false, IsTrue, List, ℕ, ⊤, Result, OnOk, IfErr}
+use Rattle.std.specs.Prelude.{◌≡◌, ◌⊎◌, ◌&&◌, Bool, true, false, IsTrue, List, ℕ, ⊤, Result, OnOk, IfErr}
 use Rattle.sqlite.specs.Held.{Held, state}
 use Rattle.sqlite.specs.State.{HasCleanDisk, State, Survives}
 use Rattle.sqlite.specs.Tree.{Trees}
@@ -11,11 +11,12 @@ use Rattle.record_text.specs.declared.refusal.RefusalKind.TheVariants.{NewerSche
 use Rattle.store_tables.specs.Calls.{LeavesOnly, Settled}
 use Rattle.store_tables.specs.Looking.{IsFailure, IsRefusedStore, ShowsVersion}
 use Rattle.store_tables.specs.Prepared.{IsUnderstood, NamesMissing, all_queries}
-use Rattle.store_tables.specs.Rows.{Rows}
+use Rattle.store_tables.specs.Rows.{BatchRow, Rows}
+use Rattle.store_rows.specs.Meaning.{is_closed}
 use Rattle.staged_rows.specs.Staging.{AreAllClosed}
 use Rattle.store.specs.Archives.{HasArchive, LeavesArchive}
 use Rattle.store.specs.Histories.{has_broken}
-use Rattle.std.specs.List.{AllByRecursion}
+use Rattle.std.specs.List.{AllByRecursion, list_any}
 
 -- a table or a column that is read is missing
 abbrev pub LacksTable : State → Type 0
@@ -57,6 +58,10 @@ RefusesToAdopt g old Storage = ⊤
 RefusesToAdopt g old _ = ⊥
 
 -- ---- an archive that is taken up
+-- an import is open: a batch is, while that of commands is closed
+abbrev pub has_import : List BatchRow → Bool
+has_import bs = is_closed 0 bs && list_any (λ (b : BatchRow). b.is_open) bs
+
 -- no import is open: every batch is closed
 abbrev pub HasNoImport : State → Type 0
 HasNoImport s = (rows : Rows) → Settled s rows → AreAllClosed rows

@@ -5,6 +5,7 @@ ghost use Rattle.std.specs.List.{list_any};
 ghost use Rattle.sqlite.specs.State.{HasCleanDisk, Survives};
 ghost use Rattle.sqlite.specs.Held.{state};
 ghost use Rattle.archive_state.specs.Content.{Content};
+ghost use Rattle.store_rows.specs.Meaning.{is_closed};
 ghost use Rattle.store_tables.specs.Calls.{IsAsItWas, LeavesOnly, Settled};
 ghost use Rattle.store_tables.specs.Looking.{IsFailure, Looks};
 ghost use Rattle.store_tables.specs.Rows as rows;
@@ -17,6 +18,7 @@ ghost use Rattle.store.specs.Adopting.{
   LeavesStore,
   RefusesToAdopt,
   TakesUp,
+  has_import,
   is_foreign,
 };
 ghost use Rattle.store.specs.Archives.{HasArchive, LeavesArchive};
@@ -71,17 +73,33 @@ fn remove_imports<S: Alter>(alloc: Global, conn: &mut Connection<S>) -> Result<(
     }
 }
 
-/// Whether an import was left open.
+/// Whether an import was left open. Where the batch of commands is not closed, somebody else has spoilt the tables, and
+/// nothing is to be taken out of them.
 fn has_open<S: Alter>(alloc: Global, conn: &mut Connection<S>) -> Result<bool, RefusalKind>
     requires autocommit { conn.old.in_transaction ≡ false }
-    ensures looks { Looks (λ held some. some ≡ list_any (λ (b : rows.BatchRow). b.is_open) held.batches)
+    ensures looks { Looks (λ held some. some ≡ has_import held.batches)
         (state S.Store conn.old) (state S.Store conn.new) result }
     ensures ended { conn.new.in_transaction ≡ false }
 {
     match read_batches(alloc, conn) {
-        Ok(batches) => Ok(is_any_open(&batches)),
+        Ok(batches) => Ok(leaves_import(&batches)),
         Err(kind) => Err(kind),
     }
+}
+
+fn leaves_import(batches: &[BatchRow]) -> bool
+    ensures { result ≡ has_import batches.now }
+{
+    is_spared(batches) && is_any_open(batches)
+}
+
+/// Whether the batch of commands is there and closed.
+fn is_spared(batches: &[BatchRow]) -> bool
+    ensures { result ≡ is_closed 0 batches.now }
+{
+    batches
+        .iter()
+        .any(|batch| batch.number == 0 && !batch.is_open)
 }
 
 fn is_any_open(batches: &[BatchRow]) -> bool

@@ -1,4 +1,4 @@
-use Rattle.std.proofs.Common.{◌≡◌, false, refl, subst, ◌∙◌}
+use Rattle.std.proofs.Common.{◌≡◌, false, subst, ◌∙◌}
 use Rattle.sqlite.specs.Held.{state}
 use Rattle.archive_state.specs.Applied.{applied}
 use Rattle.store_tables.specs.Calls.{Settled}
