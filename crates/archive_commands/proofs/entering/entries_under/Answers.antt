@@ -8,12 +8,14 @@ use Rattle.archive_commands.proofs.entering.entries_under.Goals as goal
 pub returns-in-Ok-clause-entered : goal.returns-in-Ok-clause-entered
 returns-in-Ok-clause-entered g c =
     all_entered _ _ _ _ c.requires.word c.in-Ok.archive c.enter-outcome.new.archive c.into_connection.result
-    c.in-Ok.ensures.ready c.in-Ok.ensures.opened.1 c.into_connection.ensures c.enter-outcome.result c.enter-outcome.ensures.entered
+    c.in-Ok.ensures.ready c.in-Ok.ensures.opened.1 c.into_connection.ensures
+    c.enter-outcome.result c.enter-outcome.ensures.entered
 
 pub returns-in-Ok-clause-refused : goal.returns-in-Ok-clause-refused
 returns-in-Ok-clause-refused g c =
     none_entered _ _ _ _ c.requires.word c.in-Ok.archive c.enter-outcome.new.archive c.into_connection.result
-    c.in-Ok.ensures.ready c.in-Ok.ensures.opened.1 c.into_connection.ensures c.enter-outcome.result _ c.enter-outcome.ensures.refused
+    c.in-Ok.ensures.ready c.in-Ok.ensures.opened.1 c.into_connection.ensures
+    c.enter-outcome.result _ c.enter-outcome.ensures.refused
 
 pub returns-in-Err-clause-refused : goal.returns-in-Err-clause-refused
 returns-in-Err-clause-refused g c =
