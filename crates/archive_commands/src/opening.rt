@@ -6,6 +6,7 @@ ghost use Rattle.sqlite.specs.Files.{file_state};
 ghost use Rattle.sqlite_wal.specs.Files.{image_at};
 ghost use Rattle.record_text.specs.declared.refusal.RefusalKind.TheVariants.{BadText, OutOfMemory};
 ghost use Rattle.store.specs.Creating.{IsSociety};
+ghost use Rattle.store.specs.Shut.{is_shut};
 ghost use Rattle.archive_commands.specs.Made.{IsMadeFor, Unmade};
 ghost use Rattle.archive_commands.specs.Opening.{IsFinished, IsTakenUp, Unopened};
 
@@ -33,6 +34,7 @@ pub fn open<S: Start>(
     ensures opened { IfOk result (λ taken. (taken.is_lost ≡ false) × IsTakenUp (image_at S.Start)
         (file_state taken.conn)) }
     ensures finished { IfOk result (λ taken. IsFinished (image_at S.Start) (file_state taken.conn)) }
+    ensures ready { IfOk result (λ taken. is_shut taken ≡ false) }
     ensures quiet { IfOk result (λ taken. taken.failures ≡ 0) }
     ensures refused { IfErr result (λ e. Unopened (image_at S.Start) e.0 e.1) }
 {
@@ -53,6 +55,7 @@ fn open_file<S: Start>(
     ensures opened { IfOk result (λ taken. (taken.is_lost ≡ false) × IsTakenUp (image_at S.Start)
         (file_state taken.conn)) }
     ensures finished { IfOk result (λ taken. IsFinished (image_at S.Start) (file_state taken.conn)) }
+    ensures ready { IfOk result (λ taken. is_shut taken ≡ false) }
     ensures quiet { IfOk result (λ taken. taken.failures ≡ 0) }
     ensures refused { IfErr result (λ e. Unopened (image_at S.Start) e.0 e.1) }
 {

@@ -7,15 +7,15 @@ use Rattle.archive_commands.proofs.entering.entries_under.Goals as goal
 
 pub returns-in-Ok-clause-entered : goal.returns-in-Ok-clause-entered
 returns-in-Ok-clause-entered g c =
-    let taken = c.in-Ok.ensures.opened in
-    all_entered _ _ _ _ c.requires.word c.in-Ok.archive c.enter-outcome.new.archive c.into_connection.result taken.0
-    taken.1 c.into_connection.ensures c.enter-outcome.result c.enter-outcome.ensures.entered
+    all_entered _ _ _ _ c.requires.word c.in-Ok.archive c.enter-outcome.new.archive c.into_connection.result
+    c.in-Ok.ensures.ready c.in-Ok.ensures.opened.1 c.into_connection.ensures
+    c.enter-outcome.result c.enter-outcome.ensures.entered
 
 pub returns-in-Ok-clause-refused : goal.returns-in-Ok-clause-refused
 returns-in-Ok-clause-refused g c =
-    let taken = c.in-Ok.ensures.opened in
-    none_entered _ _ _ _ c.requires.word c.in-Ok.archive c.enter-outcome.new.archive c.into_connection.result taken.0
-    taken.1 c.into_connection.ensures c.enter-outcome.result _ c.enter-outcome.ensures.refused
+    none_entered _ _ _ _ c.requires.word c.in-Ok.archive c.enter-outcome.new.archive c.into_connection.result
+    c.in-Ok.ensures.ready c.in-Ok.ensures.opened.1 c.into_connection.ensures
+    c.enter-outcome.result _ c.enter-outcome.ensures.refused
 
 pub returns-in-Err-clause-refused : goal.returns-in-Err-clause-refused
 returns-in-Err-clause-refused g c =

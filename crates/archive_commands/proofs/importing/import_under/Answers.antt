@@ -7,15 +7,15 @@ use Rattle.archive_commands.proofs.importing.import_under.Goals as goal
 
 pub returns-in-Ok-clause-imported : goal.returns-in-Ok-clause-imported
 returns-in-Ok-clause-imported g c =
-    let taken = c.in-Ok.ensures.opened in
-    all_imported _ _ _ c.requires.word c.in-Ok.archive c.import-outcome.new.archive c.into_connection.result taken.0
-    taken.1 c.into_connection.ensures c.import-outcome.result c.import-outcome.ensures.imported
+    all_imported _ _ _ c.requires.word c.in-Ok.archive c.import-outcome.new.archive c.into_connection.result
+    c.in-Ok.ensures.ready c.in-Ok.ensures.opened.1 c.into_connection.ensures
+    c.import-outcome.result c.import-outcome.ensures.imported
 
 pub returns-in-Ok-clause-refused : goal.returns-in-Ok-clause-refused
 returns-in-Ok-clause-refused g c =
-    let taken = c.in-Ok.ensures.opened in
-    none_imported _ _ _ c.requires.word c.in-Ok.archive c.import-outcome.new.archive c.into_connection.result taken.0
-    taken.1 c.into_connection.ensures c.import-outcome.result _ c.import-outcome.ensures.refused
+    none_imported _ _ _ c.requires.word c.in-Ok.archive c.import-outcome.new.archive c.into_connection.result
+    c.in-Ok.ensures.ready c.in-Ok.ensures.opened.1 c.into_connection.ensures
+    c.import-outcome.result _ c.import-outcome.ensures.refused
 
 pub returns-in-Err-clause-refused : goal.returns-in-Err-clause-refused
 returns-in-Err-clause-refused g c =

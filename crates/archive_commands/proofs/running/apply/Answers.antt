@@ -4,15 +4,15 @@ use Rattle.archive_commands.proofs.running.apply.Goals as goal
 
 pub returns-in-Ok-clause-answered : goal.returns-in-Ok-clause-answered
 returns-in-Ok-clause-answered g c =
-    let taken = c.in-Ok.ensures.opened in
-    all_answered _ c.in-Ok.archive _ c.into_connection.result taken.0 taken.1 c.into_connection.ensures
+    all_answered _ c.in-Ok.archive _ c.into_connection.result c.in-Ok.ensures.ready c.in-Ok.ensures.opened.1
+    c.into_connection.ensures
     c.apply-outcome.result _ g.W.Write.contents g.F.Write.contents _ _ _ _ c.apply-outcome.ensures.applied
 
 pub returns-in-Ok-clause-stopped : goal.returns-in-Ok-clause-stopped
 returns-in-Ok-clause-stopped g c =
-    let taken = c.in-Ok.ensures.opened in
     let ended = c.apply-outcome.ensures in
-    part_answered _ c.in-Ok.archive _ c.into_connection.result taken.0 taken.1 c.into_connection.ensures
+    part_answered _ c.in-Ok.archive _ c.into_connection.result c.in-Ok.ensures.ready c.in-Ok.ensures.opened.1
+    c.into_connection.ensures
     c.apply-outcome.result _ g.W.Write.contents g.F.Write.contents _ _ _ _ _ _ ended.ended ended.read_failed
     ended.write_failed
 

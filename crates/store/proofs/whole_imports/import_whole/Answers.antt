@@ -28,7 +28,7 @@ returns-in-Ok-finish_begun-clause-performs g c clean =
     (all_done g.S.Store old mid c.finish_begun.new.conn r c.in-Ok.answer c.in-Ok.begun (c.in-Ok.ensures.begun before)
     (c.in-Ok.ensures.answered before) finished.none (finished.done clean))
     (λ rows was t l. only_committed new rows t was
-        (g.met.S.Store.settled c.finish_begun.new.conn.store t was.is_open l))
+    (g.met.S.Store.settled c.finish_begun.new.conn.store t was.is_open l))
     (c.in-Ok.ensures.clean before)
 
 pub returns-in-Ok-finish_begun-clause-repeated : goal.returns-in-Ok-finish_begun-clause-repeated

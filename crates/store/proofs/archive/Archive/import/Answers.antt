@@ -24,7 +24,8 @@ returns-clause-called g c r =
     subst (λ calls. IsCall g.S.Store was.conn before calls next after)
     (sym (heard_all was.is_lost was.import calls c.if-self.false none))
     (ready_call g.S.Store was.conn next before after calls c.if-self.false (ap (asked_by r) none) refl
-    (λ sure. unless_failed (has_failed outcome) (import_of c.args.token.now c.args.forest) (sym c.has_failed-self.ensures ∙ sure))
+    (λ sure. unless_failed (has_failed outcome) (import_of c.args.token.now c.args.forest)
+    (sym c.has_failed-self.ensures ∙ sure))
     c.import_whole-outcome.ensures.performs)
 
 pub returns-clause-quiet : goal.returns-clause-quiet
