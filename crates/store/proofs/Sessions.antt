@@ -117,8 +117,8 @@ module _ {S : Type 0} (g : Ghosts S) where
           (λ to now. stopped more call.1 s.0 new society to s.2 clean now) t l
       | inr q ↦
           let now : Has society c call.1.import (state g s.0) =
-              subst (λ (w : Standing). Has society c w.import (state g s.0)) (sym q.stands)
-              (subst (λ h. Has society c was.import (state g h)) (sym q.same) has) in
+          subst (λ (w : Standing). Has society c w.import (state g s.0)) (sym q.stands)
+          (subst (λ h. Has society c was.import (state g h)) (sym q.same) has) in
           let left = stopped more call.1 s.0 new society c s.2 clean now t l in (
             left.0,
             subst (λ xs. MayBeFound c (xs ++ requests_of more) left.0) (sym q.unheard) left.1,

@@ -23,9 +23,9 @@ IsRefusedOver t s = (society : List ℕ) (c : Content) → IsArchive society c t
     → LeavesArchive s society (λ found. found ≡ c)
 
 -- ---- the calls of a session, on a connection, by how its archive stood before each and stands after it
--- requests that are done, by a call on an archive that is not lost, which may be none, as of a call that reads or writes
--- rows of an import. Unless the database failed, they are a run of the machine, and the archive has what it leaves; in
--- any case a stop leaves what their history allows
+-- requests that are done, by a call on an archive that is not lost, which may be none, as of a call that reads, or that
+-- writes rows of an import. Unless the database failed, they are a run of the machine, and the archive has what it
+-- leaves; in any case a stop leaves what their history allows
 pub record GoesOn {S : Type 0} (g : Ghosts S) (old : Held S) (was : Standing) (calls : List Done) (new : Held S)
     (is : Standing) : Type 0 where
   pub kept : was.is_lost ≡ false

@@ -5,5 +5,6 @@ use Rattle.store.proofs.laws.a_stop_of_an_archive_loses_nothing.Goals as goal
 
 pub returns : goal.returns
 returns g c' first after calls more society c life has = of_life_on g.S.Store
-    c'.an_import_that_is_begun_is_in_no_view.ensures (λ h rows was t l. only_committed (state g.S.Store h) rows t was (g.met.S.Store.settled h.store t was.is_open l))
+    c'.an_import_that_is_begun_is_in_no_view.ensures (λ h rows was t l.
+    only_committed (state g.S.Store h) rows t was (g.met.S.Store.settled h.store t was.is_open l))
     more first after calls society c life has

@@ -19,7 +19,8 @@ returns-in-Ok-clause-crash g c clean =
 
 pub returns-in-Ok-clause-unfinished : goal.returns-in-Ok-clause-unfinished
 returns-in-Ok-clause-unfinished g c =
-    subst (λ o. IfSome o (λ i. i.left ≢ [] → (◌≡◌ {A = Result Answer RefusalKind} (Ok c.in-Ok.answer) (Err NotAllStaged))
+    subst (λ o. IfSome o (λ i. i.left ≢ []
+    → (◌≡◌ {A = Result Answer RefusalKind} (Ok c.in-Ok.answer) (Err NotAllStaged))
     × (c.publish_all-published.new.conn ≡ c.args.conn.now))) (sym c.in-Some.is)
     (λ some. let un = c.publish_all-published.ensures.unfinished some in (sym c.in-Ok.is ∙ un.0, un.1))
 
@@ -32,6 +33,7 @@ returns-in-Err-clause-crash g c clean =
 
 pub returns-in-Err-clause-unfinished : goal.returns-in-Err-clause-unfinished
 returns-in-Err-clause-unfinished g c =
-    subst (λ o. IfSome o (λ i. i.left ≢ [] → (◌≡◌ {A = Result Answer RefusalKind} (Err c.in-Err.kind) (Err NotAllStaged))
+    subst (λ o. IfSome o (λ i. i.left ≢ []
+    → (◌≡◌ {A = Result Answer RefusalKind} (Err c.in-Err.kind) (Err NotAllStaged))
     × (c.publish_all-published.new.conn ≡ c.args.conn.now))) (sym c.in-Some.is)
     (λ some. let un = c.publish_all-published.ensures.unfinished some in (sym c.in-Err.is ∙ un.0, un.1))

@@ -56,5 +56,6 @@ returns-clause-called g c none =
     (heard was.is_lost (begun_as r t.0)) new (standing r (loses t.0) t.1)) (sym c.told-outcome.ensures)
     (begun_call g.S.Store was.conn new r
     (λ rows settled t l. only_committed (state g.S.Store new) rows t settled
-    (g.met.S.Store.settled new.store t settled.is_open l)) c.begin_on-begun.result was.is_lost was.import c.if-self.false none
+    (g.met.S.Store.settled new.store t settled.is_open l)) c.begin_on-begun.result was.is_lost was.import
+    c.if-self.false none
     did.begun did.answered did.refused did.crash did.clean))

@@ -80,7 +80,7 @@ requests-preserved g c =
           let alone = inv.4 free.1 in
           let goes : now.is_lost ≡ false → Performs (state g.S.Store now.conn) ((r, o) ∷ [])
           (state g.S.Store next.conn) =
-              λ kept. did.performs clean (is_free now.is_lost now.import kept alone.1) in
+          λ kept. did.performs clean (is_free now.is_lost now.import kept alone.1) in
           subst (λ xs. Performs (state g.S.Store start.conn) (zip rs xs) (state g.S.Store next.conn)) (sym items)
           (one_more g.S.Store start.conn now.conn next.conn now.is_lost rs (drop (i + 1) rs) os r o here
           (omega (arith, inv.0, c.requests-test.true))
