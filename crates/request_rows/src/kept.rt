@@ -49,7 +49,7 @@ impl Kept {
             first,
             second,
             left,
-        } = visit_twice(alloc, &self.images, asked, Asked::Nothing)?;
+        } = visit_twice(alloc, &self.images, Fuses::none(), asked, Asked::Nothing)?;
         self.images = left;
         let shown = picture(alloc, state, &self.tokens)?;
         let is_first = has_told(alloc, &first, wanted, &shown, &self.tokens)?;

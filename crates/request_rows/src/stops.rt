@@ -127,7 +127,7 @@ fn stopped_row(
     let mut words = Words::new(alloc, "stop")?;
     let (reply, left) = visit_once(alloc, &kept.images, fuses, asked)?;
     words.say_reply(alloc, &reply)?;
-    let visits = visit_twice(alloc, &left, Asked::Nothing, again)?;
+    let visits = visit_twice(alloc, &left, Fuses::none(), Asked::Nothing, again)?;
     around.say_found(alloc, &visits.first, &kept.tokens, &mut words)?;
     around.say_found(alloc, &visits.second, &kept.tokens, &mut words)?;
     words.into_row()
