@@ -188,17 +188,18 @@ IMPORT = f"s1|! import|{PERSONS}"
 STEPS = {
     "600 persons by steps": (["begin", *["stage"] * 8, "publish"], True),
     "an import that is given up": (["begin", "stage", "stage", "abandon"], False),
+    "an import that is given up late": (["begin", *["stage"] * 5, "abandon"], False),
 }
 GOOD = 1_000_000  # calls, more than are made
-STOPPED = (24, 48)  # calls after which the taking up is stopped
-LEFT = ALIKE + making.row("! steps", "log", GOOD, "begin|stage|stage", "", IMPORT)
+STOPPED = (34, 44, 54, 64)  # calls after which the taking up is stopped
+LEFT = ALIKE + making.row("! steps", "log", GOOD, "|".join(["begin", *["stage"] * 5]), "", IMPORT)
 
 
 def walks(name: str, names: list[str], is_published: bool, file: str) -> Trial:
     row = making.row("! stop steps", "{file}", "{calls}", "|".join(names), IMPORT)
     right = in_steps(len(names), is_published)
     is_reached = file in ("log", "log off")
-    return Trial(f"{name}, {file}", ALIKE.encode(), row, file, 1, right, is_reached=is_reached, apart=16)
+    return Trial(f"{name}, {file}", ALIKE.encode(), row, file, 1, right, is_reached=is_reached)
 
 
 def adopts(file: str) -> Trial:
@@ -216,7 +217,7 @@ TRIALS = (
     *(walks(name, *steps, file) for file in FILES for name, steps in STEPS.items()),
     *(adopts(file) for file in FILES),
     *(adopts_again(calls, file) for file in FILES for calls in STOPPED),
-    *(performs("600 persons", ALIKE.encode(), f'! import,"{PERSONS}"', file, 16) for file in FILES),
+    *(performs("600 persons", ALIKE.encode(), f'! import,"{PERSONS}"', file, 4) for file in FILES),
     *(performs(name, REQUESTS, request, file) for file in FILES for name, request in PERFORMED.items()),
     *(performs(name, rows.encode(), row, file) for file in FILES for name, (rows, row) in MERGES.items()),
     *(runs(file) for file in FILES),
