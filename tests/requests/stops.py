@@ -93,6 +93,19 @@ def is_performed(one: Stopped, requests: int) -> bool:
     return is_answered(one.first, max(requests, 2)) and is_found and is_last
 
 
+def in_steps(count: int, is_published: bool) -> Callable[[Stopped, int], bool]:
+    """So many steps of an import, of which the last publishes it, or gives it up: nothing of it is found, unless that
+    step was answered with 80 or as done; and it is done when it is asked once more."""
+
+    def is_right(one: Stopped, requests: int) -> bool:
+        last = one.first[count - 1] if one.is_begun and is_published else "none"
+        found = {"ok": {"after"}, FAILED: {"before", "after"}}.get(last, {"before"})
+        is_done = (one.again, one.last) == (["ok"] * requests, "after")
+        return is_answered(one.first, count) and one.found in found and is_done
+
+    return is_right
+
+
 def is_made(one: Stopped, requests: int) -> bool:
     """An archive that was made is found; else it is, or nothing is; and it is made again where nothing is."""
     wanted = {"ok": {"new"}, FAILED: {"new", "empty"}, "unopened": {"empty"}}
@@ -171,8 +184,40 @@ def makes(file: str) -> Trial:
     return Trial(f"a new archive, {file}", b"", row, file, 1, is_made, "empty", is_reached)
 
 
+IMPORT = f"s1|! import|{PERSONS}"
+STEPS = {
+    "600 persons by steps": (["begin", *["stage"] * 8, "publish"], True),
+    "an import that is given up": (["begin", "stage", "stage", "abandon"], False),
+    "an import that is given up late": (["begin", *["stage"] * 5, "abandon"], False),
+}
+GOOD = 1_000_000  # calls, more than are made
+STOPPED = (34, 44, 54, 64)  # calls after which the taking up is stopped
+LEFT = ALIKE + making.row("! steps", "log", GOOD, "|".join(["begin", *["stage"] * 5]), "", IMPORT)
+
+
+def walks(name: str, names: list[str], is_published: bool, file: str) -> Trial:
+    row = making.row("! stop steps", "{file}", "{calls}", "|".join(names), IMPORT)
+    right = in_steps(len(names), is_published)
+    is_reached = file in ("log", "log off")
+    return Trial(f"{name}, {file}", ALIKE.encode(), row, file, 1, right, is_reached=is_reached)
+
+
+def adopts(file: str) -> Trial:
+    """An archive with an import that was left, which is taken up for a request."""
+    return performs("an import that was left", LEFT.encode(), PERFORMED["a person"], file)
+
+
+def adopts_again(calls: int, file: str) -> Trial:
+    """The same after it was taken up once, and that was stopped after so many calls."""
+    rows = LEFT + making.row("! steps", file, calls, "", "")
+    return performs(f"left and stopped after {calls}", rows.encode(), PERFORMED["a person"], file)
+
+
 TRIALS = (
-    *(performs("600 persons", ALIKE.encode(), f'! import,"{PERSONS}"', file, 16) for file in FILES),
+    *(walks(name, *steps, file) for file in FILES for name, steps in STEPS.items()),
+    *(adopts(file) for file in FILES),
+    *(adopts_again(calls, file) for file in FILES for calls in STOPPED),
+    *(performs("600 persons", ALIKE.encode(), f'! import,"{PERSONS}"', file, 4) for file in FILES),
     *(performs(name, REQUESTS, request, file) for file in FILES for name, request in PERFORMED.items()),
     *(performs(name, rows.encode(), row, file) for file in FILES for name, (rows, row) in MERGES.items()),
     *(runs(file) for file in FILES),

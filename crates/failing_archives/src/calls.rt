@@ -2,6 +2,7 @@
 
 ghost use Rattle.std.specs.Prelude.{◌≡◌, false};
 
+use crate::steps::step;
 use archive_core::Request;
 use archive_state::{Answer, State};
 use records::{Refusal, RefusalKind, Text};
@@ -19,6 +20,9 @@ pub enum Asked<'a> {
     Perform(&'a Request, u32),
     /// Requests by one call.
     Run(&'a [Request]),
+    /// Steps by their names, of the import that is the first of these requests. `perform` is of the second alone, `run`
+    /// of all.
+    Steps(&'a [&'a str], &'a [Request]),
 }
 
 /// What became of a visit to an archive.
@@ -76,6 +80,7 @@ fn tell<S: Alter>(
         Asked::Nothing => Vec::new(alloc),
         Asked::Perform(request, times) => perform(alloc, archive, request, times)?,
         Asked::Run(requests) => run(alloc, archive, requests)?,
+        Asked::Steps(names, requests) => walk(alloc, archive, names, requests)?,
     };
     let state = archive.state(alloc);
     let society = archive.society(alloc);
@@ -113,6 +118,22 @@ fn run<S: Alter>(
         Ok(outcomes) => Ok(outcomes),
         Err(refusal) => Err(refusal.kind),
     }
+}
+
+fn walk<S: Alter>(
+    alloc: Global,
+    archive: &mut Archive<S>,
+    names: &[&str],
+    requests: &[Request],
+) -> Result<Vec<Outcome>, RefusalKind> {
+    let mut outcomes = Vec::new(alloc);
+    for name in names {
+        match *name {
+            "run" => outcomes.append(&mut run(alloc, archive, requests)?)?,
+            name => push(&mut outcomes, step(alloc, archive, name, requests))?,
+        }
+    }
+    Ok(outcomes)
 }
 
 /// Makes an archive in the store of a connection.

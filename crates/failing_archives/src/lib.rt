@@ -6,6 +6,7 @@ mod calls;
 mod failing;
 mod images;
 mod sessions;
+mod steps;
 mod words;
 
 pub use calls::{Asked, Outcome, Reply, Told};

@@ -33,14 +33,15 @@ pub fn visit_once(
 pub fn visit_twice(
     alloc: Global,
     images: &Images,
+    fuses: Fuses,
     asked: Asked<'_>,
     then: Asked<'_>,
 ) -> Result<Visits, AllocError> {
-    match images.open(alloc, Fuses::none())? {
+    match images.open(alloc, fuses)? {
         Ok(conn) => {
             let (first, conn) = visit(alloc, conn, asked);
             let (second, conn) = visit(alloc, conn, then);
-            let left = close(alloc, conn, Fuses::none())?;
+            let left = close(alloc, conn, fuses)?;
             Ok(Visits {
                 first,
                 second,

@@ -1,6 +1,7 @@
 //! Rows of words that need no quotes, and what an archive answered in such words.
 
 use crate::calls::{Reply, Told};
+use archive_state::Answer;
 use records::RefusalKind;
 use std::alloc::{AllocError, Global};
 
@@ -63,6 +64,27 @@ impl Words {
             }
         }
         Ok(())
+    }
+
+    /// Says what became of a visit: of one that was told of, the first number and the count of each answer, or the
+    /// number of the refusal.
+    pub fn say_answers(&mut self, alloc: Global, reply: &Reply) -> Result<(), AllocError> {
+        let Reply::Told(told) = reply else {
+            return self.say_reply(alloc, reply);
+        };
+        for outcome in &told.outcomes {
+            match outcome {
+                Ok(answer) => self.say_answer(alloc, *answer)?,
+                Err(refusal) => self.say_refused(alloc, Some(refusal.kind))?,
+            }
+        }
+        Ok(())
+    }
+
+    fn say_answer(&mut self, alloc: Global, answer: Answer) -> Result<(), AllocError> {
+        self.say(answer.first.to_string(alloc)?.as_str())?;
+        self.line.push(' ')?;
+        self.line.push_str(answer.count.to_string(alloc)?.as_str())
     }
 
     /// The row.

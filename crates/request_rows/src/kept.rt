@@ -45,15 +45,39 @@ impl Kept {
         wanted: &[Outcome],
         state: &State,
     ) -> Result<bool, AllocError> {
+        let (first, second) = self.visit_again(alloc, Fuses::none(), asked, Asked::Nothing)?;
+        let shown = picture(alloc, state, &self.tokens)?;
+        let is_first = has_told(alloc, &first, wanted, &shown, &self.tokens)?;
+        Ok(is_first && has_told(alloc, &second, &[], &shown, &self.tokens)?)
+    }
+
+    /// Asks the archive in files that may fail. What is left in them is kept.
+    pub(crate) fn visit(
+        &mut self,
+        alloc: Global,
+        fuses: Fuses,
+        asked: Asked<'_>,
+    ) -> Result<Reply, AllocError> {
+        let (reply, left) = visit_once(alloc, &self.images, fuses, asked)?;
+        self.images = left;
+        Ok(reply)
+    }
+
+    /// The same, and asks it again where it is adopted again.
+    pub(crate) fn visit_again(
+        &mut self,
+        alloc: Global,
+        fuses: Fuses,
+        asked: Asked<'_>,
+        then: Asked<'_>,
+    ) -> Result<(Reply, Reply), AllocError> {
         let Visits {
             first,
             second,
             left,
-        } = visit_twice(alloc, &self.images, asked, Asked::Nothing)?;
+        } = visit_twice(alloc, &self.images, fuses, asked, then)?;
         self.images = left;
-        let shown = picture(alloc, state, &self.tokens)?;
-        let is_first = has_told(alloc, &first, wanted, &shown, &self.tokens)?;
-        Ok(is_first && has_told(alloc, &second, &[], &shown, &self.tokens)?)
+        Ok((first, second))
     }
 
     /// The society that the archive says.

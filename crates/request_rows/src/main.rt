@@ -10,6 +10,7 @@ mod pictures;
 mod reading;
 mod rows;
 mod seeing;
+mod steps;
 mod stops;
 mod storing;
 mod wordings;

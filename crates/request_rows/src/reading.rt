@@ -110,7 +110,11 @@ pub(crate) fn requests_of(
 }
 
 /// The fields of a row that is one field itself, with this character between its own.
-fn parted<'a>(alloc: Global, row: &'a str, between: char) -> Result<Vec<&'a str>, AllocError> {
+pub(crate) fn parted<'a>(
+    alloc: Global,
+    row: &'a str,
+    between: char,
+) -> Result<Vec<&'a str>, AllocError> {
     let mut fields = Vec::new(alloc);
     for field in row.split(between) {
         fields.push(field)?;

@@ -1,7 +1,9 @@
 //! Stops: a file fails from some call on, and what is found when the archive is opened again.
 
+use crate::archives::Archives;
 use crate::kept::Kept;
 use crate::pictures::{copy, picture};
+use crate::rows::word;
 use archive_core::{Request, step};
 use archive_state::{State, Token};
 use failing_archives::{Asked, Fuses, Images, Reply, Words, make, visit_once, visit_twice};
@@ -102,16 +104,25 @@ pub(crate) fn stop_row(
     stopped_row(alloc, kept, state, fuses, &requests, twice, again)
 }
 
-/// The same of requests in one call.
-pub(crate) fn stop_run_row(
+/// The same of requests in one call, or of the steps of an import, with these requests in one call once more.
+pub(crate) fn stop_asked_row(
     alloc: Global,
-    kept: &Kept,
-    state: &State,
+    archives: &mut Archives,
     fuses: Fuses,
     requests: &[Request],
+    asked: Asked<'_>,
 ) -> Result<Vec<u8>, AllocError> {
-    let asked = Asked::Run(requests);
-    stopped_row(alloc, kept, state, fuses, requests, asked, asked)
+    for request in requests {
+        archives.note(alloc, request)?;
+    }
+    let again = Asked::Run(requests);
+    match &archives.kept {
+        Some(kept) => {
+            let state = &archives.decided;
+            stopped_row(alloc, kept, state, fuses, requests, asked, again)
+        }
+        None => word(alloc, "none"),
+    }
 }
 
 fn stopped_row(
@@ -127,7 +138,7 @@ fn stopped_row(
     let mut words = Words::new(alloc, "stop")?;
     let (reply, left) = visit_once(alloc, &kept.images, fuses, asked)?;
     words.say_reply(alloc, &reply)?;
-    let visits = visit_twice(alloc, &left, Asked::Nothing, again)?;
+    let visits = visit_twice(alloc, &left, Fuses::none(), Asked::Nothing, again)?;
     around.say_found(alloc, &visits.first, &kept.tokens, &mut words)?;
     around.say_found(alloc, &visits.second, &kept.tokens, &mut words)?;
     words.into_row()

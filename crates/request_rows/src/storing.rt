@@ -4,7 +4,8 @@ use crate::archives::Archives;
 use crate::kept::Kept;
 use crate::reading::{request_of, requests_of};
 use crate::rows::{refused, said, word};
-use crate::stops::{say_made, stop_create_row, stop_row, stop_run_row};
+use crate::steps::{steps, stop_steps};
+use crate::stops::{say_made, stop_asked_row, stop_create_row, stop_row};
 use archive_core::Request;
 use failing_archives::{Asked, Fuses, Images, Words, make, visit_altered, visit_once};
 use records::RefusalKind;
@@ -26,6 +27,10 @@ pub(crate) fn answer_stored(
         ("! stop", [file, calls, rest @ ..]) => stop(alloc, archives, file, calls, rest),
         ("! stop run", [file, calls, rows @ ..]) => stop_run(alloc, archives, file, calls, rows),
         ("! stop create", [file, calls, society]) => stop_create(alloc, file, calls, society),
+        ("! steps", [file, calls, rest @ ..]) => steps(alloc, archives, file, calls, rest),
+        ("! stop steps", [file, calls, rest @ ..]) => {
+            stop_steps(alloc, archives, file, calls, rest)
+        }
         ("! spoil", [sql, rest @ ..]) => spoil(alloc, archives, sql, rest),
         ("! adopt", [sql]) => adopt(alloc, sql),
         ("! adopt bytes", [text, count]) => adopt_bytes(alloc, text, count),
@@ -135,23 +140,11 @@ fn stop_run(
         return refused(alloc, "", RefusalKind::BadRow);
     };
     match requests_of(alloc, rows)? {
-        Ok(requests) => stop_requests(alloc, archives, fuses, &requests),
+        Ok(requests) => {
+            let asked = Asked::Run(&requests);
+            stop_asked_row(alloc, archives, fuses, &requests, asked)
+        }
         Err(kind) => refused(alloc, "", kind),
-    }
-}
-
-fn stop_requests(
-    alloc: Global,
-    archives: &mut Archives,
-    fuses: Fuses,
-    requests: &[Request],
-) -> Result<Vec<u8>, AllocError> {
-    for request in requests {
-        archives.note(alloc, request)?;
-    }
-    match &archives.kept {
-        Some(kept) => stop_run_row(alloc, kept, &archives.decided, fuses, requests),
-        None => word(alloc, "none"),
     }
 }
 
