@@ -245,12 +245,23 @@ def opened_again(at):
     return at.tables()
 
 
+def killed_after(words, given, seconds):
+    """A program that is killed after so many seconds, if it has not ended."""
+    process = subprocess.Popen(words, stdin=subprocess.PIPE, stdout=subprocess.PIPE, stderr=subprocess.DEVNULL)
+    try:
+        process.communicate(given, timeout=seconds)
+    except subprocess.TimeoutExpired:
+        process.kill()
+        process.communicate()
+
+
 def killed_in_an_import(tools, stops=10, persons=600, seed=10):
-    """A program that is killed while it imports leaves the whole file or nothing, and the file sent again gets the
-    answer of a run that was not stopped; so does a person after it."""
+    """A program that is killed while it imports, and the next one too, which takes out what it left, leaves the whole
+    file or nothing, and the file sent again gets the answer of a run that was not stopped; so does a person after it.
+    """
     given = between(*(line for n in range(persons) for line in (f"0 @I{n}@ INDI", "1 BIRT", f"2 PLAC Ashby {n % 50}")))
     rng = random.Random(seed)
-    counted = {"absent": 0, "whole": 0, "begun": 0}
+    counted = {"absent": 0, "whole": 0, "begun": 0, "partly taken out": 0}
     with Imported(tools) as whole:
         whole.made()
         start = time.perf_counter()
@@ -261,14 +272,10 @@ def killed_in_an_import(tools, stops=10, persons=600, seed=10):
     for _ in range(stops):
         with Imported(tools) as at:
             before = at.made().tables()
-            words = [*at.parish, "import", at.file, "--token", "t"]
-            process = subprocess.Popen(words, stdin=subprocess.PIPE, stdout=subprocess.PIPE, stderr=subprocess.DEVNULL)
-            try:
-                process.communicate(given, timeout=rng.random() * longest)
-            except subprocess.TimeoutExpired:
-                process.kill()
-                process.communicate()
+            killed_after([*at.parish, "import", at.file, "--token", "t"], given, rng.random() * longest)
             left = at.tables()
+            killed_after([*at.parish, "audit", at.file], b"", rng.random() * longest / 2)
+            counted["partly taken out"] += at.tables() not in (left, before)
             found = opened_again(at)
             demand(found in (before, wanted), "a part of a file is there")
             counted["whole" if found == wanted else "absent"] += 1

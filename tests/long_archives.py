@@ -8,9 +8,10 @@
 
 `kills` gives ROWS generated rows (2,000) to `apply`, kills it KILLS times (20) at random moments and gives the same
 rows again: each answer has to be that of a run that was not stopped, and so have the tables. `killed-imports` gives a
-file of PERSONS persons (20,000) to `import`, kills it KILLS times (200), each time in a new archive, and gives the file
-again; it tells how often nothing of the file was there behind the next opening, all of it, and how often rows of it
-were left before that. `compare` gives ROWS rows
+file of PERSONS persons (20,000) to `import`, kills it KILLS times (200), each time in a new archive, kills the opening
+behind it, which takes out what is left, and gives the file again; it tells how often nothing of the file was there
+behind a whole opening, all of it, how often rows of it were left before, and how often the opening was killed while it
+took them out. `compare` gives ROWS rows
 (5,000), in archives of 200 rows each, to `apply` and to a second program, which takes the same words, then drawn
 batches to `entries`, and their rows one by one to `apply`, and compares what is told. `exports` gives the rows of
 ARCHIVES archives (500) to both, and compares what they export. `imports` gives FILES drawn files (2,000) to both, each
