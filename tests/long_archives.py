@@ -8,16 +8,16 @@
 
 `kills` gives ROWS generated rows (2,000) to `apply`, kills it KILLS times (20) at random moments and gives the same
 rows again: each answer has to be that of a run that was not stopped, and so have the tables. `killed-imports` gives a
-file of PERSONS persons (20,000) to `import`, kills it KILLS times (200), each time in a new archive, kills the opening
-behind it, which takes out what is left, and gives the file again; it tells how often nothing of the file was there
-behind a whole opening, all of it, how often rows of it were left before, and how often the opening was killed while it
-took them out. `compare` gives ROWS rows
-(5,000), in archives of 200 rows each, to `apply` and to a second program, which takes the same words, then drawn
-batches to `entries`, and their rows one by one to `apply`, and compares what is told. `exports` gives the rows of
-ARCHIVES archives (500) to both, and compares what they export. `imports` gives FILES drawn files (2,000) to both, each
-into an archive of 20 rows, each tenth twice, and compares what is told and what is exported then. `--loaded`: the
-second program is one of Python, as `python3 PROGRAM.py`, and is loaded once (loaded.py), so that a file takes a
-twentieth of a second and not a whole one. TMPDIR=/dev/shm spares the disk. The last line is `N passed, M failed`.
+file of PERSONS persons (20,000) to `import`, kills it KILLS times (200), each time in a new archive, kills the
+opening behind it, which takes out what is left, and gives the file again; it tells how often nothing of the file was
+there behind a whole opening, all of it, how often rows of it were left before, and how often the opening was killed
+while it took them out. `compare` gives ROWS rows (5,000), in archives of 200 rows each, to `apply` and to a second
+program, which takes the same words, then drawn batches to `entries`, and their rows one by one to `apply`, and
+compares what is told. `exports` gives the rows of ARCHIVES archives (500) to both, and compares what they export.
+`imports` gives FILES drawn files (2,000) to both, each into an archive of 20 rows, each tenth twice, and compares
+what is told and what is exported then. `--loaded`: the second program is one of Python, as `python3 PROGRAM.py`, and
+is loaded once (loaded.py), so that a file takes a twentieth of a second and not a whole one. TMPDIR=/dev/shm spares
+the disk. The last line is `N passed, M failed`.
 """
 
 from __future__ import annotations
