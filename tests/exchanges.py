@@ -3,6 +3,7 @@ and an export that is cut anywhere."""
 
 from __future__ import annotations
 
+from archives import BAPTISM, BURIAL, generated, lines
 from exports import ARCHIVES
 from harness import Case, Tools, demand, expect, run, tally, written
 from imports import Imported
@@ -87,6 +88,23 @@ def it_comes_back(tools):
         expect(run(tools.parish, ("norm",), text), written(text))
 
 
+def rows_of_all_verbs_come_back(tools, count=2_000, seed=4):
+    """What generated rows, a page of a register and a file make of an archive comes back from its export."""
+    with Imported(tools) as first, Imported(tools) as second:
+        answers = first.made().apply(generated(seed, count)).out
+        demand(answers.count(b",ok,") > count // 2, f"{answers.count(b',ok,')} of {count} rows were accepted")
+        source = first.apply(b"s,source,A register of its own,,,,\n").out.split(b",")[2].decode()
+        page = first.entries(lines([BAPTISM, BURIAL]), source, "page")
+        demand(page.out.startswith(b"made 2 entries"), f"{page}")
+        demand(first.import_(GIVEN, "file").status == 0, "the file was refused")
+        here, text = records(first), first.export().out
+        expect(second.made().import_(text), written(f"imported {len(here)} records, first 1\n".encode()))
+        there = records(second)
+        same = numbers(here, there)
+        demand(len(set(same.values())) == len(here) == len(there), "the numbers are not one to one")
+        demand(like(here, same) == there, "a record differs")
+
+
 def cut_anywhere(tools):
     """Each beginning of an export is refused, but the one without the last line end, and nothing is taken in."""
     with Imported(tools) as first, Imported(tools) as second:
@@ -103,4 +121,5 @@ def cut_anywhere(tools):
 
 def cases(tools: Tools):
     yield Case("exchanges: an awkward archive comes back", lambda: it_comes_back(tools))
+    yield Case("exchanges: 2,000 rows of all verbs come back", lambda: rows_of_all_verbs_come_back(tools))
     yield Case("exchanges: an export that is cut anywhere", lambda: cut_anywhere(tools))
