@@ -1,8 +1,9 @@
 """Refused memory: each growth of a command on an archive gets none in turn (refuse.c).
 
-A run that wanted memory says 1, or 80 where the database wanted it, or answers its row so; the archive is as it was or
-as it is when the command is done, and the same command with memory then answers and leaves what it does where none is
-refused. `./test` refuses growths that lie further and further apart, and tests/long_stops.py each.
+A run that wanted memory says 1, or 80 where the database wanted it, or answers its row so, or does without; the archive
+is as it was or as it is when the command is done, and the same command with memory then answers and leaves what it does
+where none is refused. `./test` refuses growths that lie further and further apart, and more of those with which a batch
+is written; tests/long_stops.py refuses each.
 """
 
 from __future__ import annotations
@@ -19,6 +20,7 @@ from undisturbed import BATCH, MERGE, UNDO, Command, Undisturbed, of_row, tables
 from visits import request
 
 LEAST = 100  # growths that a command makes at least
+APART = 30  # of the last fifth of a batch's growths each so many-th is refused: there its records are written
 TODAY = "2024-01-01"
 COUPLE = ("p,person,John /Smith/,M", "f,family,1,", "m,event,2,MARR,,1960,")
 GIVEN = request("/person/1")
@@ -51,8 +53,10 @@ def is_wanting(whole: Undisturbed, library: str, number: int) -> bool:
         if not os.path.exists(mark):
             expect(got, whole.whole)
             return False
-        demand(is_told(got, whole.whole), f"{got}")
-        whole.demand_found(at, 0, 0 if b",refused," in got.out else 1)
+        # SQLite does without some of the memory that it wants.
+        is_done = got == whole.whole
+        demand(is_done or is_told(got, whole.whole), f"{got}")
+        whole.demand_found(at, int(is_done), 0 if b",refused," in got.out else 1)
         whole.demand_ended(at)
         return True
 
@@ -70,6 +74,36 @@ def each_growth(tools: Tools, command: Command, numbers: Iterable[int]) -> int:
             except Failed as failed:
                 raise Failed(f"growth {number} refused: {failed}") from None
     raise Failed("the growths have no end")
+
+
+def last_growth(whole: Undisturbed, library: str) -> int:
+    """The number of the last growth that a command makes."""
+    least, above = 1, 2
+    while is_wanting(whole, library, above):
+        least, above = above, 2 * above
+    while above - least > 1:
+        middle = (least + above) // 2
+        if is_wanting(whole, library, middle):
+            least = middle
+        else:
+            above = middle
+    return least
+
+
+def last_growths(tools: Tools, command: Command) -> int:
+    """Refuses growths of the last fifth of a command, where a part of its records is written; answers how many."""
+    whole = Undisturbed(tools, command)
+    with whole.copy() as at:
+        library = built(at.path)
+        last = last_growth(whole, library)
+        demand(last > LEAST, f"it has only {last} growths")
+        numbers = range(last - last // 5, last, APART)
+        for number in numbers:
+            try:
+                demand(is_wanting(whole, library, number), "there is no such growth")
+            except Failed as failed:
+                raise Failed(f"growth {number} of {last} refused: {failed}") from None
+    return len(numbers)
 
 
 def wanting_room(whole: Undisturbed, library: str, page: bytes, number: int) -> bool:
@@ -111,9 +145,16 @@ def case_of(tools: Tools, command: Command, every: bool) -> Case:
     )
 
 
+def last_of(tools: Tools, command: Command) -> Case:
+    name = f"{command.name}, the last growths"
+    return Case(f"refused memory: {name}", lambda: tally("refused growths", name, last_growths(tools, command)))
+
+
 def cases(tools: Tools, every: bool = False) -> Iterator[Case]:
     for command in COMMANDS:
         yield case_of(tools, command, every)
+    if not every:
+        yield last_of(tools, BATCH)
     numbers = range(1, MOST) if every else apart()
     yield Case(
         "refused memory: a room",
