@@ -2,7 +2,7 @@
 use Rattle.std.specs.Prelude.{ℕ, ◌≡◌, Bool, true, false, not, List, [], ◌∷◌, codes, Option, Some, None, refl}
 use Rattle.std.proofs.Common.{ap, sym, true≢false}
 use Rattle.record_kinds.specs.declared.record.Record.TheVariants as kind
-use Rattle.sound_archives.specs.Judged.{is_nil}
+use Rattle.record_rules.specs.Judged.{is_nil}
 use Rattle.record_kinds.specs.declared.record.Record.{Record}
 use Rattle.record_shapes.specs.Shapes.{pointer_line, text_line}
 use Rattle.archive_state.specs.Slips.{Slip}

@@ -60,13 +60,12 @@ use Rattle.archive_state.specs.Sound.{
 use Rattle.archive_state.proofs.Known.{path_known}
 use Rattle.archive_state.specs.Texts.{carried_texts, own_texts}
 use Rattle.sound_archives.specs.Archives.{at}
-use Rattle.sound_archives.specs.Judged.{
+use Rattle.record_rules.specs.Judged.{
   all_some,
   has_event_tag,
   has_key_of,
   has_members_once,
   has_normal_name,
-  has_own_key,
   has_own_shape,
   has_room,
   has_said_place,
@@ -85,6 +84,7 @@ use Rattle.sound_archives.specs.Judged.{
   stands,
   stands_if_there,
 }
+use Rattle.sound_archives.specs.Judged.{has_own_key}
 use Rattle.sound_archives.specs.Rules.{
   Keeps,
   Rule,
@@ -105,8 +105,9 @@ use Rattle.sound_archives.specs.Rules.{
   trailers,
   untaken,
 }
-use Rattle.sound_archives.proofs.Tests.{all_there, each_in, each_of, from_some, if_some, to_all, to_some}
-use Rattle.sound_archives.proofs.Parts as part
+use Rattle.record_rules.proofs.Tests.{each_of, from_some, if_some, to_all, to_some}
+use Rattle.sound_archives.proofs.Tests.{all_there, each_in}
+use Rattle.record_rules.proofs.Parts as part
 
 -- a part of a number's record, with other numbers that agree
 abbrev pub Apart : ℕ → model.Entry → ℕ → Record → Type 0

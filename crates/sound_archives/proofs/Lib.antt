@@ -5,7 +5,6 @@ pub mod ExamplesTags
 pub mod ExamplesLines
 pub mod ExamplesSlips
 pub mod Tests
-pub mod Parts
 pub mod Judging
 pub mod Whole
 pub mod Sound

@@ -1,27 +1,17 @@
--- Each test decides its rule.
-use Rattle.std.proofs.Common.{◌≡◌, ℕ, List, [], ◌∷◌, Bool, true, false, refl, sym, subst, ◌∙◌, arith, IfSome}
-use Rattle.std.specs.Prelude.{Option, Some, None, cond}
+-- A test of each that stands somewhere decides its rule.
+use Rattle.std.proofs.Common.{◌≡◌, ℕ, List, [], ◌∷◌, Bool, true, false, refl, sym, subst, ◌∙◌, arith}
+use Rattle.std.specs.Prelude.{Some, cond}
 use Rattle.std.specs.Bool.{Decides}
 use Rattle.std.proofs.lemmas.Bool.Decides.{nat_tests, Decides-and}
 use Rattle.std.specs.List.{list_all}
 use Rattle.std.specs.FinMap.{FinMap, get}
 use Rattle.std.specs.Ordering.{nat_cmp, eq_by_cmp}
-use Rattle.record_shapes.specs.Lists.{EachOf}
 use Rattle.archive_state.specs.Sound.{EachIn}
+use Rattle.record_rules.specs.Judged.{all_some}
+use Rattle.record_rules.proofs.Tests.{from_some, to_all, to_some}
 use Rattle.sound_archives.specs.Archives.{at}
-use Rattle.sound_archives.specs.Judged.{all_some, each}
+use Rattle.sound_archives.specs.Judged.{each}
 
-pub each_of : {A : Type 0} (p : A → Bool) (P : A → Type 0) → ((x : A) → Decides (p x) (P x)) → (xs : List A)
-    → Decides (list_all p xs) (EachOf P xs)
-each_of p P d [] = (λ _. tt, λ _. refl)
-each_of p P d (x ∷ xs) = Decides-and (p x) (list_all p xs) (d x) (each_of p P d xs)
-
-pub if_some : {A : Type 0} (p : A → Bool) (P : A → Type 0) → ((x : A) → Decides (p x) (P x)) → (o : Option A)
-    → Decides (all_some p o) (IfSome o P)
-if_some p P d None = (λ _. tt, λ _. refl)
-if_some p P d (Some x) = d x
-
--- ---- each that stands somewhere
 at_one : (q : ℕ → Bool) (n k : ℕ) (b : Bool) → eq_by_cmp nat_cmp n k ≡ b → b ≡ true → q k ≡ true → q n ≡ true
 at_one q n k b e is h = let same : n ≡ k = grind (arith, nat_tests) in subst (λ i. q i ≡ true) (sym same) h
 
@@ -35,17 +25,6 @@ all_there q n (f ∷ es) x h e =
       | true ↦ λ is _. at_one q n f.0 true is refl parts.0
       | false ↦ λ _ g. all_there q n es x parts.1 g
     ] refl e
-
-pub from_some : {X : Type 0} (p : X → Bool) (o : Option X) (x : X) → o ≡ Some x → all_some p o ≡ true → p x ≡ true
-from_some p o x e h = subst (λ u. all_some p u ≡ true) e h
-
-pub to_some : {X : Type 0} (p : X → Bool) (o : Option X) → ((x : X) → o ≡ Some x → p x ≡ true) → all_some p o ≡ true
-to_some p None h = refl
-to_some p (Some x) h = h x refl
-
-pub to_all : {A : Type 0} (q : A → Bool) (xs : List A) → ((x : A) → q x ≡ true) → list_all q xs ≡ true
-to_all q [] h = refl
-to_all q (x ∷ xs) h = (Decides-and (q x) (list_all q xs) (λ i. i, λ i. i) (λ i. i, λ i. i)).1 (h x, to_all q xs h)
 
 pub each_in : {X : Type 0} (p : ℕ → X → Bool) (P : ℕ → X → Type 0) → ((n : ℕ) (x : X) → Decides (p n x) (P n x))
     → (m : FinMap nat_cmp X) (es : List (ℕ × X)) → ((n : ℕ) → get m n ≡ at es n) → Decides (each p es) (EachIn m P)

@@ -47,7 +47,7 @@ use Rattle.archive_state.specs.Sound.{
   old_records,
 }
 use Rattle.sound_archives.specs.Archives.{Archive, at, content, olds}
-use Rattle.sound_archives.specs.Judged.{
+use Rattle.record_rules.specs.Judged.{
   all_some,
   ascends,
   is_empty_person,
@@ -101,9 +101,10 @@ use Rattle.sound_archives.specs.Rules.{
   trailers,
   untaken,
 }
-use Rattle.sound_archives.proofs.Tests.{each_in, each_of, from_some, if_some, to_some}
+use Rattle.record_rules.proofs.Tests.{each_of, from_some, if_some, to_some}
+use Rattle.sound_archives.proofs.Tests.{each_in}
 use Rattle.sound_archives.proofs.Judging.{all_stand, all_stand_there, decides}
-use Rattle.sound_archives.proofs.Parts as part
+use Rattle.record_rules.proofs.Parts as part
 
 -- ---- slips
 nil : {A : Type 0} (xs : List A) → Decides (is_nil xs) (xs ≡ [])

@@ -65,14 +65,12 @@ use Rattle.archive_state.specs.Sound.{
 }
 use Rattle.archive_state.specs.Texts.{carried_texts, own_texts}
 use Rattle.sound_archives.specs.Archives.{Archive, at, olds}
-use Rattle.sound_archives.specs.Judged.{
+use Rattle.record_rules.specs.Judged.{
   all_some,
   ascends,
-  each,
   has_event_tag,
   has_members_once,
   has_normal_name,
-  has_own_key,
   has_own_shape,
   has_room,
   has_said_place,
@@ -92,6 +90,7 @@ use Rattle.sound_archives.specs.Judged.{
   stands,
   stands_if_there,
 }
+use Rattle.sound_archives.specs.Judged.{each, has_own_key}
 
 -- ---- the rules on records
 pub data Rule : Type 0 where
