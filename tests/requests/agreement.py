@@ -126,6 +126,7 @@ def judged(asked: list[list[str]], answers: list[list[str]], kept: set[str]) -> 
 def rows_of(command: list[str], given: bytes) -> list[list[str]]:
     """The fields of each row that is answered."""
     ended = subprocess.run(command, input=given, stdout=subprocess.PIPE, check=True, timeout=LIMIT)
+    csv.field_size_limit(len(ended.stdout) + 1)
     return list(csv.reader(io.StringIO(ended.stdout.decode(), newline="")))
 
 

@@ -19,7 +19,7 @@ import subprocess
 import sys
 from collections import Counter
 from concurrent.futures import ThreadPoolExecutor
-from dataclasses import dataclass
+from dataclasses import dataclass, replace
 from typing import Callable
 
 sys.dont_write_bytecode = True
@@ -130,6 +130,7 @@ class Trial:
     undone: str = "before"  # what is found where nothing was done
     is_reached: bool = True  # whether the call itself uses the file, and not its opening and its closing alone
     apart: int = 1  # each so many-th number of calls is tried
+    last: tuple[str, ...] = ()  # what the last of the rows that come first may be answered with; nothing: anything
 
 
 FILES = ("log", "db", "log off", "db off")
@@ -191,7 +192,9 @@ STEPS = {
     "an import that is given up late": (["begin", *["stage"] * 5, "abandon"], False),
 }
 GOOD = 1_000_000  # calls, more than are made
-STOPPED = (34, 44, 54, 64)  # calls after which the taking up is stopped
+TAKEN = range(0, 300, 2)  # calls after which a taking up may be stopped
+STOPPED = 4  # of these numbers so many are tried
+LEFT_AGAIN = "left and stopped after"
 LEFT = ALIKE + making.row("! steps", "log", GOOD, "|".join(["begin", *["stage"] * 5]), "", IMPORT)
 
 
@@ -210,13 +213,23 @@ def adopts(file: str) -> Trial:
 def adopts_again(calls: int, file: str) -> Trial:
     """The same after it was taken up once, and that was stopped after so many calls."""
     rows = LEFT + making.row("! steps", file, calls, "", "")
-    return performs(f"left and stopped after {calls}", rows.encode(), PERFORMED["a person"], file)
+    trial = performs(f"{LEFT_AGAIN} {calls}", rows.encode(), PERFORMED["a person"], file)
+    return replace(trial, last=("steps,unadopted,80", "steps,unopened"))
+
+
+def stopped_adoptions(command: list[str], file: str) -> list[int]:
+    """Numbers of calls with which the taking up itself is stopped; of a file that it does not use, the opening."""
+    told = [stopped(answer, 1).first for answer in answers(command, adopts(file), TAKEN)]
+    calls = [count for count, first in zip(TAKEN, told, strict=True) if first == ["unadopted", FAILED]]
+    calls = calls or [count for count, first in zip(TAKEN, told, strict=True) if first == ["unopened"]]
+    if len(calls) < STOPPED:
+        raise ValueError(f"a taking up is stopped after {calls} calls alone")
+    return [calls[(len(calls) - 1) * at // (STOPPED - 1)] for at in range(STOPPED)]
 
 
 TRIALS = (
     *(walks(name, *steps, file) for file in FILES for name, steps in STEPS.items()),
     *(adopts(file) for file in FILES),
-    *(adopts_again(calls, file) for file in FILES for calls in STOPPED),
     *(performs("600 persons", ALIKE.encode(), f'! import,"{PERSONS}"', file, 4) for file in FILES),
     *(performs(name, REQUESTS, request, file) for file in FILES for name, request in PERFORMED.items()),
     *(performs(name, rows.encode(), row, file) for file in FILES for name, (rows, row) in MERGES.items()),
@@ -230,7 +243,10 @@ def answers(command: list[str], trial: Trial, calls: range) -> list[str]:
     rows = "".join(trial.row.format(file=trial.file, calls=count) for count in calls)
     given = trial.before + rows.encode()
     ended = subprocess.run(command, input=given, stdout=subprocess.PIPE, check=True, timeout=LIMIT)
-    return ended.stdout.decode().splitlines()[-len(calls) :]
+    told = ended.stdout.decode().splitlines()
+    if trial.last and told[-len(calls) - 1] not in trial.last:
+        raise ValueError(f"before it: {told[-len(calls) - 1]}")
+    return told[-len(calls) :]
 
 
 def tried(command: list[str], trial: Trial, apart: int) -> tuple[list[tuple[str, str | None]], Counter[str]]:
@@ -246,9 +262,9 @@ def tried(command: list[str], trial: Trial, apart: int) -> tuple[list[tuple[str,
             cases.append((f"{trial.name}, {count}", None if is_right else answer))
             seen.append(one)
     undone = [s for s in seen if FAILED in s.first and s.found == trial.undone]
-    is_right = seen[-1].is_whole and (len(undone) > 0 or not trial.is_reached)
-    told = None if is_right else f"{len(undone)} failed and were undone; last {seen[-1]}"
     found = Counter(s.found for s in seen if not s.is_whole)
+    is_right = seen[-1].is_whole and found.total() > 0 and (len(undone) > 0 or not trial.is_reached)
+    told = None if is_right else f"{found.total()} stops, {len(undone)} failed and were undone; last {seen[-1]}"
     return [*cases, (f"{trial.name}, all", told)], found
 
 
@@ -259,10 +275,17 @@ def judged(command: list[str], trial: Trial, each: bool) -> tuple[list[tuple[str
         return [(trial.name, repr(error))], Counter()
 
 
+def again(command: list[str], only: str) -> list[Trial]:
+    """The trials of a second taking up, if the word may be in their names."""
+    if only not in LEFT_AGAIN and LEFT_AGAIN not in only:
+        return []
+    return [adopts_again(calls, file) for file in FILES for calls in stopped_adoptions(command, file)]
+
+
 def run(command: list[str], only: str, each: bool = False) -> tuple[int, int]:
     """How many cases passed and failed of the trials whose names have a word; prints a line for each that failed, and
     how many stops there were and how many requests were found done behind them."""
-    trials = [trial for trial in TRIALS if only in trial.name]
+    trials = [trial for trial in (*TRIALS, *again(command, only)) if only in trial.name]
     with ThreadPoolExecutor(max_workers=os.cpu_count()) as pool:
         results = list(pool.map(lambda trial: judged(command, trial, each), trials))
     cases = [case for result, _ in results for case in result]
