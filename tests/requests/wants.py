@@ -6,9 +6,10 @@ The steps are asked three times, each time of the archive adopted again: over it
 Behind each stage a request is asked too, which is refused as long as the import is open. A step that wanted memory says
 1, or 80 where the database wanted it, and `Archive` says what is answered then: behind a 1 of a stage the import is
 open as before and the next stage goes on; behind an 80 all is refused with 81, and of the archive adopted again (over
-its files, where the connection is broken) the steps from `begin` on make what they make where nothing is refused. Of an import with many growths each so many-th is refused, or with `--each` every one. One
-line a case that fails, then how many growths were refused in which step, and last `N passed, M failed`; status 0 only
-if none failed and one passed. COMMAND as in run.py.
+its files, where the connection is broken) the steps from `begin` on make what they make where nothing is refused. Of an
+import with many growths each so many-th is refused, or with `--each` every one. One line a case that fails, then how
+many growths were refused in which step, and last `N passed, M failed`; status 0 only if none failed and one passed.
+COMMAND as in run.py.
 """
 
 from __future__ import annotations
@@ -34,7 +35,7 @@ from table.steps import GOOD, MORE, NONE, PERSON, imports, persons  # noqa: E402
 ROOT = pathlib.Path(__file__).resolve().parents[2]
 PROGRAM = ROOT / "crates/request_rows/out/request_rows"
 STAGE = 256  # rows that a stage writes
-LEAST = 10  # growths of stages that are refused with 1 and with 80, at least
+LEAST = 5  # growths of stages that are refused with 1 and with 80, at least
 MOST = 10_000_000  # growths of a run, at most
 TOGETHER = 64  # growths that are tried before the next ones
 LIMIT = 100  # seconds for one run of the program
@@ -272,9 +273,9 @@ def found_in(program: Program, walk: Walk, apart: int) -> Counter[str]:
 
 
 def run(command: list[str], only: str, each: bool = False) -> tuple[int, int]:
-    """How many cases passed and failed of the walks whose names have a word; prints a line for each that failed, and how
-    many growths were refused in which step."""
-    walks = [walk for walk in WALKS if only in walk.name]
+    """How many cases passed and failed of the walks whose names have a word; prints a line for each that failed, and
+    how many growths were refused in which step."""
+    walks = [walk for walk in WALKS if only in f"refused memory, {walk.name}"]
     failed = 0
     with tempfile.TemporaryDirectory() as folder:
         program = Program(command, folder)
