@@ -125,8 +125,8 @@ class Walk:
 
 
 WALKS = (
-    Walk("two records and a pointer that dangles", LEE, 9, 2),
-    Walk("two records, given up", LEE, 9, 2, "abandon"),
+    Walk("two records and a pointer that dangles", LEE, 6, 2),
+    Walk("two records, given up", LEE, 6, 2, "abandon"),
     Walk("129 persons", persons(129), 258, 129, apart=37),
     Walk("600 persons", persons(600), 1_200, 600, apart=101),
 )
