@@ -40,6 +40,7 @@ MOST = 10_000_000  # growths of a run, at most
 TOGETHER = 64  # growths that are tried before the next ones
 LIMIT = 100  # seconds for one run of the program
 WANTING = ("1", "80")
+FAILED = 1  # the status of a program that wanted memory for itself
 PROGRAMS = ("1", "80", "90")  # how the program tells that it wanted memory for a row: 90 for the file in it
 LEE = "0 HEAD\n0 @I1@ INDI\n1 NAME Ann /Lee/\n1 FAMC @F1@\n1 NOTE @N9@\n0 @F1@ FAM\n0 TRLR\n"
 
@@ -206,8 +207,10 @@ def step_by_step(archive: Archive, names: list[str], words: list[str]) -> tuple[
 def told(walk: Walk, rows: list[list[str]], status: int) -> str | None:
     """In which visit and step a run wanted memory, with the answer, or that its program wanted it. None: nothing is
     told of it."""
-    if status or any(one[:2] == ["", "refused"] and one[2] in PROGRAMS for one in rows):
+    if status == FAILED or any(one[:2] == ["", "refused"] and one[2] in PROGRAMS for one in rows):
         return "the program"
+    if status:
+        raise Wrong(f"status {status}, behind {rows}")
     if rows[:1] != [["ok"]] or len(rows) != 3:
         raise Wrong(f"{rows}")
     found, archives = None, [Archive(walk.rows, walk.records)]

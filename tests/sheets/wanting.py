@@ -18,6 +18,7 @@ from memory import REFUSED, answered, built
 from rows import Ask, Case
 
 FULL = "95 WriteFailed\n"
+FAILED = 1  # the status of a program that wanted memory for itself
 LEAST = 50  # growths of a visit that are refused with 1, at least
 MOST = 10_000  # growths of a run, at most
 
@@ -30,8 +31,8 @@ def told(got: list[str], status: int, plain: list[str], at: int) -> str:
     """Where a growth was that a run did not get: `before` or `behind` the visit that has this place among the answers,
     and is made again behind it; or what the visit says to it; `none` where nothing is said."""
     if got[:at] != plain[:at] or len(got) == at:
-        if REFUSED not in got[:at] and not status:
-            raise Wrong(f"{got[:at]} without a refusal")
+        if status not in (0, FAILED) or not status and REFUSED not in got[:at]:
+            raise Wrong(f"{got[:at]} and status {status}")
         return "before"
     if got[at] in (REFUSED, FULL):
         if status or got[at + 1 :] != plain[at + 1 :]:
@@ -39,6 +40,8 @@ def told(got: list[str], status: int, plain: list[str], at: int) -> str:
         return got[at]
     if got[at] != plain[at]:
         raise Wrong(f"{got[at]!r} in place of {plain[at]!r}")
+    if got[at + 1 : at + 2] not in ([], [REFUSED], [FULL], plain[at + 1 : at + 2]):
+        raise Wrong(f"behind the visit comes {got[at + 1:]!r}")
     return "none" if got == plain and not status else "behind"
 
 
