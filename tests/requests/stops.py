@@ -192,7 +192,7 @@ STEPS = {
     "an import that is given up late": (["begin", *["stage"] * 5, "abandon"], False),
 }
 GOOD = 1_000_000  # calls, more than are made
-TAKEN = range(0, 300, 2)  # calls after which a taking up may be stopped
+TAKEN = range(0, 300, 4)  # calls after which a taking up may be stopped
 STOPPED = 4  # of these numbers so many are tried
 LEFT_AGAIN = "left and stopped after"
 LEFT = ALIKE + making.row("! steps", "log", GOOD, "|".join(["begin", *["stage"] * 5]), "", IMPORT)
@@ -279,7 +279,8 @@ def again(command: list[str], only: str) -> list[Trial]:
     """The trials of a second taking up, if the word may be in their names."""
     if only not in LEFT_AGAIN and LEFT_AGAIN not in only:
         return []
-    return [adopts_again(calls, file) for file in FILES for calls in stopped_adoptions(command, file)]
+    stopped = {file: stopped_adoptions(command, file) for file in ("log", "db")}
+    return [adopts_again(calls, file) for file in FILES for calls in stopped[file.removesuffix(" off")]]
 
 
 def run(command: list[str], only: str, each: bool = False) -> tuple[int, int]:
