@@ -171,11 +171,21 @@ pub fn export<S: Alter>(
 fn exported<S: Alter>(alloc: Global, archive: &mut Archive<S>) -> Result<Vec<u8>, RefusalKind> {
     let society = archive.society(alloc)?;
     let mut text = Vec::new(alloc);
-    let mut output = Counted::new(&mut text);
-    match gedcom_export::export(alloc, archive, society.as_str(), &mut output) {
+    match write_named(alloc, archive, &society, &mut text) {
         Ok(()) => Ok(text),
         Err(refusal) => Err(refusal.kind),
     }
+}
+
+/// Writes the archive of a society.
+fn write_named<S: Alter>(
+    alloc: Global,
+    archive: &mut Archive<S>,
+    society: &Text,
+    text: &mut Vec<u8>,
+) -> Result<(), Refusal> {
+    let mut output = Counted::new(text);
+    gedcom_export::export(alloc, archive, society.as_str(), &mut output)
 }
 
 /// Runs statements, and then visits the archive.
