@@ -1,12 +1,12 @@
 """Stops: an archive is made, and requests performed, in files of which one fails from some call on.
 
-    python3 tests/requests/stops.py [--program COMMAND] [--only WORD] [--each]
+    python3 tests/requests/stops.py [--program COMMAND] [--only WORD]
 
 For each file, and with the power going off at the end or not, the number of calls that go well rises from 0 until
 nothing is stopped any more. A case is one such number: what was answered, what is found when the files are opened
-again, and what is answered and found then when the same is asked once more. Of a long request each so many-th number
-is tried, or with `--each` every one. One line a case that fails, then how many stops there were and what was found
-behind them, and last `N passed, M failed`; status 0 only if none failed and one passed. COMMAND as in run.py.
+again, and what is answered and found then when the same is asked once more. One line a case that fails, then how many
+stops there were and what was found behind them, and last `N passed, M failed`; status 0 only if none failed and one
+passed. COMMAND as in run.py.
 """
 
 from __future__ import annotations
@@ -129,7 +129,6 @@ class Trial:
     is_right: Callable[[Stopped, int], bool] = is_performed
     undone: str = "before"  # what is found where nothing was done
     is_reached: bool = True  # whether the call itself uses the file, and not its opening and its closing alone
-    apart: int = 1  # each so many-th number of calls is tried
     last: tuple[str, ...] = ()  # what the last of the rows that come first may be answered with; nothing: anything
 
 
@@ -168,10 +167,10 @@ PERSONS = "\n".join(["0 HEAD", *(f"0 @I{n}@ INDI\n1 NAME Person /{n}/" for n in 
 FIVE = "e1|person|Eva /Lee/|F,e2|family|7|1,e3|event|8|MARR||1820|,e4|participant|9|2|witness,e5|name|7|Eva"
 
 
-def performs(name: str, before: bytes, request: str, file: str, apart: int = 1) -> Trial:
+def performs(name: str, before: bytes, request: str, file: str) -> Trial:
     row = "! stop,{file},{calls},s1," + request + "\n"
     is_reached = file in ("log", "log off") or len(request) > LONG
-    return Trial(f"{name}, {file}", before, row, file, is_reached=is_reached, apart=apart)
+    return Trial(f"{name}, {file}", before, row, file, is_reached=is_reached)
 
 
 def runs(file: str) -> Trial:
@@ -230,7 +229,7 @@ def stopped_adoptions(command: list[str], file: str) -> list[int]:
 TRIALS = (
     *(walks(name, *steps, file) for file in FILES for name, steps in STEPS.items()),
     *(adopts(file) for file in FILES),
-    *(performs("600 persons", ALIKE.encode(), f'! import,"{PERSONS}"', file, 4) for file in FILES),
+    *(performs("600 persons", ALIKE.encode(), f'! import,"{PERSONS}"', file) for file in FILES),
     *(performs(name, REQUESTS, request, file) for file in FILES for name, request in PERFORMED.items()),
     *(performs(name, rows.encode(), row, file) for file in FILES for name, (rows, row) in MERGES.items()),
     *(runs(file) for file in FILES),
@@ -249,13 +248,13 @@ def answers(command: list[str], trial: Trial, calls: range) -> list[str]:
     return told[-len(calls) :]
 
 
-def tried(command: list[str], trial: Trial, apart: int) -> tuple[list[tuple[str, str | None]], Counter[str]]:
+def tried(command: list[str], trial: Trial) -> tuple[list[tuple[str, str | None]], Counter[str]]:
     """Each number of calls as a case, with what is wrong with it; and what is wrong with them all. Behind them how many
     were found how, of those that were stopped."""
     seen: list[Stopped] = []
     cases: list[tuple[str, str | None]] = []
-    while len(seen) * apart < MOST and not (len(seen) > BEHIND and all(s.is_whole for s in seen[-BEHIND:])):
-        calls = range(len(seen) * apart, (len(seen) + TOGETHER) * apart, apart)
+    while len(seen) < MOST and not (len(seen) > BEHIND and all(s.is_whole for s in seen[-BEHIND:])):
+        calls = range(len(seen), len(seen) + TOGETHER)
         for count, answer in zip(calls, answers(command, trial, calls), strict=True):
             one = stopped(answer, trial.requests)
             is_right = trial.is_right(one, trial.requests) and (one.is_done or not any(s.is_done for s in seen))
@@ -268,9 +267,9 @@ def tried(command: list[str], trial: Trial, apart: int) -> tuple[list[tuple[str,
     return [*cases, (f"{trial.name}, all", told)], found
 
 
-def judged(command: list[str], trial: Trial, each: bool) -> tuple[list[tuple[str, str | None]], Counter[str]]:
+def judged(command: list[str], trial: Trial) -> tuple[list[tuple[str, str | None]], Counter[str]]:
     try:
-        return tried(command, trial, 1 if each else trial.apart)
+        return tried(command, trial)
     except (ValueError, IndexError, OSError, subprocess.SubprocessError) as error:
         return [(trial.name, repr(error))], Counter()
 
@@ -283,12 +282,12 @@ def again(command: list[str], only: str) -> list[Trial]:
     return [adopts_again(calls, file) for file in FILES for calls in stopped[file.removesuffix(" off")]]
 
 
-def run(command: list[str], only: str, each: bool = False) -> tuple[int, int]:
+def run(command: list[str], only: str) -> tuple[int, int]:
     """How many cases passed and failed of the trials whose names have a word; prints a line for each that failed, and
     how many stops there were and how many requests were found done behind them."""
     trials = [trial for trial in (*TRIALS, *again(command, only)) if only in trial.name]
     with ThreadPoolExecutor(max_workers=os.cpu_count()) as pool:
-        results = list(pool.map(lambda trial: judged(command, trial, each), trials))
+        results = list(pool.map(lambda trial: judged(command, trial), trials))
     cases = [case for result, _ in results for case in result]
     failed = [(name, why) for name, why in cases if why is not None]
     for name, why in failed:
@@ -303,9 +302,8 @@ def main() -> int:
     words = argparse.ArgumentParser(description="The tests of stops.")
     words.add_argument("--program", metavar="COMMAND", default=shlex.quote(str(PROGRAM)))
     words.add_argument("--only", metavar="WORD", default="")
-    words.add_argument("--each", action="store_true")
     told = words.parse_args()
-    passed, failed = run(shlex.split(told.program), told.only, told.each)
+    passed, failed = run(shlex.split(told.program), told.only)
     print(f"{passed} passed, {failed} failed")
     return 1 if failed or not passed else 0
 
