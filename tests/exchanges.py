@@ -7,6 +7,7 @@ from archives import BAPTISM, BURIAL, generated, lines
 from exports import ARCHIVES
 from harness import Case, Tools, demand, expect, run, tally, written
 from imports import Imported
+from renumbering import demand_same
 from table.making import between
 
 LINES = "SELECT no, kind, depth, tag, text, dst FROM record JOIN line USING (no) ORDER BY no, pos"
@@ -43,35 +44,6 @@ def records(at):
     return found
 
 
-def owned(found, owner, kind):
-    return [n for n, (own, lines) in sorted(found.items()) if own == kind and lines[0][3] == owner]
-
-
-def numbers(one, other):
-    """The numbers of one archive with those of another: records of one kind by their order, events and citations by
-    their order within their owner."""
-    kinds = {kind for kind, _ in [*one.values(), *other.values()]} - {"event", "citation"}
-    ordered = ([[n for n in sorted(found) if found[n][0] == kind] for found in (one, other)] for kind in kinds)
-    same = {}
-    for here, there in ordered:
-        demand(len(here) == len(there), f"{len(here)} and {len(there)} of a kind")
-        same.update(zip(here, there))
-    for kind in ("event", "citation"):
-        for owner, like in list(same.items()):
-            here, there = owned(one, owner, kind), owned(other, like, kind)
-            demand(len(here) == len(there), f"{owner} owns {len(here)} and {len(there)}")
-            same.update(zip(here, there))
-    return same
-
-
-def like(found, same):
-    """The records under other numbers."""
-    return {
-        same[number]: (kind, [(depth, tag, text, same.get(named)) for depth, tag, text, named in lines])
-        for number, (kind, lines) in found.items()
-    }
-
-
 def it_comes_back(tools):
     with Imported(tools) as first, Imported(tools) as second:
         first.made().import_(GIVEN)
@@ -82,9 +54,7 @@ def it_comes_back(tools):
         here, there = records(first), records(second)
         demand(9 not in here and max(here) == 17 and max(there) == 16, f"{sorted(here)} {sorted(there)}")
         demand(any(depth > 90 for _, lines in there.values() for depth, *_ in lines), "nothing is deep")
-        same = numbers(here, there)
-        demand(len(set(same.values())) == len(here) == len(there), "the numbers are not one to one")
-        demand(like(here, same) == there, f"{like(here, same)} {there}")
+        demand_same(here, there)
         expect(run(tools.parish, ("norm",), text), written(text))
 
 
@@ -99,10 +69,7 @@ def rows_of_all_verbs_come_back(tools, count=2_000, seed=4):
         demand(first.import_(GIVEN, "file").status == 0, "the file was refused")
         here, text = records(first), first.export().out
         expect(second.made().import_(text), written(f"imported {len(here)} records, first 1\n".encode()))
-        there = records(second)
-        same = numbers(here, there)
-        demand(len(set(same.values())) == len(here) == len(there), "the numbers are not one to one")
-        demand(like(here, same) == there, "a record differs")
+        demand_same(here, records(second))
 
 
 def cut_anywhere(tools):

@@ -4,7 +4,7 @@ odd numbers, by a word and the number. What is expected follows docs/FORMATS.md,
 
 from __future__ import annotations
 
-from harness import Case, Tools, demand, difference, run
+from harness import Case, Tools, demand, difference, run, tally
 
 PHRASES = {
     200: "OK",
@@ -157,6 +157,7 @@ def failing_reads(program):
     calls = range(1, len(given) + 1)
     for call, end in zip(calls, visits(program, [(1, call, 0, given) for call in calls])):
         demand(end == ("ReadFailed", b""), f"read {call}: {end}")
+    tally("failed reads and writes", "reads of a request", len(calls))
 
 
 def failing_writes(program):
@@ -164,6 +165,7 @@ def failing_writes(program):
     calls = range(1, len(wanted) + 1)
     for call, end in zip(calls, visits(program, [(1, 0, call, given) for call in calls])):
         demand(end == ("WriteFailed", wanted[: call - 1]), f"write {call}: {end}")
+    tally("failed reads and writes", "writes of an answer", len(calls))
 
 
 def cases(tools: Tools):

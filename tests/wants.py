@@ -26,8 +26,10 @@ COUPLE = ("p,person,John /Smith/,M", "f,family,1,", "m,event,2,MARR,,1960,")
 GIVEN = request("/person/1")
 PAGE = b"\r\n\r\nPerson 1\nName: Living\nPartner in: 2\n"
 SHEET = Command("a sheet", COUPLE, ("sheet", "family", "2", "--today", TODAY))
+TWO = ("p1,person,John /Smith/,", "p2,person,Jon /Smyth/,", "e,event,2,BURI,,,")
 COMMANDS = (
     of_row("a person", (), "p,person,John /Smith/,M", "p,ok,1,1"),
+    of_row("a merge of a person who has an event", TWO, "m1,merge,1,2", "m1,ok,4,1"),
     MERGE,
     UNDO,
     BATCH,

@@ -4,7 +4,9 @@
 
 They come in calls of 100, behind each of which the archive in files is adopted again and holds what the others hold.
 Every verb of rows, batches of entries and imports of files are each accepted at least 20 times, and none is refused for
-want of memory or by the storage. A case is one such call, and last how often each verb was accepted.
+want of memory or by the storage. At the end the archive in files is exported, and the export, imported into an empty
+archive, gives the same records up to numbers. A case is one such call, the end of an archive, its export, and last how
+often each verb was accepted.
 """
 
 from __future__ import annotations
@@ -22,15 +24,21 @@ from collections import Counter
 sys.dont_write_bytecode = True
 
 from generate import KINDS, NAMES, ROLES_OF, Rows  # noqa: E402
-from table.making import field  # noqa: E402
+from table.making import field, row  # noqa: E402
 
 ROOT = pathlib.Path(__file__).resolve().parents[2]
+sys.path.append(str(ROOT / "tests"))
+
+from harness import Failed, demand  # noqa: E402
+from renumbering import Records, demand_same  # noqa: E402
+
 PROGRAM = ROOT / "crates/request_rows/out/request_rows"
 ARCHIVES = ((13, 2_000),)  # the seed of each archive, and its requests
 TOGETHER, LEAST = 100, 20
 BATCH, IMPORT = "! batch", "! import"
 VERBS = (*KINDS, BATCH, IMPORT)
 LIMIT = 300  # seconds
+MOST = 6_000  # numbers that are looked at, more than are drawn
 NEVER = ("1", "80", "81")  # refusals that there are none of
 
 
@@ -115,13 +123,53 @@ def judged(asked: list[list[str]], answers: list[list[str]], kept: set[str]) -> 
     return None, accepted
 
 
-def answered(command: list[str], drawn: list[list[str]]) -> tuple[list[str | None], Counter[str]]:
-    """What is wrong with each call and with the end of an archive, and how often each verb was accepted."""
+def rows_of(command: list[str], given: bytes) -> list[list[str]]:
+    """The fields of each row that is answered."""
+    ended = subprocess.run(command, input=given, stdout=subprocess.PIPE, check=True, timeout=LIMIT)
+    csv.field_size_limit(len(ended.stdout) + 1)
+    return list(csv.reader(io.StringIO(ended.stdout.decode(), newline="")))
+
+
+SHOW_ALL = b"! next\n" + b"".join(b"! show,%d\n" % number for number in range(1, MOST + 1))
+
+
+def records_in(shown: list[list[str]]) -> Records:
+    """The records of what SHOW_ALL is answered with: the next number, and for each number the rows of its lines, or
+    `none`."""
+    (word, following), *rows = shown
+    found: Records = {}
+    number = 0
+    for fields in rows:
+        number += fields == ["none"] or fields[0] == "0"
+        if fields != ["none"]:
+            depth, tag, text, named = fields
+            lines = found.setdefault(number, (tag, []))[1]
+            lines.append((int(depth), tag, text, None if named == "-" else int(named)))
+    demand((word, number) == ("next", MOST) and int(following) <= MOST, f"{number} numbers before {following}")
+    return found
+
+
+def comes_back(command: list[str], exported: list[str], here: Records) -> str | None:
+    """What is wrong with an export of these records, which is imported into an empty archive."""
+    try:
+        demand(exported[:1] == ["export"] and len(exported) == 2, f"the export is {exported[:4]}")
+        given = f"! store,Lee\n{row('x', IMPORT, exported[1])}! stored\n! export\n".encode()
+        made, answer, same, again, *shown = rows_of(command, given + SHOW_ALL)
+        demand((made, same) == (["ok"], ["same"]), f"it is answered with {made} and {same}")
+        demand(answer == ["x", "ok", "1", str(len(here))], f"of {len(here)} records it is answered with {answer}")
+        demand(again[1].count("\n") == exported[1].count("\n"), "a line was dropped")
+        demand_same(here, records_in(shown))
+    except (Failed, ValueError, subprocess.SubprocessError) as wrong:
+        return str(wrong)
+    return None
+
+
+def answered(command: list[str], drawn: list[list[str]]) -> tuple[list[str | None], Counter[str], int]:
+    """What is wrong with each call, with the end of an archive and with its export; how often each verb was accepted;
+    and how many records the archive had."""
     calls = [drawn[at : at + TOGETHER] for at in range(0, len(drawn), TOGETHER)]
-    given = b"! store,Lee\n" + b"".join(map(row_of, calls)) + b"! stored\n"
-    ended = subprocess.run(command, input=given, stdout=subprocess.PIPE, check=False, timeout=LIMIT)
-    made, *told = csv.reader(io.StringIO(ended.stdout.decode()))
-    same = told.pop() if told else []
+    given = b"! store,Lee\n" + b"".join(map(row_of, calls)) + b"! stored\n! export\n" + SHOW_ALL
+    made, *told = rows_of(command, given)
     wrong: list[str | None] = []
     accepted: Counter[str] = Counter()
     kept: set[str] = set()
@@ -130,24 +178,34 @@ def answered(command: list[str], drawn: list[list[str]]) -> tuple[list[str | Non
         why, found = judged(asked, answers, kept) if answers else ("no answer", Counter())
         accepted += found
         wrong.append(why)
-    wrong.append(None if (made, same, told) == (["ok"], ["same"], []) else f"at the end: {same} {told}")
-    return wrong, accepted
+    same, exported, *shown = told
+    wrong.append(None if (made, same) == (["ok"], ["same"]) else f"at the end: {same}")
+    here = records_in(shown)
+    wrong.append(comes_back(command, exported, here))
+    return wrong, accepted, len(here)
 
 
 def run(command: list[str]) -> tuple[int, int]:
     """How many cases passed and failed; prints a line for each that failed, and how many requests agreed."""
-    cases, accepted = [], Counter()
+    cases, accepted, records = [], Counter(), 0
     for seed, count in ARCHIVES:
-        wrong, found = answered(command, requests(seed, count))
-        cases += [(f"agreement, archive {seed}, call {number}", why) for number, why in enumerate(wrong, 1)]
+        name = f"agreement, archive {seed}"
+        try:
+            (*calls, end, export), found, there = answered(command, requests(seed, count))
+        except (Failed, ValueError, subprocess.SubprocessError) as wrong:
+            cases.append((name, repr(wrong)))
+            continue
+        cases += [(f"{name}, call {number}", why) for number, why in enumerate(calls, 1)]
+        cases += [(f"{name}, its end", end), (f"{name}, its export", export)]
         accepted += found
+        records += there
     few = {verb: accepted[verb] for verb in VERBS if accepted[verb] < LEAST}
     cases.append(("agreement, accepted verbs", f"too few: {few}" if few else None))
     failed = [(name, why) for name, why in cases if why is not None]
     for name, why in failed:
         print(f"failed: {name}: {why}")
     asked = sum(count for _, count in ARCHIVES)
-    print(f"{asked} requests, of which {accepted.total()} were accepted anew, agree")
+    print(f"{asked} requests, of which {accepted.total()} were accepted anew, agree; {records} records were exported")
     return len(cases) - len(failed), len(failed)
 
 

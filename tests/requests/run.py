@@ -3,9 +3,9 @@
     python3 tests/requests/run.py [--program COMMAND] [--only WORD]
 
 Each scenario is a run of the program, in new archives; a row with its answer is a case, and a last one that the
-archives of the program hold the same at the end. Then come the cases of stops.py and of agreement.py. One line a
-scenario that fails, and last `N passed, M failed`; status 0 only if none failed and one passed. COMMAND is a program,
-or a command in quotes; without it, the executable that `rt ci` or `rt run` left under crates/.
+archives of the program hold the same at the end. Then come the cases of stops.py, of wants.py and of agreement.py. One
+line a scenario that fails, and last `N passed, M failed`; status 0 only if none failed and one passed. COMMAND is a
+program, or a command in quotes; without it, the executable that `rt ci` or `rt run` left under crates/.
 """
 
 import argparse
@@ -18,6 +18,7 @@ sys.dont_write_bytecode = True
 
 import agreement  # noqa: E402
 import stops  # noqa: E402
+import wants  # noqa: E402
 from table import again, entries, entry_rows, failing, many, merging, order, reading  # noqa: E402
 from table import steps, stored, worked  # noqa: E402
 from table.making import LAST  # noqa: E402
@@ -72,9 +73,10 @@ def main():
             failed += len(scenario.steps) + 1 - well
             if why is not None:
                 print(f"failed: {scenario.name}, row {well + 1} and what follows: {why}")
-    well, bad = stops.run(shlex.split(told.program), told.only)
-    passed += well
-    failed += bad
+    for part in (stops, wants):
+        well, bad = part.run(shlex.split(told.program), told.only)
+        passed += well
+        failed += bad
     if told.only in "agreement":
         well, bad = agreement.run(shlex.split(told.program))
         passed += well

@@ -1,12 +1,12 @@
 """Stops: an archive is made, and requests performed, in files of which one fails from some call on.
 
-    python3 tests/requests/stops.py [--program COMMAND] [--only WORD] [--each]
+    python3 tests/requests/stops.py [--program COMMAND] [--only WORD]
 
 For each file, and with the power going off at the end or not, the number of calls that go well rises from 0 until
 nothing is stopped any more. A case is one such number: what was answered, what is found when the files are opened
-again, and what is answered and found then when the same is asked once more. Of a long request each so many-th number
-is tried, or with `--each` every one. One line a case that fails, then how many stops there were and what was found
-behind them, and last `N passed, M failed`; status 0 only if none failed and one passed. COMMAND as in run.py.
+again, and what is answered and found then when the same is asked once more. One line a case that fails, then how many
+stops there were and what was found behind them, and last `N passed, M failed`; status 0 only if none failed and one
+passed. COMMAND as in run.py.
 """
 
 from __future__ import annotations
@@ -19,7 +19,7 @@ import subprocess
 import sys
 from collections import Counter
 from concurrent.futures import ThreadPoolExecutor
-from dataclasses import dataclass
+from dataclasses import dataclass, replace
 from typing import Callable
 
 sys.dont_write_bytecode = True
@@ -129,7 +129,7 @@ class Trial:
     is_right: Callable[[Stopped, int], bool] = is_performed
     undone: str = "before"  # what is found where nothing was done
     is_reached: bool = True  # whether the call itself uses the file, and not its opening and its closing alone
-    apart: int = 1  # each so many-th number of calls is tried
+    last: tuple[str, ...] = ()  # what the last of the rows that come first may be answered with; nothing: anything
 
 
 FILES = ("log", "db", "log off", "db off")
@@ -167,10 +167,10 @@ PERSONS = "\n".join(["0 HEAD", *(f"0 @I{n}@ INDI\n1 NAME Person /{n}/" for n in 
 FIVE = "e1|person|Eva /Lee/|F,e2|family|7|1,e3|event|8|MARR||1820|,e4|participant|9|2|witness,e5|name|7|Eva"
 
 
-def performs(name: str, before: bytes, request: str, file: str, apart: int = 1) -> Trial:
+def performs(name: str, before: bytes, request: str, file: str) -> Trial:
     row = "! stop,{file},{calls},s1," + request + "\n"
     is_reached = file in ("log", "log off") or len(request) > LONG
-    return Trial(f"{name}, {file}", before, row, file, is_reached=is_reached, apart=apart)
+    return Trial(f"{name}, {file}", before, row, file, is_reached=is_reached)
 
 
 def runs(file: str) -> Trial:
@@ -191,7 +191,9 @@ STEPS = {
     "an import that is given up late": (["begin", *["stage"] * 5, "abandon"], False),
 }
 GOOD = 1_000_000  # calls, more than are made
-STOPPED = (34, 44, 54, 64)  # calls after which the taking up is stopped
+TAKEN = range(0, 300, 4)  # calls after which a taking up may be stopped
+STOPPED = 4  # of these numbers so many are tried
+LEFT_AGAIN = "left and stopped after"
 LEFT = ALIKE + making.row("! steps", "log", GOOD, "|".join(["begin", *["stage"] * 5]), "", IMPORT)
 
 
@@ -210,14 +212,24 @@ def adopts(file: str) -> Trial:
 def adopts_again(calls: int, file: str) -> Trial:
     """The same after it was taken up once, and that was stopped after so many calls."""
     rows = LEFT + making.row("! steps", file, calls, "", "")
-    return performs(f"left and stopped after {calls}", rows.encode(), PERFORMED["a person"], file)
+    trial = performs(f"{LEFT_AGAIN} {calls}", rows.encode(), PERFORMED["a person"], file)
+    return replace(trial, last=("steps,unadopted,80", "steps,unopened"))
+
+
+def stopped_adoptions(command: list[str], file: str) -> list[int]:
+    """Numbers of calls with which the taking up itself is stopped; of a file that it does not use, the opening."""
+    told = [stopped(answer, 1).first for answer in answers(command, adopts(file), TAKEN)]
+    calls = [count for count, first in zip(TAKEN, told, strict=True) if first == ["unadopted", FAILED]]
+    calls = calls or [count for count, first in zip(TAKEN, told, strict=True) if first == ["unopened"]]
+    if len(calls) < STOPPED:
+        raise ValueError(f"a taking up is stopped after {calls} calls alone")
+    return [calls[(len(calls) - 1) * at // (STOPPED - 1)] for at in range(STOPPED)]
 
 
 TRIALS = (
     *(walks(name, *steps, file) for file in FILES for name, steps in STEPS.items()),
     *(adopts(file) for file in FILES),
-    *(adopts_again(calls, file) for file in FILES for calls in STOPPED),
-    *(performs("600 persons", ALIKE.encode(), f'! import,"{PERSONS}"', file, 4) for file in FILES),
+    *(performs("600 persons", ALIKE.encode(), f'! import,"{PERSONS}"', file) for file in FILES),
     *(performs(name, REQUESTS, request, file) for file in FILES for name, request in PERFORMED.items()),
     *(performs(name, rows.encode(), row, file) for file in FILES for name, (rows, row) in MERGES.items()),
     *(runs(file) for file in FILES),
@@ -230,41 +242,52 @@ def answers(command: list[str], trial: Trial, calls: range) -> list[str]:
     rows = "".join(trial.row.format(file=trial.file, calls=count) for count in calls)
     given = trial.before + rows.encode()
     ended = subprocess.run(command, input=given, stdout=subprocess.PIPE, check=True, timeout=LIMIT)
-    return ended.stdout.decode().splitlines()[-len(calls) :]
+    told = ended.stdout.decode().splitlines()
+    if trial.last and told[-len(calls) - 1] not in trial.last:
+        raise ValueError(f"before it: {told[-len(calls) - 1]}")
+    return told[-len(calls) :]
 
 
-def tried(command: list[str], trial: Trial, apart: int) -> tuple[list[tuple[str, str | None]], Counter[str]]:
+def tried(command: list[str], trial: Trial) -> tuple[list[tuple[str, str | None]], Counter[str]]:
     """Each number of calls as a case, with what is wrong with it; and what is wrong with them all. Behind them how many
     were found how, of those that were stopped."""
     seen: list[Stopped] = []
     cases: list[tuple[str, str | None]] = []
-    while len(seen) * apart < MOST and not (len(seen) > BEHIND and all(s.is_whole for s in seen[-BEHIND:])):
-        calls = range(len(seen) * apart, (len(seen) + TOGETHER) * apart, apart)
+    while len(seen) < MOST and not (len(seen) > BEHIND and all(s.is_whole for s in seen[-BEHIND:])):
+        calls = range(len(seen), len(seen) + TOGETHER)
         for count, answer in zip(calls, answers(command, trial, calls), strict=True):
             one = stopped(answer, trial.requests)
             is_right = trial.is_right(one, trial.requests) and (one.is_done or not any(s.is_done for s in seen))
             cases.append((f"{trial.name}, {count}", None if is_right else answer))
             seen.append(one)
     undone = [s for s in seen if FAILED in s.first and s.found == trial.undone]
-    is_right = seen[-1].is_whole and (len(undone) > 0 or not trial.is_reached)
-    told = None if is_right else f"{len(undone)} failed and were undone; last {seen[-1]}"
     found = Counter(s.found for s in seen if not s.is_whole)
+    is_right = seen[-1].is_whole and found.total() > 0 and (len(undone) > 0 or not trial.is_reached)
+    told = None if is_right else f"{found.total()} stops, {len(undone)} failed and were undone; last {seen[-1]}"
     return [*cases, (f"{trial.name}, all", told)], found
 
 
-def judged(command: list[str], trial: Trial, each: bool) -> tuple[list[tuple[str, str | None]], Counter[str]]:
+def judged(command: list[str], trial: Trial) -> tuple[list[tuple[str, str | None]], Counter[str]]:
     try:
-        return tried(command, trial, 1 if each else trial.apart)
+        return tried(command, trial)
     except (ValueError, IndexError, OSError, subprocess.SubprocessError) as error:
         return [(trial.name, repr(error))], Counter()
 
 
-def run(command: list[str], only: str, each: bool = False) -> tuple[int, int]:
+def again(command: list[str], only: str) -> list[Trial]:
+    """The trials of a second taking up, if the word may be in their names."""
+    if only not in LEFT_AGAIN and LEFT_AGAIN not in only:
+        return []
+    stopped = {file: stopped_adoptions(command, file) for file in ("log", "db")}
+    return [adopts_again(calls, file) for file in FILES for calls in stopped[file.removesuffix(" off")]]
+
+
+def run(command: list[str], only: str) -> tuple[int, int]:
     """How many cases passed and failed of the trials whose names have a word; prints a line for each that failed, and
     how many stops there were and how many requests were found done behind them."""
-    trials = [trial for trial in TRIALS if only in trial.name]
+    trials = [trial for trial in (*TRIALS, *again(command, only)) if only in trial.name]
     with ThreadPoolExecutor(max_workers=os.cpu_count()) as pool:
-        results = list(pool.map(lambda trial: judged(command, trial, each), trials))
+        results = list(pool.map(lambda trial: judged(command, trial), trials))
     cases = [case for result, _ in results for case in result]
     failed = [(name, why) for name, why in cases if why is not None]
     for name, why in failed:
@@ -279,9 +302,8 @@ def main() -> int:
     words = argparse.ArgumentParser(description="The tests of stops.")
     words.add_argument("--program", metavar="COMMAND", default=shlex.quote(str(PROGRAM)))
     words.add_argument("--only", metavar="WORD", default="")
-    words.add_argument("--each", action="store_true")
     told = words.parse_args()
-    passed, failed = run(shlex.split(told.program), told.only, told.each)
+    passed, failed = run(shlex.split(told.program), told.only)
     print(f"{passed} passed, {failed} failed")
     return 1 if failed or not passed else 0
 

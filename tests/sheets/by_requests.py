@@ -51,6 +51,19 @@ SHOWN = Visits("the pages of docs/READING-ROOM.md", LEE_FAMILY, (
 ))
 SMITH = page("Person 1", "Name: Living", "Partner in: 2")
 
+# Two archives that differ in the day of the marriage alone.
+MARRIAGES = (
+    Visits("a marriage in 1960", MARRIED, (
+        ("GET /person/1", 200, SMITH),
+        ("GET /family/2", 200, page("Family 2", "Husband: 1 Living")),
+        ("GET /surname?name=Smith", 200, ""),
+    )),
+    Visits("a marriage in 1970", {**MARRIED, 3: Event(2, "MARR", "", "1970")}, (
+        ("GET /person/1", 200, SMITH),
+        ("GET /family/2", 200, page("Family 2", "Husband: 1 Living")),
+    )),
+)
+
 VISITS = (
     Visits("one person", LEES, (
         ("GET /", 200, page("Persons: 1", "Families: 0", "Registers: 0")),
@@ -71,15 +84,7 @@ VISITS = (
         ("POST /", 405, None),
         ("POST /person/9", 405, None),
     )),
-    Visits("a marriage in 1960", MARRIED, (
-        ("GET /person/1", 200, SMITH),
-        ("GET /family/2", 200, page("Family 2", "Husband: 1 Living")),
-        ("GET /surname?name=Smith", 200, ""),
-    )),
-    Visits("a marriage in 1970", {**MARRIED, 3: Event(2, "MARR", "", "1970")}, (
-        ("GET /person/1", 200, SMITH),
-        ("GET /family/2", 200, page("Family 2", "Husband: 1 Living")),
-    )),
+    *MARRIAGES,
     Visits("a living wife", SMITHS, (
         ("GET /family/3", 200, page("Family 3", "Husband: 1 John Smith", "Wife: 2 Living")),
         ("GET /person/1", 200, page("Person 1", "Name: John Smith", "Sex: M", "BURI", "Partner in: 3")),

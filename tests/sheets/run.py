@@ -8,6 +8,7 @@ from __future__ import annotations
 
 import pathlib
 import sys
+from collections import Counter
 
 sys.dont_write_bytecode = True
 HERE = pathlib.Path(__file__).resolve().parent
@@ -17,7 +18,7 @@ sys.path.append(str(HERE.parent))
 import drawn  # noqa: E402
 import hands  # noqa: E402
 from asking import answers, differences, given_to  # noqa: E402
-from by_requests import SHOWN, VISITS, not_shown  # noqa: E402
+from by_requests import MARRIAGES, SHOWN, VISITS, Visits, not_shown  # noqa: E402
 from heads import Heads  # noqa: E402
 from memory import REFUSED, fault  # noqa: E402
 from plain import Family, Person, Source, lines  # noqa: E402
@@ -25,6 +26,7 @@ from rows import Ask, Case, given, row  # noqa: E402
 from room import Room  # noqa: E402
 from rules import Sheets  # noqa: E402
 from visits import answer  # noqa: E402
+from wanting import Wrong, wanted_in  # noqa: E402
 
 PROGRAM = HERE.parents[1] / "crates/state_rows/out/state_rows"
 TODAY = 19_723  # 2024-01-01
@@ -88,6 +90,19 @@ def without_memory(program):
     return [f"visits without memory: {told}"] if told else []
 
 
+def each_growth(program) -> tuple[Counter[str], list[str]]:
+    """How many growths of visits to rooms of a living husband were refused, by the room, and what is wrong."""
+    refused: Counter[str] = Counter()
+    wrong = []
+    for scene in MARRIAGES:
+        *made, visit = visits_to(Visits(scene.name, scene.records, scene.requests[:1])).asks
+        try:
+            refused[scene.name] = wanted_in(program, tuple(made), visit, row("shown", TODAY))
+        except Wrong as told:
+            wrong.append(f"growths refused in a visit, {scene.name}: {told}")
+    return refused, wrong
+
+
 def drawn_visits(program, seed: int):
     """What is told of drawn heads that a room of a drawn archive answers otherwise than the second reading."""
     records = drawn.archive(seed)
@@ -113,11 +128,16 @@ def main() -> int:
     count += 2
     failures += [f"docs/READING-ROOM.md has not the page of {words}" for words in not_shown()]
     failures += without_memory(program)
+    count += len(MARRIAGES)
+    refused, wrong = each_growth(program)
+    failures += wrong
     for seed in range(archives // 4):
         count += HEADS
         failures += drawn_visits(program, seed)
     for failure in failures:
         print(f"failed: {failure}")
+    for name, number in refused.items():
+        print(f"{number} growths refused in a visit: {name}")
     print(f"{count - len(failures)} passed, {len(failures)} failed")
     return 1 if failures or not count else 0
 

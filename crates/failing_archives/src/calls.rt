@@ -5,6 +5,7 @@ ghost use Rattle.std.specs.Prelude.{◌≡◌, false};
 use crate::steps::step;
 use archive_core::Request;
 use archive_state::{Answer, State};
+use devices::Counted;
 use records::{Refusal, RefusalKind, Text};
 use sqlite::{Alter, Connection};
 use std::alloc::{AllocError, Global};
@@ -148,6 +149,43 @@ pub fn create<S: Alter>(
         Ok(archive) => (Ok(()), archive.into_connection()),
         Err((kind, conn)) => (Err(kind), conn),
     }
+}
+
+/// The text of the GEDCOM file that the archive of a connection is exported as.
+pub fn export<S: Alter>(
+    alloc: Global,
+    conn: Connection<S>,
+) -> (Result<Vec<u8>, RefusalKind>, Connection<S>)
+    requires { conn.in_transaction ≡ false }
+    ensures { result.1.in_transaction ≡ false }
+{
+    match Archive::adopt(alloc, conn) {
+        Ok(mut archive) => {
+            let text = exported(alloc, &mut archive);
+            (text, archive.into_connection())
+        }
+        Err((kind, conn)) => (Err(kind), conn),
+    }
+}
+
+fn exported<S: Alter>(alloc: Global, archive: &mut Archive<S>) -> Result<Vec<u8>, RefusalKind> {
+    let society = archive.society(alloc)?;
+    let mut text = Vec::new(alloc);
+    match write_named(alloc, archive, &society, &mut text) {
+        Ok(()) => Ok(text),
+        Err(refusal) => Err(refusal.kind),
+    }
+}
+
+/// Writes the archive of a society.
+fn write_named<S: Alter>(
+    alloc: Global,
+    archive: &mut Archive<S>,
+    society: &Text,
+    text: &mut Vec<u8>,
+) -> Result<(), Refusal> {
+    let mut output = Counted::new(text);
+    gedcom_export::export(alloc, archive, society.as_str(), &mut output)
 }
 
 /// Runs statements, and then visits the archive.

@@ -12,5 +12,5 @@ mod words;
 pub use calls::{Asked, Outcome, Reply, Told};
 pub use failing::{Failing, Failure};
 pub use images::{Fuses, Images};
-pub use sessions::{Visits, make, visit_altered, visit_once, visit_twice};
+pub use sessions::{Visits, export_once, make, visit_altered, visit_once, visit_twice};
 pub use words::Words;

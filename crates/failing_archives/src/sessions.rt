@@ -1,6 +1,6 @@
 //! Sessions over the files of an archive: opened, used and closed.
 
-use crate::calls::{Asked, Reply, alter, create, visit};
+use crate::calls::{Asked, Reply, alter, create, export, visit};
 use crate::images::{Fuses, Images, close};
 use records::RefusalKind;
 use std::alloc::{AllocError, Global};
@@ -87,5 +87,20 @@ pub fn make(
             Ok((Some(made), close(alloc, conn, fuses)?))
         }
         Err(left) => Ok((None, left)),
+    }
+}
+
+/// The text that the archive in copies of files is exported as. 80: they could not be opened.
+pub fn export_once(
+    alloc: Global,
+    images: &Images,
+) -> Result<Result<Vec<u8>, RefusalKind>, AllocError> {
+    match images.open(alloc, Fuses::none())? {
+        Ok(conn) => {
+            let (text, conn) = export(alloc, conn);
+            close(alloc, conn, Fuses::none())?;
+            Ok(text)
+        }
+        Err(_) => Ok(Err(RefusalKind::Storage)),
     }
 }

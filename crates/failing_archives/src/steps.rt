@@ -10,7 +10,7 @@ use store::Archive;
 
 /// What an archive answers to a step: of the import that is the first of these requests, or of the second. What has no
 /// answer of its own has first 0 and count 0. A stage has count 1 where more is left; the state has its next number as
-/// first, and as count how many records it has.
+/// first, and as count how many records it has, which is the count of an audit too.
 pub(crate) fn step<S: Alter>(
     alloc: Global,
     archive: &mut Archive<S>,
@@ -31,6 +31,7 @@ pub(crate) fn step<S: Alter>(
             Ok(answer_of(0, 0))
         }
         ("state", _) => counted(alloc, archive.state(alloc)),
+        ("audit", _) => Ok(answer_of(0, archive.audit(alloc)?)),
         _ => Err(Refusal::from(RefusalKind::BadRow)),
     }
 }

@@ -7,7 +7,7 @@ use crate::rows::{refused, said, word};
 use crate::steps::{steps, stop_steps};
 use crate::stops::{say_made, stop_asked_row, stop_create_row, stop_row};
 use archive_core::Request;
-use failing_archives::{Asked, Fuses, Images, Words, make, visit_altered, visit_once};
+use failing_archives::{Asked, Fuses, Images, Words, export_once, make, visit_altered, visit_once};
 use records::RefusalKind;
 use std::alloc::{AllocError, Global};
 
@@ -23,6 +23,7 @@ pub(crate) fn answer_stored(
         ("! store over", [society]) => store_over(alloc, archives, society),
         ("! stored", []) => stored(alloc, archives),
         ("! society", []) => society_row(alloc, archives),
+        ("! export", []) => export_row(alloc, archives),
         ("! run", rows) => run(alloc, archives, rows),
         ("! stop", [file, calls, rest @ ..]) => stop(alloc, archives, file, calls, rest),
         ("! stop run", [file, calls, rows @ ..]) => stop_run(alloc, archives, file, calls, rows),
@@ -86,6 +87,17 @@ fn society_row(alloc: Global, archives: &Archives) -> Result<Vec<u8>, AllocError
     };
     match kept.society(alloc)? {
         Ok(society) => said(alloc, "society", society.as_str().as_bytes()),
+        Err(kind) => refused(alloc, "", kind),
+    }
+}
+
+/// The text of the GEDCOM file that the archive in files is exported as.
+fn export_row(alloc: Global, archives: &Archives) -> Result<Vec<u8>, AllocError> {
+    let Some(kept) = &archives.kept else {
+        return word(alloc, "none");
+    };
+    match export_once(alloc, &kept.images)? {
+        Ok(text) => said(alloc, "export", text.as_slice()),
         Err(kind) => refused(alloc, "", kind),
     }
 }

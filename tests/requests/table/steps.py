@@ -45,12 +45,12 @@ SCENARIOS = (
         "steps: 600 persons",
         STORE,
         steps(
-            "begin stage stage stage publish state stage stage stage publish stage state",
-            [NONE, MORE, MORE, MORE, 86, "1 0", MORE, NONE, NONE, "1 600", 85, "601 600"],
+            "begin stage stage stage publish state audit stage stage stage publish stage state audit",
+            [NONE, MORE, MORE, MORE, 86, "1 0", "0 0", MORE, NONE, NONE, "1 600", 85, "601 600", "0 600"],
             MANY,
             PERSON,
-            then="state begin stage perform state",
-            behind=("601 600", "1 600", 85, "601 1", "602 601"),
+            then="state begin stage perform state audit",
+            behind=("601 600", "1 600", 85, "601 1", "602 601", "0 601"),
         ),
     ),
     scenario(
