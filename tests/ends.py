@@ -6,7 +6,8 @@ import os
 import subprocess
 
 from harness import demand, expect, refused
-from memory import apart, built, refusing
+from memory import apart
+from refusing import built, refusing
 
 
 def refused_as_no_archive(folder, tools, *calls):

@@ -14,7 +14,8 @@ from harness import (
     ROOT, Case, Outcome, Tools, demand, difference, expect, pipe_without_reader, refused, run, written,
 )
 from lineages import drawn
-from memory import apart, built, refusing
+from memory import apart
+from refusing import built, refusing
 from table.making import between
 
 # a person that a family does not name, and a pointer to nothing

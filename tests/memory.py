@@ -3,15 +3,14 @@
 from __future__ import annotations
 
 import os
-import subprocess
 import tempfile
 
-from harness import ROOT, Case, Failed, Outcome, Tools, demand, expect, refused, run, tally, written
+from harness import Case, Failed, Outcome, Tools, demand, expect, refused, run, tally, written
+from refusing import built, refusing
 from table.making import between
 
 LEAST = 4  # growths that a run has at least; fewer show that none was refused
 MOST = 10_000_000  # and at most
-REFUSING = os.path.join(ROOT, "tests", "refuse.c")
 
 SAMPLE = between(
     "1 SOUR A", "2 VERS 1", "1 CHAR UTF-8", "0 @I1@ INDI", "1 NAME Ann /Lee/", "1 FAMC @F1@",
@@ -23,19 +22,6 @@ NOTE_TEXT = between("0 @N1@ NOTE", "1 CONT ab")
 MANY_WORDS = ("--version", *["x"] * 20)
 # canonical text beyond what one write takes
 LONG_SAMPLE = between(*["1 " + "T" * 31, "1 NOTE " + "x" * 250, "2 CONT y"] * 700)
-
-
-def built(folder):
-    """Compiles the calls that refuse, and answers their file."""
-    library = os.path.join(folder, "refuse.so")
-    words = ["cc", "-O1", "-fno-builtin", "-shared", "-fPIC", "-o", library, REFUSING]
-    ran = subprocess.run(words, capture_output=True, text=True, check=False)
-    demand(ran.returncode == 0, f"cc did not compile refuse.c: {ran.stderr}")
-    return library
-
-
-def refusing(number, library, mark):
-    return {**os.environ, "LD_PRELOAD": library, "REFUSE": str(number), "REFUSED": mark}
 
 
 def apart():

@@ -14,7 +14,8 @@ from collections.abc import Iterable, Iterator
 from exports import ARCHIVES
 from harness import Case, Failed, Outcome, Tools, demand, expect, refused, tally, written
 from imports import LEE, LEE_TOLD
-from memory import MOST, apart, built, refusing
+from memory import MOST, apart
+from refusing import built, refusing
 from rooms import visited
 from undisturbed import BATCH, MERGE, UNDO, Command, Undisturbed, of_row, tables_of
 from visits import request

@@ -6,19 +6,15 @@ from __future__ import annotations
 import os
 import pathlib
 import subprocess
+import sys
 import tempfile
 
-TESTS = pathlib.Path(__file__).resolve().parent.parent
+sys.path.append(str(pathlib.Path(__file__).resolve().parent.parent))
+
+from refusing import built, refusing  # noqa: E402
+
 REFUSED = "1 OutOfMemory\n"
 LEAST = 100  # refusals that are told of a run at least; fewer show that none came
-
-
-def built(folder):
-    """Compiles the calls that refuse, and answers their file."""
-    library = os.path.join(folder, "refuse.so")
-    words = ["cc", "-O1", "-fno-builtin", "-shared", "-fPIC", "-o", library, str(TESTS / "refuse.c")]
-    subprocess.run(words, check=True, timeout=50)
-    return library
 
 
 def answered(program, data, env=None):
@@ -49,9 +45,8 @@ def fault(program, data, refusals=(REFUSED,)):
         while True:
             number += 1
             mark = os.path.join(folder, str(number))
-            env = {**os.environ, "LD_PRELOAD": library, "REFUSE": str(number), "REFUSED": mark}
             try:
-                count += told(plain, *answered(program, data, env), refusals)
+                count += told(plain, *answered(program, data, refusing(number, library, mark)), refusals)
             except ValueError as wrong:
                 return f"growth {number} refused: {wrong}"
             if not os.path.exists(mark):

@@ -33,6 +33,10 @@ from table.making import row  # noqa: E402
 from table.steps import GOOD, MORE, NONE, PERSON, imports, persons  # noqa: E402
 
 ROOT = pathlib.Path(__file__).resolve().parents[2]
+sys.path.append(str(ROOT / "tests"))
+
+from refusing import built, refusing  # noqa: E402
+
 PROGRAM = ROOT / "crates/request_rows/out/request_rows"
 STAGE = 256  # rows that a stage writes
 LEAST = 5  # growths of stages that are refused with 1 and with 80, at least
@@ -138,15 +142,13 @@ class Program:
 
     def __init__(self, command: list[str], folder: str):
         self.command, self.folder = command, folder
-        self.library = os.path.join(folder, "refuse.so")
-        words = ["cc", "-O1", "-fno-builtin", "-shared", "-fPIC", "-o", self.library, str(ROOT / "tests/refuse.c")]
-        subprocess.run(words, check=True, timeout=LIMIT)
+        self.library = built(folder)
 
     def answered(self, given: bytes, number: int) -> tuple[list[list[str]], int, bool]:
         """The words of each row that is answered, the status, and whether there was a growth of that number, which was
         refused. There is none of number 0."""
         mark = os.path.join(self.folder, str(number))
-        env = {**os.environ, "LD_PRELOAD": self.library, "REFUSE": str(number), "REFUSED": mark}
+        env = refusing(number, self.library, mark)
         ended = subprocess.run(self.command, input=given, capture_output=True, env=env, check=False, timeout=LIMIT)
         rows = [line.split(",") for line in ended.stdout.decode().splitlines()]
         is_there = os.path.exists(mark)

@@ -14,7 +14,8 @@ from collections import Counter
 from collections.abc import Iterator
 
 from asking import given_to
-from memory import REFUSED, answered, built
+from memory import REFUSED, answered
+from refusing import built, refusing
 from rows import Ask, Case
 
 FULL = "95 WriteFailed\n"
@@ -51,9 +52,8 @@ def growths(program, data: bytes, plain: list[str], at: int) -> Iterator[str]:
         library = built(folder)
         for number in itertools.count(1):
             mark = os.path.join(folder, str(number))
-            env = {**os.environ, "LD_PRELOAD": library, "REFUSE": str(number), "REFUSED": mark}
             try:
-                where = told(*answered(program, data, env), plain, at)
+                where = told(*answered(program, data, refusing(number, library, mark)), plain, at)
             except Wrong as wrong:
                 raise Wrong(f"growth {number} refused: {wrong}") from None
             if where == "behind":
