@@ -56,7 +56,7 @@ def answered(got, answers):
     demand(all(line.isprintable() and not line.endswith(": ") for line in told), f"no words in {shown(got.err)}")
 
 
-TABLES = ("meta", "batch", "record", "line", "receipt", "slip", "slip_line")
+TABLES = ("meta", "batch", "record", "line", "receipt", "slip", "slip_line", "span")
 ROWS = lines(row for row, _ in WEDDING)
 ANSWERS = lines(answer for _, answer in WEDDING)
 
@@ -366,7 +366,7 @@ def a_society_without_a_name(tools):
 def the_society_is_kept(tools):
     with Folder(tools) as at:
         at.made()
-        demand(at.rows_of("SELECT version, next, society FROM meta") == [(1, 1, NAME)], "meta has something else")
+        demand(at.rows_of("SELECT version, next, society FROM meta") == [(2, 1, NAME)], "meta has something else")
 
 
 def apply_without_an_archive(tools):
@@ -404,7 +404,7 @@ META = "CREATE TABLE meta (version INTEGER NOT NULL, next INTEGER NOT NULL, soci
 
 
 def other_versions(tools):
-    for version, number in ((2, 83), (1_000, 83), (0, 82), (1, 82)):  # 1: but no other table
+    for version, number in ((3, 83), (1_000, 83), (0, 82), (1, 82), (2, 82)):  # 1 and 2: but no other table
         with Folder(tools) as at:
             at.other_database(META, f"INSERT INTO meta VALUES ({version}, 1, 'x')")
             expect(at.apply(), refused(number))

@@ -24,6 +24,7 @@ import archives  # noqa: E402
 import audits  # noqa: E402
 import devices  # noqa: E402
 import documents  # noqa: E402
+import earlier  # noqa: E402
 import exchanges  # noqa: E402
 import exports  # noqa: E402
 import files  # noqa: E402
@@ -58,6 +59,7 @@ PARTS = (
     sheet_commands,
     rooms,
     audits,
+    earlier,
     merges,
     exports,
     exchanges,

@@ -46,6 +46,7 @@ REFUSALS = """\
 84 ImportOpen
 85 NoImport
 86 NotAllStaged
+87 DaysReversed
 90 BadRow
 91 UnknownVerb
 92 FieldCount

@@ -352,7 +352,7 @@ FOREIGN = (
 # what `version` answers of a store
 VERSIONS = (
     ("a new archive", (), MADE, ""),
-    ("a later version", ("UPDATE meta SET version = 2",), MADE, "83 NewerSchema\n"),
+    ("a later version", ("UPDATE meta SET version = 3",), MADE, "83 NewerSchema\n"),
     ("the greatest version", ("UPDATE meta SET version = 9223372036854775807",), MADE, "83 NewerSchema\n"),
     ("version 0", ("UPDATE meta SET version = 0",), MADE, "82 NotAnArchive\n"),
     ("a version below 0", ("UPDATE meta SET version = -1",), MADE, "82 NotAnArchive\n"),

@@ -1,2 +1,4 @@
 mod Counting
 mod Judged
+mod Shown
+mod Spanned

@@ -1,11 +1,15 @@
-//! Are the tables of an archive good? They are read whole, and what they mean is judged by the rule of a sound archive.
+//! Are the tables of an archive good? They are read whole, and what they mean is judged by the rule of a sound archive,
+//! and the spans that they have by the dates of its records.
 //!
-//! It uses `store_rows`, which reads the tables, and `audit`, which judges.
+//! It uses `store_rows` and `store_tables`, which read the tables, `audit`, which judges, and `date_spans`.
 //!
 //! Callers may rely on: an answer only where the tables are good, 40 only where they are not, and nothing is written.
 #![tactic(auto)]
 
+mod flaw;
 mod judging;
 mod reading;
+mod spanning;
 
+pub use flaw::Flaw;
 pub use reading::judge_tables;

@@ -1,27 +1,36 @@
 //! The tables of an archive, read whole and judged.
 
-ghost use Rattle.std.specs.Prelude.{◌≡◌, false, OnOk};
+ghost use Rattle.std.specs.Prelude.{◌≡◌, ◌⊎◌, false, true, IfErr, IfOk, OnOk};
 ghost use Rattle.sqlite.specs.State.{HasCleanDisk};
 ghost use Rattle.sqlite.specs.Held.{state};
+ghost use Rattle.record_text.specs.declared.refusal.RefusalKind.TheVariants.{BadStored};
 ghost use Rattle.store_tables.specs.Calls.{Settled};
+ghost use Rattle.store_tables.specs.Looking.{IsFailure};
 ghost use Rattle.store_tables.specs.Rows.{Rows};
+ghost use Rattle.store_tables.specs.Schema.{archive_schema};
+ghost use Rattle.store_tables.specs.Showing.{ShowsRows, ShowsSpans};
+ghost use Rattle.store_rows.specs.Meaning.{AreReadable, Means};
 ghost use Rattle.archive_audits.specs.Judging.{Judges, KeepsTables, Tells, without_fault};
 
+use crate::flaw::Flaw;
 use crate::judging::judge;
-use audit::Fault;
+use archive_state::State;
 use record_text::RefusalKind;
 use sqlite::{Alter, Connection};
 use std::alloc::Global;
 use store_rows::read_state;
+use store_tables::SpanRow;
+use store_tables::spans::read_spans;
 
 /// How many records the tables of an archive have, where they are good. Nothing is written.
 ///
 /// 40: the tables are not good: they cannot be read, as where somebody else wrote them, or what they mean is not sound,
-/// and then what breaks the rule is told. 80: the database failed. 1: memory was refused.
+/// or a record does not have the span of its date, and then what is wrong is told. 80: the database failed. 1: memory
+/// was refused.
 pub fn judge_tables<S: Alter>(
     alloc: Global,
     conn: &mut Connection<S>,
-) -> Result<u32, (RefusalKind, Option<Fault>)>
+) -> Result<u32, (RefusalKind, Option<Flaw>)>
     requires autocommit { conn.old.in_transaction ≡ false }
     ensures judged { HasCleanDisk (state S.Store conn.new)
         → Judges (state S.Store conn.old) (without_fault result) }
@@ -32,8 +41,35 @@ pub fn judge_tables<S: Alter>(
         → KeepsTables (state S.Store conn.old) (state S.Store conn.new) }
     ensures ended { conn.new.in_transaction ≡ false }
 {
-    match read_state(alloc, conn) {
-        Ok(held) => judge(alloc, &held),
+    match read_tables(alloc, conn) {
+        Ok((spans, held)) => judge(alloc, &held, spans),
         Err(kind) => Err((kind, None)),
     }
+}
+
+/// The spans of the tables, and the state that they mean.
+fn read_tables<S: Alter>(
+    alloc: Global,
+    conn: &mut Connection<S>,
+) -> Result<(Vec<SpanRow>, State), RefusalKind>
+    requires autocommit { conn.old.in_transaction ≡ false }
+    ensures read { HasCleanDisk (state S.Store conn.new) → IfOk result (λ it. (rows : Rows)
+        → Settled (state S.Store conn.old) rows
+        → (rows.has_spans ≡ true → it.0.items ≡ rows.spans) × Means rows it.1) }
+    ensures shown { HasCleanDisk (state S.Store conn.new)
+        → (state S.Store conn.old).now.schema ≡ archive_schema true
+        → IfOk result (λ it. ShowsSpans it.0.items (state S.Store conn.old)
+        × (rows : Rows) × ShowsRows rows (state S.Store conn.old) × Means rows it.1) }
+    ensures same { HasCleanDisk (state S.Store conn.new) → IfOk result (λ _. (rows : Rows)
+        → Settled (state S.Store conn.old) rows → Settled (state S.Store conn.new) rows) }
+    ensures refused { HasCleanDisk (state S.Store conn.new) → IfErr result (λ kind. (rows : Rows)
+        → Settled (state S.Store conn.old) rows
+        → IsFailure kind ⊎ ((kind ≡ BadStored) × ¬ (AreReadable rows))) }
+    ensures kept { HasCleanDisk (state S.Store conn.new)
+        → KeepsTables (state S.Store conn.old) (state S.Store conn.new) }
+    ensures ended { conn.new.in_transaction ≡ false }
+{
+    let spans = read_spans(alloc, conn)?;
+    let held = read_state(alloc, conn)?;
+    Ok((spans, held))
 }

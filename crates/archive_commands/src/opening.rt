@@ -8,7 +8,7 @@ ghost use Rattle.record_text.specs.declared.refusal.RefusalKind.TheVariants.{Bad
 ghost use Rattle.store.specs.Creating.{IsSociety};
 ghost use Rattle.store.specs.Shut.{is_shut};
 ghost use Rattle.archive_commands.specs.Made.{IsMadeFor, Unmade};
-ghost use Rattle.archive_commands.specs.Opening.{IsFinished, IsTakenUp, Unopened};
+ghost use Rattle.archive_commands.specs.Opening.{IsFinished, IsMadeAnew, IsTakenUp, NotMadeAnew, Unopened};
 
 use record_text::RefusalKind;
 use sqlite::{Connection, FileFrom, FileStore, Start};
@@ -21,8 +21,8 @@ use store::{Archive, society_named};
 pub type OpenFile<S> = Connection<FileStore<FileFrom<S>>>;
 
 /// The archive in a file. The file is looked for first, since to open a file that is not there would make it. Imports
-/// that were left open are taken out of it. Where the refusal came after the file was opened, its connection is handed
-/// back.
+/// that were left open are taken out of it, and one of the first version is made anew. Where the refusal came after the
+/// file was opened, its connection is handed back.
 ///
 /// 82: there is no file, or it has no archive. 83: a later program made it. 80: the file cannot be opened or is no
 /// database, or the database failed. 1: memory was refused.
@@ -34,9 +34,11 @@ pub fn open<S: Start>(
     ensures opened { IfOk result (λ taken. (taken.is_lost ≡ false) × IsTakenUp (image_at S.Start)
         (file_state taken.conn)) }
     ensures finished { IfOk result (λ taken. IsFinished (image_at S.Start) (file_state taken.conn)) }
+    ensures anew { IfOk result (λ taken. IsMadeAnew (image_at S.Start) (file_state taken.conn)) }
     ensures ready { IfOk result (λ taken. is_shut taken ≡ false) }
     ensures quiet { IfOk result (λ taken. taken.failures ≡ 0) }
     ensures refused { IfErr result (λ e. Unopened (image_at S.Start) e.0 e.1) }
+    ensures kept { IfErr result (λ e. NotMadeAnew (image_at S.Start) e.0 e.1) }
 {
     match fs::exists(rt, file) {
         Ok(true) => open_file(rt, file, start),
@@ -55,9 +57,11 @@ fn open_file<S: Start>(
     ensures opened { IfOk result (λ taken. (taken.is_lost ≡ false) × IsTakenUp (image_at S.Start)
         (file_state taken.conn)) }
     ensures finished { IfOk result (λ taken. IsFinished (image_at S.Start) (file_state taken.conn)) }
+    ensures anew { IfOk result (λ taken. IsMadeAnew (image_at S.Start) (file_state taken.conn)) }
     ensures ready { IfOk result (λ taken. is_shut taken ≡ false) }
     ensures quiet { IfOk result (λ taken. taken.failures ≡ 0) }
     ensures refused { IfErr result (λ e. Unopened (image_at S.Start) e.0 e.1) }
+    ensures kept { IfErr result (λ e. NotMadeAnew (image_at S.Start) e.0 e.1) }
 {
     match Connection::open_from(rt, file, false, start) {
         Ok(conn) => match Archive::adopt(rt.alloc(), conn) {

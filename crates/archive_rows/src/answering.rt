@@ -138,7 +138,10 @@ fn answer_tables(
             Ok(())
         }
         "society" => say_society(society(alloc, &mut session.conn), out),
-        _ => check_version(&mut session.conn),
+        _ => {
+            check_version(&mut session.conn)?;
+            Ok(())
+        }
     }
 }
 

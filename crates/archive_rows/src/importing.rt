@@ -101,7 +101,7 @@ fn take_out<S: Alter>(conn: &mut Connection<S>, import: &OpenImport) -> Result<(
     if !conn.is_autocommit() {
         return Err(RefusalKind::Storage);
     }
-    remove_batch(conn, import.batch(), import.numbers())
+    remove_batch(conn, true, import.batch(), import.numbers())
 }
 
 /// Takes every open batch out.
@@ -109,7 +109,7 @@ fn clear<S: Alter>(alloc: Global, conn: &mut Connection<S>) -> Result<(), Refusa
     if !conn.is_autocommit() {
         return Err(RefusalKind::Storage);
     }
-    remove_open(alloc, conn)
+    remove_open(alloc, conn, true)
 }
 
 /// 80 for an error of the database.

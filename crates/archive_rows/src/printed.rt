@@ -5,7 +5,7 @@ use records::{Refusal, RefusalKind, Unit};
 use row_words::{Answer, number, optional_number, word};
 
 /// Every refusal.
-const KINDS: [RefusalKind; 47] = [
+const KINDS: [RefusalKind; 48] = [
     RefusalKind::OutOfMemory,
     RefusalKind::NotUtf8,
     RefusalKind::BadLevel,
@@ -47,6 +47,7 @@ const KINDS: [RefusalKind; 47] = [
     RefusalKind::ImportOpen,
     RefusalKind::NoImport,
     RefusalKind::NotAllStaged,
+    RefusalKind::DaysReversed,
     RefusalKind::BadRow,
     RefusalKind::UnknownVerb,
     RefusalKind::FieldCount,

@@ -8,9 +8,9 @@ use Rattle.sqlite_disk.specs.declared.Disk as disk
 use Rattle.sqlite_store.specs.declared.store.FileStore.{FileStore}
 use Rattle.sqlite_wal.specs.Recovery.{Image}
 use Rattle.archive_state.specs.Content.{Content}
-use Rattle.audit.specs.declared.fault.Fault.{Fault}
 use Rattle.record_text.specs.declared.refusal.RefusalKind.{RefusalKind}
 use Rattle.store_tables.specs.Looking.{IsFailure}
+use Rattle.archive_audits.specs.declared.flaw.Flaw.{Flaw}
 use Rattle.archive_audits.specs.Judging.{Audit, Judges, Tells, without_fault}
 use Rattle.store.specs.Archives.{LeavesArchive}
 use Rattle.store.specs.Calls.{Stays}
@@ -41,7 +41,7 @@ module _ {D : Type 0} {g : disk.Ghosts D} where
 
   -- no archive was taken up; or its tables are not found good, and with 40 only where they are not: where the file held
   -- an archive, memory was refused, or the database failed
-  abbrev pub Unaudited : Image → RefusalKind → Option Fault → Option (Held (FileStore D g)) → Type 0
+  abbrev pub Unaudited : Image → RefusalKind → Option Flaw → Option (Held (FileStore D g)) → Type 0
   Unaudited image kind fault left = ((fault ≡ None) × Unopened image kind left)
       ⊎ IsSomeAnd left (λ conn. IsJudged image (Err (kind, fault)) conn
       × OnHeld image (λ _. IsFailure kind) (file_state conn))

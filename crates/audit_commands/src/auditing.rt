@@ -4,8 +4,8 @@ ghost use Rattle.std.specs.Prelude.{IfErr, IfOk};
 ghost use Rattle.sqlite_wal.specs.Files.{image_at};
 ghost use Rattle.audit_commands.specs.Ends.{Audited, Unaudited};
 
+use archive_audits::Flaw;
 use archive_commands::{OpenFile, open};
-use audit::Fault;
 use record_text::RefusalKind;
 use sqlite::Start;
 use std::rt::HostRuntime;
@@ -14,14 +14,14 @@ use std::rt::HostRuntime;
 /// where one was opened. Nothing is changed.
 ///
 /// 82: there is no file, or it has no archive. 83: a later program made it. 80: the file cannot be opened or is no
-/// database, or the database failed. 40: its tables are not good; where they could be read, what breaks the rule is
-/// told. 1: memory was refused.
+/// database, or the database failed. 40: its tables are not good; where they could be read, what is wrong is told. 1:
+/// memory was refused.
 pub fn audit<S: Start>(
     rt: &HostRuntime,
     file: &str,
     start: S,
 ) -> (
-    Result<u32, (RefusalKind, Option<Fault>)>,
+    Result<u32, (RefusalKind, Option<Flaw>)>,
     Option<OpenFile<S>>,
 )
     ensures audited { IfOk result.0 (λ n. Audited (image_at S.Start) n result.1) }

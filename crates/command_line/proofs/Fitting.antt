@@ -84,6 +84,9 @@ fit_of (asked.Serve file port count today) found e has some =
     fit_by (asked.Serve file port count today) found (codes "serve") e has (λ rows words. there _ today words.3)
 fit_of (asked.Audit file) found e has some =
     fit_by (asked.Audit file) found (codes "audit") e has (λ rows words. refl)
+fit_of (asked.Days file first last told) found e has some =
+    fit_by (asked.Days file first last told) found (codes "days") e has
+    (λ rows words. both_there _ _ first last words.1 words.2)
 fit_of (asked.Show text) found e has some = absurd cc
 
 -- words in which the grammar finds no fault, and that have the name and the words of what is asked for, ask for it

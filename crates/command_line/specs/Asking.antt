@@ -40,6 +40,7 @@ use Rattle.command_line.specs.declared.tasks.Asked.TheVariants.{
   Apply,
   Audit,
   Check,
+  Days,
   Entries,
   Export,
   ExportPublic,
@@ -71,6 +72,7 @@ name_of (ExportPublic file today) = Some (codes "export")
 name_of (Sheet file kind number generations today) = Some (codes "sheet")
 name_of (Serve file port count today) = Some (codes "serve")
 name_of (Audit file) = Some (codes "audit")
+name_of (Days file first last words) = Some (codes "days")
 name_of _ = None
 
 -- ---- the words that a command is given
@@ -100,9 +102,13 @@ generations_of word = let n = number_of word in if nat_le 1 n && nat_le n 12 the
 abbrev pub generations_in : Option (Text × List Row) → ℕ
 generations_in found = generations_of (word_in found (codes "generations"))
 
--- the day of `--today`; none where no day is read from its word
+-- the day of an option; none where no day is read from its word
+abbrev pub day_given : Option (Text × List Row) → Text → Option ℤ
+day_given found id = day_read (word_in found id)
+
+-- the day of `--today`
 abbrev pub day_in : Option (Text × List Row) → Option ℤ
-day_in found = day_read (word_in found (codes "today"))
+day_in found = day_given found (codes "today")
 
 -- an option without a value is given: the grammar has the word `true` for one that is, and else `false`
 abbrev pub is_given : Option (Text × List Row) → Text → Bool
@@ -158,6 +164,9 @@ HasWords found (Serve file port count today) =
     (file.now ≡ word_in found (codes "FILE")) × (port ≡ number_up_to 65535 (word_in found (codes "port")))
     × (count ≡ number_of (word_in found (codes "count"))) × (day_in found ≡ Some today)
 HasWords found (Audit file) = file.now ≡ word_in found (codes "FILE")
+HasWords found (Days file first last words) =
+    (file.now ≡ word_in found (codes "FILE")) × (day_given found (codes "from") ≡ Some first)
+    × (day_given found (codes "to") ≡ Some last) × (words ≡ is_given found (codes "words"))
 HasWords found _ = ⊤
 
 -- ---- the words that are taken
@@ -180,10 +189,12 @@ is_fit found =
     if is_named found (codes "export") then is_export_fit found
     else if is_named found (codes "sheet") then is_some (kind_in found) && is_some (day_in found)
     else if is_named found (codes "serve") then is_some (day_in found)
+    else if is_named found (codes "days") then is_some (day_given found (codes "from")) && is_some
+    (day_given found (codes "to"))
     else true
 
 -- the words are those of a command, with nothing that it does not take: the grammar has no fault to find in them, and
--- their day and their kind of sheet are some where they have to be
+-- their days and their kind of sheet are some where they have to be
 abbrev pub IsTaken : List Text → Type 0
 IsTaken words = (fault_of program words ≡ []) × (is_fit (subcommand_of program words) ≡ true)
 

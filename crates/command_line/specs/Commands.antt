@@ -92,6 +92,17 @@ port_rule = needed_number_rule (codes "port") 1 65535
 abbrev pub count_rule : Rule
 count_rule = needed_number_rule (codes "count") 0 1000000
 
+-- `--from YYYY-MM-DD` and `--to YYYY-MM-DD`, any word here
+abbrev pub from_rule : Rule
+from_rule = needed_rule (codes "from")
+
+abbrev pub to_rule : Rule
+to_rule = needed_rule (codes "to")
+
+-- `--words`
+abbrev pub words_rule : Rule
+words_rule = flag_rule (codes "words")
+
 abbrev pub init_shape : Shape
 init_shape = record (new_shape (codes "init")) { rules = file_rule ∷ society_rule ∷ [] }
 
@@ -124,6 +135,13 @@ serve_shape = record serve_anyday { rules = file_rule ∷ port_rule ∷ count_ru
 abbrev pub audit_shape : Shape
 audit_shape = record (new_shape (codes "audit")) { rules = file_rule ∷ [] }
 
+-- `days` without what it prints beside the numbers
+abbrev pub days_numbers : Shape
+days_numbers = record (new_shape (codes "days")) { rules = file_rule ∷ from_rule ∷ to_rule ∷ [] }
+
+abbrev pub days_shape : Shape
+days_shape = record days_numbers { rules = file_rule ∷ from_rule ∷ to_rule ∷ words_rule ∷ [] }
+
 -- the commands that take no word
 abbrev pub with_streams_alone : App
 with_streams_alone = with_subcommand (with_subcommand bare (new_shape (codes "norm"))) (new_shape (codes "check"))
@@ -136,6 +154,10 @@ with_rows = with_subcommand (with_subcommand (with_subcommand with_streams_alone
 abbrev pub with_files : App
 with_files = with_subcommand (with_subcommand with_rows import_shape) export_shape
 
--- the program with its commands: beside these those that show an archive, and the one that judges it
+-- with those that show an archive, and the one that judges it
+abbrev pub with_shows : App
+with_shows = with_subcommand (with_subcommand (with_subcommand with_files sheet_shape) serve_shape) audit_shape
+
+-- the program with its commands: beside these the one that finds by days
 abbrev pub program : App
-program = with_subcommand (with_subcommand (with_subcommand with_files sheet_shape) serve_shape) audit_shape
+program = with_subcommand with_shows days_shape

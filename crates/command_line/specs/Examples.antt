@@ -27,3 +27,8 @@ abbrev pub serve_words : Text → List Text
 serve_words name =
     name ∷ codes "serve" ∷ codes "ashby.db" ∷ codes "--port" ∷ codes "8080" ∷ codes "--count" ∷ codes "1000"
     ∷ codes "--today" ∷ codes "2024-01-01" ∷ []
+
+abbrev pub days_words : Text → List Text
+days_words name =
+    name ∷ codes "days" ∷ codes "ashby.db" ∷ codes "--from" ∷ codes "1799-12-01" ∷ codes "--to" ∷ codes "1800-02-28"
+    ∷ codes "--words" ∷ []

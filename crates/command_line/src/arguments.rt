@@ -5,6 +5,7 @@ ghost use Rattle.clap.specs.Words.{rule_of};
 ghost use Rattle.command_line.specs.Commands.{
   count_rule,
   file_rule,
+  from_rule,
   generations_rule,
   kind_rule,
   maybe_today_rule,
@@ -14,8 +15,10 @@ ghost use Rattle.command_line.specs.Commands.{
   record_rule,
   society_rule,
   source_rule,
+  to_rule,
   today_rule,
   token_rule,
+  words_rule,
 };
 
 use clap::builder::ValueParser;
@@ -45,6 +48,12 @@ const GENERATIONS_HELP: &str = "The generations of a pedigree, 1 to 12 [default:
 const PORT_HELP: &str = "The port, 1 to 65535";
 
 const COUNT_HELP: &str = "How many visitors are answered, 0 to 1000000";
+
+const FROM_HELP: &str = "The first of the days";
+
+const TO_HELP: &str = "The last of the days";
+
+const WORDS_HELP: &str = "Tell behind each number what it is, its date and its place";
 
 /// The most that the number of a record can be.
 const MOST_NUMBER: u64 = 4_294_967_295;
@@ -204,4 +213,41 @@ pub(crate) fn count_arg<'a>(alloc: Global) -> Arg<'a>
         .required(true)
         .action(ArgAction::Set)
         .value_parser(ValueParser::unsigned(0, 1_000_000))
+}
+
+/// The first of some days, which has to be given. Whether it is a day is judged where it is read.
+pub(crate) fn from_arg<'a>(alloc: Global) -> Arg<'a>
+    ensures rule { rule_of result ≡ from_rule }
+    ensures local { result.global ≡ false }
+{
+    Arg::new(alloc, "from")
+        .long("from")
+        .value_name("YYYY-MM-DD")
+        .help(FROM_HELP)
+        .required(true)
+        .action(ArgAction::Set)
+}
+
+/// The last of some days, which has to be given. Whether it is a day is judged where it is read.
+pub(crate) fn to_arg<'a>(alloc: Global) -> Arg<'a>
+    ensures rule { rule_of result ≡ to_rule }
+    ensures local { result.global ≡ false }
+{
+    Arg::new(alloc, "to")
+        .long("to")
+        .value_name("YYYY-MM-DD")
+        .help(TO_HELP)
+        .required(true)
+        .action(ArgAction::Set)
+}
+
+/// That it is told what each number is.
+pub(crate) fn words_arg<'a>(alloc: Global) -> Arg<'a>
+    ensures rule { rule_of result ≡ words_rule }
+    ensures local { result.global ≡ false }
+{
+    Arg::new(alloc, "words")
+        .long("words")
+        .help(WORDS_HELP)
+        .action(ArgAction::SetTrue)
 }

@@ -7,6 +7,8 @@ ghost use Rattle.command_line.specs.Commands.{
   apply_shape,
   audit_shape,
   bare,
+  days_numbers,
+  days_shape,
   entries_shape,
   export_shape,
   import_shape,
@@ -18,20 +20,23 @@ ghost use Rattle.command_line.specs.Commands.{
   sheet_words,
   with_files,
   with_rows,
+  with_shows,
   with_streams_alone,
 };
 
 use crate::arguments::{
-    count_arg, file_arg, generations_arg, kind_arg, maybe_today_arg, port_arg, progress_arg,
-    public_arg, record_arg, society_arg, source_arg, today_arg, token_arg,
+    count_arg, file_arg, from_arg, generations_arg, kind_arg, maybe_today_arg, port_arg,
+    progress_arg, public_arg, record_arg, society_arg, source_arg, to_arg, today_arg, token_arg,
+    words_arg,
 };
 use crate::texts_in::{
     APPLY_ABOUT, APPLY_EXAMPLE, ENTRIES_ABOUT, ENTRIES_EXAMPLE, IMPORT_ABOUT, IMPORT_EXAMPLE,
     INIT_ABOUT, INIT_EXAMPLE,
 };
 use crate::texts_out::{
-    AUDIT_ABOUT, AUDIT_EXAMPLE, CHECK_ABOUT, CHECK_EXAMPLE, EXPORT_ABOUT, EXPORT_EXAMPLE,
-    NORM_ABOUT, NORM_EXAMPLE, SERVE_ABOUT, SERVE_EXAMPLE, SHEET_ABOUT, SHEET_EXAMPLE,
+    AUDIT_ABOUT, AUDIT_EXAMPLE, CHECK_ABOUT, CHECK_EXAMPLE, DAYS_ABOUT, DAYS_EXAMPLE, EXPORT_ABOUT,
+    EXPORT_EXAMPLE, NORM_ABOUT, NORM_EXAMPLE, SERVE_ABOUT, SERVE_EXAMPLE, SHEET_ABOUT,
+    SHEET_EXAMPLE,
 };
 use clap::Command;
 use std::alloc::{AllocError, Global};
@@ -182,6 +187,26 @@ fn audit_command<'a>(alloc: Global) -> Result<Command<'a>, AllocError>
         .arg(file_arg(alloc))
 }
 
+/// `days` without what it prints beside the numbers.
+fn days_numbers<'a>(alloc: Global) -> Result<Command<'a>, AllocError>
+    ensures shape { IfOk result (λ c. shape_of c ≡ days_numbers) }
+    ensures local { IfOk result (λ c. (out-Command c).has_globals ≡ false) }
+{
+    Command::new(alloc, "days")
+        .about(DAYS_ABOUT)
+        .after_help(DAYS_EXAMPLE)
+        .arg(file_arg(alloc))?
+        .arg(from_arg(alloc))?
+        .arg(to_arg(alloc))
+}
+
+fn days_command<'a>(alloc: Global) -> Result<Command<'a>, AllocError>
+    ensures shape { IfOk result (λ c. shape_of c ≡ days_shape) }
+    ensures local { IfOk result (λ c. (out-Command c).has_globals ≡ false) }
+{
+    days_numbers(alloc)?.arg(words_arg(alloc))
+}
+
 /// `parish` without its commands.
 fn bare_command<'a>(alloc: Global) -> Result<Command<'a>, AllocError>
     ensures { IfOk result (λ c. app_of c ≡ bare) }
@@ -231,6 +256,14 @@ fn with_files<'a>(alloc: Global) -> Result<Command<'a>, AllocError>
 /// `parish` and its commands.
 pub(crate) fn parish_command<'a>(alloc: Global) -> Result<Command<'a>, AllocError>
     ensures { IfOk result (λ c. app_of c ≡ program) }
+{
+    let days = days_command(alloc)?;
+    with_shows(alloc)?.subcommand(days)
+}
+
+/// `parish` with its commands that show an archive, and the one that judges it.
+fn with_shows<'a>(alloc: Global) -> Result<Command<'a>, AllocError>
+    ensures { IfOk result (λ c. app_of c ≡ with_shows) }
 {
     let sheet = sheet_command(alloc)?;
     let serve = serve_command(alloc)?;

@@ -1,10 +1,14 @@
 //! Laws of command lines, over the definitions that the contracts cite.
 
-ghost use Rattle.std.specs.Prelude.{◌≡◌, [], ◌∷◌, Some, codes, false, true};
+ghost use Rattle.std.specs.Prelude.{◌≡◌, [], ◌∷◌, Some, codes, false, pos, true};
 ghost use Rattle.clap.specs.Words.{Text, subcommand_of};
+ghost use Rattle.calendar_days.specs.Calendars.{day_number};
+ghost use Rattle.calendar_days.specs.declared.calendar.Calendar.TheVariants.{Gregorian};
 ghost use Rattle.command_line.specs.Asking.{
   IsTaken,
+  day_given,
   generations_in,
+  is_given,
   is_public,
   is_told,
   kind_in,
@@ -15,6 +19,7 @@ ghost use Rattle.command_line.specs.Asking.{
 ghost use Rattle.command_line.specs.Commands.{program};
 ghost use Rattle.command_line.specs.Examples.{
   batch_words,
+  days_words,
   import_words,
   public_words,
   serve_words,
@@ -74,4 +79,12 @@ pub fn a_room_is_taken()
         → number_up_to 65535 (word_in (subcommand_of program (serve_words name)) (codes "port")) ≡ 8080 }
     ensures count { (name : Text) → number_of (word_in (subcommand_of program (serve_words name)) (codes "count"))
         ≡ 1000 }
+{}
+
+/// Days are taken as the help of `days` shows them, and are those from one to the other, with words.
+pub fn some_days_are_taken()
+    ensures taken { (name : Text) → IsTaken (days_words name) }
+    ensures first { (name : Text) → day_given (subcommand_of program (days_words name)) (codes "from") ≡ Some
+        (day_number Gregorian (pos 1799) 12 1) }
+    ensures words { (name : Text) → is_given (subcommand_of program (days_words name)) (codes "words") ≡ true }
 {}

@@ -13,7 +13,7 @@ ghost use Rattle.command_line.specs.Asking.{
 };
 
 use crate::commands::parish_command;
-use crate::showing::{export_asked, serve_asked, sheet_asked};
+use crate::showing::{days_asked, export_asked, serve_asked, sheet_asked};
 use crate::tasks::{Asked, Refused};
 use crate::words::{is_yes, number_of, word_of};
 use clap::error::ErrorKind;
@@ -86,6 +86,7 @@ fn command_named<'a>(
         "audit" => Ok(Asked::Audit {
             file: word_of(given, "FILE"),
         }),
+        "days" => days_asked(alloc, given),
         _ => no_such_command(alloc),
     }
 }

@@ -1,4 +1,4 @@
-//! The commands that show an archive on a day: an export, a sheet, and the reading room.
+//! The commands that are given a day: an export, a sheet, the reading room, and what may have happened in some days.
 
 ghost use Rattle.std.specs.Prelude.{◌≡◌, IfOk, Some, [], codes, true, unwrap_or};
 ghost use Rattle.clap.specs.Words.{first_of, found_of, rows_of};
@@ -70,6 +70,26 @@ pub(crate) fn serve_asked<'a>(alloc: Global, given: &ArgMatches<'a>) -> Result<A
     }
 }
 
+/// `days`: what may have happened in some days. Refused where the first or the last of them is no day.
+pub(crate) fn days_asked<'a>(alloc: Global, given: &ArgMatches<'a>) -> Result<Asked<'a>, Refused>
+    ensures asked { IfOk result (λ a. name_of a ≡ Some (codes "days")) }
+    ensures words { IfOk result (HasWords (Some (codes "days", rows_of (found_of given.now)))) }
+    ensures taken { is_fit (Some (codes "days", rows_of (found_of given.now))) ≡ true → AsksForWork result }
+{
+    let Some(first) = day_of(word_of(given, "from")) else {
+        return Err(bad_day(alloc, word_of(given, "from"), "--from"));
+    };
+    match day_of(word_of(given, "to")) {
+        Some(last) => Ok(Asked::Days {
+            file: word_of(given, "FILE"),
+            first,
+            last,
+            words: is_yes(word_of(given, "words")),
+        }),
+        None => Err(bad_day(alloc, word_of(given, "to"), "--to")),
+    }
+}
+
 /// The day of `--today`. `None`: no day is read from its word, or it is not given.
 fn today_of(given: &ArgMatches<'_>) -> Option<i32>
     ensures { result ≡ day_read (unwrap_or (first_of (codes "today") (rows_of (found_of given.now))) []) }
@@ -80,11 +100,16 @@ fn today_of(given: &ArgMatches<'_>) -> Option<i32>
 /// The words are refused since no day is read from that of `--today`, or there is none.
 fn no_day(alloc: Global, word: Option<&str>) -> Refused {
     match word {
-        Some(word) => refused(format!(in alloc;
-            "error: invalid value '{word}' for '--today <YYYY-MM-DD>': no day\n\n{HELP}"
-        )),
+        Some(word) => bad_day(alloc, word, "--today"),
         None => lacking(alloc, "--today <YYYY-MM-DD>"),
     }
+}
+
+/// The words are refused since no day is read from the one of an option.
+fn bad_day(alloc: Global, word: &str, option: &str) -> Refused {
+    refused(format!(in alloc;
+        "error: invalid value '{word}' for '{option} <YYYY-MM-DD>': no day\n\n{HELP}"
+    ))
 }
 
 /// The words are refused since that is no kind of sheet.

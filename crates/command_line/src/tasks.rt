@@ -61,6 +61,14 @@ pub enum Asked<'a> {
     Audit {
         file: &'a str,
     },
+    /// `days`: the events and register entries of the archive in a file whose date may mean a day from the first to the
+    /// last, on standard output: their numbers, and with `words` what each is.
+    Days {
+        file: &'a str,
+        first: i32,
+        last: i32,
+        words: bool,
+    },
     /// `--help` or `--version`, of the program or of a command: the text for standard output.
     Show {
         text: String,

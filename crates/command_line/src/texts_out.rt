@@ -100,3 +100,23 @@ docs/REFUSALS.md, beside the source of parish, says what to do about each.
 
 Example:
   parish audit ashby.db";
+
+pub(crate) const DAYS_ABOUT: &str = "Find the events and entries of some days";
+
+pub(crate) const DAYS_EXAMPLE: &str = "\
+The numbers of the events and register entries whose date may mean a day from
+--from to --to are printed, one a line, ascending. A phrase, or a date that is
+spelt in no form, is never found. With --words each line goes on with the kind of
+the event or entry, its date and its place, with two spaces between them. The
+living are not hidden: the archive is not changed, and nothing is for visitors.
+
+Refusals:
+  87 DaysReversed  the first day is behind the last
+  40 BadStored     what is stored is no record: somebody else wrote FILE
+  82 NotAnArchive  there is no FILE, or it is no archive
+  95 WriteFailed   standard output could not be written
+  1, 80, 83
+docs/REFUSALS.md, beside the source of parish, says what to do about each.
+
+Example:
+  parish days ashby.db --from 1799-12-01 --to 1800-02-28 --words";

@@ -37,9 +37,10 @@ use Rattle.record_shapes.specs.Lists.{EachOf, IsOnce}
 use Rattle.store_tables.specs.Batches.{AreOwned}
 use Rattle.store_tables.specs.Calls.{Good}
 use Rattle.store_tables.specs.Rows.{Rows, BatchRow, with_batch, with_closed, with_next}
-use Rattle.store_rows.specs.Meaning.{Means, has_record, is_closed}
+use Rattle.store_rows.specs.Meaning.{Means, is_closed}
+use Rattle.store_rows.specs.Spans.{AreDrawn, Drawn, IsDated, KeepsSpans}
 use Rattle.store_rows.specs.Writing.{with_kept_written}
-use Rattle.staged_rows.specs.Removing.{IsAside, without_batch}
+use Rattle.staged_rows.specs.Removing.{AreAside, IsSeenAs, without_batch}
 use Rattle.staged_rows.specs.Staging.{
   AreAllClosed,
   AreClosed,
@@ -47,6 +48,7 @@ use Rattle.staged_rows.specs.Staging.{
   StagedRow,
   a_line,
   a_record,
+  a_span,
   import_changes,
   numbers_of,
   rows_of_import,
@@ -83,10 +85,22 @@ staged_after (x ∷ xs) ys rows = staged_after xs ys (with_staged_row x rows)
 row_society : (x : StagedRow) (rows : Rows) → (with_staged_row x rows).society ≡ rows.society
 row_society (a_record r) rows = refl
 row_society (a_line n at l) rows = refl
+row_society (a_span n span) rows = refl
 
 row_batches : (x : StagedRow) (rows : Rows) → (with_staged_row x rows).batches ≡ rows.batches
 row_batches (a_record r) rows = refl
 row_batches (a_line n at l) rows = refl
+row_batches (a_span n span) rows = refl
+
+row_version : (x : StagedRow) (rows : Rows) → (with_staged_row x rows).version ≡ rows.version
+row_version (a_record r) rows = refl
+row_version (a_line n at l) rows = refl
+row_version (a_span n span) rows = refl
+
+row_has_spans : (x : StagedRow) (rows : Rows) → (with_staged_row x rows).has_spans ≡ rows.has_spans
+row_has_spans (a_record r) rows = refl
+row_has_spans (a_line n at l) rows = refl
+row_has_spans (a_span n span) rows = refl
 
 staged_society : (xs : List StagedRow) (rows : Rows) → (with_staged xs rows).society ≡ rows.society
 staged_society [] rows = refl
@@ -95,6 +109,14 @@ staged_society (x ∷ xs) rows = staged_society xs (with_staged_row x rows) ∙ 
 staged_batches : (xs : List StagedRow) (rows : Rows) → (with_staged xs rows).batches ≡ rows.batches
 staged_batches [] rows = refl
 staged_batches (x ∷ xs) rows = staged_batches xs (with_staged_row x rows) ∙ row_batches x rows
+
+staged_version : (xs : List StagedRow) (rows : Rows) → (with_staged xs rows).version ≡ rows.version
+staged_version [] rows = refl
+staged_version (x ∷ xs) rows = staged_version xs (with_staged_row x rows) ∙ row_version x rows
+
+staged_has_spans : (xs : List StagedRow) (rows : Rows) → (with_staged xs rows).has_spans ≡ rows.has_spans
+staged_has_spans [] rows = refl
+staged_has_spans (x ∷ xs) rows = staged_has_spans xs (with_staged_row x rows) ∙ row_has_spans x rows
 
 -- ---- an import is begun, and goes on
 pub fresh_from : ((rows : Rows) (t : Trees) → Good rows t → AreOwned rows)
@@ -110,6 +132,8 @@ fresh_from owned fresh closed batch rows t c changes good next means adds =
 pub goes_on : (n : ℕ) (before rows : Rows) (i : Import) → IsBegun before i rows
     → IsBegun before (record i { left = drop n i.left }) (with_staged (take n i.left) rows)
 goes_on n before rows i begun = record {
+  drawn = begun.drawn;
+  are = begun.are;
   done = begun.done ++ take n i.left;
   parts = begun.parts ∙ ap (λ xs. begun.done ++ xs) (sym (parted n i.left))
       ∙ joined begun.done (take n i.left) (drop n i.left);
@@ -118,24 +142,30 @@ goes_on n before rows i begun = record {
 }
 
 -- it is published when all its rows are there
-pub published_is : (before rows : Rows) (i : Import) → IsBegun before i rows → i.left ≡ []
-    → with_published i.batch i.changes rows ≡ with_whole_import i.batch i.changes before
+pub published_is : (before rows : Rows) (i : Import) → (begun : IsBegun before i rows) → i.left ≡ []
+    → with_published i.batch i.changes rows ≡ with_whole_import i.batch i.changes begun.drawn before
 published_is before rows i begun none =
-    let all : begun.done ≡ rows_of_import i.batch i.changes.puts =
+    let all : begun.done ≡ rows_of_import i.batch i.changes.puts begun.drawn =
     sym (begun.parts ∙ ap (λ xs. begun.done ++ xs) none ∙ append-nil begun.done) in
     ap (with_published i.batch i.changes)
     (begun.rows_are ∙ ap (λ xs. with_staged xs (with_batch i.batch true before)) all)
 
 module _ (before rows : Rows) (i : Import) (c : Content) (begun : IsBegun before i rows)
-    (fresh : IsFresh i.batch i.changes.puts before) (adds : IsAddition c i.changes) (means : Means before c) where
+    (fresh : IsFresh i.batch i.changes.puts before) (adds : IsAddition c i.changes) where
   abbrev opened : Rows
   opened = with_batch i.batch true before
 
   unclosed : is_closed i.batch before.batches ≡ false
   unclosed = none_closed i.batch before.batches fresh.unused
 
-  pub begun_society : rows.society ≡ before.society
+  begun_society : rows.society ≡ before.society
   begun_society = ap (λ (r : Rows). r.society) begun.rows_are ∙ staged_society begun.done opened
+
+  begun_version : rows.version ≡ before.version
+  begun_version = ap (λ (r : Rows). r.version) begun.rows_are ∙ staged_version begun.done opened
+
+  begun_has_spans : rows.has_spans ≡ before.has_spans
+  begun_has_spans = ap (λ (r : Rows). r.has_spans) begun.rows_are ∙ staged_has_spans begun.done opened
 
   pub still_open : is_closed i.batch rows.batches ≡ false
   still_open = ap (λ (r : Rows). is_closed i.batch r.batches) begun.rows_are
@@ -143,53 +173,84 @@ module _ (before rows : Rows) (i : Import) (c : Content) (begun : IsBegun before
       ∙ opened_is_not_closed i.batch before.batches unclosed
 
   -- while it is open
-  pub in_no_view : ((batch count : ℕ) (puts : List Numbered) (rows : Rows) (c : Content)
-      → is_closed batch rows.batches ≡ false → EachOf (λ (p : Numbered). get c.records p.number ≡ None) puts
-      → Means rows c → Means (with_open_import batch puts count rows) c) → Means rows c
-  in_no_view law =
-      let parts : take (length begun.done) (rows_of_import i.batch i.changes.puts) ≡ begun.done =
+  pub not_seen : ((batch count : ℕ) (puts : List Numbered) (drawn : Drawn) (rows : Rows)
+      → is_closed batch rows.batches ≡ false → AreAside (numbers_of puts) rows → AreDrawn puts drawn
+      → IsSeenAs rows (with_open_import batch puts drawn count rows))
+      → AreAside (numbers_of i.changes.puts) before → IsSeenAs before rows
+  not_seen law apart =
+      let parts : take (length begun.done) (rows_of_import i.batch i.changes.puts begun.drawn) ≡ begun.done =
       ap (take (length begun.done)) begun.parts ∙ taken begun.done i.left in
-      subst (λ (r : Rows). Means r c) (sym begun.rows_are)
-      (subst (λ xs. Means (with_staged xs opened) c) parts
-      (law i.batch (length begun.done) i.changes.puts before c unclosed adds.free means))
+      subst (IsSeenAs before) (sym begun.rows_are)
+      (subst (λ xs. IsSeenAs before (with_staged xs opened)) parts
+      (law i.batch (length begun.done) i.changes.puts begun.drawn before unclosed apart begun.are))
 
-  -- it is taken out again
-  pub aside : ((puts : List Numbered) (rows : Rows) (c : Content)
-      → EachOf (λ (p : Numbered). get c.records p.number ≡ None) puts → Means rows c
-      → EachOf (λ n. has_record n rows ≡ false) (numbers_of puts)) → (society : List ℕ) → before.society ≡ society
-      → Means rows c → IsAside (numbers_of i.changes.puts) society c rows
-  aside law society is now = record {
-    means = now;
-    society_is = begun_society ∙ is;
-    unrecorded = law i.changes.puts rows c adds.free now;
-  }
-
-  pub taken_out : ((batch : ℕ) (puts : List Numbered) (done left : List StagedRow) (rows : Rows)
-      → rows_of_import batch puts ≡ done ++ left → IsFresh batch puts rows
+  pub taken_out : ((batch : ℕ) (puts : List Numbered) (drawn : Drawn) (done left : List StagedRow) (rows : Rows)
+      → rows_of_import batch puts drawn ≡ done ++ left → IsFresh batch puts rows → AreDrawn puts drawn
       → without_batch batch (numbers_of puts) (with_staged done (with_batch batch true rows)) ≡ rows)
       → without_batch i.batch (numbers_of i.changes.puts) rows ≡ before
   taken_out law =
       ap (without_batch i.batch (numbers_of i.changes.puts)) begun.rows_are
-      ∙ law i.batch i.changes.puts begun.done i.left before begun.parts fresh
+      ∙ law i.batch i.changes.puts begun.drawn begun.done i.left before begun.parts fresh begun.are
 
   -- ---- it is published
   kept_society : (kept : Option Kept) (r : Rows) → (with_kept_written kept r).society ≡ r.society
   kept_society None r = refl
   kept_society (Some k) r = refl
 
+  kept_version : (kept : Option Kept) (r : Rows) → (with_kept_written kept r).version ≡ r.version
+  kept_version None r = refl
+  kept_version (Some k) r = refl
+
+  kept_has_spans : (kept : Option Kept) (r : Rows) → (with_kept_written kept r).has_spans ≡ r.has_spans
+  kept_has_spans None r = refl
+  kept_has_spans (Some k) r = refl
+
+  abbrev closed : Rows
+  closed = with_next i.changes.next (with_closed i.batch rows)
+
   pub published_society : (with_published i.batch i.changes rows).society ≡ before.society
-  published_society = kept_society i.changes.kept (with_next i.changes.next (with_closed i.batch rows)) ∙ begun_society
+  published_society = kept_society i.changes.kept closed ∙ begun_society
+
+  pub published_dated : IsDated before → IsDated (with_published i.batch i.changes rows)
+  published_dated dated = record {
+    version = kept_version i.changes.kept closed ∙ begun_version ∙ dated.version;
+    has_spans = kept_has_spans i.changes.kept closed ∙ begun_has_spans ∙ dated.has_spans;
+  }
 
   changes_are : i.changes
       ≡ import_changes i.changes.puts i.changes.next i.changes.answer i.changes.kept
   changes_are = ap₂ (λ ns s. record i.changes { removals = ns; slip = s }) adds.removals adds.slip
 
-  pub published_means : ((batch next : ℕ) (puts : List Numbered) (answer : Answer) (kept : Option Kept) (rows : Rows)
-      (c : Content) → IsOnce (numbers_of puts) → IsFresh batch puts rows → Means rows c
-      → Means (with_whole_import batch (import_changes puts next answer kept) rows)
+  -- what holds of a whole import holds of the one that is published
+  published_has : (P : Rows → Content → Type 0) → i.left ≡ []
+      → (let all = import_changes i.changes.puts i.changes.next i.changes.answer i.changes.kept in
+      P (with_whole_import i.batch all begun.drawn before) (applied c all))
+      → P (with_published i.batch i.changes rows) (applied c i.changes)
+  published_has P none holds =
+      subst (λ (r : Rows). P r (applied c i.changes)) (sym (published_is before rows i begun none))
+      (subst (λ x. P (with_whole_import i.batch x begun.drawn before) (applied c x)) (sym changes_are) holds)
+
+  pub published_means : ((batch next : ℕ) (puts : List Numbered) (drawn : Drawn) (answer : Answer)
+      (kept : Option Kept) (rows : Rows) (c : Content) → IsOnce (numbers_of puts) → IsFresh batch puts rows
+      → AreDrawn puts drawn → Means rows c
+      → Means (with_whole_import batch (import_changes puts next answer kept) drawn rows)
       (applied c (import_changes puts next answer kept)))
-      → i.left ≡ [] → Means (with_published i.batch i.changes rows) (applied c i.changes)
-  published_means law none =
-      subst (λ (r : Rows). Means r (applied c i.changes)) (sym (published_is before rows i begun none))
-      (subst (λ x. Means (with_whole_import i.batch x before) (applied c x)) (sym changes_are)
-      (law i.batch i.changes.next i.changes.puts i.changes.answer i.changes.kept before c adds.once fresh means))
+      → Means before c → i.left ≡ [] → Means (with_published i.batch i.changes rows) (applied c i.changes)
+  published_means law means none = published_has Means none
+      (law i.batch i.changes.next i.changes.puts begun.drawn i.changes.answer i.changes.kept before c adds.once fresh
+      begun.are means)
+
+  pub published_spans : ((batch next : ℕ) (puts : List Numbered) (drawn : Drawn) (answer : Answer)
+      (kept : Option Kept) (rows : Rows) (c : Content) → IsOnce (numbers_of puts) → IsFresh batch puts rows
+      → AreDrawn puts drawn → KeepsSpans rows c
+      → KeepsSpans (with_whole_import batch (import_changes puts next answer kept) drawn rows)
+      (applied c (import_changes puts next answer kept)))
+      → KeepsSpans before c → i.left ≡ [] → KeepsSpans (with_published i.batch i.changes rows) (applied c i.changes)
+  published_spans law spans none = published_has KeepsSpans none
+      (law i.batch i.changes.next i.changes.puts begun.drawn i.changes.answer i.changes.kept before c adds.once fresh
+      begun.are spans)
+
+-- what no record has is so where the same is seen
+pub still_aside : (ns : List ℕ) (before rows : Rows) → IsSeenAs before rows → AreAside ns before → AreAside ns rows
+still_aside [] before rows seen apart = tt
+still_aside (n ∷ ns) before rows seen apart = (seen.recorded n ∙ apart.0, still_aside ns before rows seen apart.1)

@@ -27,6 +27,7 @@ use Rattle.archive_state.specs.Changes.{Changes}
 use Rattle.archive_state.specs.Content.{Content, Records}
 use Rattle.archive_state.specs.declared.changes.Numbered.{Numbered}
 use Rattle.store_tables.specs.Rows.{LineRow, RecordRow, Rows}
+use Rattle.store_rows.specs.Spans.{Drawn}
 use Rattle.store_rows.proofs.Got.{got_put}
 use Rattle.staged_rows.specs.Staging.{with_published, with_whole_import}
 use Rattle.staging.specs.Opened.{Import}
@@ -74,9 +75,9 @@ none_of_them m old new (p ∷ ps) free there same = (
   none_of_them m old new ps free.1 there.1 same,
 )
 
-pub others_stay : ((batch : ℕ) (changes : Changes) (rows : Rows) (m : ℕ)
+pub others_stay : ((batch : ℕ) (changes : Changes) (drawn : Drawn) (rows : Rows) (m : ℕ)
     → EachOf (λ (p : Numbered). p.number ≢ m) changes.puts
-    → HasSameRows m rows (with_whole_import batch changes rows))
+    → HasSameRows m rows (with_whole_import batch changes drawn rows))
     → (before rows : Rows) (i : Import) (c : Content) (m : ℕ) → IsBegun before i rows → IsAddition c i.changes
     → i.left ≡ [] → get c.records m ≡ get (applied c i.changes).records m
     → HasSameRows m before (with_published i.batch i.changes rows)
@@ -86,4 +87,5 @@ others_stay law before rows i c m begun adds none same =
     let is : (applied c i.changes).records ≡ now = ap (without now) adds.removals in
     let others = none_of_them m c.records now puts adds.free (all_there puts c.records)
     (same ∙ ap (λ (x : Records). get x m) is) in
-    subst (HasSameRows m before) (sym (published_is before rows i begun none)) (law i.batch i.changes before m others)
+    subst (HasSameRows m before) (sym (published_is before rows i begun none))
+    (law i.batch i.changes begun.drawn before m others)

@@ -11,6 +11,7 @@ use Rattle.record_shapes.specs.Lists.{EachOf, IsOnce}
 use Rattle.store_tables.specs.Calls.{Good}
 use Rattle.store_tables.specs.Rows.{Rows, BatchRow, with_batch}
 use Rattle.store_rows.specs.Shallow.{IsShallowPut}
+use Rattle.store_rows.specs.Spans.{AreDrawn, Drawn}
 use Rattle.staged_rows.specs.Staging.{
   AreAllClosed,
   StagedRow,
@@ -48,8 +49,15 @@ pub record IsAddition (c : Content) (changes : Changes) : Type 0 where
   pub removals : changes.removals ≡ []
   pub slip : changes.slip ≡ None
 
+-- the import of these changes, of which no row is written
+abbrev pub IsWhole : ℕ → Changes → Import → Type 0
+IsWhole batch changes i = (drawn : Drawn) × AreDrawn changes.puts drawn
+    × (i ≡ record { batch = batch; changes = changes; left = rows_of_import batch changes.puts drawn })
+
 -- rows with an import on them: those of before, with the import's batch, which is open, and a beginning of its rows
 pub record IsBegun (before : Rows) (i : Import) (rows : Rows) : Type 0 where
+  pub drawn : Drawn
+  pub are : AreDrawn i.changes.puts drawn
   pub done : List StagedRow
-  pub parts : rows_of_import i.batch i.changes.puts ≡ done ++ i.left
+  pub parts : rows_of_import i.batch i.changes.puts drawn ≡ done ++ i.left
   pub rows_are : rows ≡ with_staged done (with_batch i.batch true before)

@@ -8,8 +8,7 @@ ghost use Rattle.record_text.specs.declared.refusal.RefusalKind.TheVariants.{Out
 ghost use Rattle.store_tables.specs.Calls.{LeavesOnly, Settled};
 ghost use Rattle.store_tables.specs.Looking.{IsFailure, Looks};
 ghost use Rattle.store_tables.specs.Rows.{BatchRow, Rows, with_batch};
-ghost use Rattle.staged_rows.specs.Staging.{rows_of_import};
-ghost use Rattle.import_commits.specs.Commits.{IsNextBatch, LeavesBegun, LeavesEither};
+ghost use Rattle.import_commits.specs.Commits.{IsNextBatch, IsWhole, LeavesBegun, LeavesEither};
 
 use archive_state::Changes;
 use record_text::RefusalKind;
@@ -27,11 +26,7 @@ pub fn begin<S: Alter>(
     changes: Changes,
 ) -> Result<OpenImport, RefusalKind>
     requires autocommit { conn.old.in_transaction ≡ false }
-    ensures whole { IfOk result (λ i. i ≡ record {
-      batch = i.batch;
-      changes = changes;
-      left = rows_of_import i.batch changes.puts;
-    }) }
+    ensures whole { IfOk result (λ i. IsWhole i.batch changes i) }
     ensures begun { HasCleanDisk (state S.Store conn.new)
         → IfOk result (λ i. (rows : Rows) → Settled (state S.Store conn.old) rows → IsNextBatch i.batch rows
         × Settled (state S.Store conn.new) (with_batch i.batch true rows)) }

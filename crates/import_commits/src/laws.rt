@@ -1,6 +1,6 @@
 //! What the rows of an archive mean while an import is staged, and afterwards.
 
-ghost use Rattle.std.specs.Prelude.{◌≡◌, ◌==◌, ℕ, List, [], false, filter, take, drop};
+ghost use Rattle.std.specs.Prelude.{◌≡◌, ◌==◌, ℕ, [], false, filter, take, drop};
 ghost use Rattle.std.specs.FinMap.{get};
 ghost use Rattle.sqlite.specs.Tree.{Trees};
 ghost use Rattle.archive_state.specs.Applied.{applied};
@@ -11,14 +11,15 @@ ghost use Rattle.store_tables.specs.Rows.{LineRow, RecordRow, Rows};
 ghost use Rattle.record_shapes.specs.Lists.{EachOf};
 ghost use Rattle.store_rows.specs.Meaning.{AllShallow, Means, is_closed};
 ghost use Rattle.store_rows.specs.Shallow.{IsShallowPut};
-ghost use Rattle.staged_rows.specs.Removing.{IsAside, without_batch};
+ghost use Rattle.store_rows.specs.Spans.{IsDated, KeepsSpans};
+ghost use Rattle.staged_rows.specs.Removing.{AreAside, IsSeenAs, without_batch};
 ghost use Rattle.staged_rows.specs.Staging.{IsFresh, numbers_of, with_published, with_staged};
 ghost use Rattle.staging.specs.Opened.{Import};
 ghost use Rattle.import_commits.specs.Commits.{IsAddition, IsBegun, IsNextBatch};
 
 use staged_rows::laws::{
     a_published_import_means_what_it_makes, an_import_leaves_the_rows_of_other_numbers,
-    an_import_that_is_taken_out_leaves_nothing, an_open_import_is_in_no_view,
+    an_import_that_is_taken_out_leaves_nothing, an_open_import_is_not_seen,
     nothing_of_a_new_import_is_there, numbers_of_an_import_have_no_record, rows_of_closed_batches,
 };
 use store_tables::laws::rows_are_owned;
@@ -39,21 +40,26 @@ pub fn a_stage_goes_on()
         → IsBegun before (record i { left = drop n i.left }) (with_staged (take n i.left) rows) }
 {}
 
-/// While it is open, the archive means what it meant before, and is of the same society.
+/// While it is open, what is seen of the archive is what was seen before.
 pub fn an_import_that_is_begun_is_in_no_view()
     ensures { (before rows : Rows) (i : Import) (c : Content) → IsBegun before i rows
-        → IsFresh i.batch i.changes.puts before → IsAddition c i.changes → Means before c
-        → Means rows c × (rows.society ≡ before.society) }
+        → IsFresh i.batch i.changes.puts before → IsAddition c i.changes → Means before c → IsSeenAs before rows }
 {
-    an_open_import_is_in_no_view();
+    an_open_import_is_not_seen();
+    numbers_of_an_import_have_no_record();
 }
 
-/// When all its rows are written and it is published, the archive means what the import makes of it.
+/// When all its rows are written and it is published, the archive means what the import makes of it, and each record
+/// has its span.
 pub fn a_published_import_is_whole()
-    ensures { (before rows : Rows) (i : Import) (c : Content) → IsBegun before i rows
+    ensures means { (before rows : Rows) (i : Import) (c : Content) → IsBegun before i rows
         → IsFresh i.batch i.changes.puts before → IsAddition c i.changes → Means before c → i.left ≡ []
         → Means (with_published i.batch i.changes rows) (applied c i.changes)
         × ((with_published i.batch i.changes rows).society ≡ before.society) }
+    ensures spans { (before rows : Rows) (i : Import) (c : Content) → IsBegun before i rows
+        → IsFresh i.batch i.changes.puts before → IsAddition c i.changes → i.left ≡ [] → IsDated before
+        → KeepsSpans before c → IsDated (with_published i.batch i.changes rows)
+        × KeepsSpans (with_published i.batch i.changes rows) (applied c i.changes) }
 {
     a_published_import_means_what_it_makes();
 }
@@ -78,12 +84,11 @@ pub fn a_published_import_leaves_the_rows_of_other_numbers()
 
 /// It can be taken out again: its batch is not closed, and its numbers have no record.
 pub fn an_import_that_is_begun_can_be_taken_out()
-    ensures { (before rows : Rows) (i : Import) (c : Content) (society : List ℕ) → IsBegun before i rows
+    ensures { (before rows : Rows) (i : Import) (c : Content) → IsBegun before i rows
         → IsFresh i.batch i.changes.puts before → IsAddition c i.changes → Means before c
-        → before.society ≡ society
-        → IsAside (numbers_of i.changes.puts) society c rows × (is_closed i.batch rows.batches ≡ false) }
+        → AreAside (numbers_of i.changes.puts) rows × (is_closed i.batch rows.batches ≡ false) }
 {
-    an_open_import_is_in_no_view();
+    an_open_import_is_not_seen();
     numbers_of_an_import_have_no_record();
 }
 

@@ -1,6 +1,6 @@
 //! The next rows of an import are written.
 
-ghost use Rattle.std.specs.Prelude.{◌≡◌, ◌⊎◌, ◌↔◌, [], false, take, drop, IfOk, IfErr, OnOk, OnErr};
+ghost use Rattle.std.specs.Prelude.{◌≡◌, ◌⊎◌, ◌↔◌, [], true, false, take, drop, Ok, IfOk, IfErr, OnOk, OnErr};
 ghost use Rattle.sqlite.specs.State.{HasCleanDisk};
 ghost use Rattle.sqlite.specs.Held.{state};
 ghost use Rattle.record_text.specs.declared.refusal.RefusalKind.TheVariants.{OutOfMemory, Storage};
@@ -26,14 +26,14 @@ pub fn stage<S: Alter>(
 ) -> Result<bool, RefusalKind>
     requires autocommit { conn.old.in_transaction ≡ false }
     ensures staged { HasCleanDisk (state S.Store conn.new)
-        → OnOk result ((rows : Rows) → Settled (state S.Store conn.old) rows → Settled (state S.Store conn.new)
-        (with_staged (take 256 import.old.left) rows)) }
+        → OnOk result ((rows : Rows) → rows.has_spans ≡ true → Settled (state S.Store conn.old) rows
+        → Settled (state S.Store conn.new) (with_staged (take 256 import.old.left) rows)) }
     ensures left { OnOk result (import.new ≡ record import.old { left = drop 256 import.old.left }) }
-    ensures none { import.old.left ≡ [] → conn.new ≡ conn.old }
+    ensures none { import.old.left ≡ [] → (result ≡ Ok false) × (conn.new ≡ conn.old) }
     ensures more { IfOk result (λ more. (more ≡ false) ↔ (import.new.left ≡ [])) }
     ensures crash { HasCleanDisk (state S.Store conn.new)
-        → (rows : Rows) → Settled (state S.Store conn.old) rows → LeavesEither (state S.Store conn.new)
-        rows (with_staged (take 256 import.old.left) rows) }
+        → (rows : Rows) → rows.has_spans ≡ true → Settled (state S.Store conn.old) rows
+        → LeavesEither (state S.Store conn.new) rows (with_staged (take 256 import.old.left) rows) }
     ensures undone { HasCleanDisk (state S.Store conn.new)
         → IfErr result (λ kind. kind ≡ OutOfMemory → (import.new ≡ import.old) × ((rows : Rows)
         → Settled (state S.Store conn.old) rows → LeavesOnly (state S.Store conn.new) rows)) }
@@ -60,12 +60,12 @@ fn try_stage<S: Alter>(
 ) -> Result<Result<(), Error>, RefusalKind>
     requires autocommit { conn.old.in_transaction ≡ false }
     ensures staged { HasCleanDisk (state S.Store conn.new) → IfOk result (λ committed. OnOk committed
-        ((rows : Rows) → Settled (state S.Store conn.old) rows → Settled (state S.Store conn.new)
-        (with_staged (take 256 import.old.left) rows))) }
+        ((rows : Rows) → rows.has_spans ≡ true → Settled (state S.Store conn.old) rows
+        → Settled (state S.Store conn.new) (with_staged (take 256 import.old.left) rows))) }
     ensures left { OnOk result (import.new ≡ record import.old { left = drop 256 import.old.left }) }
     ensures crash { HasCleanDisk (state S.Store conn.new)
-        → (rows : Rows) → Settled (state S.Store conn.old) rows → LeavesEither (state S.Store conn.new)
-        rows (with_staged (take 256 import.old.left) rows) }
+        → (rows : Rows) → rows.has_spans ≡ true → Settled (state S.Store conn.old) rows
+        → LeavesEither (state S.Store conn.new) rows (with_staged (take 256 import.old.left) rows) }
     ensures kept { OnErr result (import.new ≡ import.old) }
     ensures undone { HasCleanDisk (state S.Store conn.new)
         → OnErr result ((rows : Rows) → Settled (state S.Store conn.old) rows

@@ -5,7 +5,6 @@ use Rattle.sqlite.specs.Held.{Held}
 use Rattle.sqlite_disk.specs.declared.Disk as disk
 use Rattle.sqlite_store.specs.declared.store.FileStore.{FileStore}
 use Rattle.sqlite_wal.specs.Recovery.{Image}
-use Rattle.audit.specs.declared.fault.Fault.{Fault}
 use Rattle.audit_commands.specs.Ends.{Audited, Unaudited}
 use Rattle.record_text.specs.declared.refusal.RefusalKind.{RefusalKind}
 use Rattle.parish.specs.Auditing.{AuditEnds, IsToldAudit, IsUntoldAudit, Judged}

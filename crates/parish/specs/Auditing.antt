@@ -6,7 +6,7 @@ use Rattle.sqlite.specs.Held.{Held}
 use Rattle.sqlite_disk.specs.declared.Disk as disk
 use Rattle.sqlite_store.specs.declared.store.FileStore.{FileStore}
 use Rattle.sqlite_wal.specs.Recovery.{Image}
-use Rattle.audit.specs.declared.fault.Fault.{Fault}
+use Rattle.archive_audits.specs.declared.flaw.Flaw.{Flaw}
 use Rattle.audit_commands.specs.Ends.{Audited, Unaudited}
 use Rattle.devices.specs.Devices.{AppendsBeginning}
 use Rattle.record_text.specs.declared.refusal.RefusalKind.{RefusalKind}
@@ -18,7 +18,7 @@ sound_text n = codes "sound: " ++ (decimal n ++ (codes " records" ++ 10 ∷ []))
 
 -- what an audit answers
 abbrev pub Judged : Type 0
-Judged = Result ℕ (RefusalKind × Option Fault)
+Judged = Result ℕ (RefusalKind × Option Flaw)
 
 -- the archive is sound, and that was told
 abbrev pub IsToldAudit : Judged → Option (List ℕ) → Option (List ℕ) → Type 0
@@ -32,7 +32,7 @@ pub record TellsPartOfAudit (n : ℕ) (e : RefusalKind) (old new : Option (List 
 -- why that was not told: it was refused so, and nothing is written; or a beginning of the line is
 abbrev pub IsUntoldAudit : Judged → RefusalKind → Option (List ℕ) → Option (List ℕ) → Type 0 → Type 0
 IsUntoldAudit outcome e old new WriterFailed =
-    ((fault : Option Fault) × (outcome ≡ Err (e, fault)) × Keeps old new)
+    ((fault : Option Flaw) × (outcome ≡ Err (e, fault)) × Keeps old new)
     ⊎ ((n : ℕ) × (outcome ≡ Ok n) × TellsPartOfAudit n e old new WriterFailed)
 
 module _ {D : Type 0} {g : disk.Ghosts D} where
@@ -43,5 +43,5 @@ module _ {D : Type 0} {g : disk.Ghosts D} where
     pub bound : status ≤ 1
     pub done : status ≡ 0 → (n : ℕ) × Audited image n left × Appends old new (sound_text n)
     pub refused : status ≡ 1 → (e : RefusalKind)
-        × (((fault : Option Fault) × Unaudited image e fault left × Keeps old new)
+        × (((fault : Option Flaw) × Unaudited image e fault left × Keeps old new)
         ⊎ ((n : ℕ) × Audited image n left × TellsPartOfAudit n e old new WriterFailed))

@@ -8,8 +8,8 @@ ghost use Rattle.parish.specs.Auditing.{IsToldAudit, IsUntoldAudit, TellsPartOfA
 
 use crate::telling::status_of;
 use crate::visits::Visits;
+use archive_audits::Flaw;
 use archive_commands::OpenFile;
-use audit::Fault;
 use gedcom_tree::{Device, TransferError, write_bytes};
 use record_text::RefusalKind;
 use sqlite::Start;
@@ -20,7 +20,7 @@ use std::io::{Cursor, Write};
 const LINE: usize = 256;
 
 /// What an audit answers: how many records the archive has, or the refusal, with what breaks a rule where it is known.
-pub(crate) type Judged = Result<u32, (RefusalKind, Option<Fault>)>;
+pub(crate) type Judged = Result<u32, (RefusalKind, Option<Flaw>)>;
 
 /// The status of an archive in a file that was judged, after its line on the output where it is sound; else after what
 /// breaks a rule and the line of the refusal. The connection is handed on.
@@ -94,7 +94,7 @@ fn sound_line(alloc: Global, records: u32) -> Result<String, AllocError>
 }
 
 /// Tells what breaks a rule, in one line and one write. It takes no memory.
-fn tell_fault<F: Write + Device>(fault: Option<Fault>, faults: &mut F) {
+fn tell_fault<F: Write + Device>(fault: Option<Flaw>, faults: &mut F) {
     let Some(fault) = fault else {
         return;
     };

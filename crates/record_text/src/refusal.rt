@@ -92,6 +92,8 @@ pub enum RefusalKind {
     NoImport,
     /// The import is to be published while more is left to stage.
     NotAllStaged,
+    /// The first day of a search is after its last.
+    DaysReversed,
     /// A row that is not UTF-8, or a field that is not of its type.
     BadRow,
     /// No such verb.
@@ -153,6 +155,7 @@ impl RefusalKind {
             RefusalKind::ImportOpen => 84,
             RefusalKind::NoImport => 85,
             RefusalKind::NotAllStaged => 86,
+            RefusalKind::DaysReversed => 87,
             RefusalKind::BadRow => 90,
             RefusalKind::UnknownVerb => 91,
             RefusalKind::FieldCount => 92,
@@ -208,6 +211,7 @@ impl RefusalKind {
             RefusalKind::ImportOpen => "ImportOpen",
             RefusalKind::NoImport => "NoImport",
             RefusalKind::NotAllStaged => "NotAllStaged",
+            RefusalKind::DaysReversed => "DaysReversed",
             RefusalKind::BadRow => "BadRow",
             RefusalKind::UnknownVerb => "UnknownVerb",
             RefusalKind::FieldCount => "FieldCount",

@@ -1,36 +1,117 @@
--- Rows of other tables that tell the same records mean the same.
-use Rattle.std.proofs.Common.{◌≡◌, ℕ, true, false, not, List, [], ◌∷◌, refl, ap₂, subst, ◌∙◌}
+-- Rows of other tables of which the same is seen.
+use Rattle.std.proofs.Common.{◌≡◌, ◌≢◌, ℕ, true, false, not, List, [], ◌∷◌, filter, map, refl, sym, ap, ap₂, subst, ◌∙◌}
 use Rattle.std.specs.Prelude.{◌==◌, ◌&&◌, ◌||◌, Option, Some, None}
 use Rattle.std.specs.List.{list_any}
 use Rattle.std.specs.FinMap.{get}
+use Rattle.date_spans.specs.Spans.{IsSpanOf, date_in}
 use Rattle.record_kinds.specs.declared.record.Record.{Record}
 use Rattle.archive_state.specs.Content.{Content}
-use Rattle.store_tables.specs.Rows.{Rows, BatchRow, RecordRow, LineRow, lines_of}
-use Rattle.store_rows.specs.Meaning.{Means, IsRecordAt, has_record, is_closed}
+use Rattle.archive_state.specs.Slips.{Slip}
+use Rattle.store_tables.specs.Rows.{
+  Rows,
+  BatchRow,
+  RecordRow,
+  LineRow,
+  SlipLineRow,
+  SpanRow,
+  lines_of,
+  slip_line_of,
+}
+use Rattle.store_rows.specs.Meaning.{
+  IsRecordAt,
+  IsSlipAt,
+  Means,
+  has_record,
+  is_closed,
+  receipts_in,
+  slip_row_at,
+}
+use Rattle.store_rows.specs.Spans.{IsSpanned, KeepsSpans, span_at}
+use Rattle.staged_rows.specs.Removing.{IsSeenAs}
 use Rattle.staged_rows.proofs.Lists.{or_first, or_second}
 
--- the rows with these batches, rows of `record` and lines
-abbrev pub with_tables : List BatchRow → List RecordRow → List LineRow → Rows → Rows
-with_tables bs rs ls rows = record rows { batches = bs; records = rs; lines = ls }
-
+-- ---- what is seen means the same
 at_number : (n : ℕ) (rows other : Rows) → has_record n other ≡ has_record n rows
     → (has_record n rows ≡ true → lines_of n other ≡ lines_of n rows) → (o : Option Record) → IsRecordAt rows n o
     → IsRecordAt other n o
 at_number n rows other has lines None h = has ∙ h
 at_number n rows other has lines (Some r) h = (has ∙ h.0, lines h.0 ∙ h.1)
 
-pub means_alike : (bs : List BatchRow) (rs : List RecordRow) (ls : List LineRow) (rows : Rows) (c : Content)
-    → is_closed 0 bs ≡ true
-    → ((n : ℕ) → has_record n (with_tables bs rs ls rows) ≡ has_record n rows)
-    → ((n : ℕ) → has_record n rows ≡ true → lines_of n (with_tables bs rs ls rows) ≡ lines_of n rows)
-    → Means rows c → Means (with_tables bs rs ls rows) c
-means_alike bs rs ls rows c closed has lines was = record {
-  batch = closed;
-  records = λ n. at_number n rows (with_tables bs rs ls rows) (has n) (lines n) (get c.records n) (was.records n);
-  next = was.next;
-  receipts = was.receipts;
-  slips = was.slips;
+at_slip : (n : ℕ) (rows other : Rows) → other.slips ≡ rows.slips → other.slip_lines ≡ rows.slip_lines
+    → (o : Option Slip) → IsSlipAt rows n o → IsSlipAt other n o
+at_slip n rows other slips lines None h = ap (slip_row_at n) slips ∙ h
+at_slip n rows other slips lines (Some slip) h = (
+  ap (slip_row_at n) slips ∙ h.0,
+  ap (λ (ls : List SlipLineRow). map slip_line_of (filter (λ (s : SlipLineRow). s.slip == n) ls)) lines ∙ h.1,
+)
+
+pub seen_means : (rows other : Rows) (c : Content) → IsSeenAs rows other → Means rows c → Means other c
+seen_means rows other c seen was = record {
+  batch = seen.batch ∙ was.batch;
+  records = λ n. at_number n rows other (seen.recorded n) (seen.lines n) (get c.records n) (was.records n);
+  next = seen.next ∙ was.next;
+  receipts = was.receipts ∙ ap receipts_in (sym seen.receipts);
+  slips = λ n. at_slip n rows other seen.slips seen.slip_lines (get c.slips n) (was.slips n);
 }
+
+spanned : (n : ℕ) (rows other : Rows) → IsSeenAs rows other → (o : Option Record) → IsRecordAt rows n o
+    → IsSpanned o (span_at n rows.spans) → IsSpanned o (span_at n other.spans)
+spanned n rows other seen None is h = tt
+spanned n rows other seen (Some r) is h = subst (IsSpanOf (date_in r)) (sym (seen.spans n is.0)) h
+
+pub seen_spans : (rows other : Rows) (c : Content) → IsSeenAs rows other → Means rows c → KeepsSpans rows c
+    → KeepsSpans other c
+seen_spans rows other c seen was keeps =
+    λ n. spanned n rows other seen (get c.records n) (was.records n) (keeps n)
+
+pub seen_then : (a b c : Rows) → IsSeenAs a b → IsSeenAs b c → IsSeenAs a c
+seen_then a b c first next = record {
+  version = next.version ∙ first.version;
+  has_spans = next.has_spans ∙ first.has_spans;
+  next = next.next ∙ first.next;
+  society = next.society ∙ first.society;
+  receipts = next.receipts ∙ first.receipts;
+  slips = next.slips ∙ first.slips;
+  slip_lines = next.slip_lines ∙ first.slip_lines;
+  batch = next.batch ∙ first.batch;
+  recorded = λ n. next.recorded n ∙ first.recorded n;
+  lines = λ n has. next.lines n (first.recorded n ∙ has) ∙ first.lines n has;
+  spans = λ n has. next.spans n (first.recorded n ∙ has) ∙ first.spans n has;
+}
+
+-- ---- other tables
+-- the rows with these batches, rows of `record`, lines and spans
+abbrev pub with_tables : List BatchRow → List RecordRow → List LineRow → List SpanRow → Rows → Rows
+with_tables bs rs ls ss rows = record rows { batches = bs; records = rs; lines = ls; spans = ss }
+
+pub seen_alike : (bs : List BatchRow) (rs : List RecordRow) (ls : List LineRow) (ss : List SpanRow) (rows : Rows)
+    → is_closed 0 bs ≡ is_closed 0 rows.batches
+    → ((n : ℕ) → has_record n (with_tables bs rs ls ss rows) ≡ has_record n rows)
+    → ((n : ℕ) → has_record n rows ≡ true → lines_of n (with_tables bs rs ls ss rows) ≡ lines_of n rows)
+    → ((n : ℕ) → has_record n rows ≡ true → span_at n ss ≡ span_at n rows.spans)
+    → IsSeenAs rows (with_tables bs rs ls ss rows)
+seen_alike bs rs ls ss rows closed has lines spans = record {
+  version = refl;
+  has_spans = refl;
+  next = refl;
+  society = refl;
+  receipts = refl;
+  slips = refl;
+  slip_lines = refl;
+  batch = closed;
+  recorded = has;
+  lines = lines;
+  spans = spans;
+}
+
+pub seen_same : (rows : Rows) → IsSeenAs rows rows
+seen_same rows = seen_alike rows.batches rows.records rows.lines rows.spans rows refl (λ n. refl) (λ n has. refl)
+    (λ n has. refl)
+
+-- a number with a record is none without
+pub differ : (n m : ℕ) (rows : Rows) → has_record n rows ≡ false → has_record m rows ≡ true → n ≢ m
+differ n m rows none has same =
+    let both : true ≡ false = sym has ∙ ap (λ k. has_record k rows) (sym same) ∙ none in cc
 
 -- a number without a record has none in the rows
 pub absent : (rows : Rows) (c : Content) (n : ℕ) → Means rows c → get c.records n ≡ None → has_record n rows ≡ false

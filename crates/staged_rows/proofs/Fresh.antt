@@ -7,7 +7,7 @@ use Rattle.record_shapes.specs.Lists.{EachOf}
 use Rattle.archive_state.specs.Content.{Content}
 use Rattle.archive_state.specs.declared.changes.Numbered.{Numbered}
 use Rattle.store_tables.specs.Batches.{AreOwned}
-use Rattle.store_tables.specs.Rows.{Rows, BatchRow, RecordRow, LineRow}
+use Rattle.store_tables.specs.Rows.{Rows, BatchRow, RecordRow, LineRow, SpanRow}
 use Rattle.store_rows.specs.Meaning.{Means, has_record, is_closed}
 use Rattle.staged_rows.specs.Staging.{AreAllClosed, AreClosed, IsFresh, numbers_of}
 use Rattle.staged_rows.proofs.Alike.{absent, none_closed}
@@ -41,23 +41,31 @@ any_closed n bs [] all = refl
 any_closed n bs (r ∷ rs) all =
     ap₂ (λ s t. s || t) (and_true (r.no == n) (is_closed r.batch bs) all.0) (any_closed n bs rs all.1)
 
-line_apart : (n : ℕ) (rs : List RecordRow) (l : LineRow) → list_any (λ (r : RecordRow). r.no == n) rs ≡ false
-    → list_any (λ (r : RecordRow). r.no == l.no) rs ≡ true → (l.no == n) ≡ false
-line_apart n rs l none has =
-    elim (l.no == n) as (λ t. (l.no == n) ≡ t → t ≡ false) [
-      | true ↦ λ e.
-          let here = ap (λ k. list_any (λ (r : RecordRow). r.no == k) rs) (it l.no n e) in
-          absurd (let both : true ≡ false = sym has ∙ here ∙ none in cc)
-      | false ↦ λ e. refl
-    ] refl
+-- where each of these is of a number with a row in `record`, as lines and spans are
+module _ {X : Type 0} (key : X → ℕ) (rs : List RecordRow) where
+  one_apart : (n : ℕ) (x : X) → list_any (λ (r : RecordRow). r.no == n) rs ≡ false
+      → list_any (λ (r : RecordRow). r.no == key x) rs ≡ true → (key x == n) ≡ false
+  one_apart n x none has =
+      elim (key x == n) as (λ t. (key x == n) ≡ t → t ≡ false) [
+        | true ↦ λ e.
+            let here = ap (λ k. list_any (λ (r : RecordRow). r.no == k) rs) (it (key x) n e) in
+            absurd (let both : true ≡ false = sym has ∙ here ∙ none in cc)
+        | false ↦ λ e. refl
+      ] refl
 
-none_of_number : (n : ℕ) (rs : List RecordRow) (ls : List LineRow)
-    → list_any (λ (r : RecordRow). r.no == n) rs ≡ false
-    → AllByRecursion (λ (l : LineRow). list_any (λ (r : RecordRow). r.no == l.no) rs ≡ true) ls
-    → list_any (λ (l : LineRow). l.no == n) ls ≡ false
-none_of_number n rs [] none all = refl
-none_of_number n rs (l ∷ ls) none all =
-    ap₂ (λ s t. s || t) (line_apart n rs l none all.0) (none_of_number n rs ls none all.1)
+  none_of_number : (n : ℕ) (xs : List X) → list_any (λ (r : RecordRow). r.no == n) rs ≡ false
+      → AllByRecursion (λ x. list_any (λ (r : RecordRow). r.no == key x) rs ≡ true) xs
+      → list_any (λ x. key x == n) xs ≡ false
+  none_of_number n [] none all = refl
+  none_of_number n (x ∷ xs) none all =
+      ap₂ (λ s t. s || t) (one_apart n x none all.0) (none_of_number n xs none all.1)
+
+  none_of_puts : (ps : List Numbered) (xs : List X)
+      → EachOf (λ (p : Numbered). list_any (λ (r : RecordRow). r.no == p.number) rs ≡ false) ps
+      → AllByRecursion (λ x. list_any (λ (r : RecordRow). r.no == key x) rs ≡ true) xs
+      → EachOf (λ (p : Numbered). list_any (λ x. key x == p.number) xs ≡ false) ps
+  none_of_puts [] xs none all = tt
+  none_of_puts (p ∷ ps) xs none all = (none_of_number p.number xs none.0 all, none_of_puts ps xs none.1 all)
 
 no_row : (n : ℕ) (rows : Rows) (c : Content) → AreClosed rows → Means rows c → get c.records n ≡ None
     → list_any (λ (r : RecordRow). r.no == n) rows.records ≡ false
@@ -73,15 +81,6 @@ no_rows (p ∷ ps) rows c closed was new = (
   no_rows ps rows c closed was new.1,
 )
 
-no_lines : (ps : List Numbered) (rows : Rows) (c : Content) → AreClosed rows → Means rows c
-    → EachOf (λ (p : Numbered). get c.records p.number ≡ None) ps
-    → EachOf (λ (p : Numbered). list_any (λ (l : LineRow). l.no == p.number) rows.lines ≡ false) ps
-no_lines [] rows c closed was new = tt
-no_lines (p ∷ ps) rows c closed was new = (
-  none_of_number p.number rows.records rows.lines (no_row p.number rows c closed was new.0) closed.lines,
-  no_lines ps rows c closed was new.1,
-)
-
 pub fresh : (batch : ℕ) (ps : List Numbered) (rows : Rows) (c : Content) → AreClosed rows
     → list_any (λ (b : BatchRow). b.no == batch) rows.batches ≡ false
     → EachOf (λ (p : Numbered). get c.records p.number ≡ None) ps → Means rows c → IsFresh batch ps rows
@@ -89,7 +88,10 @@ fresh batch ps rows c closed unused new was = record {
   unused = unused;
   records = none_of_batch batch rows.batches rows.records (none_closed batch rows.batches unused) closed.records;
   numbers = no_rows ps rows c closed was new;
-  lines = no_lines ps rows c closed was new;
+  lines = none_of_puts (λ (l : LineRow). l.no) rows.records ps rows.lines (no_rows ps rows c closed was new)
+      closed.lines;
+  spans = none_of_puts (λ (s : SpanRow). s.no) rows.records ps rows.spans (no_rows ps rows c closed was new)
+      closed.spans;
 }
 
 -- ---- where every batch is closed
@@ -108,6 +110,7 @@ pub all_of_closed : (rows : Rows) → AreOwned rows → AreAllClosed rows → Ar
 all_of_closed rows owned closed = record {
   lines = owned.lines;
   records = of_closed rows.batches rows.records closed owned.records;
+  spans = owned.spans;
 }
 
 -- ---- numbers without a record

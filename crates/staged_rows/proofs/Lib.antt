@@ -1,8 +1,9 @@
 mod Lists
 mod Fresh
-mod Alike
+pub mod Alike
 mod Numbers
 mod Published
+mod Spans
 mod Staged
 mod Removed
 mod Staying

@@ -141,7 +141,7 @@ all_pass (x ∷ xs) = ap (λ ys. x ∷ ys) (all_pass xs)
 abbrev pub is_outside : List ℕ → ℕ → Bool
 is_outside ns m = not (list_any (λ k. k == m) ns)
 
-other_way : (m n : ℕ) (b : Bool) → (m == n) ≡ b → (n == m) ≡ b
+pub other_way : (m n : ℕ) (b : Bool) → (m == n) ≡ b → (n == m) ≡ b
 other_way m n b e = grind (arith, nat_tests, e)
 
 module _ {X : Type 0} (key : X → ℕ) where

@@ -25,17 +25,24 @@ use Rattle.std.specs.List.{list_any}
 use Rattle.std.specs.Ordering.{nat_cmp, match_ordering}
 use Rattle.std.specs.declared.cmp.Ordering.TheVariants.{Less, Equal, Greater}
 use Rattle.std.proofs.lemmas.Bool.Decides.{nat_tests}
-use Rattle.archive_state.specs.Applied.{applied}
-use Rattle.archive_state.specs.Content.{Content}
+use Rattle.std.specs.FinMap.{get, insert}
+use Rattle.date_spans.specs.Spans.{IsSpanOf, date_in}
+use Rattle.gedcom_date.specs.declared.value.Span.{Span}
+use Rattle.record_kinds.specs.declared.record.Record.{Record}
+use Rattle.archive_state.specs.Applied.{applied, with_puts}
+use Rattle.archive_state.specs.Content.{Content, Records}
 use Rattle.archive_state.specs.declared.changes.Kept.{Kept}
 use Rattle.archive_state.specs.declared.changes.Numbered.{Numbered}
 use Rattle.receipts.specs.declared.answer.Answer.{Answer}
-use Rattle.record_shapes.specs.Lists.{IsOnce}
+use Rattle.record_shapes.specs.Lists.{EachOf, IsOnce}
 use Rattle.store_tables.specs.Conversion.{EachWith}
-use Rattle.store_tables.specs.Rows.{Rows, BatchRow, RecordRow, closed_at, put_by, with_batch, with_next}
+use Rattle.store_tables.specs.Rows.{Rows, BatchRow, RecordRow, SpanRow, closed_at, put_by, with_batch, with_next}
 use Rattle.store_rows.specs.Meaning.{Means, is_closed}
+use Rattle.store_rows.specs.Spans.{AreDrawn, Drawn, IsSpanned, KeepsSpans, span_at}
 use Rattle.store_rows.specs.Writing.{kind_word, with_all_lines, with_changes, with_kept_written}
+use Rattle.store_rows.proofs.Got.{got_put}
 use Rattle.store_rows.proofs.Meaning.{changes_mean}
+use Rattle.staged_rows.specs.Removing.{IsSeenAs}
 use Rattle.staged_rows.specs.Staging.{
   IsFresh,
   import_changes,
@@ -43,9 +50,28 @@ use Rattle.staged_rows.specs.Staging.{
   with_published,
   with_whole_import,
 }
-use Rattle.staged_rows.proofs.Alike.{means_alike, none_closed}
-use Rattle.staged_rows.proofs.Lists.{it, is_not, not_it, any_put, or_first, or_second}
-use Rattle.staged_rows.proofs.Whole.{all_lines_beside, beside, import_staged, records_put, records_written}
+use Rattle.staged_rows.proofs.Alike.{none_closed, seen_alike, seen_means}
+use Rattle.staged_rows.proofs.Lists.{
+  it,
+  is_not,
+  not_it,
+  any_put,
+  none_put,
+  or_first,
+  or_second,
+  other_way,
+}
+use Rattle.staged_rows.proofs.Spans.{none_at, put_elsewhere, put_here}
+use Rattle.staged_rows.proofs.Whole.{
+  all_lines_beside,
+  beside,
+  import_staged,
+  one_span,
+  records_put,
+  records_written,
+  spans_put,
+  wholly,
+}
 
 -- ---- batches
 closed_one : (b m : ℕ) (x : BatchRow) → b ≢ m → ((((closed_at b x).no == m)) && not (closed_at b x).is_open)
@@ -168,19 +194,40 @@ published_beside : (kept : Option Kept) (next : ℕ) (bs : List BatchRow) (rs : 
 published_beside None next bs rs rows = refl
 published_beside (Some k) next bs rs rows = refl
 
-kept_batches : (kept : Option Kept) (next : ℕ) (rows : Rows)
-    → (with_kept_written kept (with_next next rows)).batches ≡ rows.batches
-kept_batches None next rows = refl
-kept_batches (Some k) next rows = refl
+published_wholly : (kept : Option Kept) (next : ℕ) (bs : List BatchRow) (rs : List RecordRow) (ss : List SpanRow)
+    (rows : Rows) → with_kept_written kept (with_next next (wholly bs rs ss rows))
+    ≡ wholly bs rs ss (with_kept_written kept (with_next next rows))
+published_wholly None next bs rs ss rows = refl
+published_wholly (Some k) next bs rs ss rows = refl
 
-pub whole : (batch next : ℕ) (ps : List Numbered) (answer : Answer) (kept : Option Kept) (rows : Rows) (c : Content)
-    → IsOnce (numbers_of ps) → IsFresh batch ps rows → Means rows c
-    → Means (with_whole_import batch (import_changes ps next answer kept) rows)
+whole_is : (batch next : ℕ) (ps : List Numbered) (drawn : Drawn) (answer : Answer) (kept : Option Kept) (rows : Rows)
+    → IsOnce (numbers_of ps) → IsFresh batch ps rows
+    → with_whole_import batch (import_changes ps next answer kept) drawn rows
+    ≡ wholly (closed_batches batch rows.batches) (records_put batch ps rows.records) (spans_put drawn rows.spans)
+    (with_kept_written kept (with_next next (with_all_lines ps rows)))
+whole_is batch next ps drawn answer kept rows once fresh =
+    ap (λ (r : Rows). with_published batch (import_changes ps next answer kept) r)
+    (import_staged batch ps drawn (with_batch batch true rows).batches rows once fresh.lines)
+    ∙ published_wholly kept next (closed_batches batch rows.batches) (records_put batch ps rows.records)
+    (spans_put drawn rows.spans) (with_all_lines ps rows)
+
+-- rows mean the same whatever spans they have
+other_spans : (ss : List SpanRow) (rows : Rows) (c : Content) → Means rows c → Means (record rows { spans = ss }) c
+other_spans ss rows c was = record {
+  batch = was.batch;
+  records = was.records;
+  next = was.next;
+  receipts = was.receipts;
+  slips = was.slips;
+}
+
+pub whole : (batch next : ℕ) (ps : List Numbered) (drawn : Drawn) (answer : Answer) (kept : Option Kept) (rows : Rows)
+    (c : Content) → IsOnce (numbers_of ps) → IsFresh batch ps rows → AreDrawn ps drawn → Means rows c
+    → Means (with_whole_import batch (import_changes ps next answer kept) drawn rows)
     (applied c (import_changes ps next answer kept))
-whole batch next ps answer kept rows c once fresh was =
+whole batch next ps drawn answer kept rows c once fresh are was =
     let changes = import_changes ps next answer kept in
     let bs = closed_batches batch rows.batches in
-    let opened = (with_batch batch true rows).batches in
     let rs = records_put batch ps rows.records in
     let ss = records_put 0 ps rows.records in
     let all : Rows = with_all_lines ps rows in
@@ -192,19 +239,18 @@ whole batch next ps answer kept rows c once fresh was =
     ∙ ap (λ (r : Rows). with_kept_written kept (with_next next r))
     (all_lines_beside ps rows.batches ss rows)
     ∙ published_beside kept next rows.batches ss all in
-    let staged : with_whole_import batch changes rows ≡ beside bs rs after =
-    ap (λ (r : Rows). with_published batch changes r) (import_staged batch ps opened rows once fresh.lines)
-    ∙ published_beside kept next bs rs all in
     let means : Means (beside rows.batches ss after) (applied c changes) =
     subst (λ (r : Rows). Means r (applied c changes)) written (changes_mean changes rows c was) in
     let first : f batch ≡ g 0 = batch_closed batch rows.batches ∙ sym was.batch in
     let alike = all_put_alike f g batch 0 ps rows.records rows.records first
     (of_others batch rows.batches rows.records fresh.records) in
-    let zero_closed : is_closed 0 bs ≡ true = others_closed batch 0 rows.batches (apart batch rows was fresh)
-    ∙ was.batch in
-    subst (λ (r : Rows). Means r (applied c changes)) (sym staged)
-    (means_alike bs rs after.lines (beside rows.batches ss after) (applied c changes) zero_closed
-    (λ n. any_of_alike f g n rs ss alike) (λ n has. refl) means)
+    let seen : IsSeenAs (beside rows.batches ss after) (beside bs rs after) =
+    seen_alike bs rs after.lines after.spans (beside rows.batches ss after)
+    (others_closed batch 0 rows.batches (apart batch rows was fresh))
+    (λ n. any_of_alike f g n rs ss alike) (λ n has. refl) (λ n has. refl) in
+    subst (λ (r : Rows). Means r (applied c changes)) (sym (whole_is batch next ps drawn answer kept rows once fresh))
+    (other_spans (spans_put drawn rows.spans) (beside bs rs after) (applied c changes)
+    (seen_means (beside rows.batches ss after) (beside bs rs after) (applied c changes) seen means))
   where
     -- the batch of the import is not that of the commands, which is there
     apart : (b : ℕ) (rows : Rows) → Means rows c → IsFresh b ps rows → b ≢ 0
@@ -212,3 +258,71 @@ whole batch next ps answer kept rows c once fresh was =
         let none : is_closed 0 rows.batches ≡ false = ap (λ k. is_closed k rows.batches) (sym same)
         ∙ none_closed b rows.batches fresh.unused in
         let both : true ≡ false = sym was.batch ∙ none in cc
+
+-- ---- the spans
+span_moved : (o p : Option Record) (s t : Option Span) → o ≡ p → s ≡ t → IsSpanned p t → IsSpanned o s
+span_moved o p s t same alike h = rw (same, alike) h
+
+put_itself : (n : ℕ) (o : Option Span) (ss : List SpanRow) → list_any (λ (s : SpanRow). s.no == n) ss ≡ false
+    → span_at n (one_span n o ss) ≡ o
+put_itself n None ss none = none_at n ss none
+put_itself n (Some span) ss none = put_here (record { no = n; lo = span.lo; hi = span.hi }) ss none
+
+put_apart : (m n : ℕ) (o : Option Span) (ss : List SpanRow) → n ≢ m → span_at m (one_span n o ss) ≡ span_at m ss
+put_apart m n None ss off = refl
+put_apart m n (Some span) ss off = put_elsewhere m (record { no = n; lo = span.lo; hi = span.hi }) off ss
+
+-- one record is put, with its span
+one_keeps : (n k : ℕ) (p : Numbered) (o : Option Span) (m : Records) (ss : List SpanRow) → k ≡ p.number
+    → IsSpanOf (date_in p.«record») o → list_any (λ (s : SpanRow). s.no == p.number) ss ≡ false
+    → IsSpanned (get m n) (span_at n ss)
+    → IsSpanned (get (insert m p.number p.«record») n) (span_at n (one_span k o ss))
+one_keeps n k p o m ss same is none was =
+    let put = got_put m p.number p.«record» n in
+    let here = ap (λ j. span_at n (one_span j o ss)) same in
+    elim (p.number == n) as (λ b. (p.number == n) ≡ b
+    → IsSpanned (get (insert m p.number p.«record») n) (span_at n (one_span k o ss))) [
+      | true ↦ λ e. span_moved (get (insert m p.number p.«record») n) (Some p.«record»)
+          (span_at n (one_span k o ss)) o
+          (put ∙ ap (λ b. cond b (Some p.«record») (get m n)) e)
+          (here ∙ ap (λ j. span_at j (one_span p.number o ss)) (sym (it p.number n e))
+          ∙ put_itself p.number o ss none) is
+      | false ↦ λ e. span_moved (get (insert m p.number p.«record») n) (get m n) (span_at n (one_span k o ss))
+          (span_at n ss)
+          (put ∙ ap (λ b. cond b (Some p.«record») (get m n)) e)
+          (here ∙ put_apart n p.number o ss (not_it p.number n e)) was
+    ] refl
+
+still_without : (k : ℕ) (o : Option Span) (ss : List SpanRow) (ps : List Numbered)
+    → list_any (λ m. m == k) (numbers_of ps) ≡ false
+    → EachOf (λ (p : Numbered). list_any (λ (s : SpanRow). s.no == p.number) ss ≡ false) ps
+    → EachOf (λ (p : Numbered). list_any (λ (s : SpanRow). s.no == p.number) (one_span k o ss) ≡ false) ps
+still_without k None ss ps off none = none
+still_without k (Some span) ss [] off none = tt
+still_without k (Some span) ss (p ∷ ps) off none =
+    let row : SpanRow = record { no = k; lo = span.lo; hi = span.hi } in (
+      none_put (λ (s : SpanRow). s.no) (λ (s : SpanRow). s.no == p.number) row ss
+          (other_way p.number k false (or_first (p.number == k) (list_any (λ m. m == k) (numbers_of ps)) off)) none.0,
+      still_without k (Some span) ss ps (or_second (p.number == k) (list_any (λ m. m == k) (numbers_of ps)) off) none.1,
+    )
+
+puts_keep : (n : ℕ) (ps : List Numbered) (ds : Drawn) (m : Records) (ss : List SpanRow) → AreDrawn ps ds
+    → IsOnce (numbers_of ps)
+    → EachOf (λ (p : Numbered). list_any (λ (s : SpanRow). s.no == p.number) ss ≡ false) ps
+    → IsSpanned (get m n) (span_at n ss) → IsSpanned (get (with_puts m ps) n) (span_at n (spans_put ds ss))
+puts_keep n [] [] m ss are once none was = was
+puts_keep n [] (d ∷ ds) m ss are once none was = absurd are
+puts_keep n (p ∷ ps) [] m ss are once none was = absurd are
+puts_keep n (p ∷ ps) (d ∷ ds) m ss are once none was =
+    puts_keep n ps ds (insert m p.number p.«record») (one_span d.0 d.1 ss) are.1 once.1
+    (still_without d.0 d.1 ss ps (ap (λ j. list_any (λ k. k == j) (numbers_of ps)) are.0.0 ∙ once.0) none.1)
+    (one_keeps n d.0 p d.1 m ss are.0.0 are.0.1 none.0 was)
+
+pub whole_spans : (batch next : ℕ) (ps : List Numbered) (drawn : Drawn) (answer : Answer) (kept : Option Kept)
+    (rows : Rows) (c : Content) → IsOnce (numbers_of ps) → IsFresh batch ps rows → AreDrawn ps drawn
+    → KeepsSpans rows c → KeepsSpans (with_whole_import batch (import_changes ps next answer kept) drawn rows)
+    (applied c (import_changes ps next answer kept))
+whole_spans batch next ps drawn answer kept rows c once fresh are was = λ n.
+    subst (λ (ss : List SpanRow). IsSpanned (get (with_puts c.records ps) n) (span_at n ss))
+    (sym (ap (λ (r : Rows). r.spans) (whole_is batch next ps drawn answer kept rows once fresh)))
+    (puts_keep n ps drawn c.records rows.spans are once fresh.spans (was n))

@@ -1,17 +1,20 @@
--- Rows of an open batch that are taken out.
+-- Rows that no record has, taken out: it is not seen.
 use Rattle.std.proofs.Common.{◌≡◌, ℕ, Bool, true, false, not, filter, map, refl, sym, ap, ◌∙◌}
 use Rattle.std.specs.Prelude.{◌==◌, ◌&&◌}
-use Rattle.archive_state.specs.Content.{Content}
-use Rattle.store_tables.specs.Rows.{Rows, BatchRow, RecordRow, LineRow, without_record_row}
-use Rattle.store_rows.specs.Meaning.{Means, has_record, is_closed}
-use Rattle.staged_rows.proofs.Alike.{means_alike}
+use Rattle.store_tables.specs.Rows.{
+  Rows,
+  BatchRow,
+  RecordRow,
+  LineRow,
+  without_batch_row,
+  without_record_row,
+  without_span,
+}
+use Rattle.store_rows.specs.Meaning.{has_record, is_closed}
+use Rattle.staged_rows.specs.Removing.{IsSeenAs}
+use Rattle.staged_rows.proofs.Alike.{differ, seen_alike}
 use Rattle.staged_rows.proofs.Lists.{it, any_alike, any_kept, none_kept, filter_kept}
-
--- a test that holds of no other number fails where that one is left out
-fails_of : (a b : Bool) → (a ≡ true → b ≡ false) → (b && a) ≡ false
-fails_of true b h = ap (λ t. t && true) (h refl)
-fails_of false true h = refl
-fails_of false false h = refl
+use Rattle.staged_rows.proofs.Spans.{span_kept}
 
 unlike : (l : LineRow) (stays : LineRow → Bool) (m : ℕ) (rows : Rows)
     → (stays l ≡ false → has_record l.no rows ≡ false) → has_record m rows ≡ true → stays l ≡ false
@@ -24,13 +27,18 @@ unlike l stays m rows h has gone =
       | false ↦ λ e. refl
     ] refl
 
-pub lines_gone : (stays : LineRow → Bool) (rows : Rows) (c : Content)
-    → ((l : LineRow) → stays l ≡ false → has_record l.no rows ≡ false) → Means rows c
-    → Means (record rows { lines = filter stays rows.lines }) c
-lines_gone stays rows c h was =
-    means_alike rows.batches rows.records (filter stays rows.lines) rows c was.batch (λ n. refl)
+pub lines_gone : (stays : LineRow → Bool) (rows : Rows)
+    → ((l : LineRow) → stays l ≡ false → has_record l.no rows ≡ false)
+    → IsSeenAs rows (record rows { lines = filter stays rows.lines })
+lines_gone stays rows h =
+    seen_alike rows.batches rows.records (filter stays rows.lines) rows.spans rows refl (λ n. refl)
     (λ m has. ap (map (λ (l : LineRow). l.line)) (filter_kept (λ (l : LineRow). l.no == m) stays
-    (λ l. unlike l stays m rows (h l) has) rows.lines)) was
+    (λ l. unlike l stays m rows (h l) has) rows.lines)) (λ m has. refl)
+
+pub span_gone : (n : ℕ) (rows : Rows) → has_record n rows ≡ false → IsSeenAs rows (without_span n rows)
+span_gone n rows none =
+    seen_alike rows.batches rows.records rows.lines (without_span n rows).spans rows refl (λ m. refl) (λ m has. refl)
+    (λ m has. span_kept m n (differ n m rows none has) rows.spans)
 
 -- a row that is left out is of that number
 pub left_out : (k n : ℕ) → not (k == n) ≡ false → k ≡ n
@@ -40,12 +48,11 @@ left_out k n e = it k n (flip (k == n) e)
     flip true h = refl
     flip false h = absurd cc
 
-pub record_gone : (n : ℕ) (rows : Rows) (c : Content) → has_record n rows ≡ false → Means rows c
-    → Means (without_record_row n rows) c
-record_gone n rows c none was =
+pub record_gone : (n : ℕ) (rows : Rows) → has_record n rows ≡ false → IsSeenAs rows (without_record_row n rows)
+record_gone n rows none =
     let kept = λ (r : RecordRow). not (r.no == n) in
     let q = λ (m : ℕ) (r : RecordRow). (r.no == m) && is_closed r.batch rows.batches in
-    means_alike rows.batches (filter kept rows.records) rows.lines rows c was.batch
+    seen_alike rows.batches (filter kept rows.records) rows.lines rows.spans rows refl
     (λ m. elim (n == m) as (λ b. (n == m) ≡ b → has_record m (without_record_row n rows) ≡ has_record m rows) [
       | true ↦ λ e.
           let gone : has_record m rows ≡ false = ap (λ k. has_record k rows) (sym (it n m e)) ∙ none in
@@ -53,11 +60,10 @@ record_gone n rows c none was =
       | false ↦ λ e. any_kept (q m) kept
           (λ r out. ap (λ k. (k == m) && is_closed r.batch rows.batches) (left_out r.no n out)
           ∙ ap (λ b. b && is_closed r.batch rows.batches) e) rows.records
-    ] refl) (λ m has. refl) was
+    ] refl) (λ m has. refl) (λ m has. refl)
 
-pub batch_gone : (n : ℕ) (rows : Rows) (c : Content) → is_closed n rows.batches ≡ false → Means rows c
-    → Means (record rows { batches = filter (λ (b : BatchRow). not (b.no == n)) rows.batches }) c
-batch_gone n rows c none was =
+pub batch_gone : (n : ℕ) (rows : Rows) → is_closed n rows.batches ≡ false → IsSeenAs rows (without_batch_row n rows)
+batch_gone n rows none =
     let kept = λ (b : BatchRow). not (b.no == n) in
     let bs = filter kept rows.batches in
     let q = λ (m : ℕ) (b : BatchRow). (b.no == m) && not b.is_open in
@@ -70,7 +76,7 @@ batch_gone n rows c none was =
           (λ b out. ap (λ k. (k == m) && not b.is_open) (left_out b.no n out) ∙ ap (λ t. t && not b.is_open) e)
           rows.batches
     ] refl in
-    means_alike bs rows.records rows.lines rows c (closed 0 ∙ was.batch)
+    seen_alike bs rows.records rows.lines rows.spans rows (closed 0)
     (λ m. any_alike (λ (r : RecordRow). (r.no == m) && is_closed r.batch bs)
     (λ (r : RecordRow). (r.no == m) && is_closed r.batch rows.batches)
-    (λ r. ap (λ b. (r.no == m) && b) (closed r.batch)) rows.records) (λ m has. refl) was
+    (λ r. ap (λ b. (r.no == m) && b) (closed r.batch)) rows.records) (λ m has. refl) (λ m has. refl)

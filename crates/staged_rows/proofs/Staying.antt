@@ -1,4 +1,4 @@
--- The rows of every number that an import does not put stay, with their ids.
+-- The rows of every number that an import does not put stay, with their ids: its row in `record` and its lines.
 use Rattle.std.proofs.Common.{◌≡◌, ◌≢◌, ℕ, true, List, [], ◌∷◌, filter, refl, ap, ◌∙◌}
 use Rattle.std.specs.Prelude.{◌==◌, Option, Some, None}
 use Rattle.record_shapes.specs.Lists.{EachOf}
@@ -6,18 +6,20 @@ use Rattle.archive_state.specs.Changes.{Changes}
 use Rattle.archive_state.specs.declared.changes.Kept.{Kept}
 use Rattle.archive_state.specs.declared.changes.Numbered.{Numbered}
 use Rattle.store_tables.specs.Rows.{Rows, RecordRow, LineRow, next_key, with_batch, with_closed, with_next}
+use Rattle.store_rows.specs.Spans.{Drawn}
 use Rattle.store_rows.specs.Writing.{with_kept_written}
 use Rattle.staged_rows.specs.Staging.{
   StagedRow,
   a_record,
   a_line,
+  a_span,
   rows_of_import,
   with_staged,
   with_staged_row,
   with_whole_import,
 }
 use Rattle.staged_rows.proofs.Lists.{filter_behind, filter_put, is_not}
-use Rattle.staged_rows.proofs.Numbers.{number_of, of_import}
+use Rattle.staged_rows.proofs.Numbers.{of_any_spans, of_rows}
 
 record Stay (m : ℕ) (before after : Rows) : Type 0 where
   lines : filter (λ (l : LineRow). l.no == m) after.lines ≡ filter (λ (l : LineRow). l.no == m) before.lines
@@ -26,7 +28,13 @@ record Stay (m : ℕ) (before after : Rows) : Type 0 where
 then : (m : ℕ) (a b c : Rows) → Stay m b c → Stay m a b → Stay m a c
 then m a b c h k = record { lines = h.lines ∙ k.lines; records = h.records ∙ k.records }
 
-row_stays : (m : ℕ) (r : StagedRow) (rows : Rows) → number_of r ≢ m → Stay m rows (with_staged_row r rows)
+-- a row of `record` and a line are of another number
+abbrev IsOfAnother : ℕ → StagedRow → Type 0
+IsOfAnother m (a_record r) = r.no ≢ m
+IsOfAnother m (a_line n at l) = n ≢ m
+IsOfAnother m (a_span n span) = Unit {0}
+
+row_stays : (m : ℕ) (r : StagedRow) (rows : Rows) → IsOfAnother m r → Stay m rows (with_staged_row r rows)
 row_stays m (a_record r) rows off = record {
   lines = refl;
   records = filter_put (λ (x : RecordRow). x.no) (λ (x : RecordRow). x.no == m)
@@ -38,8 +46,9 @@ row_stays m (a_line n at l) rows off = record {
       (record { id = next_key (λ (k : LineRow). k.id) rows.lines; no = n; at = at; line = l }) (is_not n m off);
   records = refl;
 }
+row_stays m (a_span n span) rows off = record { lines = refl; records = refl }
 
-all_stay : (m : ℕ) (rs : List StagedRow) (rows : Rows) → EachOf (λ r. number_of r ≢ m) rs
+all_stay : (m : ℕ) (rs : List StagedRow) (rows : Rows) → EachOf (IsOfAnother m) rs
     → Stay m rows (with_staged rs rows)
 all_stay m [] rows off = record { lines = refl; records = refl }
 all_stay m (r ∷ rs) rows off =
@@ -50,16 +59,18 @@ kept_stays : (m : ℕ) (kept : Option Kept) (rows : Rows) → Stay m rows (with_
 kept_stays m None rows = record { lines = refl; records = refl }
 kept_stays m (Some kept) rows = record { lines = refl; records = refl }
 
-pub others_stay : (batch : ℕ) (changes : Changes) (rows : Rows) (m : ℕ)
+pub others_stay : (batch : ℕ) (changes : Changes) (drawn : Drawn) (rows : Rows) (m : ℕ)
     → EachOf (λ (p : Numbered). p.number ≢ m) changes.puts
-    → (filter (λ (l : LineRow). l.no == m) (with_whole_import batch changes rows).lines ≡ filter
+    → (filter (λ (l : LineRow). l.no == m) (with_whole_import batch changes drawn rows).lines ≡ filter
     (λ (l : LineRow). l.no == m) rows.lines)
-    × (filter (λ (r : RecordRow). r.no == m) (with_whole_import batch changes rows).records ≡ filter
+    × (filter (λ (r : RecordRow). r.no == m) (with_whole_import batch changes drawn rows).records ≡ filter
     (λ (r : RecordRow). r.no == m) rows.records)
-others_stay batch changes rows m off =
-    let rs = rows_of_import batch changes.puts in
+others_stay batch changes drawn rows m off =
+    let rs = rows_of_import batch changes.puts drawn in
     let opened = with_batch batch true rows in
     let staged = with_staged rs opened in
-    let early : Stay m opened staged = all_stay m rs opened (of_import (λ n. n ≢ m) batch changes.puts off) in
+    let others = of_rows (λ n. n ≢ m) (IsOfAnother m) batch (λ p is. is) (λ n at l is. is) changes.puts drawn
+    (of_any_spans (λ n. n ≢ m) (IsOfAnother m) (λ n span. tt) drawn) off in
+    let early : Stay m opened staged = all_stay m rs opened others in
     let late = kept_stays m changes.kept (with_next changes.next (with_closed batch staged)) in
     (late.lines ∙ early.lines, late.records ∙ early.records)

@@ -1,4 +1,4 @@
--- Lines and rows of several numbers that are taken out, and what stays of rows without a record.
+-- Spans, lines and rows of several numbers that are taken out, where none of them has a record.
 use Rattle.std.proofs.Common.{
   ◌≡◌,
   ℕ,
@@ -23,7 +23,6 @@ use Rattle.std.specs.List.{AllByRecursion, list_any}
 use Rattle.std.proofs.lemmas.Bool.Decides.{nat_tests}
 use Rattle.sqlite.specs.Tree.{Trees, IsAscending}
 use Rattle.record_shapes.specs.Lists.{EachOf}
-use Rattle.archive_state.specs.Content.{Content}
 use Rattle.store_tables.specs.Batches.{numbers_in}
 use Rattle.store_tables.specs.Calls.{Good}
 use Rattle.store_tables.specs.Rows.{
@@ -35,67 +34,49 @@ use Rattle.store_tables.specs.Rows.{
   without_lines,
   without_lines_from,
   without_record_row,
+  without_span,
 }
-use Rattle.store_rows.specs.Meaning.{Means, has_record, is_closed}
+use Rattle.store_rows.specs.Meaning.{has_record, is_closed}
+use Rattle.store_rows.specs.Spans.{without_all_spans}
 use Rattle.store_rows.specs.Writing.{without_all_lines, without_record_rows, without_records}
-use Rattle.staged_rows.specs.Removing.{IsAside, without_batch}
-use Rattle.staged_rows.proofs.Lists.{it, none_kept}
-use Rattle.staged_rows.proofs.Removed.{lines_gone, record_gone, batch_gone, left_out}
-
-each_weaker : {A : Type 0} (P Q : A → Type 0) → ((x : A) → P x → Q x) → (xs : List A) → EachOf P xs → EachOf Q xs
-each_weaker P Q h [] all = tt
-each_weaker P Q h (x ∷ xs) all = (h x all.0, each_weaker P Q h xs all.1)
+use Rattle.staged_rows.specs.Removing.{AreAside, IsSeenAs, without_batch}
+use Rattle.staged_rows.proofs.Alike.{seen_same, seen_then}
+use Rattle.staged_rows.proofs.Lists.{it}
+use Rattle.staged_rows.proofs.Removed.{batch_gone, left_out, lines_gone, record_gone, span_gone}
 
 -- a line that is left out is of that number
 of_that : (a b : Bool) → not (a && b) ≡ false → a ≡ true
 of_that true b h = refl
 of_that false b h = absurd cc
 
-module _ (ns society : List ℕ) (c : Content) where
-  pub aside_line : (n : ℕ) (rows : Rows) → has_record n rows ≡ false → IsAside ns society c rows
-      → IsAside ns society c (without_lines n rows)
-  aside_line n rows none was = record {
-    means = lines_gone (λ (l : LineRow). not (l.no == n)) rows c
-        (λ l out. ap (λ k. has_record k rows) (left_out l.no n out) ∙ none) was.means;
-    society_is = was.society_is;
-    unrecorded = was.unrecorded;
-  }
+pub line_out : (n : ℕ) (rows : Rows) → has_record n rows ≡ false → IsSeenAs rows (without_lines n rows)
+line_out n rows none = lines_gone (λ (l : LineRow). not (l.no == n)) rows
+    (λ l out. ap (λ k. has_record k rows) (left_out l.no n out) ∙ none)
 
-  pub aside_lines_from : (n at : ℕ) (rows : Rows) → has_record n rows ≡ false → IsAside ns society c rows
-      → IsAside ns society c (without_lines_from n at rows)
-  aside_lines_from n at rows none was = record {
-    means = lines_gone (λ l. not (is_line_from n at l)) rows c
-        (λ l out. ap (λ k. has_record k rows) (it l.no n (of_that (l.no == n) _ out)) ∙ none) was.means;
-    society_is = was.society_is;
-    unrecorded = was.unrecorded;
-  }
+pub lines_from_out : (n at : ℕ) (rows : Rows) → has_record n rows ≡ false
+    → IsSeenAs rows (without_lines_from n at rows)
+lines_from_out n at rows none = lines_gone (λ l. not (is_line_from n at l)) rows
+    (λ l out. ap (λ k. has_record k rows) (it l.no n (of_that (l.no == n) _ out)) ∙ none)
 
-  pub aside_lines : (ks : List ℕ) (rows : Rows) → EachOf (λ n. has_record n rows ≡ false) ks
-      → IsAside ns society c rows → IsAside ns society c (without_all_lines ks rows)
-  aside_lines [] rows none was = was
-  aside_lines (k ∷ ks) rows none was = aside_lines ks (without_lines k rows) none.1 (aside_line k rows none.0 was)
+-- behind rows that are seen as those of before
+module _ (before : Rows) where
+  pub lines_out : (ns : List ℕ) (rows : Rows) → AreAside ns before → IsSeenAs before rows
+      → IsSeenAs before (without_all_lines ns rows)
+  lines_out [] rows none seen = seen
+  lines_out (n ∷ ns) rows none seen = lines_out ns (without_lines n rows) none.1
+      (seen_then before rows (without_lines n rows) seen (line_out n rows (seen.recorded n ∙ none.0)))
 
-  still_none : (n k : ℕ) (rows : Rows) → has_record n rows ≡ false → has_record n (without_record_row k rows) ≡ false
-  still_none n k rows none =
-      none_kept (λ (r : RecordRow). (r.no == n) && is_closed r.batch rows.batches) (λ (r : RecordRow). not (r.no == k))
-      rows.records none
+  pub rows_out : (ns : List ℕ) (rows : Rows) → AreAside ns before → IsSeenAs before rows
+      → IsSeenAs before (without_record_rows ns rows)
+  rows_out [] rows none seen = seen
+  rows_out (n ∷ ns) rows none seen = rows_out ns (without_record_row n rows) none.1
+      (seen_then before rows (without_record_row n rows) seen (record_gone n rows (seen.recorded n ∙ none.0)))
 
-  aside_row : (n : ℕ) (rows : Rows) → has_record n rows ≡ false → IsAside ns society c rows
-      → IsAside ns society c (without_record_row n rows)
-  aside_row n rows none was = record {
-    means = record_gone n rows c none was.means;
-    society_is = was.society_is;
-    unrecorded = each_weaker (λ m. has_record m rows ≡ false) (λ m. has_record m (without_record_row n rows) ≡ false)
-        (λ m. still_none m n rows) ns was.unrecorded;
-  }
-
-  pub aside_rows : (ks : List ℕ) (rows : Rows) → EachOf (λ n. has_record n rows ≡ false) ks
-      → IsAside ns society c rows → IsAside ns society c (without_record_rows ks rows)
-  aside_rows [] rows none was = was
-  aside_rows (k ∷ ks) rows none was =
-      aside_rows ks (without_record_row k rows)
-      (each_weaker (λ m. has_record m rows ≡ false) (λ m. has_record m (without_record_row k rows) ≡ false)
-      (λ m. still_none m k rows) ks none.1) (aside_row k rows none.0 was)
+  pub spans_out : (ns : List ℕ) (rows : Rows) → AreAside ns before → IsSeenAs before rows
+      → IsSeenAs before (without_all_spans ns rows)
+  spans_out [] rows none seen = seen
+  spans_out (n ∷ ns) rows none seen = spans_out ns (without_span n rows) none.1
+      (seen_then before rows (without_span n rows) seen (span_gone n rows (seen.recorded n ∙ none.0)))
 
 -- ---- the batches stay
 lines_only : (ks : List ℕ) (rows : Rows) → (without_all_lines ks rows).batches ≡ rows.batches
@@ -106,27 +87,29 @@ rows_only : (ks : List ℕ) (rows : Rows) → (without_record_rows ks rows).batc
 rows_only [] rows = refl
 rows_only (k ∷ ks) rows = rows_only ks (without_record_row k rows)
 
-pub batches_stay : (ks : List ℕ) (rows : Rows) → (without_records ks rows).batches ≡ rows.batches
-batches_stay ks rows = rows_only ks (without_all_lines ks rows) ∙ lines_only ks rows
+spans_only : (ks : List ℕ) (rows : Rows) → (without_all_spans ks rows).batches ≡ rows.batches
+spans_only [] rows = refl
+spans_only (k ∷ ks) rows = spans_only ks (without_span k rows)
 
-records_stay : (n : ℕ) (ks : List ℕ) (rows : Rows) → has_record n (without_all_lines ks rows) ≡ has_record n rows
-records_stay n [] rows = refl
-records_stay n (k ∷ ks) rows = records_stay n ks (without_lines k rows)
+pub batches_stay : (ks : List ℕ) (rows : Rows)
+    → (without_records ks (without_all_spans ks rows)).batches ≡ rows.batches
+batches_stay ks rows =
+    let less = without_all_spans ks rows in
+    rows_only ks (without_all_lines ks less) ∙ lines_only ks less ∙ spans_only ks rows
 
-pub aside_records : (ns society : List ℕ) (c : Content) (rows : Rows) → IsAside ns society c rows
-    → IsAside ns society c (without_records ns rows)
-aside_records ns society c rows was =
-    let less = aside_lines ns society c ns rows was.unrecorded was in
-    aside_rows ns society c ns (without_all_lines ns rows) less.unrecorded less
+pub records_out : (ns : List ℕ) (rows : Rows) → AreAside ns rows
+    → IsSeenAs rows (without_records ns (without_all_spans ns rows))
+records_out ns rows none =
+    let less = without_all_spans ns rows in
+    rows_out rows ns (without_all_lines ns less) none
+    (lines_out rows ns less none (spans_out rows ns rows none (seen_same rows)))
 
-pub taken_out : (batch : ℕ) (ns society : List ℕ) (rows : Rows) (c : Content) → IsAside ns society c rows
-    → is_closed batch rows.batches ≡ false
-    → Means (without_batch batch ns rows) c × ((without_batch batch ns rows).society ≡ society)
-taken_out batch ns society rows c was unclosed =
-    let less = aside_records ns society c rows was in (
-      batch_gone batch (without_records ns rows) c (ap (is_closed batch) (batches_stay ns rows) ∙ unclosed) less.means,
-      less.society_is,
-    )
+pub taken_out : (batch : ℕ) (ns : List ℕ) (rows : Rows) → AreAside ns rows → is_closed batch rows.batches ≡ false
+    → IsSeenAs rows (without_batch batch ns rows)
+taken_out batch ns rows none unclosed =
+    let less = without_records ns (without_all_spans ns rows) in
+    seen_then rows less (without_batch batch ns rows) (records_out ns rows none)
+    (batch_gone batch less (ap (is_closed batch) (batches_stay ns rows) ∙ unclosed))
 
 -- ---- the numbers of a batch that is not closed
 none_equal : (n : ℕ) (q : RecordRow → Bool) (rs : List RecordRow) → AllByRecursion (λ (r : RecordRow). n < r.no) rs

@@ -28,20 +28,24 @@ use Rattle.store_tables.specs.Rows.{
   BatchRow,
   RecordRow,
   LineRow,
+  SpanRow,
   next_key,
   put_by,
   with_batch,
   without_batch_row,
   without_lines,
   without_record_row,
+  without_span,
 }
-use Rattle.store_rows.specs.Writing.{without_all_lines, without_record_rows}
+use Rattle.store_rows.specs.Spans.{AreDrawn, Drawn, without_all_spans}
+use Rattle.store_rows.specs.Writing.{without_all_lines, without_record_rows, without_records}
 use Rattle.staged_rows.specs.Removing.{without_batch}
 use Rattle.staged_rows.specs.Staging.{
   IsFresh,
   StagedRow,
   a_record,
   a_line,
+  a_span,
   numbers_of,
   rows_of_import,
   with_staged,
@@ -58,7 +62,13 @@ use Rattle.staged_rows.proofs.Lists.{
 }
 use Rattle.staged_rows.proofs.Numbers.{are_among, each_front, number_of, of_import, of_numbers}
 
--- ---- lines and rows of several numbers
+-- ---- spans, lines and rows of several numbers
+spans_less : (ns : List ℕ) (rows : Rows) → without_all_spans ns rows
+    ≡ record rows { spans = filter (λ (s : SpanRow). is_outside ns s.no) rows.spans }
+spans_less [] rows = sym (ap (λ (ss : List SpanRow). record rows { spans = ss }) (all_pass rows.spans))
+spans_less (n ∷ ns) rows = spans_less ns (without_span n rows)
+    ∙ ap (λ (ss : List SpanRow). record rows { spans = ss }) (one_more (λ (s : SpanRow). s.no) n ns rows.spans)
+
 lines_less : (ns : List ℕ) (rows : Rows) → without_all_lines ns rows
     ≡ record rows { lines = filter (λ (l : LineRow). is_outside ns l.no) rows.lines }
 lines_less [] rows = sym (ap (λ (ls : List LineRow). record rows { lines = ls }) (all_pass rows.lines))
@@ -77,7 +87,9 @@ record More (ns : List ℕ) (before after : Rows) : Type 0 where
       ≡ filter (λ (l : LineRow). is_outside ns l.no) before.lines
   records : filter (λ (r : RecordRow). is_outside ns r.no) after.records
       ≡ filter (λ (r : RecordRow). is_outside ns r.no) before.records
-  beside : after ≡ record before { records = after.records; lines = after.lines }
+  spans : filter (λ (s : SpanRow). is_outside ns s.no) after.spans
+      ≡ filter (λ (s : SpanRow). is_outside ns s.no) before.spans
+  beside : after ≡ record before { records = after.records; lines = after.lines; spans = after.spans }
 
 row_more : (ns : List ℕ) (r : StagedRow) (rows : Rows) → list_any (λ k. k == number_of r) ns ≡ true
     → More ns rows (with_staged_row r rows)
@@ -86,18 +98,27 @@ row_more ns (a_record r) rows is = record {
   records = filter_put (λ (x : RecordRow). x.no) (λ (x : RecordRow). is_outside ns x.no)
       (record { no = r.no; kind = r.kind; batch = r.batch }) (λ y same. ap (is_outside ns) same ∙ ap not is)
       rows.records;
+  spans = refl;
   beside = refl;
 }
 row_more ns (a_line n at l) rows is = record {
   lines = filter_behind (λ (k : LineRow). is_outside ns k.no) rows.lines
       (record { id = next_key (λ (k : LineRow). k.id) rows.lines; no = n; at = at; line = l }) (ap not is);
   records = refl;
+  spans = refl;
+  beside = refl;
+}
+row_more ns (a_span n span) rows is = record {
+  lines = refl;
+  records = refl;
+  spans = filter_put (λ (x : SpanRow). x.no) (λ (x : SpanRow). is_outside ns x.no)
+      (record { no = n; lo = span.lo; hi = span.hi }) (λ y same. ap (is_outside ns) same ∙ ap not is) rows.spans;
   beside = refl;
 }
 
 all_more : (ns : List ℕ) (rs : List StagedRow) (rows : Rows)
     → EachOf (λ r. list_any (λ k. k == number_of r) ns ≡ true) rs → More ns rows (with_staged rs rows)
-all_more ns [] rows is = record { lines = refl; records = refl; beside = refl }
+all_more ns [] rows is = record { lines = refl; records = refl; spans = refl; beside = refl }
 all_more ns (r ∷ rs) rows is =
     let one = row_more ns r rows is.0 in
     let next = with_staged_row r rows in
@@ -106,8 +127,9 @@ all_more ns (r ∷ rs) rows is =
     record {
       lines = more.lines ∙ one.lines;
       records = more.records ∙ one.records;
-      beside = more.beside
-          ∙ ap (λ (rows : Rows). record rows { records = after.records; lines = after.lines }) one.beside;
+      spans = more.spans ∙ one.spans;
+      beside = more.beside ∙ ap (λ (rows : Rows).
+          record rows { records = after.records; lines = after.lines; spans = after.spans }) one.beside;
     }
 
 -- ---- the batch
@@ -121,26 +143,34 @@ batch_gone n bs none =
     itself : (n : ℕ) → not (n == n) ≡ false
     itself n = grind (arith, nat_tests)
 
-pub no_trace : (batch : ℕ) (ps : List Numbered) (done left : List StagedRow) (rows : Rows)
-    → rows_of_import batch ps ≡ done ++ left → IsFresh batch ps rows
+pub no_trace : (batch : ℕ) (ps : List Numbered) (drawn : Drawn) (done left : List StagedRow) (rows : Rows)
+    → rows_of_import batch ps drawn ≡ done ++ left → IsFresh batch ps rows → AreDrawn ps drawn
     → without_batch batch (numbers_of ps) (with_staged done (with_batch batch true rows)) ≡ rows
-no_trace batch ps done left rows parts fresh =
+no_trace batch ps drawn done left rows parts fresh are =
     let ns = numbers_of ps in
     let opened = with_batch batch true rows in
     let staged = with_staged done opened in
     let among = λ (r : StagedRow). list_any (λ k. k == number_of r) ns ≡ true in
     let mine : EachOf among done = each_front among done left
-    (subst (EachOf among) parts (of_import (λ n. list_any (λ k. k == n) ns ≡ true) batch ps (are_among ps))) in
+    (subst (EachOf among) parts
+    (of_import (λ n. list_any (λ k. k == n) ns ≡ true) batch ps drawn are (are_among ps))) in
     let more = all_more ns done opened mine in
     let ls = filter (λ (l : LineRow). is_outside ns l.no) staged.lines in
     let rs = filter (λ (r : RecordRow). is_outside ns r.no) staged.records in
+    let ss = filter (λ (s : SpanRow). is_outside ns s.no) staged.spans in
     let old_lines : ls ≡ rows.lines = more.lines ∙ none_of_them (λ (l : LineRow). l.no) ns rows.lines
     (of_numbers (λ n. list_any (λ (l : LineRow). l.no == n) rows.lines ≡ false) ps fresh.lines) in
     let old_records : rs ≡ rows.records = more.records ∙ none_of_them (λ (r : RecordRow). r.no) ns rows.records
     (of_numbers (λ n. list_any (λ (r : RecordRow). r.no == n) rows.records ≡ false) ps fresh.numbers) in
-    ap (λ (r : Rows). without_batch_row batch (without_record_rows ns r)) (lines_less ns staged)
-    ∙ ap (without_batch_row batch) (rows_less ns (record staged { lines = ls }))
-    ∙ ap (λ (r : Rows). without_batch_row batch (record r { lines = ls; records = rs })) more.beside
+    let old_spans : ss ≡ rows.spans = more.spans ∙ none_of_them (λ (s : SpanRow). s.no) ns rows.spans
+    (of_numbers (λ n. list_any (λ (s : SpanRow). s.no == n) rows.spans ≡ false) ps fresh.spans) in
+    ap (λ (r : Rows). without_batch_row batch (without_records ns r)) (spans_less ns staged)
+    ∙ ap (λ (r : Rows). without_batch_row batch (without_record_rows ns r))
+    (lines_less ns (record staged { spans = ss }))
+    ∙ ap (without_batch_row batch) (rows_less ns (record staged { lines = ls; spans = ss }))
+    ∙ ap (λ (r : Rows). without_batch_row batch (record r { lines = ls; records = rs; spans = ss })) more.beside
+    ∙ ap (λ (ss : List SpanRow). without_batch_row batch (record opened { lines = ls; records = rs; spans = ss }))
+    old_spans
     ∙ ap₂ (λ (ls : List LineRow) (rs : List RecordRow).
     without_batch_row batch (record opened { lines = ls; records = rs })) old_lines old_records
     ∙ ap (λ (bs : List BatchRow). record rows { batches = bs }) (batch_gone batch rows.batches fresh.unused)

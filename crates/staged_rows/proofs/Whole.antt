@@ -1,4 +1,4 @@
--- All rows of an import are the lines that its puts would be written as, and a row of `record` for each.
+-- All rows of an import are the lines that its puts would be written as, a row of `record` for each, and their spans.
 use Rattle.std.proofs.Common.{
   ◌≡◌,
   ◌≢◌,
@@ -20,9 +20,10 @@ use Rattle.std.proofs.Common.{
   ap₂,
   ◌∙◌,
 }
-use Rattle.std.specs.Prelude.{◌==◌, ◌||◌}
+use Rattle.std.specs.Prelude.{◌==◌, ◌||◌, Option, Some, None}
 use Rattle.std.specs.List.{flat_map, list_any}
 use Rattle.stored_lines.specs.Line.{Label}
+use Rattle.gedcom_date.specs.declared.value.Span.{Span}
 use Rattle.records.specs.Stored.{stored}
 use Rattle.record_shapes.specs.Lists.{EachOf, IsOnce}
 use Rattle.archive_state.specs.declared.changes.Numbered.{Numbered}
@@ -31,6 +32,7 @@ use Rattle.store_tables.specs.Rows.{
   BatchRow,
   RecordRow,
   LineRow,
+  SpanRow,
   next_key,
   put_by,
   with_line,
@@ -38,6 +40,7 @@ use Rattle.store_tables.specs.Rows.{
   without_lines,
   with_changed_lines,
 }
+use Rattle.store_rows.specs.Spans.{Drawn}
 use Rattle.store_rows.specs.Writing.{kind_word, with_record_rows, with_all_lines}
 use Rattle.staged_rows.specs.Staging.{
   StagedRow,
@@ -46,6 +49,7 @@ use Rattle.staged_rows.specs.Staging.{
   lines_of_put,
   numbers_of,
   rows_of_import,
+  span_row,
   with_staged,
   with_staged_row,
 }
@@ -147,14 +151,57 @@ all_lines_beside (p ∷ ps) bs rs rows =
     ap (with_all_lines ps) (lines_beside p.number 0 (stored p.«record») bs rs (without_lines p.number rows))
     ∙ all_lines_beside ps bs rs (with_changed_lines p.number (stored p.«record») rows)
 
+-- ---- spans
+-- a span, put where there is one
+abbrev pub one_span : ℕ → Option Span → List SpanRow → List SpanRow
+one_span n None ss = ss
+one_span n (Some span) ss = put_by (λ (s : SpanRow). s.no) (record { no = n; lo = span.lo; hi = span.hi }) ss
+
+abbrev pub spans_put : Drawn → List SpanRow → List SpanRow
+spans_put [] ss = ss
+spans_put (d ∷ ds) ss = spans_put ds (one_span d.0 d.1 ss)
+
+span_staged : (n : ℕ) (o : Option Span) (rows : Rows) → with_staged (span_row (n, o)) rows
+    ≡ record rows { spans = one_span n o rows.spans }
+span_staged n None rows = refl
+span_staged n (Some span) rows = refl
+
+spans_staged : (ds : Drawn) (rows : Rows) → with_staged (flat_map span_row ds) rows
+    ≡ record rows { spans = spans_put ds rows.spans }
+spans_staged [] rows = refl
+spans_staged (d ∷ ds) rows =
+    joined (span_row d) (flat_map span_row ds) rows
+    ∙ ap (with_staged (flat_map span_row ds)) (span_staged d.0 d.1 rows)
+    ∙ spans_staged ds (record rows { spans = one_span d.0 d.1 rows.spans })
+
 -- ---- all rows of an import
-pub import_staged : (batch : ℕ) (ps : List Numbered) (bs : List BatchRow) (rows : Rows) → IsOnce (numbers_of ps)
-    → EachOf (λ (p : Numbered). HasNoLine rows p.number) ps
-    → with_staged (rows_of_import batch ps) (record rows { batches = bs })
-    ≡ beside bs (records_put batch ps rows.records) (with_all_lines ps rows)
-import_staged batch ps bs rows once none =
+-- the rows with these batches, rows of `record` and spans
+abbrev pub wholly : List BatchRow → List RecordRow → List SpanRow → Rows → Rows
+wholly bs rs ss rows = record rows { batches = bs; records = rs; spans = ss }
+
+-- lines change no span
+line_spans : (n at : ℕ) (ls : List (ℕ × Label)) (rows : Rows) → (with_lines n at ls rows).spans ≡ rows.spans
+line_spans n at [] rows = refl
+line_spans n at (l ∷ ls) rows = line_spans n (at + 1) ls (with_line n at l rows)
+
+all_line_spans : (ps : List Numbered) (rows : Rows) → (with_all_lines ps rows).spans ≡ rows.spans
+all_line_spans [] rows = refl
+all_line_spans (p ∷ ps) rows =
+    all_line_spans ps (with_changed_lines p.number (stored p.«record») rows)
+    ∙ line_spans p.number 0 (stored p.«record») (without_lines p.number rows)
+
+pub import_staged : (batch : ℕ) (ps : List Numbered) (drawn : Drawn) (bs : List BatchRow) (rows : Rows)
+    → IsOnce (numbers_of ps) → EachOf (λ (p : Numbered). HasNoLine rows p.number) ps
+    → with_staged (rows_of_import batch ps drawn) (record rows { batches = bs })
+    ≡ wholly bs (records_put batch ps rows.records) (spans_put drawn rows.spans) (with_all_lines ps rows)
+import_staged batch ps drawn bs rows once none =
     let rs = records_put batch ps rows.records in
-    joined (map (record_of batch) ps) (flat_map lines_of_put ps) (record rows { batches = bs })
-    ∙ ap (with_staged (flat_map lines_of_put ps)) (records_staged batch ps (record rows { batches = bs }))
-    ∙ lines_staged ps (beside bs rs rows) once none
-    ∙ all_lines_beside ps bs rs rows
+    let all = with_all_lines ps rows in
+    let lines = flat_map lines_of_put ps in
+    let spans = flat_map span_row drawn in
+    joined (map (record_of batch) ps) (lines ++ spans) (record rows { batches = bs })
+    ∙ ap (with_staged (lines ++ spans)) (records_staged batch ps (record rows { batches = bs }))
+    ∙ joined lines spans (beside bs rs rows)
+    ∙ ap (with_staged spans) (lines_staged ps (beside bs rs rows) once none ∙ all_lines_beside ps bs rs rows)
+    ∙ spans_staged drawn (beside bs rs all)
+    ∙ ap (λ (ss : List SpanRow). wholly bs rs (spans_put drawn ss) all) (all_line_spans ps rows)

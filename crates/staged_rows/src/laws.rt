@@ -13,9 +13,19 @@ ghost use Rattle.receipts.specs.declared.answer.Answer.{Answer};
 ghost use Rattle.sqlite.specs.Tree.{Trees};
 ghost use Rattle.store_tables.specs.Batches.{AreOwned, numbers_in};
 ghost use Rattle.store_tables.specs.Calls.{Good};
-ghost use Rattle.store_tables.specs.Rows.{Rows, BatchRow, LineRow, RecordRow, with_batch, without_record_row};
+ghost use Rattle.store_tables.specs.Rows.{
+  Rows,
+  BatchRow,
+  LineRow,
+  RecordRow,
+  with_batch,
+  without_batch_row,
+  without_record_row,
+  without_span,
+};
 ghost use Rattle.store_rows.specs.Meaning.{Means, has_record, is_closed};
-ghost use Rattle.staged_rows.specs.Removing.{IsAside, without_batch};
+ghost use Rattle.store_rows.specs.Spans.{AreDrawn, Drawn, KeepsSpans};
+ghost use Rattle.staged_rows.specs.Removing.{AreAside, IsSeenAs, without_batch};
 ghost use Rattle.staged_rows.specs.Staging.{
   AreAllClosed,
   AreClosed,
@@ -29,11 +39,19 @@ ghost use Rattle.staged_rows.specs.Staging.{
   with_whole_import,
 };
 
-/// While an import is open, the rows mean what they meant before, however many of its rows are there.
-pub fn an_open_import_is_in_no_view()
-    ensures { (batch count : ℕ) (puts : List Numbered) (rows : Rows) (c : Content)
-        → is_closed batch rows.batches ≡ false → EachOf (λ (p : Numbered). get c.records p.number ≡ None) puts
-        → Means rows c → Means (with_open_import batch puts count rows) c }
+/// Rows of which the same is seen mean the same, and have the same spans.
+pub fn what_is_seen_means_the_same()
+    ensures means { (rows other : Rows) (c : Content) → IsSeenAs rows other → Means rows c → Means other c }
+    ensures spans { (rows other : Rows) (c : Content) → IsSeenAs rows other → Means rows c → KeepsSpans rows c
+        → KeepsSpans other c }
+    ensures then { (a b c : Rows) → IsSeenAs a b → IsSeenAs b c → IsSeenAs a c }
+{}
+
+/// While an import is open nothing of it is seen, however many of its rows are there.
+pub fn an_open_import_is_not_seen()
+    ensures { (batch count : ℕ) (puts : List Numbered) (drawn : Drawn) (rows : Rows)
+        → is_closed batch rows.batches ≡ false → AreAside (numbers_of puts) rows → AreDrawn puts drawn
+        → IsSeenAs rows (with_open_import batch puts drawn count rows) }
 {}
 
 /// Nothing of an import whose batch is unused, and whose numbers have no record, is there where every row is of a
@@ -50,67 +68,62 @@ pub fn rows_of_closed_batches()
 {}
 
 /// An import of which nothing was there, staged to its end and published: the rows mean what the import makes of what
-/// they meant.
+/// they meant; and where each record had its span, each has it.
 pub fn a_published_import_means_what_it_makes()
-    ensures { (batch next : ℕ) (puts : List Numbered) (answer : Answer) (kept : Option Kept) (rows : Rows) (c : Content)
-        → IsOnce (map (λ (p : Numbered). p.number) puts) → IsFresh batch puts rows → Means rows c
-        → Means (with_whole_import batch (import_changes puts next answer kept) rows)
+    ensures means { (batch next : ℕ) (puts : List Numbered) (drawn : Drawn) (answer : Answer) (kept : Option Kept)
+        (rows : Rows) (c : Content) → IsOnce (numbers_of puts) → IsFresh batch puts rows → AreDrawn puts drawn
+        → Means rows c → Means (with_whole_import batch (import_changes puts next answer kept) drawn rows)
+        (applied c (import_changes puts next answer kept)) }
+    ensures spans { (batch next : ℕ) (puts : List Numbered) (drawn : Drawn) (answer : Answer) (kept : Option Kept)
+        (rows : Rows) (c : Content) → IsOnce (numbers_of puts) → IsFresh batch puts rows → AreDrawn puts drawn
+        → KeepsSpans rows c → KeepsSpans (with_whole_import batch (import_changes puts next answer kept) drawn rows)
         (applied c (import_changes puts next answer kept)) }
 {}
 
-/// Lines of numbers that have no record can go, whichever of them: the rows mean what they meant.
-pub fn lines_of_no_record_mean_nothing()
-    ensures { (stays : LineRow → Bool) (rows : Rows) (c : Content)
-        → ((l : LineRow) → stays l ≡ false → has_record l.no rows ≡ false) → Means rows c
-        → Means (record rows { lines = filter stays rows.lines }) c }
-{}
-
-/// So can the row in `record` of a number that has no record.
-pub fn a_row_of_an_open_batch_means_nothing()
-    ensures { (n : ℕ) (rows : Rows) (c : Content) → has_record n rows ≡ false → Means rows c
-        → Means (without_record_row n rows) c }
-{}
-
-/// And the row of a batch that is not closed.
-pub fn an_open_batch_means_nothing()
-    ensures { (n : ℕ) (rows : Rows) (c : Content) → is_closed n rows.batches ≡ false → Means rows c
-        → Means (record rows { batches = filter (λ (b : BatchRow). not (b.no == n)) rows.batches }) c }
+/// Lines of numbers that have no record can go, whichever of them, and so can spans: it is not seen.
+pub fn what_no_record_has_is_not_seen()
+    ensures lines { (stays : LineRow → Bool) (rows : Rows)
+        → ((l : LineRow) → stays l ≡ false → has_record l.no rows ≡ false)
+        → IsSeenAs rows (record rows { lines = filter stays rows.lines }) }
+    ensures spans { (n : ℕ) (rows : Rows) → has_record n rows ≡ false → IsSeenAs rows (without_span n rows) }
+    ensures record_row { (n : ℕ) (rows : Rows) → has_record n rows ≡ false → IsSeenAs rows (without_record_row n rows) }
+    ensures batch_row { (n : ℕ) (rows : Rows) → is_closed n rows.batches ≡ false
+        → IsSeenAs rows (without_batch_row n rows) }
 {}
 
 /// An import leaves the rows of every number that it does not put: its row in `record` and its lines, each with its
 /// id, in their order.
 pub fn an_import_leaves_the_rows_of_other_numbers()
-    ensures { (batch : ℕ) (changes : Changes) (rows : Rows) (m : ℕ)
+    ensures { (batch : ℕ) (changes : Changes) (drawn : Drawn) (rows : Rows) (m : ℕ)
         → EachOf (λ (p : Numbered). p.number ≢ m) changes.puts
-        → (filter (λ (l : LineRow). l.no == m) (with_whole_import batch changes rows).lines ≡ filter
+        → (filter (λ (l : LineRow). l.no == m) (with_whole_import batch changes drawn rows).lines ≡ filter
         (λ (l : LineRow). l.no == m) rows.lines)
-        × (filter (λ (r : RecordRow). r.no == m) (with_whole_import batch changes rows).records ≡ filter
+        × (filter (λ (r : RecordRow). r.no == m) (with_whole_import batch changes drawn rows).records ≡ filter
         (λ (r : RecordRow). r.no == m) rows.records) }
 {}
 
 /// An import of which nothing was there, staged to any row and taken out, leaves the rows as they were.
 pub fn an_import_that_is_taken_out_leaves_nothing()
-    ensures { (batch : ℕ) (puts : List Numbered) (done left : List StagedRow) (rows : Rows)
-        → rows_of_import batch puts ≡ done ++ left → IsFresh batch puts rows
+    ensures { (batch : ℕ) (puts : List Numbered) (drawn : Drawn) (done left : List StagedRow) (rows : Rows)
+        → rows_of_import batch puts drawn ≡ done ++ left → IsFresh batch puts rows → AreDrawn puts drawn
         → without_batch batch (numbers_of puts) (with_staged done (with_batch batch true rows)) ≡ rows }
 {}
 
-/// A batch that is not closed can be taken out with all of its numbers: the rows mean what they meant.
-pub fn a_batch_that_is_taken_out_means_nothing()
-    ensures { (batch : ℕ) (ns society : List ℕ) (rows : Rows) (c : Content) → IsAside ns society c rows
-        → is_closed batch rows.batches ≡ false
-        → Means (without_batch batch ns rows) c × ((without_batch batch ns rows).society ≡ society) }
+/// A batch that is not closed can be taken out with all of its numbers: it is not seen.
+pub fn a_batch_that_is_taken_out_is_not_seen()
+    ensures { (batch : ℕ) (ns : List ℕ) (rows : Rows) → AreAside ns rows → is_closed batch rows.batches ≡ false
+        → IsSeenAs rows (without_batch batch ns rows) }
 {}
 
 /// The numbers of an import whose numbers have no record in a content have none in the rows that mean it.
 pub fn numbers_of_an_import_have_no_record()
     ensures { (puts : List Numbered) (rows : Rows) (c : Content)
         → EachOf (λ (p : Numbered). get c.records p.number ≡ None) puts → Means rows c
-        → EachOf (λ n. has_record n rows ≡ false) (numbers_of puts) }
+        → AreAside (numbers_of puts) rows }
 {}
 
 /// The numbers of a batch that is not closed have no record.
 pub fn numbers_of_an_open_batch_have_no_record()
     ensures { (batch : ℕ) (rows : Rows) (t : Trees) → Good rows t → is_closed batch rows.batches ≡ false
-        → EachOf (λ n. has_record n rows ≡ false) (numbers_in batch rows) }
+        → AreAside (numbers_in batch rows) rows }
 {}

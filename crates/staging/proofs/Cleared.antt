@@ -1,41 +1,49 @@
 -- Commits that take rows of numbers out, one after the other.
-use Rattle.std.proofs.Common.{◌≡◌, ◌⊎◌, inl, inr, ℕ, false, sym, subst, List, Result, Ok, Err, OnOk}
+use Rattle.std.proofs.Common.{◌≡◌, ◌⊎◌, inl, inr, ℕ, Bool, false, ap, subst, ◌∙◌, List, Result, Ok, Err, OnOk}
 use Rattle.std.specs.Result.{IsErr}
 use Rattle.sqlite.specs.State.{State, HasCleanDisk}
 use Rattle.sqlite.specs.Tree.{Trees}
 use Rattle.record_text.specs.declared.refusal.RefusalKind.{RefusalKind}
-use Rattle.archive_state.specs.Content.{Content}
-use Rattle.store_tables.specs.Calls.{Good, Settled}
+use Rattle.store_tables.specs.Calls.{Good, LeavesOnly, Settled}
 use Rattle.store_tables.specs.Looking.{Looks}
 use Rattle.store_tables.specs.Rows.{Rows, without_batch_row}
 use Rattle.store_tables.proofs.Calls.{on_ok}
-use Rattle.store_rows.specs.Meaning.{Means, is_closed}
+use Rattle.store_rows.specs.Meaning.{is_closed}
+use Rattle.store_rows.specs.Spans.{without_all_spans}
 use Rattle.store_rows.specs.Writing.{without_records}
-use Rattle.staged_rows.specs.Removing.{IsAside, without_batch}
-use Rattle.staged_rows.proofs.Taken.{taken_out}
-use Rattle.staging.specs.Clearing.{Clears, LeavesEither, LeavesMeaning}
+use Rattle.staged_rows.specs.Removing.{AreAside, IsSeenAs, without_batch}
+use Rattle.staged_rows.proofs.Taken.{batches_stay, spans_out}
+use Rattle.staging.specs.Clearing.{Clears, LeavesEither, LeavesSeen}
+use Rattle.staging.proofs.Seen.{aside_seen, batch_unseen, seen_same, seen_then}
+
+-- ---- what a stop leaves
+pub leaves_seen : (rows : Rows) (s : State) → LeavesOnly s rows → LeavesSeen s rows
+leaves_seen rows s only t may = (rows, only t may, seen_same rows)
+
+pub seen_on : (rows other : Rows) (s : State) → IsSeenAs rows other → LeavesSeen s other → LeavesSeen s rows
+seen_on rows other s seen leaves t may =
+    let found = leaves t may in
+    (found.0, found.1, seen_then rows other found.0 seen found.2)
+
+pub either_seen : (rows after : Rows) (s : State) → IsSeenAs rows after → LeavesEither s rows after
+    → LeavesSeen s rows
+either_seen rows after s seen leaves t may = of_two (leaves t may)
+  where
+    of_two : Good rows t ⊎ Good after t → (other : Rows) × Good other t × IsSeenAs rows other
+    of_two (inl good) = (rows, good, seen_same rows)
+    of_two (inr good) = (after, good, seen)
 
 -- ---- a single commit
-either_means : (ns society : List ℕ) (c : Content) (rows after : Rows) (s : State) → IsAside ns society c rows
-    → IsAside ns society c after → LeavesEither s rows after → LeavesMeaning s society c
-either_means ns society c rows after s was is leaves t may = of_two (leaves t may)
-  where
-    of_two : Good rows t ⊎ Good after t → (found : Rows) × Good found t × Means found c × (found.society ≡ society)
-    of_two (inl good) = (rows, good, was.means, was.society_is)
-    of_two (inr good) = (after, good, is.means, is.society_is)
-
--- a commit behind which the numbers still have no record
+-- behind which the same is seen, where the numbers have no record
 pub one_commit : {A E : Type 0} (ns : List ℕ) (Is : Rows → Rows → Type 0) (f : Rows → Rows) (old new : State)
     (result : Result A E)
     → (HasCleanDisk new → OnOk result ((rows : Rows) → Settled old rows → Settled new (f rows)))
     → (HasCleanDisk new → (rows : Rows) → Settled old rows → LeavesEither new rows (f rows))
     → (HasCleanDisk new → HasCleanDisk old) → ((rows : Rows) → Is rows (f rows))
-    → ((society : List ℕ) (c : Content) (rows : Rows) → IsAside ns society c rows → IsAside ns society c (f rows))
-    → Clears ns Is old new result
-one_commit ns Is f old new result done crash clean is aside = record {
-  done = λ ok. on_ok result (λ d rows was. (f rows, d rows was, is rows, λ society c. aside society c rows)) (done ok);
-  crash = λ ok society c rows was apart.
-      either_means ns society c rows (f rows) new apart (aside society c rows apart) (crash ok rows was);
+    → ((rows : Rows) → AreAside ns rows → IsSeenAs rows (f rows)) → Clears ns Is old new result
+one_commit ns Is f old new result done crash clean is seen = record {
+  done = λ ok. on_ok result (λ d rows was. (f rows, d rows was, is rows, seen rows)) (done ok);
+  crash = λ ok rows was aside. either_seen rows (f rows) new (seen rows aside) (crash ok rows was);
   clean = clean;
 }
 
@@ -47,16 +55,23 @@ IsOnTheWay ns Is old now = Clears {A = Unit {0}} {E = Unit {0}} ns Is old now (O
 pub clears_then : {A E : Type 0} {ns : List ℕ} {P Q : Rows → Rows → Type 0} (R : Rows → Rows → Type 0)
     {old mid new : State} (result : Result A E) → IsOnTheWay ns P old mid → Clears ns Q mid new result
     → ((x y z : Rows) → P x y → Q y z → R x z) → Clears ns R old new result
-clears_then R result h k joins = record {
+clears_then {ns = ns} R {new = new} result h k joins = record {
   done = λ ok. on_ok result
       (λ d rows was.
       let one = h.done (k.clean ok) rows was in
-      let two = d one.0 one.1 in
-      (two.0, two.1, joins rows one.0 two.0 one.2 two.2, λ society c apart. two.3 society c (one.3 society c apart)))
+      let two = d one.0 one.1 in (
+        two.0,
+        two.1,
+        joins rows one.0 two.0 one.2 two.2,
+        λ aside.
+            let seen = one.3 aside in
+            seen_then rows one.0 two.0 seen (two.3 (aside_seen ns rows one.0 seen aside)),
+      ))
       (k.done ok);
-  crash = λ ok society c rows was apart.
+  crash = λ ok rows was aside.
       let one = h.done (k.clean ok) rows was in
-      k.crash ok society c one.0 one.1 (one.3 society c apart);
+      let seen = one.3 aside in
+      seen_on rows one.0 new seen (k.crash ok one.0 one.1 (aside_seen ns rows one.0 seen aside));
   clean = λ ok. h.clean (k.clean ok);
 }
 
@@ -88,17 +103,17 @@ pub begun : (ns : List ℕ) (Is : Rows → Rows → Type 0) (s : State)
     → ((rows : Rows) (t : Trees) → Settled s rows → s.may_leave t → Good rows t) → ((rows : Rows) → Is rows rows)
     → IsOnTheWay ns Is s s
 begun ns Is s leaves is = record {
-  done = λ ok rows was. (rows, was, is rows, λ society c apart. apart);
-  crash = λ ok society c rows was apart t may. (rows, leaves rows t was may, apart.means, apart.society_is);
+  done = λ ok rows was. (rows, was, is rows, λ aside. seen_same rows);
+  crash = λ ok rows was aside. leaves_seen rows s (λ t. leaves rows t was);
   clean = λ ok. ok;
 }
 
 -- a call that only reads
 pub looked : {A : Type 0} (ns : List ℕ) {P : Rows → A → Type 0} (Is : Rows → Rows → Type 0) {old new : State} (a : A)
     → Looks P old new (Ok a) → ((rows : Rows) → Is rows rows) → IsOnTheWay ns Is old new
-looked ns Is a h is = record {
-  done = λ ok rows was. (rows, h.same ok rows was, is rows, λ society c apart. apart);
-  crash = λ ok society c rows was apart t may. (rows, h.crash ok rows was t may, apart.means, apart.society_is);
+looked ns Is {new = new} a h is = record {
+  done = λ ok rows was. (rows, h.same ok rows was, is rows, λ aside. seen_same rows);
+  crash = λ ok rows was aside. leaves_seen rows new (h.crash ok rows was);
   clean = h.clean;
 }
 
@@ -106,9 +121,9 @@ pub looked_in_vain : {A B E : Type 0} (ns : List ℕ) {P : Rows → A → Type 0
     {old new : State} (kind : RefusalKind) (result : Result B E) → IsErr result → Looks P old new (Err kind)
     → Clears ns Is old new result
 looked_in_vain ns Is kind (Ok b) is h = absurd cc
-looked_in_vain ns Is kind (Err e) is h = record {
+looked_in_vain ns Is {new = new} kind (Err e) is h = record {
   done = λ ok. tt;
-  crash = λ ok society c rows was apart t may. (rows, h.crash ok rows was t may, apart.means, apart.society_is);
+  crash = λ ok rows was aside. leaves_seen rows new (h.crash ok rows was);
   clean = h.clean;
 }
 
@@ -116,34 +131,48 @@ pub nothing_done : {A E : Type 0} (P : Type 0) (result : Result A E) → IsErr r
 nothing_done P (Ok a) is = absurd cc
 nothing_done P (Err e) is = tt
 
--- ---- the batch's own row, behind all others
-module _ {A E : Type 0} (batch : ℕ) (ns : List ℕ) (old mid new : State) (result : Result A E)
-    (way : IsOnTheWay ns (λ rows after. after ≡ without_records ns rows) old mid)
+-- ---- a batch: the spans of its numbers, then their lines and rows, and its own row behind all others
+module _ {A E : Type 0} (has_spans : Bool) (ns : List ℕ) (old mid new : State) (result : Result A E)
+    (undated : HasCleanDisk mid → (rows : Rows) → Settled old rows → rows.has_spans ≡ has_spans
+    → Settled mid (without_all_spans ns rows)) where
+  -- the spans are gone, and the lines and the rows are being taken out
+  pub rows_leave : {Is : Rows → Rows → Type 0} → Clears ns Is mid new result → HasCleanDisk new → (rows : Rows)
+      → Settled old rows → rows.has_spans ≡ has_spans → AreAside ns rows → LeavesSeen new rows
+  rows_leave takes ok rows was has aside =
+      let less = without_all_spans ns rows in
+      let seen = spans_out rows ns rows aside (seen_same rows) in
+      seen_on rows less new seen
+      (takes.crash ok less (undated (takes.clean ok) rows was has) (aside_seen ns rows less seen aside))
+
+module _ {A E : Type 0} (has_spans : Bool) (batch : ℕ) (ns : List ℕ) (old one mid new : State) (result : Result A E)
+    (undated : HasCleanDisk one → (rows : Rows) → Settled old rows → rows.has_spans ≡ has_spans
+    → Settled one (without_all_spans ns rows))
+    (way : IsOnTheWay ns (λ rows after. after ≡ without_records ns rows) one mid)
     (clean : HasCleanDisk new → HasCleanDisk mid) where
   pub batch_taken : (HasCleanDisk new
       → OnOk result ((rows : Rows) → Settled mid rows → Settled new (without_batch_row batch rows)))
       → HasCleanDisk new
-      → OnOk result ((rows : Rows) → Settled old rows → Settled new (without_batch batch ns rows))
+      → OnOk result ((rows : Rows) → Settled old rows → rows.has_spans ≡ has_spans
+      → Settled new (without_batch batch ns rows))
   batch_taken done ok = on_ok result
-      (λ d rows was.
-      let one = way.done (clean ok) rows was in
-      subst (λ less. Settled new (without_batch_row batch less)) one.2 (d one.0 one.1))
+      (λ d rows was has.
+      let here = undated (way.clean (clean ok)) rows was has in
+      let came = way.done (clean ok) (without_all_spans ns rows) here in
+      subst (λ less. Settled new (without_batch_row batch less)) came.2 (d came.0 came.1))
       (done ok)
 
   pub batch_leaves : (HasCleanDisk new → (rows : Rows) → Settled mid rows
       → LeavesEither new rows (without_batch_row batch rows))
-      → HasCleanDisk new → (society : List ℕ) (c : Content) (rows : Rows) → Settled old rows
-      → is_closed batch rows.batches ≡ false → IsAside ns society c rows → LeavesMeaning new society c
-  batch_leaves crash ok society c rows was unclosed apart t may =
-      let one = way.done (clean ok) rows was in
-      let gone = subst (λ less. Means (without_batch_row batch less) c
-      × ((without_batch_row batch less).society ≡ society)) (sym one.2)
-      (taken_out batch ns society rows c apart unclosed) in
-      of_two one.0 (one.3 society c apart) gone (crash ok one.0 one.1 t may)
-    where
-      of_two : (less : Rows) → IsAside ns society c less → Means (without_batch_row batch less) c
-          × ((without_batch_row batch less).society ≡ society)
-          → Good less t ⊎ Good (without_batch_row batch less) t
-          → (found : Rows) × Good found t × Means found c × (found.society ≡ society)
-      of_two less aside gone (inl good) = (less, good, aside.means, aside.society_is)
-      of_two less aside gone (inr good) = (without_batch_row batch less, good, gone.0, gone.1)
+      → HasCleanDisk new → (rows : Rows) → Settled old rows → rows.has_spans ≡ has_spans
+      → is_closed batch rows.batches ≡ false → AreAside ns rows → LeavesSeen new rows
+  batch_leaves crash ok rows was has unclosed aside =
+      let less = without_all_spans ns rows in
+      let here = undated (way.clean (clean ok)) rows was has in
+      let one = spans_out rows ns rows aside (seen_same rows) in
+      let came = way.done (clean ok) less here in
+      let two = came.3 (aside_seen ns rows less one aside) in
+      let open_still : is_closed batch came.0.batches ≡ false = ap (λ (r : Rows). is_closed batch r.batches) came.2
+      ∙ ap (is_closed batch) (batches_stay ns rows) ∙ unclosed in
+      seen_on rows came.0 new (seen_then rows less came.0 one two)
+      (either_seen came.0 (without_batch_row batch came.0) new (batch_unseen batch came.0 open_still)
+      (crash ok came.0 came.1))

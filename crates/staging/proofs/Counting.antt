@@ -9,7 +9,11 @@ use Rattle.std.proofs.Common.{
   [],
   ◌∷◌,
   ◌++◌,
+  Option,
+  None,
+  Some,
   ap,
+  ap₂,
   add-one,
   arith,
   get_or,
@@ -27,9 +31,15 @@ use Rattle.std.proofs.lemmas.Grind.{flat_map-append}
 use Rattle.std.proofs.lemmas.List.{length-append, length-map, take_all}
 use Rattle.std.proofs.Math.Seq.{take-suc}
 use Rattle.stored_lines.specs.Line.{Label}
+use Rattle.date_spans.specs.Spans.{IsSpanOf, date_in}
+use Rattle.gedcom_date.specs.declared.value.Span.{Span}
+use Rattle.record_fields.specs.declared.date.Date.{Date}
 use Rattle.records.specs.Stored.{stored}
 use Rattle.archive_state.specs.declared.changes.Numbered.{Numbered}
-use Rattle.staged_rows.specs.Staging.{lines_from, lines_of_put, record_of, rows_of_import}
+use Rattle.store_rows.specs.Spans.{AreDrawn, Drawn}
+use Rattle.staged_rows.specs.Staging.{lines_from, lines_of_put, record_of, rows_of_import, span_row}
+use Rattle.staging.specs.Opened.{AreDated, row_of_span}
+use Rattle.staging.specs.declared.dated.Dated.{Dated}
 
 -- how many lines these records have
 abbrev pub line_count : List Numbered → ℕ
@@ -53,21 +63,52 @@ one_more ps p =
     ∙ length-append (flat_map lines_of_put ps) (flat_map lines_of_put (p ∷ []))
     ∙ ap (λ k. line_count ps + k) (lines_of_one p)
 
-pub all_rows : (batch : ℕ) (ps : List Numbered) → length (rows_of_import batch ps) ≡ length ps + line_count ps
-all_rows batch ps =
-    length-append (map (record_of batch) ps) (flat_map lines_of_put ps)
-    ∙ ap (λ k. k + line_count ps) (length-map ps (record_of batch))
+all_rows : (batch : ℕ) (ps : List Numbered) (drawn : Drawn) → length (rows_of_import batch ps drawn)
+    ≡ length ps + (line_count ps + length (flat_map span_row drawn))
+all_rows batch ps drawn =
+    length-append (map (record_of batch) ps) (flat_map lines_of_put ps ++ flat_map span_row drawn)
+    ∙ ap₂ (λ k n. k + n) (length-map ps (record_of batch))
+    (length-append (flat_map lines_of_put ps) (flat_map span_row drawn))
+
+-- a date has one span
+as_many : (date : Option Date) (n m : ℕ) (o p : Option Span) → IsSpanOf date o → IsSpanOf date p
+    → length (span_row (n, o)) ≡ length (span_row (m, p))
+as_many None n m None None a b = refl
+as_many None n m None (Some t) a b = absurd b
+as_many None n m (Some s) p a b = absurd a
+as_many (Some d) n m None p a b = absurd a
+as_many (Some d) n m (Some s) None a b = absurd b
+as_many (Some d) n m (Some s) (Some t) a b = refl
+
+as_many_spans : (ps : List Numbered) (ds es : Drawn) → AreDrawn ps ds → AreDrawn ps es
+    → length (flat_map span_row ds) ≡ length (flat_map span_row es)
+as_many_spans [] [] [] a b = refl
+as_many_spans [] [] (e ∷ es) a b = absurd b
+as_many_spans [] (d ∷ ds) es a b = absurd a
+as_many_spans (p ∷ ps) [] es a b = absurd a
+as_many_spans (p ∷ ps) (d ∷ ds) [] a b = absurd b
+as_many_spans (p ∷ ps) (d ∷ ds) (e ∷ es) a b =
+    length-append (span_row d) (flat_map span_row ds)
+    ∙ ap₂ (λ k n. k + n) (as_many (date_in p.«record») d.0 e.0 d.1 e.1 a.0.1 b.0.1) (as_many_spans ps ds es a.1 b.1)
+    ∙ sym (length-append (span_row e) (flat_map span_row es))
+
+span_count : (ps : List Numbered) (ds : List Dated) (drawn : Drawn) → AreDated ps ds → AreDrawn ps drawn
+    → length ds ≡ length (flat_map span_row drawn)
+span_count ps ds drawn are other =
+    sym (length-map ds row_of_span) ∙ ap length are.2 ∙ as_many_spans ps are.0 drawn are.1 other
 
 -- a sum that stops at its bound
 goes_on : (count all more most : ℕ) → count ≡ min all most → min (count + more) most ≡ min (all + more) most
 goes_on count all more most is = omega (arith, is)
 
+pub taken_next : {A : Type 0} (ps : List A) (i : ℕ) (p : A) → i < length ps → p ≡ get_or ps i p
+    → take (i + 1) ps ≡ take i ps ++ p ∷ []
+taken_next {A} ps i p low is =
+    ap (λ k. take k ps) (add-one i) ∙ take-suc ps i p low ∙ ap (λ (q : A). take i ps ++ q ∷ []) (sym is)
+
 one_taken : (ps : List Numbered) (i : ℕ) (p : Numbered) → i < length ps → p ≡ get_or ps i p
     → line_count (take (i + 1) ps) ≡ line_count (take i ps) + length (stored p.«record»)
-one_taken ps i p low is =
-    let next : take (i + 1) ps ≡ take i ps ++ p ∷ [] = ap (λ k. take k ps) (add-one i) ∙ take-suc ps i p low
-    ∙ ap (λ (q : Numbered). take i ps ++ q ∷ []) (sym is) in
-    ap line_count next ∙ one_more (take i ps) p
+one_taken ps i p low is = ap line_count (taken_next ps i p low is) ∙ one_more (take i ps) p
 
 -- one record more is counted
 pub next_counted : (ps : List Numbered) (i : ℕ) (p : Numbered) (count more new most : ℕ) → i < length ps
@@ -80,9 +121,16 @@ next_counted ps i p count more new most low is lines sum was =
     (arith, taken, lines) in
     sum ∙ goes_on count (length ps + line_count (take i ps)) more most was ∙ ap (λ n. min n most) all
 
--- all records are
-pub all_counted : (batch : ℕ) (ps : List Numbered) (i count most : ℕ) → length ps ≤ i
-    → count ≡ min (length ps + line_count (take i ps)) most → count ≡ min (length (rows_of_import batch ps)) most
-all_counted batch ps i count most past was =
-    was ∙ ap (λ (qs : List Numbered). min (length ps + line_count qs) most) (take_all i ps past)
-    ∙ ap (λ n. min n most) (sym (all_rows batch ps))
+-- all records are, and then the spans
+pub all_counted : (batch : ℕ) (ps : List Numbered) (ds : List Dated) (drawn : Drawn) (i count new most : ℕ)
+    → AreDated ps ds → AreDrawn ps drawn → length ps ≤ i → count ≡ min (length ps + line_count (take i ps)) most
+    → new ≡ min (count + length ds) most → new ≡ min (length (rows_of_import batch ps drawn)) most
+all_counted batch ps ds drawn i count new most are other past was sum =
+    let rows = all_rows batch ps drawn in
+    let spans = span_count ps ds drawn are other in
+    let all : (length ps + line_count ps) + length ds ≡ length (rows_of_import batch ps drawn) = omega
+    (arith, rows, spans) in
+    sum
+    ∙ goes_on count (length ps + line_count ps) (length ds) most
+    (was ∙ ap (λ (qs : List Numbered). min (length ps + line_count qs) most) (take_all i ps past))
+    ∙ ap (λ n. min n most) all

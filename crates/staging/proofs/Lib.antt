@@ -2,6 +2,9 @@ mod Cleared
 mod Commits
 mod Counting
 mod Cursors
+mod Drawing
 mod Opening
+mod Seen
+mod Spans
 mod Steps
 mod Thinned

@@ -1,6 +1,9 @@
 -- Open batches that are taken out, one after the other.
 use Rattle.std.proofs.Common.{
   ◌≡◌,
+  ◌⊎◌,
+  inl,
+  inr,
   ℕ,
   Bool,
   true,
@@ -12,8 +15,6 @@ use Rattle.std.proofs.Common.{
   ◌++◌,
   filter,
   cond,
-  Result,
-  Ok,
   refl,
   sym,
   ap,
@@ -23,22 +24,21 @@ use Rattle.std.proofs.Common.{
   append_assoc,
   arith,
 }
-use Rattle.std.specs.Prelude.{◌==◌, ◌&&◌, ◌||◌, ◌<◌, ◌⊎◌}
+use Rattle.std.specs.Prelude.{◌==◌, ◌&&◌, ◌||◌, ◌<◌}
 use Rattle.std.specs.List.{AllByRecursion, list_any}
 use Rattle.std.proofs.lemmas.Bool.Decides.{nat_tests}
 use Rattle.std.proofs.lemmas.List.{append-nil}
 use Rattle.sqlite.specs.State.{State, HasCleanDisk}
 use Rattle.sqlite.specs.Tree.{IsAscending}
-use Rattle.archive_state.specs.Content.{Content}
 use Rattle.store_tables.specs.Batches.{numbers_in}
-use Rattle.store_tables.specs.Calls.{LeavesOnly, Settled}
+use Rattle.store_tables.specs.Calls.{Settled}
 use Rattle.store_tables.specs.Rows.{Rows, BatchRow}
-use Rattle.record_shapes.specs.Lists.{EachOf}
-use Rattle.store_rows.specs.Meaning.{Means, has_record, is_closed}
-use Rattle.staged_rows.specs.Removing.{IsAside, without_batch}
+use Rattle.store_rows.specs.Meaning.{is_closed}
+use Rattle.staged_rows.specs.Removing.{AreAside, IsSeenAs, without_batch}
 use Rattle.staged_rows.specs.Staging.{AreAllClosed}
 use Rattle.staged_rows.proofs.Taken.{batches_stay, numbers_unrecorded, taken_out}
-use Rattle.staging.specs.Clearing.{IsCleared, LeavesMeaning}
+use Rattle.staging.specs.Clearing.{IsCleared}
+use Rattle.staging.proofs.Seen.{seen_same, seen_then}
 
 -- ---- batches in the order of their numbers
 abbrev pub Rises : List BatchRow → Type 0
@@ -104,19 +104,14 @@ module _ (b : BatchRow) where
       ap₂ (λ s t. (s && not x.is_open) || t) (other_no x.no b.no low) (it_is_open is before left rise.1)
 
 -- numbers of a batch that is not closed have no record
-pub numbers_aside : (s : State) (batch : ℕ) (ns society : List ℕ) (c : Content) (rows : Rows) → Settled s rows
-    → is_closed batch rows.batches ≡ false → Means rows c → rows.society ≡ society → ns ≡ numbers_in batch rows
-    → IsAside ns society c rows
-numbers_aside s batch ns society c rows settled unclosed meant is all = record {
-  means = meant;
-  society_is = is;
-  unrecorded = subst (EachOf (λ n. has_record n rows ≡ false)) (sym all)
-      (numbers_unrecorded batch rows s.now.trees settled.good unclosed);
-}
+pub numbers_aside : (s : State) (batch : ℕ) (ns : List ℕ) (rows : Rows) → Settled s rows
+    → is_closed batch rows.batches ≡ false → ns ≡ numbers_in batch rows → AreAside ns rows
+numbers_aside s batch ns rows settled unclosed all =
+    subst (λ ms. AreAside ms rows) (sym all) (numbers_unrecorded batch rows s.now.trees settled.good unclosed)
 
 -- ---- what becomes of the rows, until these batches are left
 pub record HasCleared (left : List BatchRow) (rows here : Rows) : Type 0 where
-  pub means : (c : Content) → Means rows c → Means here c × (here.society ≡ rows.society)
+  pub seen : IsSeenAs rows here
   pub before : List BatchRow
   pub closed : AllClosed before
   pub batches : here.batches ≡ before ++ left
@@ -125,7 +120,7 @@ pub record HasCleared (left : List BatchRow) (rows here : Rows) : Type 0 where
 
 none_cleared : (rows : Rows) (left : List BatchRow) → left ≡ rows.batches → HasCleared left rows rows
 none_cleared rows left all = record {
-  means = λ c was. (was, refl);
+  seen = seen_same rows;
   before = [];
   closed = tt;
   batches = sym all;
@@ -135,7 +130,7 @@ none_cleared rows left all = record {
 one_closed : (b : BatchRow) (left : List BatchRow) (rows here : Rows) → b.is_open ≡ false
     → HasCleared (b ∷ left) rows here → HasCleared left rows here
 one_closed b left rows here is was = record {
-  means = was.means;
+  seen = was.seen;
   before = was.before ++ b ∷ [];
   closed = one_behind (λ (x : BatchRow). not x.is_open ≡ true) was.before b was.closed (ap not is);
   batches = was.batches ∙ sym (append_assoc was.before (b ∷ []) left);
@@ -154,19 +149,22 @@ none_is_open b left rows here is was all =
     subst AllClosed was.batches (subst AreAllClosed (sym (was.untouched all)) all) in
     both_ways b.is_open is (at_middle (λ (x : BatchRow). not x.is_open ≡ true) was.before b left closed)
 
+-- an open batch that is next is not closed in what is here
+pub next_is_open : (s : State) (b : BatchRow) (left : List BatchRow) (rows here : Rows) → b.is_open ≡ true
+    → Settled s here → HasCleared (b ∷ left) rows here → is_closed b.no here.batches ≡ false
+next_is_open s b left rows here is settled was =
+    ap (is_closed b.no) was.batches
+    ∙ it_is_open b is was.before left (subst Rises was.batches settled.good.holds.batches.rise)
+
 one_gone : (s : State) (b : BatchRow) (left : List BatchRow) (rows here : Rows) → b.is_open ≡ true → Settled s here
     → HasCleared (b ∷ left) rows here → HasCleared left rows (without_batch b.no (numbers_in b.no here) here)
 one_gone s b left rows here is settled was =
     let ns = numbers_in b.no here in
     let rise : Rises (was.before ++ b ∷ left) = subst Rises was.batches settled.good.holds.batches.rise in
-    let unclosed : is_closed b.no here.batches ≡ false =
-    ap (is_closed b.no) was.batches ∙ it_is_open b is was.before left rise in
+    let unclosed = next_is_open s b left rows here is settled was in
     record {
-      means = λ c meant.
-          let now = was.means c meant in
-          let aside = numbers_aside s b.no ns here.society c here settled unclosed now.0 refl refl in
-          let out = taken_out b.no ns here.society here c aside unclosed in
-          (out.0, out.1 ∙ now.1);
+      seen = seen_then rows here (without_batch b.no ns here) was.seen
+          (taken_out b.no ns here (numbers_aside s b.no ns here settled unclosed refl) unclosed);
       before = was.before;
       closed = was.closed;
       batches = ap (filter (λ (x : BatchRow). not (x.no == b.no))) (batches_stay ns here ∙ was.batches)
@@ -175,71 +173,71 @@ one_gone s b left rows here is settled was =
     }
 
 -- ---- the calls
-pub record IsClearing (old now : State) (left : List BatchRow) : Type 0 where
-  pub leads : HasCleanDisk now → (rows : Rows) → Settled old rows
+-- tables with spans, or without, as they are said to be; or nothing is to be done
+abbrev pub AreFit : Bool → Rows → Type 0
+AreFit has_spans rows = (rows.has_spans ≡ has_spans) ⊎ AreAllClosed rows
+
+pub record IsClearing (has_spans : Bool) (old now : State) (left : List BatchRow) : Type 0 where
+  pub leads : HasCleanDisk now → (rows : Rows) → Settled old rows → AreFit has_spans rows
       → (here : Rows) × Settled now here × HasCleared left rows here
   pub clean : HasCleanDisk now → HasCleanDisk old
 
-pub begins : (old now : State) (left : List BatchRow)
+pub left_as : (has_spans : Bool) (old now : State) (left same : List BatchRow) → left ≡ same
+    → IsClearing has_spans old now left → IsClearing has_spans old now same
+left_as has_spans old now left same is way = subst (IsClearing has_spans old now) is way
+
+pub begins : (has_spans : Bool) (old now : State) (left : List BatchRow)
     → (HasCleanDisk now → (rows : Rows) → Settled old rows → left ≡ rows.batches)
     → (HasCleanDisk now → (rows : Rows) → Settled old rows → Settled now rows)
-    → (HasCleanDisk now → HasCleanDisk old) → IsClearing old now left
-begins old now left read same clean = record {
-  leads = λ still rows was. (rows, same still rows was, none_cleared rows left (read still rows was));
+    → (HasCleanDisk now → HasCleanDisk old) → IsClearing has_spans old now left
+begins has_spans old now left read same clean = record {
+  leads = λ still rows was fit. (rows, same still rows was, none_cleared rows left (read still rows was));
   clean = clean;
 }
 
-pub goes_past : (old now : State) (b : BatchRow) (left : List BatchRow) → b.is_open ≡ false
-    → IsClearing old now (b ∷ left) → IsClearing old now left
-goes_past old now b left is way = record {
-  leads = λ clean rows was.
-      let came = way.leads clean rows was in
+pub goes_past : (has_spans : Bool) (old now : State) (b : BatchRow) (left : List BatchRow) → b.is_open ≡ false
+    → IsClearing has_spans old now (b ∷ left) → IsClearing has_spans old now left
+goes_past has_spans old now b left is way = record {
+  leads = λ clean rows was fit.
+      let came = way.leads clean rows was fit in
       (came.0, came.1, one_closed b left rows came.0 is came.2);
   clean = way.clean;
 }
 
-pub takes_out : (old mid new : State) (b : BatchRow) (left : List BatchRow) → b.is_open ≡ true
-    → IsClearing old mid (b ∷ left)
-    → (HasCleanDisk new → (rows : Rows) → Settled mid rows
+-- a batch is to be taken out: the tables have spans or none, as they are said to
+pub has_as_said : (has_spans : Bool) (b : BatchRow) (left : List BatchRow) (rows here : Rows) → b.is_open ≡ true
+    → HasCleared (b ∷ left) rows here → AreFit has_spans rows → here.has_spans ≡ has_spans
+has_as_said has_spans b left rows here is was (inl has) = was.seen.has_spans ∙ has
+has_as_said has_spans b left rows here is was (inr closed) = absurd (none_is_open b left rows here is was closed)
+
+pub takes_out : (has_spans : Bool) (old mid new : State) (b : BatchRow) (left : List BatchRow) → b.is_open ≡ true
+    → IsClearing has_spans old mid (b ∷ left)
+    → (HasCleanDisk new → (rows : Rows) → Settled mid rows → rows.has_spans ≡ has_spans
     → Settled new (without_batch b.no (numbers_in b.no rows) rows))
-    → (HasCleanDisk new → HasCleanDisk mid) → IsClearing old new left
-takes_out old mid new b left is way gone kept = record {
-  leads = λ clean rows was.
-      let came = way.leads (kept clean) rows was in (
+    → (HasCleanDisk new → HasCleanDisk mid) → IsClearing has_spans old new left
+takes_out has_spans old mid new b left is way gone kept = record {
+  leads = λ clean rows was fit.
+      let came = way.leads (kept clean) rows was fit in (
         without_batch b.no (numbers_in b.no came.0) came.0,
-        gone clean came.0 came.1,
+        gone clean came.0 came.1 (has_as_said has_spans b left rows came.0 is came.2 fit),
         one_gone mid b left rows came.0 is came.1 came.2,
       );
   clean = λ clean. way.clean (kept clean);
 }
 
--- an open batch that is next is not closed in what is here
-pub next_is_open : (s : State) (b : BatchRow) (left : List BatchRow) (rows here : Rows) → b.is_open ≡ true
-    → Settled s here → HasCleared (b ∷ left) rows here → is_closed b.no here.batches ≡ false
-next_is_open s b left rows here is settled was =
-    ap (is_closed b.no) was.batches
-    ∙ it_is_open b is was.before left (subst Rises was.batches settled.good.holds.batches.rise)
-
 -- ---- the end
-pub clears : (old now : State) → IsClearing old now [] → HasCleanDisk now → (society : List ℕ) (c : Content)
-    (rows : Rows) → Settled old rows → Means rows c → rows.society ≡ society → IsCleared now society c
-clears old now way clean society c rows was meant is =
-    let came = way.leads clean rows was in
-    let means = came.2.means c meant in (
+pub clears : (has_spans : Bool) (old now : State) → IsClearing has_spans old now [] → HasCleanDisk now → (rows : Rows)
+    → Settled old rows → rows.has_spans ≡ has_spans → IsCleared now rows
+clears has_spans old now way clean rows was has =
+    let came = way.leads clean rows was (inl has) in (
       came.0,
       came.1,
-      means.0,
-      means.1 ∙ is,
+      came.2.seen,
       subst AllClosed (sym (came.2.batches ∙ append-nil came.2.before)) came.2.closed,
     )
 
-pub touches_nothing : (old now : State) → IsClearing old now [] → HasCleanDisk now → (rows : Rows) → Settled old rows
-    → AreAllClosed rows → Settled now rows
-touches_nothing old now way clean rows was closed =
-    let came = way.leads clean rows was in
+pub touches_nothing : (has_spans : Bool) (old now : State) → IsClearing has_spans old now [] → HasCleanDisk now
+    → (rows : Rows) → Settled old rows → AreAllClosed rows → Settled now rows
+touches_nothing has_spans old now way clean rows was closed =
+    let came = way.leads clean rows was (inr closed) in
     subst (Settled now) (came.2.untouched closed) came.1
-
--- ---- a stop
-pub leaves_meaning : (s : State) (society : List ℕ) (c : Content) (rows : Rows) → LeavesOnly s rows → Means rows c
-    → rows.society ≡ society → LeavesMeaning s society c
-leaves_meaning s society c rows only meant is t leaves = (rows, only t leaves, meant, is)

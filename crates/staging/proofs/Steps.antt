@@ -26,9 +26,11 @@ use Rattle.store_tables.specs.Calls.{Settled}
 use Rattle.store_tables.specs.Rows.{Rows, without_lines_from}
 use Rattle.store_rows.specs.Meaning.{has_record}
 use Rattle.store_rows.specs.Writing.{without_all_lines, without_record_rows}
-use Rattle.staged_rows.proofs.Taken.{aside_lines, aside_lines_from, aside_rows}
+use Rattle.staged_rows.specs.Removing.{AreAside}
+use Rattle.staged_rows.proofs.Taken.{lines_from_out, lines_out, rows_out}
 use Rattle.staging.specs.Clearing.{Clears, IsThinned, LeavesEither}
 use Rattle.staging.proofs.Cleared.{IsOnTheWay, clears_then, one_commit}
+use Rattle.staging.proofs.Seen.{seen_same}
 use Rattle.staging.proofs.Thinned.{
   each_first,
   each_second,
@@ -53,14 +55,12 @@ module _ {A E : Type 0} (ns : List ℕ) (old new : State) (result : Result A E)
   fewer_lines n at has done crash =
       one_commit ns (IsThinned n) (without_lines_from n at) old new result done crash clean
       (thinned_from n at)
-      (λ society c rows apart. aside_lines_from ns society c n at rows
-      (has_none (λ m. has_record m rows ≡ false) n ns has apart.unrecorded) apart)
+      (λ rows aside. lines_from_out n at rows (has_none (λ m. has_record m rows ≡ false) n ns has aside))
 
   -- the numbers of which lines or rows are taken out are some of them, in one piece
   module _ (front ks behind : List ℕ) (are : ns ≡ front ++ (ks ++ behind)) where
-    unrecorded : (rows : Rows) → EachOf (λ m. has_record m rows ≡ false) ns
-        → EachOf (λ m. has_record m rows ≡ false) ks
-    unrecorded rows all =
+    are_aside : (rows : Rows) → AreAside ns rows → AreAside ks rows
+    are_aside rows all =
         let none = λ (m : ℕ). has_record m rows ≡ false in
         each_first none ks behind (each_second none front (ks ++ behind) (subst (EachOf none) are all))
 
@@ -69,7 +69,7 @@ module _ {A E : Type 0} (ns : List ℕ) (old new : State) (result : Result A E)
     no_lines done crash =
         one_commit ns _ (without_all_lines ks) old new result done crash clean
         (λ rows. sym (lines_of_two ks behind rows))
-        (λ society c rows apart. aside_lines ns society c ks rows (unrecorded rows apart.unrecorded) apart)
+        (λ rows aside. lines_out rows ks rows (are_aside rows aside) (seen_same rows))
 
     pub no_rows : Makes (without_record_rows ks) → MayMake (without_record_rows ks)
         → Clears ns (λ rows here. without_record_rows behind here ≡ without_record_rows (ks ++ behind) rows) old new
@@ -77,7 +77,7 @@ module _ {A E : Type 0} (ns : List ℕ) (old new : State) (result : Result A E)
     no_rows done crash =
         one_commit ns _ (without_record_rows ks) old new result done crash clean
         (λ rows. sym (rows_of_two ks behind rows))
-        (λ society c rows apart. aside_rows ns society c ks rows (unrecorded rows apart.unrecorded) apart)
+        (λ rows aside. rows_out rows ks rows (are_aside rows aside) (seen_same rows))
 
   -- where `rest` is left so far, and its front is taken out
   module _ (start : State) (front rest ks behind : List ℕ) (are : ns ≡ front ++ rest)

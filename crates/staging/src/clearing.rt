@@ -1,16 +1,17 @@
 //! Single commits that take rows of a batch out.
 
-ghost use Rattle.std.specs.Prelude.{◌≡◌, ◌∷◌, [], false, OnOk};
+ghost use Rattle.std.specs.Prelude.{◌≡◌, ◌∷◌, [], false, true, OnOk};
 ghost use Rattle.sqlite.specs.State.{HasCleanDisk};
 ghost use Rattle.sqlite.specs.Held.{state};
 ghost use Rattle.store_tables.specs.Calls.{Settled};
 ghost use Rattle.store_tables.specs.Rows.{Rows, without_batch_row, without_lines_from};
+ghost use Rattle.store_rows.specs.Spans.{without_all_spans};
 ghost use Rattle.store_rows.specs.Writing.{without_all_lines, without_record_rows};
 ghost use Rattle.staging.specs.Clearing.{LeavesEither};
 
 use record_text::RefusalKind;
 use sqlite::{Alter, Connection, Error};
-use store_rows::{remove_lines, remove_rows};
+use store_rows::{remove_lines, remove_rows, remove_spans};
 use store_tables::batches;
 
 /// The database failed.
@@ -35,6 +36,25 @@ impl From<RefusalKind> for Failed {
     fn from(_kind: RefusalKind) -> Failed {
         Failed
     }
+}
+
+/// Takes the spans of these numbers out of tables that have spans, in one commit.
+#[tactic(auto, using(crate::proofs::Commits::settles_dated))]
+pub(crate) fn clear_spans<S: Alter>(conn: &mut Connection<S>, numbers: &[u32]) -> Result<(), Failed>
+    requires autocommit { conn.old.in_transaction ≡ false }
+    ensures done { HasCleanDisk (state S.Store conn.new) → OnOk result ((rows : Rows)
+        → Settled (state S.Store conn.old) rows → rows.has_spans ≡ true
+        → Settled (state S.Store conn.new) (without_all_spans numbers.now rows)) }
+    ensures crash { HasCleanDisk (state S.Store conn.new) → (rows : Rows) → Settled (state S.Store conn.old) rows
+        → rows.has_spans ≡ true
+        → LeavesEither (state S.Store conn.new) rows (without_all_spans numbers.now rows) }
+    ensures clean { HasCleanDisk (state S.Store conn.new) → HasCleanDisk (state S.Store conn.old) }
+    ensures ended { conn.new.in_transaction ≡ false }
+{
+    let mut tx = conn.transaction();
+    remove_spans(&mut tx, numbers)?;
+    tx.commit()?;
+    Ok(())
 }
 
 /// Takes the lines of these numbers out, in one commit.

@@ -3,6 +3,7 @@
 
 mod clearing;
 mod cursor;
+mod dated;
 mod opened;
 mod progress;
 mod removing;

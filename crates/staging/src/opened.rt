@@ -1,9 +1,11 @@
 //! An import that is open.
 
 ghost use Rattle.std.specs.Prelude.{◌≡◌, ◌↔◌, ◌∷◌, ◌++◌, [], ℕ, IfOk, OnOk, false};
+ghost use Rattle.store_rows.specs.Spans.{AreDrawn, Drawn};
 ghost use Rattle.staged_rows.specs.Staging.{numbers_of, rows_of_import};
 
 use crate::cursor::Cursor;
+use crate::dated::{Dated, spans_of_puts};
 use archive_state::{Changes, Numbered};
 use std::alloc::{AllocError, Global};
 use std::marker::Model;
@@ -17,13 +19,15 @@ pub struct OpenImport {
     pub(crate) changes: Changes,
     /// The numbers that it puts, so that taking it out again needs no memory.
     pub(crate) numbers: Vec<u32>,
+    /// The spans of the records that it puts, of those that have a date.
+    pub(crate) spans: Vec<Dated>,
     pub(crate) cursor: Cursor,
 }
 
 impl Model for OpenImport {
     ghost use Rattle.std.specs.Prelude.{◌≡◌};
     ghost use Rattle.staged_rows.specs.Staging.{numbers_of};
-    ghost use Rattle.staging.specs.Opened.{Import, IsPlaced, left_of};
+    ghost use Rattle.staging.specs.Opened.{AreDated, Import, IsPlaced, left_of};
     ghost use Rattle.std.specs.Coded.{codes};
     ghost use Rattle.stored_lines.specs.Line.{lines_code, value_code};
 
@@ -34,26 +38,26 @@ impl Model for OpenImport {
     ghost view = { λ a. record {
       batch = a.batch;
       changes = a.changes;
-      left = left_of a.batch a.changes.puts a.cursor;
+      left = left_of a.batch a.changes.puts a.spans.items a.cursor;
     } };
 
-    ghost invariant = { λ a. (a.numbers.items ≡ numbers_of a.changes.puts) × IsPlaced a.changes.puts a.cursor };
+    ghost invariant = { λ a. (a.numbers.items ≡ numbers_of a.changes.puts) × IsPlaced a.changes.puts a.cursor
+        × AreDated a.changes.puts a.spans.items };
 }
 
 impl OpenImport {
     /// An import of which no row is written yet. Its batch is to be there, and open.
     pub fn new(alloc: Global, batch: u32, changes: Changes) -> Result<OpenImport, AllocError>
-        ensures { IfOk result (λ i. i ≡ record {
-          batch = batch;
-          changes = changes;
-          left = rows_of_import batch changes.puts;
-        }) }
+        ensures { IfOk result (λ i. (drawn : Drawn) × AreDrawn changes.puts drawn
+            × (i ≡ record { batch = batch; changes = changes; left = rows_of_import batch changes.puts drawn })) }
     {
         let numbers = numbers_of(alloc, &changes.puts)?;
+        let spans = spans_of_puts(alloc, &changes.puts)?;
         Ok(OpenImport {
             batch,
             changes,
             numbers,
+            spans,
             cursor: Cursor::new(alloc),
         })
     }
@@ -83,7 +87,7 @@ impl OpenImport {
     pub fn has_more(&self) -> bool
         ensures { (result ≡ false) ↔ (self.now.left ≡ []) }
     {
-        self.cursor.has_more(&self.changes.puts)
+        self.cursor.has_more(&self.changes.puts, &self.spans)
     }
 }
 

@@ -2,8 +2,11 @@
 
 ghost use Rattle.std.specs.Prelude.{◌≡◌, ◌+◌, ◌-◌, ◌^◌, ℕ, IfOk, length, min};
 ghost use Rattle.records.specs.Stored.{stored};
+ghost use Rattle.store_rows.specs.Spans.{AreDrawn, Drawn};
 ghost use Rattle.staged_rows.specs.Staging.{rows_of_import};
+ghost use Rattle.staging.specs.Opened.{AreDated};
 
+use crate::dated::Dated;
 use crate::opened::OpenImport;
 use crate::writing::STAGE;
 use archive_state::Numbered;
@@ -39,12 +42,13 @@ pub struct RowCount {
 impl RowCount {
     /// Of an import of which no row is written. The lines of each of its records are made and given up again.
     pub fn new(alloc: Global, import: &OpenImport) -> Result<RowCount, AllocError>
-        ensures { IfOk result (λ rows. (rows.written ≡ 0)
-            × (rows.all ≡ min (length (rows_of_import import.now.batch import.now.changes.puts)) (2 ^ 64 - 1))) }
+        ensures written { IfOk result (λ rows. rows.written ≡ 0) }
+        ensures all { IfOk result (λ rows. (drawn : Drawn) → AreDrawn import.now.changes.puts drawn
+            → rows.all ≡ min (length (rows_of_import import.now.batch import.now.changes.puts drawn)) (2 ^ 64 - 1)) }
     {
         Ok(RowCount {
             written: 0,
-            all: count_rows(alloc, &import.changes.puts)?,
+            all: count_rows(alloc, &import.changes.puts, &import.spans)?,
         })
     }
 
@@ -58,15 +62,18 @@ impl RowCount {
     }
 }
 
-/// How many rows the import of these records has: one for each record, and one for each of its lines.
-fn count_rows(alloc: Global, puts: &[Numbered]) -> Result<usize, AllocError>
-    ensures { IfOk result (λ n. (batch : ℕ) → n ≡ min (length (rows_of_import batch puts.now)) (2 ^ 64 - 1)) }
+/// How many rows the import of these records has: one for each record, one for each of its lines, and one for each
+/// span.
+fn count_rows(alloc: Global, puts: &[Numbered], spans: &[Dated]) -> Result<usize, AllocError>
+    requires dated { AreDated puts.now spans.now }
+    ensures { IfOk result (λ n. (batch : ℕ) (drawn : Drawn) → AreDrawn puts.now drawn
+        → n ≡ min (length (rows_of_import batch puts.now drawn)) (2 ^ 64 - 1)) }
 {
     let mut count = puts.len();
     'puts: for put in puts {
         count = count.saturating_add(count_lines(alloc, &put.record)?);
     }
-    Ok(count)
+    Ok(count.saturating_add(spans.len()))
 }
 
 /// How many lines a record is kept as.

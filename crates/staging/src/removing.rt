@@ -5,19 +5,21 @@ ghost use Rattle.std.specs.List.{list_any};
 ghost use Rattle.sqlite.specs.State.{HasCleanDisk};
 ghost use Rattle.sqlite.specs.Held.{state};
 ghost use Rattle.record_text.specs.declared.refusal.RefusalKind.TheVariants.{OutOfMemory, Storage};
-ghost use Rattle.archive_state.specs.Content.{Content};
 ghost use Rattle.store_tables.specs.Batches as rows_of;
 ghost use Rattle.store_tables.specs.Calls.{LeavesOnly, Settled};
-ghost use Rattle.store_tables.specs.Looking.{IsFailure};
+ghost use Rattle.store_tables.specs.Looking.{IsFailure, Looks};
 ghost use Rattle.store_tables.specs.Rows.{Rows};
-ghost use Rattle.store_rows.specs.Meaning.{Means, is_closed};
+ghost use Rattle.store_rows.specs.Meaning.{is_closed};
+ghost use Rattle.store_rows.specs.Spans.{without_all_spans};
 ghost use Rattle.store_rows.specs.Writing.{without_all_lines, without_record_rows, without_records};
-ghost use Rattle.staged_rows.specs.Removing.{IsAside, without_batch};
+ghost use Rattle.staged_rows.specs.Removing.{AreAside, without_batch};
 ghost use Rattle.staged_rows.specs.Staging.{AreAllClosed};
-ghost use Rattle.staging.specs.Clearing.{Clears, IsCleared, IsThinned, LeavesMeaning};
+ghost use Rattle.staging.specs.Clearing.{Clears, IsCleared, IsThinned, LeavesSeen};
 ghost use Rattle.staging.specs.Opening.{LeavesOne};
 
-use crate::clearing::{Failed, clear_batch, clear_lines, clear_lines_from, clear_rows};
+use crate::clearing::{
+    Failed, clear_batch, clear_lines, clear_lines_from, clear_rows, clear_spans,
+};
 use record_text::RefusalKind;
 use sqlite::{Alter, Connection};
 use std::alloc::Global;
@@ -27,34 +29,38 @@ use store_tables::read_batches;
 /// How many rows a commit takes out, at most.
 const ROOM: usize = 256;
 
-/// Takes every open batch out with its rows, in commits of at most 256 rows. Where all are closed, nothing is written.
+/// Takes every open batch out with its rows, in commits of at most 256 rows, of tables that have spans or none. Where
+/// all are closed, nothing is written.
 ///
 /// 80: the database failed. 1: memory was refused. After either some rows of open batches may be left.
-pub fn remove_open<S: Alter>(alloc: Global, conn: &mut Connection<S>) -> Result<(), RefusalKind>
+pub fn remove_open<S: Alter>(
+    alloc: Global,
+    conn: &mut Connection<S>,
+    has_spans: bool,
+) -> Result<(), RefusalKind>
     requires autocommit { conn.old.in_transaction ≡ false }
     ensures cleared { HasCleanDisk (state S.Store conn.new)
-        → OnOk result ((society : List ℕ) (c : Content) (rows : Rows) → Settled (state S.Store conn.old) rows
-        → Means rows c → rows.society ≡ society → IsCleared (state S.Store conn.new) society c) }
+        → OnOk result ((rows : Rows) → Settled (state S.Store conn.old) rows → rows.has_spans ≡ has_spans
+        → IsCleared (state S.Store conn.new) rows) }
     ensures untouched { HasCleanDisk (state S.Store conn.new)
         → OnOk result ((rows : Rows) → Settled (state S.Store conn.old) rows → AreAllClosed rows
         → Settled (state S.Store conn.new) rows) }
     ensures idle { HasCleanDisk (state S.Store conn.new) → (rows : Rows) → Settled (state S.Store conn.old) rows
         → AreAllClosed rows → LeavesOnly (state S.Store conn.new) rows }
-    ensures crash { HasCleanDisk (state S.Store conn.new)
-        → (society : List ℕ) (c : Content) (rows : Rows) → Settled (state S.Store conn.old) rows → Means rows c
-        → rows.society ≡ society → LeavesMeaning (state S.Store conn.new) society c }
+    ensures crash { HasCleanDisk (state S.Store conn.new) → (rows : Rows) → Settled (state S.Store conn.old) rows
+        → rows.has_spans ≡ has_spans → LeavesSeen (state S.Store conn.new) rows }
     ensures refused { HasCleanDisk (state S.Store conn.new)
         → IfErr result (λ kind. (rows : Rows) → Settled (state S.Store conn.old) rows → IsFailure kind) }
-    ensures stays { HasCleanDisk (state S.Store conn.new) → IfErr result (λ kind. (society : List ℕ) (c : Content)
-        (rows : Rows) → Settled (state S.Store conn.old) rows → Means rows c → rows.society ≡ society
-        → (kind ≡ Storage) ⊎ LeavesOne (state S.Store conn.new) society c) }
+    ensures stays { HasCleanDisk (state S.Store conn.new) → IfErr result (λ kind. (rows : Rows)
+        → Settled (state S.Store conn.old) rows → rows.has_spans ≡ has_spans
+        → (kind ≡ Storage) ⊎ LeavesOne (state S.Store conn.new) rows) }
     ensures clean { HasCleanDisk (state S.Store conn.new) → HasCleanDisk (state S.Store conn.old) }
     ensures ended { conn.new.in_transaction ≡ false }
 {
     let batches = read_batches(alloc, conn)?;
     'batches: for batch in &batches {
         if batch.is_open {
-            remove_found(alloc, conn, batch.number)?;
+            remove_found(alloc, conn, has_spans, batch.number)?;
         }
     }
     Ok(())
@@ -66,68 +72,135 @@ pub fn remove_open<S: Alter>(alloc: Global, conn: &mut Connection<S>) -> Result<
 fn remove_found<S: Alter>(
     alloc: Global,
     conn: &mut Connection<S>,
+    has_spans: bool,
     batch: u32,
 ) -> Result<(), RefusalKind>
     requires autocommit { conn.old.in_transaction ≡ false }
     ensures gone { HasCleanDisk (state S.Store conn.new)
-        → OnOk result ((rows : Rows) → Settled (state S.Store conn.old) rows → Settled (state S.Store conn.new)
-        (without_batch batch (rows_of.numbers_in batch rows) rows)) }
-    ensures crash { HasCleanDisk (state S.Store conn.new)
-        → (society : List ℕ) (c : Content) (rows : Rows) → Settled (state S.Store conn.old) rows
-        → is_closed batch rows.batches ≡ false → Means rows c → rows.society ≡ society
-        → LeavesMeaning (state S.Store conn.new) society c }
-    ensures stays { HasCleanDisk (state S.Store conn.new) → IfErr result (λ kind. (rows : Rows)
-        → Settled (state S.Store conn.old) rows
-        → (kind ≡ Storage) ⊎ ((kind ≡ OutOfMemory) × LeavesOnly (state S.Store conn.new) rows)) }
+        → OnOk result ((rows : Rows) → Settled (state S.Store conn.old) rows → rows.has_spans ≡ has_spans
+        → Settled (state S.Store conn.new) (without_batch batch (rows_of.numbers_in batch rows) rows)) }
+    ensures crash { HasCleanDisk (state S.Store conn.new) → (rows : Rows) → Settled (state S.Store conn.old) rows
+        → rows.has_spans ≡ has_spans → is_closed batch rows.batches ≡ false
+        → LeavesSeen (state S.Store conn.new) rows }
+    ensures stays { HasCleanDisk (state S.Store conn.new) → IfErr result (λ kind. (kind ≡ Storage)
+        ⊎ ((kind ≡ OutOfMemory) × ((rows : Rows) → Settled (state S.Store conn.old) rows
+        → LeavesOnly (state S.Store conn.new) rows))) }
     ensures clean { HasCleanDisk (state S.Store conn.new) → HasCleanDisk (state S.Store conn.old) }
     ensures ended { conn.new.in_transaction ≡ false }
 {
-    let numbers = numbers_in(alloc, conn, batch)?;
-    remove_batch(conn, batch, &numbers)
+    let numbers = find_numbers(alloc, conn, batch)?;
+    remove_batch(conn, has_spans, batch, &numbers)
 }
 
-/// Takes a batch out: the lines of its numbers, then their rows in `record`, then its own row, in commits of at most
-/// 256 rows. Of a batch that is open, all that is left after a stop means what it meant.
+/// The numbers of a batch, in order. 1: memory was refused. 80: any other error.
+fn find_numbers<S: Alter>(
+    alloc: Global,
+    conn: &mut Connection<S>,
+    batch: u32,
+) -> Result<Vec<u32>, RefusalKind>
+    requires autocommit { conn.old.in_transaction ≡ false }
+    ensures looks { Looks (λ rows items. items.items ≡ rows_of.numbers_in batch rows) (state S.Store conn.old)
+        (state S.Store conn.new) result }
+    ensures failure { IfErr result IsFailure }
+    ensures ended { conn.new.in_transaction ≡ false }
+{
+    match numbers_in(alloc, conn, batch) {
+        Ok(numbers) => Ok(numbers),
+        Err(RefusalKind::OutOfMemory) => Err(RefusalKind::OutOfMemory),
+        Err(_) => Err(RefusalKind::Storage),
+    }
+}
+
+/// Takes a batch out, of tables that have spans or none: the spans of its numbers, then their lines, then their rows in
+/// `record`, then its own row, in commits of at most 256 rows. Of a batch that is open nothing is seen, whatever a stop
+/// leaves of it.
 ///
 /// 80: the database failed, and some of the rows may be left. Takes no memory outside of it.
 pub fn remove_batch<S: Alter>(
     conn: &mut Connection<S>,
+    has_spans: bool,
     batch: u32,
     numbers: &[u32],
 ) -> Result<(), RefusalKind>
     requires autocommit { conn.old.in_transaction ≡ false }
     ensures gone { HasCleanDisk (state S.Store conn.new)
-        → OnOk result ((rows : Rows) → Settled (state S.Store conn.old) rows → Settled (state S.Store conn.new)
-        (without_batch batch numbers.now rows)) }
-    ensures crash { HasCleanDisk (state S.Store conn.new)
-        → (society : List ℕ) (c : Content) (rows : Rows) → Settled (state S.Store conn.old) rows
-        → is_closed batch rows.batches ≡ false → IsAside numbers.now society c rows
-        → LeavesMeaning (state S.Store conn.new) society c }
+        → OnOk result ((rows : Rows) → Settled (state S.Store conn.old) rows → rows.has_spans ≡ has_spans
+        → Settled (state S.Store conn.new) (without_batch batch numbers.now rows)) }
+    ensures crash { HasCleanDisk (state S.Store conn.new) → (rows : Rows) → Settled (state S.Store conn.old) rows
+        → rows.has_spans ≡ has_spans → is_closed batch rows.batches ≡ false → AreAside numbers.now rows
+        → LeavesSeen (state S.Store conn.new) rows }
     ensures refused { IfErr result (λ kind. kind ≡ Storage) }
     ensures clean { HasCleanDisk (state S.Store conn.new) → HasCleanDisk (state S.Store conn.old) }
     ensures ended { conn.new.in_transaction ≡ false }
 {
-    match take_out(conn, batch, numbers) {
+    match take_out(conn, has_spans, batch, numbers) {
         Ok(()) => Ok(()),
         Err(_) => Err(RefusalKind::Storage),
     }
 }
 
 /// The same, but for the refusal.
-fn take_out<S: Alter>(conn: &mut Connection<S>, batch: u32, numbers: &[u32]) -> Result<(), Failed>
+fn take_out<S: Alter>(
+    conn: &mut Connection<S>,
+    has_spans: bool,
+    batch: u32,
+    numbers: &[u32],
+) -> Result<(), Failed>
     requires autocommit { conn.old.in_transaction ≡ false }
     ensures gone { HasCleanDisk (state S.Store conn.new)
-        → OnOk result ((rows : Rows) → Settled (state S.Store conn.old) rows → Settled (state S.Store conn.new)
-        (without_batch batch numbers.now rows)) }
-    ensures crash { HasCleanDisk (state S.Store conn.new)
-        → (society : List ℕ) (c : Content) (rows : Rows) → Settled (state S.Store conn.old) rows
-        → is_closed batch rows.batches ≡ false → IsAside numbers.now society c rows
-        → LeavesMeaning (state S.Store conn.new) society c }
+        → OnOk result ((rows : Rows) → Settled (state S.Store conn.old) rows → rows.has_spans ≡ has_spans
+        → Settled (state S.Store conn.new) (without_batch batch numbers.now rows)) }
+    ensures crash { HasCleanDisk (state S.Store conn.new) → (rows : Rows) → Settled (state S.Store conn.old) rows
+        → rows.has_spans ≡ has_spans → is_closed batch rows.batches ≡ false → AreAside numbers.now rows
+        → LeavesSeen (state S.Store conn.new) rows }
     ensures clean { HasCleanDisk (state S.Store conn.new) → HasCleanDisk (state S.Store conn.old) }
     ensures ended { conn.new.in_transaction ≡ false }
 {
+    take_spans_if(conn, has_spans, numbers)?;
     take_rows_out(conn, numbers)?;
     clear_batch(conn, batch)
+}
+
+/// Takes the spans of these numbers out, where the tables have spans.
+fn take_spans_if<S: Alter>(
+    conn: &mut Connection<S>,
+    has_spans: bool,
+    numbers: &[u32],
+) -> Result<(), Failed>
+    requires autocommit { conn.old.in_transaction ≡ false }
+    ensures done { HasCleanDisk (state S.Store conn.new)
+        → OnOk result ((rows : Rows) → Settled (state S.Store conn.old) rows → rows.has_spans ≡ has_spans
+        → Settled (state S.Store conn.new) (without_all_spans numbers.now rows)) }
+    ensures crash { HasCleanDisk (state S.Store conn.new) → (rows : Rows) → Settled (state S.Store conn.old) rows
+        → rows.has_spans ≡ has_spans → AreAside numbers.now rows → LeavesSeen (state S.Store conn.new) rows }
+    ensures clean { HasCleanDisk (state S.Store conn.new) → HasCleanDisk (state S.Store conn.old) }
+    ensures ended { conn.new.in_transaction ≡ false }
+{
+    if has_spans {
+        take_spans(conn, numbers)
+    } else {
+        Ok(())
+    }
+}
+
+/// Takes the spans of these numbers out of tables that have spans.
+fn take_spans<S: Alter>(conn: &mut Connection<S>, numbers: &[u32]) -> Result<(), Failed>
+    requires autocommit { conn.old.in_transaction ≡ false }
+    ensures done { HasCleanDisk (state S.Store conn.new)
+        → OnOk result ((rows : Rows) → Settled (state S.Store conn.old) rows → rows.has_spans ≡ true
+        → Settled (state S.Store conn.new) (without_all_spans numbers.now rows)) }
+    ensures crash { HasCleanDisk (state S.Store conn.new) → (rows : Rows) → Settled (state S.Store conn.old) rows
+        → rows.has_spans ≡ true → AreAside numbers.now rows → LeavesSeen (state S.Store conn.new) rows }
+    ensures clean { HasCleanDisk (state S.Store conn.new) → HasCleanDisk (state S.Store conn.old) }
+    ensures ended { conn.new.in_transaction ≡ false }
+{
+    let mut rest = numbers;
+    'spans: while !rest.is_empty() {
+        let (part, more) = rest.split_at(rest.len().min(ROOM));
+        clear_spans(conn, part)?;
+        rest = more;
+    }
+    Ok(())
 }
 
 /// Takes the lines of these numbers out, and then their rows in `record`.

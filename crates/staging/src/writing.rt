@@ -1,20 +1,21 @@
 //! The rows of an import, written inside a transaction.
 
-ghost use Rattle.std.specs.Prelude.{◌≡◌, ◌⊎◌, ◌<◌, [], length, take, drop, OnOk, IfErr};
+ghost use Rattle.std.specs.Prelude.{◌≡◌, ◌⊎◌, ◌<◌, [], length, map, take, drop, OnOk, IfErr};
 ghost use Rattle.sqlite.specs.State.{HasCleanDisk, Survives};
 ghost use Rattle.sqlite.specs.Held.{state};
 ghost use Rattle.record_text.specs.declared.refusal.RefusalKind.TheVariants.{OutOfMemory, Storage};
 ghost use Rattle.record_shapes.specs.Lists.{EachOf};
 ghost use Rattle.records.specs.Shallow.{IsShallow};
 ghost use Rattle.records.specs.Stored.{stored};
-ghost use Rattle.store_tables.specs.Calls.{Follows};
+ghost use Rattle.store_tables.specs.Calls.{Follows, FollowsDated};
 ghost use Rattle.store_tables.specs.Rows.{with_closed, with_next};
 ghost use Rattle.store_rows.specs.Shallow.{IsShallowPut};
 ghost use Rattle.store_rows.specs.Writing.{with_kept_written};
 ghost use Rattle.staged_rows.specs.Staging.{lines_from, with_published, with_staged};
-ghost use Rattle.staging.specs.Opened.{AreKnownOf, IsPlaced, left_of};
+ghost use Rattle.staging.specs.Opened.{AreKnownOf, IsPlaced, left_of, row_of_span};
 
 use crate::cursor::Cursor;
+use crate::dated::Dated;
 use crate::opened::OpenImport;
 use archive_state::{Kept, Numbered};
 use record_text::RefusalKind;
@@ -22,13 +23,13 @@ use records::{Record, lines_of};
 use sqlite::{Alter, Error, Transaction};
 use std::alloc::{AllocError, Global};
 use store_rows::{kind_word, write_kept};
-use store_tables::{batches, rows};
+use store_tables::{batches, rows, spans};
 use stored_lines::StoredLine;
 
 /// How many rows a stage writes.
 pub(crate) const STAGE: u32 = 256;
 
-/// Writes the next 256 rows of an import, or all that are left.
+/// Writes the next 256 rows of an import, or all that are left, into tables that have spans.
 ///
 /// 80: the database answered an error. 1: memory for the lines of a record was refused. After either the transaction is
 /// to be given up; the import is as it was.
@@ -39,7 +40,7 @@ pub fn stage_rows<S: Alter>(
 ) -> Result<(), RefusalKind>
     ensures same_reference { tx.new.conn.ghost_name ≡ tx.old.conn.ghost_name }
     ensures ok { HasCleanDisk (state S.Store tx.new.conn.now)
-        → OnOk result (Follows (state S.Store tx.old.conn.now) (state S.Store tx.new.conn.now)
+        → OnOk result (FollowsDated (state S.Store tx.old.conn.now) (state S.Store tx.new.conn.now)
         (with_staged (take 256 import.old.left))) }
     ensures left { OnOk result (import.new ≡ record import.old { left = drop 256 import.old.left }) }
     ensures kept { IfErr result (λ _. import.new ≡ import.old) }
@@ -47,11 +48,13 @@ pub fn stage_rows<S: Alter>(
     ensures refused { IfErr result (λ kind. (kind ≡ OutOfMemory) ⊎ (kind ≡ Storage)) }
 {
     let (rows, done, place) = (import.cursor.rows, import.cursor.done, import.cursor.place);
+    let spans = import.cursor.spans;
     let written = write_rows(
         alloc,
         tx,
         import.batch,
         &import.changes.puts,
+        &import.spans,
         &mut import.cursor,
     );
     match written {
@@ -62,6 +65,7 @@ pub fn stage_rows<S: Alter>(
                 done,
                 place,
                 lines: Vec::new(alloc),
+                spans,
             };
             Err(kind_of(why))
         }
@@ -146,19 +150,21 @@ fn write_rows<S: Alter>(
     tx: &mut Transaction<'_, S>,
     batch: u32,
     puts: &[Numbered],
+    spans: &[Dated],
     cursor: &mut Cursor,
 ) -> Result<(), Unwritten>
     requires placed { IsPlaced puts.now cursor.old }
     ensures same_reference { tx.new.conn.ghost_name ≡ tx.old.conn.ghost_name }
     ensures ok { HasCleanDisk (state S.Store tx.new.conn.now)
-        → OnOk result (Follows (state S.Store tx.old.conn.now) (state S.Store tx.new.conn.now)
-        (with_staged (take 256 (left_of batch puts.now cursor.old)))) }
-    ensures left { OnOk result (left_of batch puts.now cursor.new ≡ drop 256 (left_of batch puts.now cursor.old)) }
+        → OnOk result (FollowsDated (state S.Store tx.old.conn.now) (state S.Store tx.new.conn.now)
+        (with_staged (take 256 (left_of batch puts.now spans.now cursor.old)))) }
+    ensures left { OnOk result (left_of batch puts.now spans.now cursor.new
+        ≡ drop 256 (left_of batch puts.now spans.now cursor.old)) }
     ensures placed { OnOk result (IsPlaced puts.now cursor.new) }
     ensures survives { Survives (state S.Store tx.old.conn.now) (state S.Store tx.new.conn.now) (λ _. ⊥) }
 {
     'rows: for row in 0..STAGE {
-        write_next(alloc, tx, batch, puts, cursor)?;
+        write_next(alloc, tx, batch, puts, spans, cursor)?;
     }
     Ok(())
 }
@@ -169,14 +175,16 @@ fn write_next<S: Alter>(
     tx: &mut Transaction<'_, S>,
     batch: u32,
     puts: &[Numbered],
+    spans: &[Dated],
     cursor: &mut Cursor,
 ) -> Result<(), Unwritten>
     requires placed { IsPlaced puts.now cursor.old }
     ensures same_reference { tx.new.conn.ghost_name ≡ tx.old.conn.ghost_name }
     ensures ok { HasCleanDisk (state S.Store tx.new.conn.now)
-        → OnOk result (Follows (state S.Store tx.old.conn.now) (state S.Store tx.new.conn.now)
-        (with_staged (take 1 (left_of batch puts.now cursor.old)))) }
-    ensures left { OnOk result (left_of batch puts.now cursor.new ≡ drop 1 (left_of batch puts.now cursor.old)) }
+        → OnOk result (FollowsDated (state S.Store tx.old.conn.now) (state S.Store tx.new.conn.now)
+        (with_staged (take 1 (left_of batch puts.now spans.now cursor.old)))) }
+    ensures left { OnOk result (left_of batch puts.now spans.now cursor.new
+        ≡ drop 1 (left_of batch puts.now spans.now cursor.old)) }
     ensures placed { OnOk result (IsPlaced puts.now cursor.new) }
     ensures survives { Survives (state S.Store tx.old.conn.now) (state S.Store tx.new.conn.now) (λ _. ⊥) }
 {
@@ -186,10 +194,34 @@ fn write_next<S: Alter>(
         return Ok(());
     }
     let Some(put) = puts.get(cursor.done) else {
+        write_span(tx, spans, cursor)?;
         return Ok(());
     };
     write_line(alloc, tx, put, cursor.place, &mut cursor.lines)?;
     cursor.go_on()?;
+    Ok(())
+}
+
+/// Writes the next span, where one is left.
+fn write_span<S: Alter>(
+    tx: &mut Transaction<'_, S>,
+    spans: &[Dated],
+    cursor: &mut Cursor,
+) -> Result<(), Error>
+    ensures same_reference { tx.new.conn.ghost_name ≡ tx.old.conn.ghost_name }
+    ensures ok { HasCleanDisk (state S.Store tx.new.conn.now)
+        → OnOk result (FollowsDated (state S.Store tx.old.conn.now) (state S.Store tx.new.conn.now)
+        (with_staged (take 1 (map row_of_span (drop cursor.old.spans spans.now))))) }
+    ensures left { OnOk result (map row_of_span (drop cursor.new.spans spans.now)
+        ≡ drop 1 (map row_of_span (drop cursor.old.spans spans.now))) }
+    ensures others { OnOk result (cursor.new ≡ record cursor.old { spans = cursor.new.spans }) }
+    ensures survives { Survives (state S.Store tx.old.conn.now) (state S.Store tx.new.conn.now) (λ _. ⊥) }
+{
+    let Some(dated) = spans.get(cursor.spans) else {
+        return Ok(());
+    };
+    spans::insert_span(tx, dated.number, dated.span.lo, dated.span.hi)?;
+    cursor.spans += 1;
     Ok(())
 }
 

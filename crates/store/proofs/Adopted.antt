@@ -1,9 +1,12 @@
--- An archive that is taken up, from what the calls say that look at it and take imports out of it.
+-- An archive that is taken up, from what the calls say that look at it, take imports out of it and make it anew.
 use Rattle.std.proofs.Common.{
   ◌≡◌,
   ◌∙◌,
   ap,
   ap₂,
+  arith,
+  inl,
+  inr,
   ℕ,
   suc,
   pos,
@@ -22,7 +25,7 @@ use Rattle.std.proofs.Common.{
   subst,
   true≢false,
 }
-use Rattle.std.specs.Prelude.{◌||◌, ◌&&◌, ⊤, IfErr, IsTrue, OnOk, Result}
+use Rattle.std.specs.Prelude.{◌||◌, ◌&&◌, ◌⊎◌, ◌≢◌, IfErr, IsTrue, OnOk, Result}
 use Rattle.std.specs.List.{AllByRecursion, list_any}
 use Rattle.sqlite.specs.Effect.{Database}
 use Rattle.sqlite.specs.Order.{Row}
@@ -30,17 +33,60 @@ use Rattle.sqlite.specs.State.{HasCleanDisk, IsLive, State}
 use Rattle.sqlite.specs.Tree.{Trees}
 use Rattle.sqlite.specs.declared.types.Value.TheVariants.{Int}
 use Rattle.archive_state.specs.Content.{Content}
+use Rattle.archive_state.specs.Sound.{IsSound}
 use Rattle.record_text.specs.declared.refusal.RefusalKind.{RefusalKind}
+use Rattle.record_text.specs.declared.refusal.RefusalKind.TheVariants.{Storage}
+use Rattle.records_anew.specs.Anew.{IsAnew, IsSoundOld, OldContent}
 use Rattle.store_rows.specs.Meaning.{Means, is_closed}
+use Rattle.store_rows.specs.Spans.{IsDated, KeepsSpans}
 use Rattle.store_tables.specs.Calls.{Good, LeavesOnly, Settled}
 use Rattle.store_tables.specs.Looking.{IsFailure, Looks}
 use Rattle.store_tables.specs.Rows.{BatchRow, Rows, batch_values}
 use Rattle.store_tables.proofs.Reopening.{sound_once}
-use Rattle.staging.specs.Clearing.{IsCleared, LeavesMeaning}
-use Rattle.store.specs.Adopting.{HasNoImport, KeepsArchive, TakesUp, has_import}
-use Rattle.store.specs.Archives.{HasArchive, Keeps, LeavesArchive}
-use Rattle.store.specs.Calls.{Reads, Stays}
+use Rattle.staged_rows.specs.Removing.{IsSeenAs}
+use Rattle.staged_rows.specs.Staging.{AreAllClosed}
+use Rattle.staging.specs.Clearing.{IsCleared, LeavesSeen}
+use Rattle.staging.specs.Opening.{LeavesOne}
+use Rattle.old_rows.specs.Meaning.{AreSeenAlike, MeansAnew, MeansOld}
+use Rattle.old_rows.specs.Renewing.{IsRenewed, LeavesRenewed}
+use Rattle.store.specs.Adopting.{
+  ClearsImports,
+  HasNoImport,
+  IsToClear,
+  RenewsRows,
+  ShowsSeen,
+  TakesUp,
+  TakesUpAnew,
+  has_import,
+}
+use Rattle.store.specs.Archives.{HasArchive, Keeps}
+use Rattle.store.specs.Calls.{Stays}
+use Rattle.store.specs.Earlier.{HadArchive, KeepsOld}
 use Rattle.store.specs.Histories.{has_broken, is_storage}
+
+-- ---- results
+pub ok_then : {A E P Q : Type 0} (r : Result A E) → (P → Q) → OnOk r P → OnOk r Q
+ok_then (Ok a) f p = f p
+ok_then (Err e) f p = tt
+
+pub err_then : {A E : Type 0} {P Q : E → Type 0} (r : Result A E) → ((e : E) → P e → Q e) → IfErr r P → IfErr r Q
+err_then (Ok a) f p = tt
+err_then (Err e) f p = f e p
+
+either_way : {A E P Q R : Type 0} (r : Result A E) → OnOk r P → IfErr r (λ _. Q) → (P → R) → (Q → R) → R
+either_way (Ok a) p q f g = f p
+either_way (Err e) p q f g = g q
+
+pub any_ok : {A E P : Type 0} (r : Result A E) → P → OnOk r P
+any_ok (Ok a) p = p
+any_ok (Err e) p = tt
+
+any_err : {A E : Type 0} {P : E → Type 0} (r : Result A E) → ((e : E) → P e) → IfErr r P
+any_err (Ok a) f = tt
+any_err (Err e) f = f e
+
+no_storage : (kind : RefusalKind) → is_storage kind ≡ false → kind ≡ Storage → ⊥
+no_storage kind sure e = true≢false (sym (ap is_storage e) ∙ sure)
 
 -- ---- whether a batch is open
 abbrev pub is_open : BatchRow → Bool
@@ -101,162 +147,336 @@ not_both : (a b : Bool) → true ≡ (a && b) → b ≡ false → true ≡ false
 not_both true b both none = both ∙ none
 not_both false b both none = both
 
-pub none_found : (old new : State) → HasCleanDisk new → Looks Finds old new (Ok false) → TakesUp old (Ok tt) new
-none_found old new clean looks = record {
-  keeps = record {
-    same = λ sure society c has. (has.0, looks.same clean has.0 has.1, has.2);
-    crash = λ society c has t l. (c, refl, (has.0, looks.crash clean has.0 has.1 t l, has.2));
-    clean = looks.clean clean;
-  };
-  finished = λ society c has.
-      no_import new has.0 (looks.same clean has.0 has.1)
-      (none_of_two (is_closed 0 has.0.batches) (list_any is_open has.0.batches) has.2.means.batch
-      (looks.read clean has.0 has.1));
-  refused = tt;
+-- ---- imports are taken out
+seen_itself : (rows : Rows) → IsSeenAs rows rows
+seen_itself rows = record {
+  version = refl;
+  has_spans = refl;
+  next = refl;
+  society = refl;
+  receipts = refl;
+  slips = refl;
+  slip_lines = refl;
+  batch = refl;
+  recorded = λ n. refl;
+  lines = λ n h. refl;
+  spans = λ n h. refl;
+}
+
+pub none_found : (has_spans : Bool) (old new : State) → HasCleanDisk new → Looks Finds old new (Ok false)
+    → ClearsImports has_spans old (Ok tt) new
+none_found has_spans old new clean looks = record {
+  cleared = λ rows it. (
+    rows,
+    looks.same clean rows it.settled,
+    seen_itself rows,
+    all_closed rows.batches
+        (none_of_two (is_closed 0 rows.batches) (list_any is_open rows.batches) it.batch
+        (looks.read clean rows it.settled)),
+  );
+  stays = λ sure rows it. (rows, looks.same clean rows it.settled, seen_itself rows);
+  crash = λ rows it t l. (rows, looks.crash clean rows it.settled t l, seen_itself rows);
+  failure = tt;
   untouched = λ rows was all. ((λ sure. looks.same clean rows was), looks.crash clean rows was);
+  clean = looks.clean clean;
 }
 
 -- it was refused, and the connection was asked whether it answers still
-pub unknown : (old mid new : State) (kind result : RefusalKind) → HasCleanDisk mid → Looks Finds old mid (Err kind)
-    → (is_storage result ≡ false → (rows : Rows) → LeavesOnly mid rows → Settled new rows)
-    → ((t : Trees) → new.may_leave t → mid.may_leave t) → IsFailure result → TakesUp old (Err result) new
-unknown old mid new kind result before looks settled left failure = record {
-  keeps = record {
-    same = λ sure society c has. (has.0, settled sure has.0 (looks.crash before has.0 has.1), has.2);
-    crash = λ society c has t l. (c, refl, (has.0, looks.crash before has.0 has.1 t (left t l), has.2));
-    clean = looks.clean before;
-  };
-  finished = tt;
-  refused = λ society c has. failure;
+pub unknown : (has_spans : Bool) (old mid new : State) (kind result : RefusalKind) → HasCleanDisk mid
+    → Looks Finds old mid (Err kind) → (is_storage result ≡ false → (rows : Rows) → LeavesOnly mid rows
+    → Settled new rows) → ((t : Trees) → new.may_leave t → mid.may_leave t) → IsFailure result
+    → ClearsImports has_spans old (Err result) new
+unknown has_spans old mid new kind result before looks settled left failure = record {
+  cleared = tt;
+  stays = λ sure rows it. (rows, settled sure rows (looks.crash before rows it.settled), seen_itself rows);
+  crash = λ rows it t l. (rows, looks.crash before rows it.settled t (left t l), seen_itself rows);
+  failure = failure;
   untouched = λ rows was all. (
     (λ sure. settled sure rows (looks.crash before rows was)),
     (λ t l. looks.crash before rows was t (left t l)),
   );
+  clean = looks.clean before;
 }
 
 -- one was found, and what is open is taken out
-module _ (old mid new : State) (r : Result (Unit {0}) RefusalKind) where
-  finished_on : ((society : List ℕ) (c : Content) → HasArchive society c old → HasArchive society c mid)
-      → OnOk r ((society : List ℕ) (c : Content) → HasArchive society c mid → HasNoImport new)
-      → OnOk r ((society : List ℕ) (c : Content) → HasArchive society c old → HasNoImport new)
-  finished_on has done = elim r as (λ x. OnOk x ((society : List ℕ) (c : Content) → HasArchive society c mid
-      → HasNoImport new) → OnOk x ((society : List ℕ) (c : Content) → HasArchive society c old → HasNoImport new)) [
-        | Ok a ↦ λ d society c was. d society c (has society c was)
-        | Err kind ↦ λ d. tt
-      ] done
-
-  keeps_on : ((society : List ℕ) (c : Content) → HasArchive society c old → HasArchive society c mid)
-      → HasCleanDisk old → KeepsArchive mid (has_broken r) new → KeepsArchive old (has_broken r) new
-  keeps_on has clean keeps = record {
-    same = λ sure society c was. keeps.same sure society c (has society c was);
-    crash = λ society c was. keeps.crash society c (has society c was);
-    clean = clean;
-  }
-
-  refused_on : IfErr r IsFailure → IfErr r (λ kind. (society : List ℕ) (c : Content) → HasArchive society c old
-      → IsFailure kind)
-  refused_on failure = elim r as (λ x. IfErr x IsFailure → IfErr x (λ kind. (society : List ℕ) (c : Content)
-      → HasArchive society c old → IsFailure kind)) [
-        | Ok a ↦ λ f. tt
-        | Err kind ↦ λ f society c was. f
-      ] failure
-
-  pub some_found : HasCleanDisk mid → Looks Finds old mid (Ok true) → KeepsArchive mid (has_broken r) new
-      → OnOk r ((society : List ℕ) (c : Content) → HasArchive society c mid → HasNoImport new) → IfErr r IsFailure
-      → TakesUp old r new
-  some_found before looks keeps done failure =
-      let has : (society : List ℕ) (c : Content) → HasArchive society c old → HasArchive society c mid =
-      λ society c was. (was.0, looks.same before was.0 was.1, was.2) in
-      record {
-        keeps = keeps_on has (looks.clean before) keeps;
-        finished = finished_on has done;
-        refused = refused_on failure;
-        untouched = λ rows was all.
-            absurd (true≢false
-            (not_both (is_closed 0 rows.batches) (list_any is_open rows.batches) (looks.read before rows was)
-            (none_open rows.batches all)));
-      }
-
-  -- the store was recognised first
-  pub after_recognised : Stays old false mid → TakesUp mid r new → TakesUp old r new
-  after_recognised stays takes =
-      let has : (society : List ℕ) (c : Content) → HasArchive society c old → HasArchive society c mid =
-      λ society c was. (was.0, stays.same refl was.0 was.1, was.2) in
-      record {
-        keeps = keeps_on has stays.clean takes.keeps;
-        finished = finished_on has takes.finished;
-        refused = elim r as (λ x. IfErr x (λ kind. (society : List ℕ) (c : Content) → HasArchive society c mid
-            → IsFailure kind) → IfErr x (λ kind. (society : List ℕ) (c : Content) → HasArchive society c old
-            → IsFailure kind)) [
-              | Ok a ↦ λ f. tt
-              | Err kind ↦ λ f society c was. f society c (has society c was)
-            ] takes.refused;
-        untouched = λ rows was all. takes.untouched rows (stays.same refl rows was) all;
-      }
-
--- it was not recognised
-pub not_recognised : (old new : State) (kind : RefusalKind)
-    → Reads {A = Unit {0}} (λ _ _ _. ⊤) old (Err kind) new → TakesUp old (Err kind) new
-not_recognised old new kind reads = record {
-  keeps = record {
-    same = λ sure society c has. (has.0, reads.stays.same sure has.0 has.1, has.2);
-    crash = λ society c has t l. (c, refl, (has.0, reads.stays.crash has.0 has.1 t l, has.2));
-    clean = reads.stays.clean;
-  };
-  finished = tt;
-  refused = reads.refused;
-  untouched = λ rows was all. ((λ sure. reads.stays.same sure rows was), reads.stays.crash rows was);
+pub some_found : (has_spans : Bool) (old mid new : State) (r : Result (Unit {0}) RefusalKind) → HasCleanDisk mid
+    → Looks Finds old mid (Ok true)
+    → OnOk r ((rows : Rows) → IsToClear has_spans mid rows → IsCleared new rows)
+    → (has_broken r ≡ false → (rows : Rows) → IsToClear has_spans mid rows → ShowsSeen new rows)
+    → ((rows : Rows) → IsToClear has_spans mid rows → LeavesSeen new rows) → IfErr r IsFailure
+    → ClearsImports has_spans old r new
+some_found has_spans old mid new r before looks cleared stays crash failure = record {
+  cleared = ok_then r (λ done rows it. done rows (there rows it)) cleared;
+  stays = λ sure rows it. stays sure rows (there rows it);
+  crash = λ rows it. crash rows (there rows it);
+  failure = failure;
+  untouched = λ rows was all.
+      absurd (true≢false
+      (not_both (is_closed 0 rows.batches) (list_any is_open rows.batches) (looks.read before rows was)
+      (none_open rows.batches all)));
+  clean = looks.clean before;
 }
-
--- ---- imports that are taken out
-same_archive : (society : List ℕ) (c : Content) (before after : Rows) → Keeps society c before → Means after c
-    → after.society ≡ society → Keeps society c after
-same_archive society c before after was means named = record {
-  means = means;
-  shallow = was.shallow;
-  sound = was.sound;
-  society_is = named;
-}
-
-module _ (old mid : State)
-    (leaves : (society : List ℕ) (c : Content) (rows : Rows) → Settled old rows → Means rows c
-    → rows.society ≡ society → LeavesMeaning mid society c) where
-  pub leaves_archive : (society : List ℕ) (c : Content) → HasArchive society c old
-      → LeavesArchive mid society (λ found. found ≡ c)
-  leaves_archive society c has t l =
-      let left = leaves society c has.0 has.1 has.2.means has.2.society_is t l in
-      (c, refl, (left.0, left.1, same_archive society c has.0 left.0 has.2 left.2 left.3))
-
-  module _ (cleared : (society : List ℕ) (c : Content) (rows : Rows) → Settled old rows → Means rows c
-      → rows.society ≡ society → IsCleared mid society c) where
-    pub cleared_keeps : HasCleanDisk old → KeepsArchive old false mid
-    cleared_keeps clean = record {
-      same = λ sure society c has.
-          let out = cleared society c has.0 has.1 has.2.means has.2.society_is in
-          (out.0, out.1, same_archive society c has.0 out.0 has.2 out.2 out.3);
-      crash = leaves_archive;
-      clean = clean;
+  where
+    there : (rows : Rows) → IsToClear has_spans old rows → IsToClear has_spans mid rows
+    there rows it = record {
+      settled = looks.same before rows it.settled;
+      schema = it.schema;
+      batch = it.batch;
     }
 
-    pub cleared_all : (society : List ℕ) (c : Content) → HasArchive society c old → HasNoImport mid
-    cleared_all society c has =
-        let out = cleared society c has.0 has.1 has.2.means has.2.society_is in
-        no_import mid out.0 out.1 (none_open out.0.batches out.4)
+-- the removal was refused, and the connection was asked whether it answers still
+pub shows_one : (mid new : State) (kind result : RefusalKind) (rows : Rows) → is_storage result ≡ false
+    → (is_storage result ≡ false → result ≡ kind)
+    → (is_storage result ≡ false → (other : Rows) → LeavesOnly mid other → Settled new other)
+    → (kind ≡ Storage) ⊎ LeavesOne mid rows → ShowsSeen new rows
+shows_one mid new kind result rows sure same settled (inl e) = absurd (no_storage result sure (same sure ∙ e))
+shows_one mid new kind result rows sure same settled (inr one) = (one.0, settled sure one.0 one.1, one.2)
 
-  pub failed_keeps : (new : State) (result : RefusalKind) → HasCleanDisk old
-      → ((t : Trees) → new.may_leave t → mid.may_leave t)
-      → (is_storage result ≡ false → (society : List ℕ) (c : Content)
-      → LeavesArchive mid society (λ found. found ≡ c) → HasArchive society c new)
-      → KeepsArchive old (is_storage result) new
-  failed_keeps new result clean left again = record {
-    same = λ sure society c has. again sure society c (leaves_archive society c has);
-    crash = λ society c has t l. leaves_archive society c has t (left t l);
-    clean = clean;
+-- ---- an archive of the second version is taken up
+not_both_versions : (n : ℕ) → n ≡ 1 → n ≡ 2 → ⊥
+not_both_versions n one two = omega (arith, one, two)
+
+module _ (means : (rows other : Rows) (c : Content) → IsSeenAs rows other → Means rows c → Means other c)
+    (spans : (rows other : Rows) (c : Content) → IsSeenAs rows other → Means rows c → KeepsSpans rows c
+    → KeepsSpans other c) where
+  seen_keeps : (society : List ℕ) (c : Content) (rows other : Rows) → IsSeenAs rows other → Keeps society c rows
+      → Keeps society c other
+  seen_keeps society c rows other seen keeps = record {
+    means = means rows other c seen keeps.means;
+    shallow = keeps.shallow;
+    sound = keeps.sound;
+    society_is = seen.society ∙ keeps.society_is;
+    dated = record {
+      version = seen.version ∙ keeps.dated.version;
+      has_spans = seen.has_spans ∙ keeps.dated.has_spans;
+    };
+    spans = spans rows other c seen keeps.means keeps.spans;
   }
 
--- ---- a connection that shows the version still
-module _ (old new : State) (is_open : IsTrue new.is_open) (ended : new.in_transaction ≡ false)
-    (settled : new.now ≡ new.committed) (live : IsLive new) (leaves : old.may_leave new.committed.trees) where
+  module _ (old mid new : State) (r : Result (Unit {0}) RefusalKind) (still : Stays old false mid)
+      (clears : ClearsImports true mid r new) where
+    to_clear : (society : List ℕ) (c : Content) → (has : HasArchive society c old) → IsToClear true mid has.0
+    to_clear society c has = record {
+      settled = still.same refl has.0 has.1;
+      schema = has.2.dated.has_spans;
+      batch = has.2.means.batch;
+    }
+
+    pub second_taken : ((rows : Rows) → Settled old rows → rows.version ≡ 2) → TakesUp old r new
+    second_taken shows = record {
+      keeps = record {
+        same = λ sure society c has.
+            let out = clears.stays sure has.0 (to_clear society c has) in
+            (out.0, out.1, seen_keeps society c has.0 out.0 out.2 has.2);
+        crash = λ society c has t l.
+            let out = clears.crash has.0 (to_clear society c has) t l in
+            (c, refl, (out.0, out.1, seen_keeps society c has.0 out.0 out.2 has.2));
+        clean = still.clean;
+      };
+      finished = ok_then r (λ done society c has.
+          let out = done has.0 (to_clear society c has) in
+          no_import new out.0 out.1 (none_open out.0.batches out.3)) clears.cleared;
+      refused = err_then r (λ kind failure society c has. failure) clears.failure;
+      untouched = λ rows was dated all. clears.untouched rows (still.same refl rows was) all;
+      anew = record {
+        finished = any_ok r (λ society c had. absurd (none society c had));
+        shows = λ sure society c had. absurd (none society c had);
+        refused = any_err r (λ kind society c had. absurd (none society c had));
+        crash = λ society c had. absurd (none society c had);
+      };
+    }
+      where
+        none : (society : List ℕ) (c : Content) → HadArchive society c old → ⊥
+        none society c had = not_both_versions had.2.0.version had.2.2.means.version (shows had.2.0 had.2.1)
+
+-- ---- an archive of the first version is taken up
+module _ (old mid new : State) (r : Result (Unit {0}) RefusalKind) (still : Stays old false mid)
+    (takes : TakesUpAnew mid r new) where
+  had_still : (society : List ℕ) (c : Content) → HadArchive society c old → HadArchive society c mid
+  had_still society c had = (had.0, had.1, (had.2.0, still.same refl had.2.0 had.2.1, had.2.2))
+
+  pub first_taken : ((rows : Rows) → Settled old rows → rows.version ≡ 1) → TakesUp old r new
+  first_taken shows = record {
+    keeps = record {
+      same = λ sure society c has. absurd (none has.0 has.1 has.2.dated);
+      crash = λ society c has. absurd (none has.0 has.1 has.2.dated);
+      clean = still.clean;
+    };
+    finished = any_ok r (λ society c has. absurd (none has.0 has.1 has.2.dated));
+    refused = any_err r (λ kind society c has. absurd (none has.0 has.1 has.2.dated));
+    untouched = λ rows was dated all. absurd (none rows was dated);
+    anew = record {
+      finished = ok_then r (λ done society c had. done society c (had_still society c had)) takes.finished;
+      shows = λ sure society c had. takes.shows sure society c (had_still society c had);
+      refused = err_then r (λ kind failure society c had. failure society c (had_still society c had)) takes.refused;
+      crash = λ society c had. takes.crash society c (had_still society c had);
+    };
+  }
+    where
+      none : (rows : Rows) → Settled old rows → IsDated rows → ⊥
+      none rows was dated = not_both_versions rows.version (shows rows was) dated.version
+
+-- a store was not recognised
+pub not_recognised : (old new : State) (kind : RefusalKind) → Stays old (is_storage kind) new
+    → ((rows : Rows) → Settled old rows → IsFailure kind) → TakesUp old (Err kind) new
+not_recognised old new kind still refused = record {
+  keeps = record {
+    same = λ sure society c has. (has.0, still.same sure has.0 has.1, has.2);
+    crash = λ society c has t l. (c, refl, (has.0, still.crash has.0 has.1 t l, has.2));
+    clean = still.clean;
+  };
+  finished = tt;
+  refused = λ society c has. refused has.0 has.1;
+  untouched = λ rows was dated all. ((λ sure. still.same sure rows was), still.crash rows was);
+  anew = record {
+    finished = tt;
+    shows = λ sure society c had. inr (had.0, had.1, (had.2.0, still.same sure had.2.0 had.2.1, had.2.2));
+    refused = λ society c had. refused had.2.0 had.2.1;
+    crash = λ society c had t l. inr (had.0, had.1, (had.2.0, still.crash had.2.0 had.2.1 t l, had.2.2));
+  };
+}
+
+-- ---- it is made anew
+module _ (alike : (rows other : Rows) (before : OldContent) → AreSeenAlike rows other → MeansOld rows before
+    → MeansOld other before) where
+  seen_alike : (rows other : Rows) → IsSeenAs rows other → AreSeenAlike rows other
+  seen_alike rows other seen = record {
+    version = seen.version;
+    has_spans = seen.has_spans;
+    next = seen.next;
+    receipts = seen.receipts;
+    slips = seen.slips;
+    slip_lines = seen.slip_lines;
+    batch = seen.batch;
+    recorded = seen.recorded;
+    lines = seen.lines;
+  }
+
+  seen_old : (society : List ℕ) (before : OldContent) (rows other : Rows) → IsSeenAs rows other
+      → KeepsOld society before rows → KeepsOld society before other
+  seen_old society before rows other seen keeps = record {
+    means = alike rows other before (seen_alike rows other seen) keeps.means;
+    shallow = keeps.shallow;
+    sound = keeps.sound;
+    society_is = seen.society ∙ keeps.society_is;
+  }
+
+  to_clear_old : (old : State) (society : List ℕ) (c : Content) → (had : HadArchive society c old)
+      → IsToClear false old had.2.0
+  to_clear_old old society c had = record {
+    settled = had.2.1;
+    schema = had.2.2.means.has_spans;
+    batch = had.2.2.means.batch;
+  }
+
+  -- imports were not taken out
+  pub not_cleared : (old new : State) (kind : RefusalKind) → ClearsImports false old (Err kind) new
+      → TakesUpAnew old (Err kind) new
+  not_cleared old new kind clears = record {
+    finished = tt;
+    shows = λ sure society c had.
+        let out = clears.stays sure had.2.0 (to_clear_old old society c had) in
+        inr (had.0, had.1, (out.0, out.1, seen_old society had.0 had.2.0 out.0 out.2 had.2.2));
+    refused = λ society c had. clears.failure;
+    crash = λ society c had t l.
+        let out = clears.crash had.2.0 (to_clear_old old society c had) t l in
+        inr (had.0, had.1, (out.0, out.1, seen_old society had.0 had.2.0 out.0 out.2 had.2.2));
+  }
+
+  -- they were
+  module _ (sound : (before : OldContent) (c : Content) → IsSoundOld before → IsAnew before c → IsSound c)
+      (old mid new : State) (r : Result (Unit {0}) RefusalKind) (clears : ClearsImports false old (Ok tt) mid)
+      (renews : RenewsRows mid r new) where
+    module _ (society : List ℕ) (c : Content) (had : HadArchive society c old) where
+      cleared : IsCleared mid had.2.0
+      cleared = clears.cleared had.2.0 (to_clear_old old society c had)
+
+      keeps_old : KeepsOld society had.0 cleared.0
+      keeps_old = seen_old society had.0 had.2.0 cleared.0 cleared.2 had.2.2
+
+      means_anew : MeansAnew cleared.0 c
+      means_anew = (had.0, keeps_old.means, had.1, keeps_old.shallow)
+
+      keeps_anew : (after : Rows) → IsRenewed cleared.0 c after → Keeps society c after
+      keeps_anew after is = record {
+        means = is.means;
+        shallow = is.shallow;
+        sound = sound had.0 c keeps_old.sound had.1;
+        society_is = is.society ∙ keeps_old.society_is;
+        dated = is.dated;
+        spans = is.spans;
+      }
+
+      none_open_anew : (after : Rows) → IsRenewed cleared.0 c after → list_any is_open after.batches ≡ false
+      none_open_anew after is = ap (list_any is_open) is.batches ∙ none_open cleared.0.batches cleared.3
+
+    pub made_anew : TakesUpAnew old r new
+    made_anew = record {
+      finished = ok_then r (λ done society c had.
+          let made = done (cleared society c had).0 c (cleared society c had).1 (means_anew society c had) in
+          let keeps = keeps_anew society c had made.0 made.1 in (
+            (made.0, made.2, keeps),
+            no_import new made.0 made.2 (none_open_anew society c had made.0 made.1),
+            (λ t l. (c, refl, (made.0, made.3 t l, keeps))),
+          )) renews.done;
+      shows = λ sure society c had. either_way r renews.done (renews.stays sure)
+          (λ done.
+          let made = done (cleared society c had).0 c (cleared society c had).1 (means_anew society c had) in
+          inl (made.0, made.2, keeps_anew society c had made.0 made.1))
+          (λ same. inr (
+            had.0,
+            had.1,
+            (
+              (cleared society c had).0,
+              same (cleared society c had).0 (cleared society c had).1,
+              keeps_old society c had,
+            ),
+          ));
+      refused = err_then r (λ kind failure society c had. failure) renews.failure;
+      crash = λ society c had t l. elim
+          (renews.crash (cleared society c had).0 c (cleared society c had).1 (means_anew society c had) t l) [
+            | inl good ↦ inr (had.0, had.1, ((cleared society c had).0, good, keeps_old society c had))
+            | inr made ↦ inl (made.0, made.2, keeps_anew society c had made.0 made.1)
+          ];
+    }
+
+-- ---- the rows are read anew
+pub renewed : (old new : State)
+    → ((rows : Rows) (c : Content) → Settled old rows → MeansAnew rows c
+    → (after : Rows) × IsRenewed rows c after × Settled new after)
+    → ((rows : Rows) → Settled new rows → LeavesOnly new rows)
+    → ((rows : Rows) (c : Content) → Settled old rows → MeansAnew rows c → LeavesRenewed new rows c)
+    → HasCleanDisk old → RenewsRows old (Ok tt) new
+renewed old new done only crash clean = record {
+  done = λ rows c was means.
+      let made = done rows c was means in
+      (made.0, made.1, made.2, only made.0 made.2);
+  stays = λ sure. tt;
+  crash = crash;
+  failure = tt;
+  clean = clean;
+}
+
+-- they were not, and the connection was asked whether it answers still
+pub not_renewed : (old mid new : State) (kind result : RefusalKind)
+    → (kind ≢ Storage → (rows : Rows) → Settled old rows → LeavesOnly mid rows)
+    → (is_storage result ≡ false → result ≡ kind)
+    → (is_storage result ≡ false → (rows : Rows) → LeavesOnly mid rows → Settled new rows)
+    → ((rows : Rows) (c : Content) → Settled old rows → MeansAnew rows c → LeavesRenewed mid rows c)
+    → ((t : Trees) → new.may_leave t → mid.may_leave t) → IsFailure result → HasCleanDisk old
+    → RenewsRows old (Err result) new
+not_renewed old mid new kind result undone same settled crash left failure clean = record {
+  done = tt;
+  stays = λ sure rows was.
+      settled sure rows (undone (λ e. no_storage result sure (same sure ∙ e)) rows was);
+  crash = λ rows c was means t l. crash rows c was means t (left t l);
+  failure = failure;
+  clean = clean;
+}
+
+-- ---- a connection that shows a version still
+module _ (new : State) (is_open : IsTrue new.is_open) (ended : new.in_transaction ≡ false)
+    (settled : new.now ≡ new.committed) (live : IsLive new) where
   pub settled_again : (rows : Rows) → Good rows new.committed.trees → Settled new rows
   settled_again rows kept =
       let good : Good rows new.now.trees = subst (λ (d : Database). Good rows d.trees) (sym settled) kept in
@@ -264,15 +484,6 @@ module _ (old new : State) (is_open : IsTrue new.is_open) (ended : new.in_transa
         is_open = is_open;
         autocommit = ended;
         settled = sym settled;
-        schema = sound_once new.now.schema new.now.trees good.sound (live is_open).0;
+        schema = sound_once rows.has_spans new.now.schema new.now.trees good.sound (live is_open).0;
         good = good;
       }
-
-  pub archive_again : (society : List ℕ) (c : Content) → LeavesArchive old society (λ found. found ≡ c)
-      → HasArchive society c new
-  archive_again society c left =
-      let found = left new.committed.trees leaves in (
-        found.2.0,
-        settled_again found.2.0 found.2.1,
-        subst (λ x. Keeps society x found.2.0) found.1 found.2.2,
-      )

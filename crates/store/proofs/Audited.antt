@@ -43,7 +43,7 @@ module _ (old : State) where
       → ((rows : Rows) → Settled old rows → Settled new rows) → KeepsTables old new → Reads IsCount old (Ok n) new
   audit_reads new n judges same kept = ok_reads IsCount old new n (λ rows society c was keeps.
       let good = judges.good rows was in
-      good.3 ∙ ap (λ (d : Content). length (keys d.records)) (one_content rows good.0 c good.1 keeps.means))
+      good.4 ∙ ap (λ (d : Content). length (keys d.records)) (one_content rows good.0 c good.1 keeps.means))
       same kept.crash kept.clean
 
   -- where the connection was asked afterwards whether it answers still
@@ -52,7 +52,7 @@ module _ (old : State) where
     failed : (society : List ℕ) (c : Content) → HasArchive society c old → IsFailure kind
     failed society c has = elim (judges.bad has.0 has.1) [
       | inl failure ↦ failure
-      | inr none ↦ absurd (none.1 c has.2.means has.2.shallow has.2.sound)
+      | inr none ↦ absurd (none.1 c has.2.means has.2.shallow has.2.sound has.2.dated.has_spans has.2.spans)
     ]
 
     pub refused_reads : (mid new : State) → KeepsTables old mid

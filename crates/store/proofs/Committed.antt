@@ -49,16 +49,25 @@ use Rattle.archive_core.specs.Machine.{Does, outcome}
 use Rattle.archive_core.specs.Words.{HasUtf8Words}
 use Rattle.archive_core.specs.declared.request.Request.{Request}
 use Rattle.archive_core.proofs.Serving.{request_sound}
-use Rattle.store_tables.specs.Calls.{Follows, Good, LeavesOnly, Settled}
+use Rattle.store_tables.specs.Calls.{Good, Inside, LeavesOnly, Settled}
 use Rattle.store_tables.specs.Rows.{Rows}
 use Rattle.store_rows.specs.Meaning.{AllShallow, Means}
-use Rattle.store_rows.specs.Writing.{with_changes}
+use Rattle.store_rows.specs.Spans.{AreDrawn, Drawn, FollowsDrawn, with_dated_changes}
 use Rattle.store_rows.proofs.Meaning.{changes_mean}
 use Rattle.store_rows.proofs.OneContent.{one_content}
+use Rattle.store_rows.proofs.SpansAside.{dated_means, dated_society, spans_kept, stays_dated}
 use Rattle.store.specs.Archives.{HasArchive, IsArchive, Keeps}
-use Rattle.store.specs.Calls.{AcknowledgedBy, Acknowledges, LeavesDoneOrNot, LeavesEither, OnArchive, Performs}
+use Rattle.store.specs.Calls.{
+  AcknowledgedBy,
+  Acknowledges,
+  HasWritten,
+  LeavesDoneOrNot,
+  LeavesEither,
+  OnArchive,
+  Performs,
+}
 use Rattle.store.specs.Histories.{Accepts, Allows, MayBeFound, has_failed, in_doubt, is_storage}
-use Rattle.store.proofs.Unchanged.{applies_nothing, rows_stay, society_stays}
+use Rattle.store.proofs.Unchanged.{applies_nothing, rows_stay}
 
 -- what is decided of one reading of rows is decided of any
 pub decides_same : (P : Content → Type 0) (rows : Rows) (held c : Content) → Means rows held
@@ -86,25 +95,26 @@ writes_nothing c r changes exact there = (there_is _ _ (get c.receipts r.token) 
 -- ---- what the archive is afterwards
 module _ (society : List ℕ) (c : Content) (rows : Rows) (r : Request) (changes : Changes) (keeps : Keeps society c rows)
     (decided : Decides c (Ok changes) (outcome c r)) (words : HasUtf8Words r.command) where
-  pub keeps_on : (AllShallow c → AllShallow (applied c changes)) → Keeps society (applied c changes)
-      (with_changes changes rows)
-  keeps_on shallow = record {
-    means = changes_mean changes rows c keeps.means;
+  pub keeps_on : (drawn : Drawn) → AreDrawn changes.puts drawn → (AllShallow c → AllShallow (applied c changes))
+      → Keeps society (applied c changes) (with_dated_changes changes drawn rows)
+  keeps_on drawn are shallow = record {
+    means = dated_means changes drawn rows (applied c changes) (changes_mean changes rows c keeps.means);
     shallow = shallow keeps.shallow;
     sound = request_sound c (applied c changes) r (Ok changes.answer) words keeps.sound decided;
-    society_is = society_stays changes rows ∙ keeps.society_is;
+    society_is = dated_society changes drawn rows ∙ keeps.society_is;
+    dated = stays_dated changes drawn rows keeps.dated;
+    spans = spans_kept changes drawn rows c are keeps.spans;
   }
 
   pub acknowledged_anew : (new : State) → IsExactFor c r changes → (AllShallow c → AllShallow (applied c changes))
-      → Settled new (with_changes changes rows)
-      → AcknowledgedBy society c rows r changes.answer new
-  acknowledged_anew new exact shallow settled = (
+      → HasWritten rows changes new → AcknowledgedBy society c rows r changes.answer new
+  acknowledged_anew new exact shallow (drawn, are, settled) = (
     applied c changes,
-    with_changes changes rows,
+    with_dated_changes changes drawn rows,
     decided,
     settled,
-    keeps_on shallow,
-    rows_stay c changes exact.1 rows keeps.sound,
+    keeps_on drawn are shallow,
+    rows_stay c changes exact.1 drawn rows keeps.sound,
   )
 
   pub acknowledged_again : (new : State) → IsExactFor c r changes → changes.kept ≡ None → Settled new rows
@@ -116,10 +126,10 @@ module _ (society : List ℕ) (c : Content) (rows : Rows) (r : Request) (changes
   pub done_or_not : (s : State) → LeavesEither s rows changes → LeavesDoneOrNot s society c r
   done_or_not s either t leaves = elim (either t leaves) [
     | inl before ↦ inl (rows, before, keeps)
-    | inr after ↦ inr (
+    | inr (drawn, are, good, shallow) ↦ inr (
       applied c changes,
       (changes.answer, decided),
-      (with_changes changes rows, after.0, keeps_on (after.1 c)),
+      (with_dated_changes changes drawn rows, good, keeps_on drawn are (shallow c)),
     )
   ]
 
@@ -152,19 +162,23 @@ may_be_done c after r o lost did = subst (λ b. Allows c (cond b [] ((r, o) ∷ 
     (sym lost) (c, refl, inr did)
 
 -- ---- calls in a transaction, and its commit
-pub settles : (old mid new : State) (f : Rows → Rows) (rows : Rows)
-    → Follows (record old { in_transaction = true }) mid f → Shows mid new mid.now mid.now false
-    → Settled old rows → Settled new (f rows)
-settles old mid new f rows follows shows was =
-    let inside = (follows rows
-    (record { is_open = was.is_open; inside = refl; schema = was.schema; good = was.good })).0 in
-    record {
-      is_open = shows.is_open;
-      autocommit = shows.mode;
-      settled = shows.committed_is ∙ sym shows.now_is;
-      schema = ap (λ (d : Database). d.schema) shows.now_is ∙ inside.schema;
-      good = subst (Good (f rows)) (sym (ap (λ (d : Database). d.trees) shows.now_is)) inside.good;
-    }
+committed : (mid new : State) (after : Rows) → Inside mid after → Shows mid new mid.now mid.now false
+    → Settled new after
+committed mid new after inside shows = record {
+  is_open = shows.is_open;
+  autocommit = shows.mode;
+  settled = shows.committed_is ∙ sym shows.now_is;
+  schema = ap (λ (d : Database). d.schema) shows.now_is ∙ inside.schema;
+  good = subst (Good after) (sym (ap (λ (d : Database). d.trees) shows.now_is)) inside.good;
+}
+
+pub settles : (old mid new : State) (changes : Changes) (rows : Rows)
+    → FollowsDrawn (record old { in_transaction = true }) mid changes → Shows mid new mid.now mid.now false
+    → rows.has_spans ≡ true → Settled old rows → HasWritten rows changes new
+settles old mid new changes rows follows shows has was =
+    let (drawn, are, inside, same) = follows rows has
+    (record { is_open = was.is_open; inside = refl; schema = was.schema; good = was.good }) in
+    (drawn, are, committed mid new (with_dated_changes changes drawn rows) inside shows)
 
 -- ---- a request that is refused, or in doubt
 pub stays_same : (s : State) (society : List ℕ) (c : Content) (rows : Rows) (r : Request) → Keeps society c rows

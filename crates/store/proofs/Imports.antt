@@ -48,10 +48,11 @@ use Rattle.store_tables.specs.Calls.{Good, LeavesOnly, Settled}
 use Rattle.store_tables.specs.Rows.{LineRow, RecordRow, Rows, with_batch}
 use Rattle.store_rows.specs.Meaning.{AllShallow, Means, is_closed}
 use Rattle.store_rows.specs.Shallow.{IsShallowPut}
-use Rattle.staged_rows.specs.Removing.{IsAside, without_batch}
+use Rattle.store_rows.specs.Spans.{AreDrawn, Drawn, IsDated, KeepsSpans}
+use Rattle.staged_rows.specs.Removing.{AreAside, IsSeenAs, without_batch}
 use Rattle.staged_rows.specs.Staging.{IsFresh, numbers_of, rows_of_import, with_published, with_staged}
 use Rattle.staging.specs.Opened.{Import}
-use Rattle.staging.specs.Clearing.{LeavesMeaning}
+use Rattle.staging.specs.Clearing.{LeavesSeen}
 use Rattle.import_commits.specs.Commits.{
   IsAddition,
   IsBegun,
@@ -65,6 +66,7 @@ use Rattle.store.specs.Calls.{KeepsRows}
 use Rattle.store.specs.Histories.{is_storage}
 use Rattle.store.specs.Importing.{Has, HasAnswered, HasBegun, KeepsImport}
 use Rattle.store.proofs.Committed.{nothing_changes}
+use Rattle.store.proofs.Seen.{seen_keeps}
 use Rattle.store.proofs.Unchanged.{applies_nothing}
 
 -- laws of import_commits
@@ -74,8 +76,7 @@ IsNew = (batch : ℕ) (rows : Rows) (t : Trees) (c : Content) (changes : Changes
 
 abbrev pub InNoView : Type 0
 InNoView = (before rows : Rows) (i : Import) (c : Content) → IsBegun before i rows
-    → IsFresh i.batch i.changes.puts before → IsAddition c i.changes → Means before c
-    → Means rows c × (rows.society ≡ before.society)
+    → IsFresh i.batch i.changes.puts before → IsAddition c i.changes → Means before c → IsSeenAs before rows
 
 abbrev pub GoesOn : Type 0
 GoesOn = (n : ℕ) (before rows : Rows) (i : Import) → IsBegun before i rows
@@ -86,6 +87,12 @@ IsWhole = (before rows : Rows) (i : Import) (c : Content) → IsBegun before i r
     → IsFresh i.batch i.changes.puts before → IsAddition c i.changes → Means before c → i.left ≡ []
     → Means (with_published i.batch i.changes rows) (applied c i.changes)
     × ((with_published i.batch i.changes rows).society ≡ before.society)
+
+abbrev pub IsSpanned : Type 0
+IsSpanned = (before rows : Rows) (i : Import) (c : Content) → IsBegun before i rows
+    → IsFresh i.batch i.changes.puts before → IsAddition c i.changes → i.left ≡ [] → IsDated before
+    → KeepsSpans before c → IsDated (with_published i.batch i.changes rows)
+    × KeepsSpans (with_published i.batch i.changes rows) (applied c i.changes)
 
 abbrev pub LeavesOthers : Type 0
 LeavesOthers = (before rows : Rows) (i : Import) (c : Content) (m : ℕ) → IsBegun before i rows
@@ -100,9 +107,9 @@ CanBeRead = (c : Content) (changes : Changes) → IsAddition c changes → EachO
     → AllShallow (applied c changes)
 
 abbrev pub CanBeTakenOut : Type 0
-CanBeTakenOut = (before rows : Rows) (i : Import) (c : Content) (society : List ℕ) → IsBegun before i rows
-    → IsFresh i.batch i.changes.puts before → IsAddition c i.changes → Means before c → before.society ≡ society
-    → IsAside (numbers_of i.changes.puts) society c rows × (is_closed i.batch rows.batches ≡ false)
+CanBeTakenOut = (before rows : Rows) (i : Import) (c : Content) → IsBegun before i rows
+    → IsFresh i.batch i.changes.puts before → IsAddition c i.changes → Means before c
+    → AreAside (numbers_of i.changes.puts) rows × (is_closed i.batch rows.batches ≡ false)
 
 abbrev pub LeavesWhatWas : Type 0
 LeavesWhatWas = (before rows : Rows) (i : Import) (c : Content) → IsBegun before i rows
@@ -113,18 +120,16 @@ LeavesWhatWas = (before rows : Rows) (i : Import) (c : Content) → IsBegun befo
 still_keeps : InNoView → (society : List ℕ) (c : Content) (before rows : Rows) (i : Import) → IsBegun before i rows
     → IsFresh i.batch i.changes.puts before → IsAddition c i.changes → Keeps society c before → Keeps society c rows
 still_keeps law society c before rows i begun fresh adds keeps =
-    let seen = law before rows i c begun fresh adds keeps.means in
-    record {
-      means = seen.0;
-      shallow = keeps.shallow;
-      sound = keeps.sound;
-      society_is = seen.1 ∙ keeps.society_is;
-    }
+    seen_keeps society c before rows (law before rows i c begun fresh adds keeps.means) keeps
 
 pub keeps_archive : InNoView → (society : List ℕ) (c : Content) (r : Request) (i : Import) (rows : Rows)
     → KeepsImport society c r i rows → Keeps society c rows
 keeps_archive law society c r i rows has =
     still_keeps law society c has.before rows i has.begun has.fresh has.accepted.adds has.keeps
+
+pub has_spans : InNoView → (society : List ℕ) (c : Content) (r : Request) (i : Import) (rows : Rows)
+    → KeepsImport society c r i rows → rows.has_spans ≡ true
+has_spans law society c r i rows has = (keeps_archive law society c r i rows has).dated.has_spans
 
 pub has_the_archive : InNoView → (society : List ℕ) (c : Content) (o : Option (Request × Import)) (s : State)
     → Has society c o s → HasArchive society c s
@@ -147,12 +152,16 @@ ok_both (Err e) f p q = tt
 
 -- ---- it is begun
 -- the import of these changes of which no row is written
-abbrev pub first_of : ℕ → Changes → Import
-first_of batch changes = record { batch = batch; changes = changes; left = rows_of_import batch changes.puts }
+abbrev pub first_of : ℕ → Changes → Drawn → Import
+first_of batch changes drawn = record {
+  batch = batch;
+  changes = changes;
+  left = rows_of_import batch changes.puts drawn;
+}
 
-begins : (batch : ℕ) (changes : Changes) (rows : Rows)
-    → IsBegun rows (first_of batch changes) (with_batch batch true rows)
-begins batch changes rows = record { done = []; parts = refl; rows_are = refl }
+begins : (batch : ℕ) (changes : Changes) (drawn : Drawn) (rows : Rows) → AreDrawn changes.puts drawn
+    → IsBegun rows (first_of batch changes drawn) (with_batch batch true rows)
+begins batch changes drawn rows are = record { drawn = drawn; are = are; done = []; parts = refl; rows_are = refl }
 
 pub adds_of : (c : Content) (changes : Changes) → OnlyAdds c changes → IsSound c → IsAddition c changes
 adds_of c changes adds sound =
@@ -196,10 +205,24 @@ module _ (seen : InNoView) (law : IsNew) (society : List ℕ) (c : Content) (row
   fresh_of : (batch : ℕ) → IsNextBatch batch rows → IsFresh batch changes.puts rows
   fresh_of batch next = law batch rows old.now.trees c changes was.good next keeps.means adds
 
-  pub has_begun : (r : Request) (batch : ℕ) (s : State) → Decides c (Ok changes) (outcome c r)
+  -- the import that puts nothing
+  abbrev none : Changes
+  none = record changes { puts = [] }
+
+  fresh_none : (batch : ℕ) → IsFresh batch changes.puts rows → IsFresh batch none.puts rows
+  fresh_none batch fresh =
+      record { unused = fresh.unused; records = fresh.records; numbers = tt; lines = tt; spans = tt }
+
+  adds_none : IsAddition c none
+  adds_none = record { once = tt; free = tt; removals = adds.removals; slip = adds.slip }
+
+  pub has_begun : (r : Request) (batch : ℕ) (drawn : Drawn) (s : State) → AreDrawn changes.puts drawn
+      → Decides c (Ok changes) (outcome c r)
       → IsExactFor c r changes → HasUtf8Words r.command → changes.kept ≢ None → IsNextBatch batch rows
-      → Settled s (with_batch batch true rows) → HasBegun society c rows r changes.answer (first_of batch changes) s
-  has_begun r batch s decided exact words anew next now = (
+      → Settled s (with_batch batch true rows) → HasBegun society c rows r changes.answer
+      (first_of batch changes drawn) s
+  unfolding begins
+  has_begun r batch drawn s are decided exact words anew next now = (
     (
       with_batch batch true rows,
       now,
@@ -207,7 +230,7 @@ module _ (seen : InNoView) (law : IsNew) (society : List ℕ) (c : Content) (row
         before = rows;
         keeps = keeps;
         fresh = fresh_of batch next;
-        begun = begins batch changes rows;
+        begun = begins batch changes drawn rows are;
         accepted = record {
           new = none_is_kept c r changes exact anew;
           accepted = decided;
@@ -232,8 +255,8 @@ module _ (seen : InNoView) (law : IsNew) (society : List ℕ) (c : Content) (row
           (
             after,
             next.2,
-            still_keeps seen society c rows after (first_of next.0 changes) (begins next.0 changes rows)
-                (fresh_of next.0 next.1) adds keeps,
+            still_keeps seen society c rows after (first_of next.0 none []) (begins next.0 none [] rows tt)
+                (fresh_none next.0 (fresh_of next.0 next.1)) adds_none keeps,
           ),
         )
   ]
@@ -273,17 +296,22 @@ stage_leaves seen goes n society c r i rows s has either t l = elim (either t l)
 ]
 
 -- ---- it is published
-pub published_keeps : IsWhole → CanBeRead → (society : List ℕ) (c : Content) (r : Request) (i : Import) (rows : Rows)
+pub published_keeps : IsWhole → IsSpanned → CanBeRead → (society : List ℕ) (c : Content) (r : Request) (i : Import)
+    (rows : Rows)
     → KeepsImport society c r i rows → i.left ≡ [] → EachOf IsShallowPut i.changes.puts
     → Keeps society (applied c i.changes) (with_published i.batch i.changes rows)
-published_keeps whole read society c r i rows has none puts =
+published_keeps whole spanned read society c r i rows has none puts =
     let made = whole has.before rows i c has.begun has.fresh has.accepted.adds has.keeps.means none in
+    let spans = spanned has.before rows i c has.begun has.fresh has.accepted.adds none has.keeps.dated
+    has.keeps.spans in
     record {
       means = made.0;
       shallow = read c i.changes has.accepted.adds puts has.keeps.shallow;
       sound = request_sound c (applied c i.changes) r (Ok i.changes.answer) has.accepted.words has.keeps.sound
           has.accepted.accepted;
       society_is = made.1 ∙ has.keeps.society_is;
+      dated = spans.0;
+      spans = spans.1;
     }
 
 pub published_rows : LeavesOthers → (society : List ℕ) (c : Content) (r : Request) (i : Import) (rows : Rows)
@@ -292,10 +320,11 @@ pub published_rows : LeavesOthers → (society : List ℕ) (c : Content) (r : Re
 published_rows law society c r i rows has none m same =
     law has.before rows i c m has.begun has.accepted.adds none same
 
-pub publish_leaves : InNoView → IsWhole → CanBeRead → (society : List ℕ) (c : Content) (r : Request) (i : Import)
+pub publish_leaves : InNoView → IsWhole → IsSpanned → CanBeRead → (society : List ℕ) (c : Content) (r : Request)
+    (i : Import)
     (rows : Rows) (s : State) → KeepsImport society c r i rows → i.left ≡ [] → LeavesPublished s rows i
     → LeavesArchive s society (λ found. (found ≡ c) ⊎ (found ≡ applied c i.changes))
-publish_leaves seen whole read society c r i rows s has none either t l = elim (either t l) [
+publish_leaves seen whole spanned read society c r i rows s has none either t l = elim (either t l) [
   | inl good ↦ (c, inl refl, (rows, good, keeps_archive seen society c r i rows has))
   | inr good ↦ (
     applied c i.changes,
@@ -303,7 +332,7 @@ publish_leaves seen whole read society c r i rows s has none either t l = elim (
     (
       with_published i.batch i.changes rows,
       good.0,
-      published_keeps whole read society c r i rows has none (good.1 none),
+      published_keeps whole spanned read society c r i rows has none (good.1 none),
     ),
   )
 ]
@@ -311,9 +340,9 @@ publish_leaves seen whole read society c r i rows s has none either t l = elim (
 -- ---- it is taken out
 pub aside_of : CanBeTakenOut → (society : List ℕ) (c : Content) (r : Request) (i : Import) (rows : Rows)
     → KeepsImport society c r i rows
-    → IsAside (numbers_of i.changes.puts) society c rows × (is_closed i.batch rows.batches ≡ false)
+    → AreAside (numbers_of i.changes.puts) rows × (is_closed i.batch rows.batches ≡ false)
 aside_of law society c r i rows has =
-    law has.before rows i c society has.begun has.fresh has.accepted.adds has.keeps.means has.keeps.society_is
+    law has.before rows i c has.begun has.fresh has.accepted.adds has.keeps.means
 
 pub gone_of : LeavesWhatWas → (society : List ℕ) (c : Content) (r : Request) (i : Import) (rows : Rows) (s : State)
     → (has : KeepsImport society c r i rows)
@@ -322,17 +351,11 @@ pub gone_of : LeavesWhatWas → (society : List ℕ) (c : Content) (r : Request)
 gone_of law society c r i rows s has now =
     subst (Settled s) (law has.before rows i c has.begun has.fresh has.accepted.adds has.keeps.means) now
 
-pub abandon_leaves : (society : List ℕ) (c : Content) (r : Request) (i : Import) (rows : Rows) (s : State)
-    → KeepsImport society c r i rows → LeavesMeaning s society c → LeavesArchive s society (λ found. found ≡ c)
-abandon_leaves society c r i rows s has leaves t l =
+pub abandon_leaves : InNoView → (society : List ℕ) (c : Content) (r : Request) (i : Import) (rows : Rows) (s : State)
+    → KeepsImport society c r i rows → LeavesSeen s rows → LeavesArchive s society (λ found. found ≡ c)
+abandon_leaves law society c r i rows s has leaves t l =
     let left = leaves t l in
-    let keeps : Keeps society c left.0 = record {
-      means = left.2;
-      shallow = has.keeps.shallow;
-      sound = has.keeps.sound;
-      society_is = left.3;
-    } in
-    (c, refl, (left.0, left.1, keeps))
+    (c, refl, (left.0, left.1, seen_keeps society c rows left.0 left.2 (keeps_archive law society c r i rows has)))
 
 -- ---- a refusal that is no failure of the database
 pub memory_of : (kind : RefusalKind) → (kind ≡ OutOfMemory) ⊎ (kind ≡ Storage) → is_storage kind ≡ false

@@ -9,6 +9,7 @@ mod OpenCalls
 pub mod Opened
 mod Recognised
 mod Running
+mod Seen
 mod Sessions
 mod Steps
 mod Unchanged

@@ -1,17 +1,39 @@
 -- Calls that read, from what the layers below say of rows.
-use Rattle.std.proofs.Common.{◌≡◌, inr, ℕ, Bool, true, false, List, Ok, Err, refl, sym, subst, true≢false}
-use Rattle.std.specs.FinMap.{get-empty}
+use Rattle.std.proofs.Common.{
+  ◌≡◌,
+  inr,
+  ℕ,
+  ℤ,
+  Bool,
+  true,
+  false,
+  List,
+  Result,
+  Ok,
+  Err,
+  IfOk,
+  refl,
+  sym,
+  subst,
+  true≢false,
+}
+use Rattle.std.specs.FinMap.{get, get-empty}
+use Rattle.std.specs.Prelude.{Option, Some, None}
+use Rattle.gedcom_date.specs.declared.value.Span.{Span}
+use Rattle.record_kinds.specs.declared.record.Record.{Record}
 use Rattle.std.specs.Ordering.{nat_cmp}
 use Rattle.sqlite.specs.State.{HasCleanDisk, State}
 use Rattle.sqlite.specs.Tree.{Trees}
 use Rattle.record_text.specs.declared.refusal.RefusalKind.{RefusalKind}
 use Rattle.record_text.specs.declared.refusal.RefusalKind.TheVariants.{Storage}
-use Rattle.archive_state.specs.Content.{Content, nothing}
+use Rattle.archive_state.specs.Content.{Content, Records, nothing}
+use Rattle.date_spans.specs.Between.{AreAll, IsBetween}
 use Rattle.archive_state.proofs.Soundness.{none_there, nothing_is_sound}
 use Rattle.store_tables.specs.Calls.{LeavesOnly, Settled}
 use Rattle.store_tables.specs.Looking.{IsFailure}
 use Rattle.store_tables.specs.Rows.{Rows, nothing_yet}
 use Rattle.store_rows.specs.Meaning.{AllShallow, IsRecordAt, IsSlipAt, Means}
+use Rattle.store_rows.specs.Spans.{IsSpanned}
 use Rattle.store.specs.Archives.{HasArchive, Keeps}
 use Rattle.store.specs.Calls.{Reads}
 use Rattle.store.specs.Histories.{is_storage}
@@ -65,10 +87,41 @@ new_means society = record {
 new_shallow : AllShallow nothing
 new_shallow = record { records = λ n x e. absurd (none_there n x e); slips = λ n x e. absurd (none_there n x e) }
 
+-- no record is there, and so none without its span
+none_spanned : (o : Option Record) (span : Option Span) → o ≡ None → IsSpanned o span
+none_spanned None span e = tt
+none_spanned (Some r) span e = absurd cc
+
+new_spans : (n : ℕ) → IsSpanned (get nothing.records n) None
+new_spans n = none_spanned (get nothing.records n) None (get-empty nat_cmp n)
+
 pub new_keeps : (society : List ℕ) → Keeps society nothing (nothing_yet society)
 new_keeps society = record {
   means = new_means society;
   shallow = new_shallow;
   sound = nothing_is_sound;
   society_is = refl;
+  dated = record { version = refl; has_spans = refl };
+  spans = new_spans;
 }
+
+-- ---- days
+-- what is answered of other words for the same is answered of it
+ok_as : {A E : Type 0} (result : Result A E) (P Q : A → Type 0) → ((a : A) → P a → Q a) → IfOk result P → IfOk result Q
+ok_as (Ok a) P Q turn h = turn a h
+ok_as (Err e) P Q turn h = tt
+
+pub reads_as : {A : Type 0} (Is As : List ℕ → Content → A → Type 0) (old new : State) (result : Result A RefusalKind)
+    → ((society : List ℕ) (c : Content) (a : A) → Is society c a → As society c a) → Reads Is old result new
+    → Reads As old result new
+reads_as Is As old new result turn reads = record {
+  read = ok_as result _ _ (λ a all society c has. turn society c a (all society c has)) reads.read;
+  refused = reads.refused;
+  stays = reads.stays;
+}
+
+-- the days of a look are those that it was asked for
+pub days_same : (m : Records) (ns : List ℕ) (a b first last : ℤ) → a ≡ first → b ≡ last
+    → AreAll (IsBetween m a b) ns → AreAll (IsBetween m first last) ns
+days_same m ns a b first last is are all =
+    subst (λ x. AreAll (IsBetween m x last) ns) is (subst (λ x. AreAll (IsBetween m a x) ns) are all)

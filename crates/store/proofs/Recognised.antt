@@ -1,19 +1,40 @@
 -- Why a store is refused, from what the calls that look at it say.
-use Rattle.std.proofs.Common.{◌≡◌, ◌∙◌, ap, Bool, true, false, refl, sym, subst, inl, inr, true≢false, Ok, Err}
-use Rattle.std.specs.Prelude.{IfErr, IsTrue, Result}
+use Rattle.std.proofs.Common.{
+  ◌≡◌,
+  ◌∙◌,
+  ap,
+  Bool,
+  true,
+  false,
+  List,
+  ℕ,
+  refl,
+  sym,
+  subst,
+  inl,
+  inr,
+  true≢false,
+  Ok,
+  Err,
+}
+use Rattle.std.specs.Prelude.{⊤, IsTrue}
 use Rattle.sqlite.specs.Held.{Held, state}
-use Rattle.sqlite.specs.State.{IsUnchanged, State, Survives}
+use Rattle.sqlite.specs.State.{HasCleanDisk, IsUnchanged, State, Survives}
 use Rattle.sqlite.specs.Tree.{Trees}
 use Rattle.sqlite.proofs.Callers.{unchanged_then}
 use Rattle.sqlite_trees.specs.declared.store.Store.{Ghosts}
 use Rattle.record_text.specs.declared.refusal.RefusalKind.{RefusalKind}
 use Rattle.record_text.specs.declared.refusal.RefusalKind.TheVariants.{NewerSchema, NotAnArchive, OutOfMemory, Storage}
-use Rattle.store_tables.specs.Calls.{IsAsItWas}
-use Rattle.store_tables.specs.Looking.{IsRefusedStore, ShowsVersion}
-use Rattle.store_tables.specs.Prepared.{IsRefusedTables, all_queries}
+use Rattle.store_tables.specs.Calls.{IsAsItWas, LeavesOnly, Settled}
+use Rattle.store_tables.specs.Looking.{IsFailure, IsRefusedStore, Looks, version_number}
+use Rattle.store_tables.specs.Prepared.{IsRefusedTables, queries_of}
+use Rattle.store_tables.specs.Rows.{Rows}
+use Rattle.store_tables.specs.declared.version.Version.{Version}
 use Rattle.store_tables.proofs.Asking.{later_same, no_archive_same}
-use Rattle.store.specs.Adopting.{LeavesStore, RefusesToAdopt, is_foreign}
+use Rattle.store.specs.Adopting.{LeavesStore, RefusesToAdopt, ShowsKnown, is_foreign}
+use Rattle.store.specs.Calls.{Stays}
 use Rattle.store.specs.Histories.{is_storage}
+use Rattle.store.proofs.Looked.{storage_is}
 
 -- the version is refused
 pub by_version : {S : Type 0} (g : Ghosts S) (old : State) (read : Held S) (kind : RefusalKind)
@@ -24,19 +45,61 @@ by_version g old read NewerSchema is = (read, is)
 by_version g old read NotAnArchive is = (read, inl is)
 by_version g old read _ is = absurd is
 
--- this version has not all tables
-pub by_tables : {S : Type 0} (g : Ghosts S) (old : State) (read : Held S) (new : State) (kind : RefusalKind)
-    → ShowsVersion 1 old (state g read)
-    → IsRefusedTables all_queries (state g read) new kind → RefusesToAdopt g old kind
-by_tables g old read new Storage shows is = tt
-by_tables g old read new NotAnArchive shows is = (read, inr (shows, is.1))
-by_tables g old read new _ shows is = absurd is
+-- a version that is known has not all tables
+pub by_tables : {S : Type 0} (g : Ghosts S) (old : State) (read : Held S) (version : Version) (new : State)
+    (kind : RefusalKind) → ShowsKnown old (state g read) version
+    → IsRefusedTables (queries_of version) (state g read) new kind → RefusesToAdopt g old kind
+by_tables g old read version new Storage shows is = tt
+by_tables g old read version new NotAnArchive shows is = (read, inr (version, shows, is.1))
+by_tables g old read version new _ shows is = absurd is
 
-pub if_tables : {S A : Type 0} (g : Ghosts S) (old : State) (read : Held S) (new : State)
-    (result : Result A RefusalKind) → ShowsVersion 1 old (state g read)
-    → IfErr result (IsRefusedTables all_queries (state g read) new) → IfErr result (RefusesToAdopt g old)
-if_tables g old read new (Ok a) shows is = tt
-if_tables g old read new (Err kind) shows is = by_tables g old read new kind shows is
+-- ---- what is looked at twice is as in one look
+abbrev pub Shows : Rows → Version → Type 0
+Shows rows version = rows.version ≡ version_number version
+
+pub known : (old mid new : State) (version : Version) → Looks Shows old mid (Ok version)
+    → (HasCleanDisk new → HasCleanDisk mid) → Looks {A = Unit {0}} (λ _ _. ⊤) old new (Ok tt)
+    → Looks Shows old new (Ok version)
+known old mid new version first before both = record {
+  read = λ clean. first.read (before clean);
+  same = both.same;
+  refused = λ clean. tt;
+  crash = both.crash;
+  clean = both.clean;
+}
+
+pub unknown : (old new : State) (kind : RefusalKind) → Looks {A = Unit {0}} (λ _ _. ⊤) old new (Err kind)
+    → Looks Shows old new (Err kind)
+unknown old new kind both = record {
+  read = λ clean. tt;
+  same = λ clean. tt;
+  refused = both.refused;
+  crash = both.crash;
+  clean = both.clean;
+}
+
+-- ---- the connection was asked afterwards whether it answers still
+pub stays_known : (old new : State) (version : Version) → HasCleanDisk new → Looks Shows old new (Ok version)
+    → Stays old false new
+stays_known old new version clean read = record {
+  same = λ sure. read.same clean;
+  crash = read.crash clean;
+  clean = read.clean clean;
+}
+
+pub stays_after : (old mid new : State) (kind result : RefusalKind) → HasCleanDisk mid → Looks Shows old mid (Err kind)
+    → (is_storage result ≡ false → (rows : Rows) → LeavesOnly mid rows → Settled new rows)
+    → ((t : Trees) → new.may_leave t → mid.may_leave t) → Stays old (is_storage result) new
+stays_after old mid new kind result before read settled left = record {
+  same = λ sure rows was. settled sure rows (read.crash before rows was);
+  crash = λ rows was t l. read.crash before rows was t (left t l);
+  clean = read.clean before;
+}
+
+pub fails_after : (b : Bool) (kind result : RefusalKind) → is_storage result ≡ b → (b ≡ false → result ≡ kind)
+    → IsFailure kind → IsFailure result
+fails_after true kind result e same failure = inr (storage_is result e)
+fails_after false kind result e same failure = subst IsFailure (sym (same refl)) failure
 
 -- the database failed afterwards, or it did not
 pub told_after : {S : Type 0} (g : Ghosts S) (old : State) (b : Bool) (kind result : RefusalKind)
@@ -53,17 +116,11 @@ same_version old read NotAnArchive is e = no_archive_same old read is
 same_version old read NewerSchema is e = later_same old read is
 same_version old read _ is e = absurd (true≢false (sym e))
 
-same_tables : (old mid new : State) (kind : RefusalKind) → IsUnchanged old mid
-    → IsRefusedTables all_queries mid new kind → is_foreign kind ≡ true → IsUnchanged old new
-same_tables old mid new NotAnArchive same is e = unchanged_then old mid new same is.0
-same_tables old mid new Storage same is e = absurd (true≢false (sym e))
-same_tables old mid new _ same is e = absurd is
-
-pub if_same_tables : {A : Type 0} (old mid new : State) (result : Result A RefusalKind) → IsUnchanged old mid
-    → IfErr result (IsRefusedTables all_queries mid new)
-    → IfErr result (λ kind. is_foreign kind ≡ true → IsUnchanged old new)
-if_same_tables old mid new (Ok a) same is = tt
-if_same_tables old mid new (Err kind) same is = same_tables old mid new kind same is
+pub same_tables : (queries : List (List ℕ)) (old mid new : State) (kind : RefusalKind) → IsUnchanged old mid
+    → IsRefusedTables queries mid new kind → is_foreign kind ≡ true → IsUnchanged old new
+same_tables queries old mid new NotAnArchive same is e = unchanged_then old mid new same is.0
+same_tables queries old mid new Storage same is e = absurd (true≢false (sym e))
+same_tables queries old mid new _ same is e = absurd is
 
 foreign_is : (k : RefusalKind) → is_foreign k ≡ true → is_storage k ≡ false
 foreign_is Storage e = absurd (true≢false (sym e))

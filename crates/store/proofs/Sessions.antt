@@ -34,6 +34,7 @@ use Rattle.staging.specs.Opened.{Import}
 use Rattle.store_tables.specs.Calls.{LeavesOnly, Settled}
 use Rattle.store_tables.specs.Rows.{Rows}
 use Rattle.store.specs.Archives.{HasArchive, IsArchive, LeavesArchive}
+use Rattle.store.specs.Earlier.{HoldsArchive}
 use Rattle.store.specs.Histories.{MayBeFound, in_doubt}
 use Rattle.store.specs.Importing.{Has}
 use Rattle.store.specs.Lives.{
@@ -140,10 +141,24 @@ module _ {S : Type 0} (g : Ghosts S) where
         → Session g before calls after → IsArchive society c before
         → (found : Content) × (dones : List Done) × IsArchive society found after × Counts calls dones
         × Runs c dones found
-    on_opening before after calls society c (inl s) is = on_session s.0 after calls society c s.2 (s.1 society c is)
+    on_opening before after calls society c (inl s) is =
+        on_session s.0 after calls society c s.2 (s.1 society c (inl is))
     on_opening before after calls society c (inr s) is =
-        let left = s.1 society c is after s.4 in
+        let left = s.1.kept society c is after s.4 in
         (left.0, [], left.2, subst (λ xs. Counts xs []) (sym s.3) (inl refl), left.1)
+
+    on_opening_either : (before after : Trees) (calls : List Done) (society : List ℕ) (c : Content)
+        → Session g before calls after → HoldsArchive society c before
+        → (found : Content) × (dones : List Done) × HoldsArchive society found after × Counts calls dones
+        × Runs c dones found
+    on_opening_either before after calls society c (inl s) holds =
+        let one = on_session s.0 after calls society c s.2 (s.1 society c holds) in
+        (one.0, one.1, inl one.2, one.3, one.4)
+    on_opening_either before after calls society c (inr s) (inl is) =
+        let one = on_opening before after calls society c (inr s) is in
+        (one.0, one.1, inl one.2, one.3, one.4)
+    on_opening_either before after calls society c (inr s) (inr was) =
+        (c, [], s.1.held society c was after s.4, subst (λ xs. Counts xs []) (sym s.3) (inl refl), refl)
 
     pub of_life : (more : List (List Done)) (before after : Trees) (calls : List Done) (society : List ℕ)
         (c : Content) → Life g before calls more after → IsArchive society c before
@@ -153,6 +168,22 @@ module _ {S : Type 0} (g : Ghosts S) where
     of_life (next ∷ more) before after calls society c life is =
         let one = on_opening before life.0 calls society c life.1 is in
         let rest = of_life more life.0 after next society one.0 life.2 one.2 in (
+          rest.0,
+          one.1 ++ rest.1,
+          rest.2,
+          (one.1, rest.1, one.3, rest.3, refl),
+          joined one.1 rest.1 c one.0 rest.0 one.4 rest.4,
+        )
+
+    pub of_life_of_either : (more : List (List Done)) (before after : Trees) (calls : List Done) (society : List ℕ)
+        (c : Content) → Life g before calls more after → HoldsArchive society c before
+        → (found : Content) × (dones : List Done) × HoldsArchive society found after × CountInAll calls more dones
+        × Runs c dones found
+    of_life_of_either [] before after calls society c life holds =
+        on_opening_either before after calls society c life holds
+    of_life_of_either (next ∷ more) before after calls society c life holds =
+        let one = on_opening_either before life.0 calls society c life.1 holds in
+        let rest = of_life_of_either more life.0 after next society one.0 life.2 one.2 in (
           rest.0,
           one.1 ++ rest.1,
           rest.2,

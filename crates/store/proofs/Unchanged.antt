@@ -10,6 +10,7 @@ use Rattle.std.proofs.Common.{
   [],
   ◌∷◌,
   map,
+  filter,
   cond,
   Option,
   None,
@@ -30,16 +31,13 @@ use Rattle.archive_state.specs.Changes.{Changes}
 use Rattle.archive_state.specs.Content.{Content, Records}
 use Rattle.record_shapes.specs.Lists.{Ascends, EachOf}
 use Rattle.archive_state.specs.Sound.{IsSound}
-use Rattle.archive_state.specs.declared.changes.Kept.{Kept}
 use Rattle.archive_state.specs.declared.changes.Numbered.{Numbered}
-use Rattle.archive_state.specs.declared.changes.SlipChange.{SlipChange}
-use Rattle.archive_state.specs.declared.changes.SlipChange.TheVariants as change
 use Rattle.archive_looks.specs.Exact.{ChangesNothing, IsExact}
-use Rattle.store_tables.specs.Rows.{Rows}
-use Rattle.store_rows.specs.Writing.{with_changes, with_kept_written, with_puts_written, with_slip_written}
+use Rattle.store_tables.specs.Rows.{LineRow, RecordRow, Rows}
+use Rattle.store_rows.specs.Spans.{Drawn, with_dated_changes}
+use Rattle.store_rows.specs.Writing.{with_changes}
 use Rattle.store_rows.proofs.Got.{got_put, got_removed}
-use Rattle.store_rows.proofs.Meaning.{puts_only, removed_only}
-use Rattle.store_rows.proofs.Slips.{changes_only}
+use Rattle.store_rows.proofs.SpansAside.{dated_lines, dated_records}
 use Rattle.store_rows.proofs.Staying.{others_stay}
 use Rattle.store.specs.Calls.{KeepsRows}
 
@@ -127,8 +125,8 @@ module _ (c : Content) (changes : Changes) (exact : IsExact c changes) where
       changes.puts (each_put changes.puts c.records (exact.puts sound))
       (apart_all changes.removals changes.puts exact.apart)
 
-  pub rows_stay : (rows : Rows) → IsSound c → KeepsRows c (applied c changes) rows (with_changes changes rows)
-  rows_stay rows sound m same =
+  with_changes_stay : (rows : Rows) → IsSound c → KeepsRows c (applied c changes) rows (with_changes changes rows)
+  with_changes_stay rows sound m same =
       others_stay changes rows m
       (each_both (λ (p : Numbered). get c.records p.number ≢ Some p.«record»)
       (λ (p : Numbered). get (applied c changes).records p.number ≡ Some p.«record»)
@@ -140,23 +138,15 @@ module _ (c : Content) (changes : Changes) (exact : IsExact c changes) where
       changes.removals exact.there
       (gone changes.removals (with_puts c.records changes.puts)))
 
+  -- spans are no rows of records
+  pub rows_stay : (drawn : Drawn) (rows : Rows) → IsSound c
+      → KeepsRows c (applied c changes) rows (with_dated_changes changes drawn rows)
+  rows_stay drawn rows sound m same =
+      let stay = with_changes_stay rows sound m same in (
+        ap (filter (λ (l : LineRow). l.no == m)) (dated_lines changes drawn rows) ∙ stay.0,
+        ap (filter (λ (r : RecordRow). r.no == m)) (dated_records changes drawn rows) ∙ stay.1,
+      )
+
 -- nothing changes
 pub applies_nothing : (c : Content) (changes : Changes) → ChangesNothing c changes → applied c changes ≡ c
 applies_nothing c changes h = rw (h.puts, h.removals, h.next, h.kept, h.slip) refl
-
--- ---- the society
-kept_society : (kept : Option Kept) (rows : Rows) → (with_kept_written kept rows).society ≡ rows.society
-kept_society None rows = refl
-kept_society (Some kept) rows = refl
-
-slip_society : (slip : Option SlipChange) (rows : Rows) → (with_slip_written slip rows).society ≡ rows.society
-slip_society None rows = refl
-slip_society (Some (change.Made n slip)) rows = ap (λ (r : Rows). r.society) (changes_only n slip.changes _)
-slip_society (Some (change.Undone n)) rows = refl
-
-pub society_stays : (changes : Changes) (rows : Rows) → (with_changes changes rows).society ≡ rows.society
-society_stays changes rows =
-    let put = with_puts_written changes.puts rows in
-    slip_society changes.slip _ ∙ kept_society changes.kept _
-    ∙ ap (λ (r : Rows). r.society) (removed_only changes.removals put) ∙ ap (λ (r : Rows). r.society)
-    (puts_only changes.puts rows)

@@ -9,28 +9,45 @@ use Rattle.archive_state.specs.Content.{Content}
 use Rattle.record_text.specs.declared.refusal.RefusalKind.{RefusalKind}
 use Rattle.record_text.specs.declared.refusal.RefusalKind.TheVariants.{NewerSchema, NotAnArchive, OutOfMemory, Storage}
 use Rattle.store_tables.specs.Calls.{LeavesOnly, Settled}
-use Rattle.store_tables.specs.Looking.{IsFailure, IsRefusedStore, ShowsVersion}
-use Rattle.store_tables.specs.Prepared.{IsUnderstood, NamesMissing, all_queries}
+use Rattle.store_tables.specs.Looking.{IsFailure, IsRefusedStore, ShowsVersion, version_number}
+use Rattle.store_tables.specs.Prepared.{IsUnderstood, NamesMissing, queries_of}
 use Rattle.store_tables.specs.Rows.{BatchRow, Rows}
+use Rattle.store_tables.specs.declared.version.Version.{Version}
 use Rattle.store_rows.specs.Meaning.{is_closed}
+use Rattle.store_rows.specs.Spans.{IsDated}
+use Rattle.staged_rows.specs.Removing.{IsSeenAs}
 use Rattle.staged_rows.specs.Staging.{AreAllClosed}
+use Rattle.staging.specs.Clearing.{IsCleared, LeavesSeen}
+use Rattle.old_rows.specs.Meaning.{MeansAnew}
+use Rattle.old_rows.specs.Renewing.{IsRenewed, LeavesRenewed}
 use Rattle.store.specs.Archives.{HasArchive, LeavesArchive}
+use Rattle.store.specs.Earlier.{HadArchive, LeavesHeld, ShowsArchive}
 use Rattle.store.specs.Histories.{has_broken}
 use Rattle.std.specs.List.{AllByRecursion, list_any}
 
--- a table or a column that is read is missing
-abbrev pub LacksTable : State → Type 0
-LacksTable s = (sql : List ℕ) × Has all_queries sql × NamesMissing s.now.schema sql
+-- a table or a column is missing that is read in an archive of this version
+abbrev pub LacksTable : Version → State → Type 0
+LacksTable version s = (sql : List ℕ) × Has (queries_of version) sql × NamesMissing s.now.schema sql
 
--- the store shows neither this version nor a later one; or it shows this version, and something that is read is missing
+-- the store shows a version that is known here
+abbrev pub ShowsKnown : State → State → Version → Type 0
+ShowsKnown old new version = ShowsVersion (version_number version) old new
+
+-- the store shows neither the first version nor the second, nor a later one; or it shows one of the former two, and
+-- something that is read of it is missing
 abbrev pub IsNoArchive : {S : Type 0} → Ghosts S → State → Type 0
 IsNoArchive {S} g old = (read : Held S)
-    × (IsRefusedStore old (state g read) NotAnArchive ⊎ (ShowsVersion 1 old (state g read) × LacksTable (state g read)))
+    × (IsRefusedStore old (state g read) NotAnArchive
+    ⊎ ((version : Version) × ShowsKnown old (state g read) version × LacksTable version (state g read)))
 
--- the store shows this version, and has every table and column that is read
+-- the store shows this version, and has every table and column that is read of it
+abbrev pub IsOfVersion : {S : Type 0} → Ghosts S → State → Version → Type 0
+IsOfVersion {S} g old version = (read : Held S) × ShowsKnown old (state g read) version × AllByRecursion
+    (IsUnderstood (state g read).now.schema) (queries_of version)
+
+-- the store is of the first version or of the second
 abbrev pub IsRecognised : {S : Type 0} → Ghosts S → State → Type 0
-IsRecognised {S} g old = (read : Held S) × ShowsVersion 1 old (state g read) × AllByRecursion
-    (IsUnderstood (state g read).now.schema) all_queries
+IsRecognised g old = (version : Version) × IsOfVersion g old version
 
 -- a store is refused for what it is: 82 or 83
 abbrev pub is_foreign : RefusalKind → Bool
@@ -44,7 +61,7 @@ pub record LeavesStore (old new : State) : Type 0 where
   pub crash : HasCleanDisk new → IsTrue old.is_open → (t : Trees) → new.may_leave t → t ≡ old.committed.trees
 
 -- what a store that is refused leaves: nothing is committed; or it was recognised, and memory was refused or the
--- database failed while imports were taken out of it
+-- database failed while imports were taken out of it, or while it was written anew
 abbrev pub LeavesRefused : {S : Type 0} → Ghosts S → State → RefusalKind → State → Type 0
 LeavesRefused g old kind new = LeavesStore old new ⊎ (IsFailure kind × (HasCleanDisk new → IsRecognised g old))
 
@@ -74,12 +91,57 @@ pub record KeepsArchive (old : State) (failed : Bool) (new : State) : Type 0 whe
       → LeavesArchive new society (λ found. found ≡ c)
   pub clean : HasCleanDisk old
 
+-- an archive of the first version is taken up, and imports that were left open are taken out of it: then it is one of
+-- the second version, holds anew what it held, and no import is open. It is refused only for want of memory, or because
+-- the database failed; unless the latter, the connection has it, in one of the two versions. Whatever a crash may leave
+-- holds it, in one of the two versions
+pub record TakesUpAnew (old : State) (result : Result (Unit {0}) RefusalKind) (new : State) : Type 0 where
+  pub finished : OnOk result ((society : List ℕ) (c : Content) → HadArchive society c old
+      → HasArchive society c new × HasNoImport new × LeavesArchive new society (λ found. found ≡ c))
+  pub shows : has_broken result ≡ false → (society : List ℕ) (c : Content) → HadArchive society c old
+      → ShowsArchive society c new
+  pub refused : IfErr result (λ kind. (society : List ℕ) (c : Content) → HadArchive society c old → IsFailure kind)
+  pub crash : (society : List ℕ) (c : Content) → HadArchive society c old → LeavesHeld new society c
+
 -- an archive is taken up, and imports that were left open are taken out of it: then none is open. It is refused only
 -- for want of memory, or because the database failed. Where none was left open it keeps its rows, and a crash leaves
--- just these
+-- just these. One of the first version is made anew
 pub record TakesUp (old : State) (result : Result (Unit {0}) RefusalKind) (new : State) : Type 0 where
   pub keeps : KeepsArchive old (has_broken result) new
   pub finished : OnOk result ((society : List ℕ) (c : Content) → HasArchive society c old → HasNoImport new)
   pub refused : IfErr result (λ kind. (society : List ℕ) (c : Content) → HasArchive society c old → IsFailure kind)
+  pub untouched : (rows : Rows) → Settled old rows → IsDated rows → AreAllClosed rows
+      → (has_broken result ≡ false → Settled new rows) × LeavesOnly new rows
+  pub anew : TakesUpAnew old result new
+
+-- ---- imports are taken out
+-- settled tables that have spans, or that have none, of which the batch of commands is closed
+pub record IsToClear (has_spans : Bool) (s : State) (rows : Rows) : Type 0 where
+  pub settled : Settled s rows
+  pub schema : rows.has_spans ≡ has_spans
+  pub batch : is_closed 0 rows.batches ≡ true
+
+-- settled tables of which the same is seen as of these rows
+abbrev pub ShowsSeen : State → Rows → Type 0
+ShowsSeen s rows = (after : Rows) × Settled s after × IsSeenAs rows after
+
+-- imports are taken out of such tables: then every batch is closed. Unless the database failed the same is seen of
+-- them, and a crash leaves that in any case; where every batch was closed they keep their rows
+pub record ClearsImports (has_spans : Bool) (old : State) (result : Result (Unit {0}) RefusalKind)
+    (new : State) : Type 0 where
+  pub cleared : OnOk result ((rows : Rows) → IsToClear has_spans old rows → IsCleared new rows)
+  pub stays : has_broken result ≡ false → (rows : Rows) → IsToClear has_spans old rows → ShowsSeen new rows
+  pub crash : (rows : Rows) → IsToClear has_spans old rows → LeavesSeen new rows
+  pub failure : IfErr result IsFailure
   pub untouched : (rows : Rows) → Settled old rows → AreAllClosed rows
       → (has_broken result ≡ false → Settled new rows) × LeavesOnly new rows
+  pub clean : HasCleanDisk old
+
+-- ---- settled tables of the first version, in which every date is read anew
+pub record RenewsRows (old : State) (result : Result (Unit {0}) RefusalKind) (new : State) : Type 0 where
+  pub done : OnOk result ((rows : Rows) (c : Content) → Settled old rows → MeansAnew rows c
+      → (after : Rows) × IsRenewed rows c after × Settled new after × LeavesOnly new after)
+  pub stays : has_broken result ≡ false → IfErr result (λ _. (rows : Rows) → Settled old rows → Settled new rows)
+  pub crash : (rows : Rows) (c : Content) → Settled old rows → MeansAnew rows c → LeavesRenewed new rows c
+  pub failure : IfErr result IsFailure
+  pub clean : HasCleanDisk old

@@ -7,13 +7,17 @@ use Rattle.archive_state.specs.Sound.{IsSound}
 use Rattle.store_tables.specs.Calls.{Good, Settled}
 use Rattle.store_tables.specs.Rows.{Rows}
 use Rattle.store_rows.specs.Meaning.{Means, AllShallow}
+use Rattle.store_rows.specs.Spans.{IsDated, KeepsSpans}
 
--- the rows of a society's archive: they mean what it holds, all of it can be read, and it is sound
+-- the rows of a society's archive, of the version that this program writes: they mean what it holds, all of it can be
+-- read, it is sound, and each record with a date has its span
 pub record Keeps (society : List ℕ) (c : Content) (rows : Rows) : Type 0 where
   pub means : Means rows c
   pub shallow : AllShallow c
   pub sound : IsSound c
   pub society_is : rows.society ≡ society
+  pub dated : IsDated rows
+  pub spans : KeepsSpans rows c
 
 -- good tables: they list the archive's schema and obey it, and have such rows
 abbrev pub IsArchive : List ℕ → Content → Trees → Type 0

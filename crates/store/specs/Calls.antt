@@ -1,5 +1,22 @@
 -- What the calls of an archive do. All is said of good tables; of others nothing is promised but the refusals.
-use Rattle.std.specs.Prelude.{ℕ, Bool, ◌≡◌, ◌==◌, ◌⊎◌, false, List, [], ◌∷◌, filter, None, Result, Ok, IfOk, IfErr}
+use Rattle.std.specs.Prelude.{
+  ℕ,
+  Bool,
+  ◌≡◌,
+  ◌==◌,
+  ◌⊎◌,
+  true,
+  false,
+  List,
+  [],
+  ◌∷◌,
+  filter,
+  None,
+  Result,
+  Ok,
+  IfOk,
+  IfErr,
+}
 use Rattle.std.specs.FinMap.{get}
 use Rattle.sqlite.specs.State.{State, HasCleanDisk}
 use Rattle.sqlite.specs.Tree.{Trees}
@@ -11,7 +28,7 @@ use Rattle.receipts.specs.declared.answer.Answer.{Answer}
 use Rattle.archive_state.specs.Applied.{applied}
 use Rattle.archive_state.specs.Changes.{Changes}
 use Rattle.store_rows.specs.Meaning.{AllShallow}
-use Rattle.store_rows.specs.Writing.{with_changes}
+use Rattle.store_rows.specs.Spans.{AreDrawn, Drawn, with_dated_changes}
 use Rattle.store_tables.specs.Calls.{Good, LeavesOnly, Settled}
 use Rattle.store_tables.specs.Looking.{IsFailure}
 use Rattle.store_tables.specs.Rows.{Rows, LineRow, RecordRow}
@@ -74,10 +91,20 @@ AcknowledgedBy society c rows r answer new =
 abbrev pub Acknowledges : State → Request → Answer → State → Type 0
 Acknowledges old r answer new = OnArchive old (λ society c rows. AcknowledgedBy society c rows r answer new)
 
--- whatever a crash may leave has these rows, or those with the changes written; the latter can be read again
+-- the connection has the rows with the changes and their spans written
+abbrev pub HasWritten : Rows → Changes → State → Type 0
+HasWritten rows changes new = (drawn : Drawn) × AreDrawn changes.puts drawn
+    × Settled new (with_dated_changes changes drawn rows)
+
+-- settled tables that have spans: the changes and their spans are written
+abbrev pub Writes : State → Changes → State → Type 0
+Writes old changes new = (rows : Rows) → rows.has_spans ≡ true → Settled old rows → HasWritten rows changes new
+
+-- whatever a crash may leave has these rows, or those with the changes and their spans written; the latter can be read
+-- again
 abbrev pub LeavesEither : State → Rows → Changes → Type 0
 LeavesEither s rows changes = (t : Trees) → s.may_leave t
-    → Good rows t ⊎ (Good (with_changes changes rows) t
+    → Good rows t ⊎ ((drawn : Drawn) × AreDrawn changes.puts drawn × Good (with_dated_changes changes drawn rows) t
     × ((c : Content) → AllShallow c → AllShallow (applied c changes)))
 
 -- whatever a crash may leave is the archive as it was, or with the request done

@@ -44,7 +44,7 @@ StaysOn i old j new = (society : List ℕ) (c : Content) (r : Request) → (has 
 -- an import was just begun on these rows, with this answer: none of its own rows is written
 abbrev pub HasBegun : List ℕ → Content → Rows → Request → Answer → Import → State → Type 0
 HasBegun society c rows r answer i s = (has : HasImport society c r i s) × (has.2.before ≡ rows)
-    × (i.left ≡ rows_of_import i.batch i.changes.puts) × (i.changes.answer ≡ answer)
+    × (i.left ≡ rows_of_import i.batch i.changes.puts has.2.begun.drawn) × (i.changes.answer ≡ answer)
 
 -- a request is answered by what is kept for it, and the rows stay
 abbrev pub HasAnswered : Content → Rows → Request → Answer → State → Type 0

@@ -2,6 +2,7 @@ pub mod Adopting
 pub mod Archives
 pub mod Calls
 pub mod Creating
+pub mod Earlier
 pub mod Histories
 pub mod Importing
 pub mod Lives

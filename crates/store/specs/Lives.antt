@@ -9,18 +9,25 @@ use Rattle.archive_core.specs.Machine.{Done, Runs}
 use Rattle.archive_core.specs.declared.request.Request.{Request}
 use Rattle.receipts.specs.declared.answer.Answer.{Answer}
 use Rattle.store.specs.Archives.{HasArchive, IsArchive, LeavesArchive}
+use Rattle.store.specs.Earlier.{HadArchive, HoldsArchive, LeavesHeld, WasArchive}
 use Rattle.store.specs.Histories.{MayBeFound, answered, in_doubt}
 use Rattle.store.specs.Importing.{Has}
 use Rattle.store.specs.Standing.{Standing, ready}
 
--- a connection that was opened over these tables has the archive that they are
-abbrev pub IsOpenedOver : Trees → State → Type 0
-IsOpenedOver t s = (society : List ℕ) (c : Content) → IsArchive society c t → HasArchive society c s
+-- a connection that was opened over these tables has the archive that they are, in the version that they have
+pub record IsOpenedOver (t : Trees) (s : State) : Type 0 where
+  pub has : (society : List ℕ) (c : Content) → IsArchive society c t → HasArchive society c s
+  pub had : (society : List ℕ) (c : Content) → WasArchive society c t → HadArchive society c s
 
--- a connection that was opened over these tables, on which the archive was not taken up: a crash leaves what they hold
-abbrev pub IsRefusedOver : Trees → State → Type 0
-IsRefusedOver t s = (society : List ℕ) (c : Content) → IsArchive society c t
-    → LeavesArchive s society (λ found. found ≡ c)
+-- and it was taken up: the archive is of the second version, whichever of the two the tables had
+abbrev pub IsTakenUpOver : Trees → State → Type 0
+IsTakenUpOver t s = (society : List ℕ) (c : Content) → HoldsArchive society c t → HasArchive society c s
+
+-- a connection that was opened over these tables, on which the archive was not taken up: a crash leaves what they hold,
+-- in the second version if that was theirs, else in one of the two
+pub record IsRefusedOver (t : Trees) (s : State) : Type 0 where
+  pub kept : (society : List ℕ) (c : Content) → IsArchive society c t → LeavesArchive s society (λ found. found ≡ c)
+  pub held : (society : List ℕ) (c : Content) → WasArchive society c t → LeavesHeld s society c
 
 -- ---- the calls of a session, on a connection, by how its archive stood before each and stands after it
 -- requests that are done, by a call on an archive that is not lost, which may be none, as of a call that reads, or that
@@ -73,10 +80,10 @@ abbrev pub IsRefusedSession : {S : Type 0} → Ghosts S → Trees → List Done 
 IsRefusedSession {S} g before calls after = (last : Held S) × IsRefusedOver before (state g last)
     × HasCleanDisk (state g last) × (calls ≡ []) × (state g last).may_leave after
 
--- a session: an archive is opened over these tables, is called, and is stopped, which leaves those tables; or it is
+-- a session: an archive is taken up over these tables, is called, and is stopped, which leaves those tables; or it is
 -- stopped before it is taken up
 abbrev pub Session : {S : Type 0} → Ghosts S → Trees → List Done → Trees → Type 0
-Session {S} g before calls after = ((first : Held S) × IsOpenedOver before (state g first)
+Session {S} g before calls after = ((first : Held S) × IsTakenUpOver before (state g first)
     × SessionOn g first calls after) ⊎ IsRefusedSession g before calls after
 
 -- a session, and then others

@@ -1,35 +1,42 @@
-//! An archive that is taken up: imports that were left open are taken out of it.
+//! An archive that is taken up: imports that were left open are taken out of it, and one of the first version is made
+//! anew.
 
-ghost use Rattle.std.specs.Prelude.{◌≡◌, ℕ, List, true, false, IfErr, IsTrue, OnOk};
+ghost use Rattle.std.specs.Prelude.{◌≡◌, true, false, IfErr, IsTrue, OnOk};
 ghost use Rattle.std.specs.List.{list_any};
 ghost use Rattle.sqlite.specs.State.{HasCleanDisk, Survives};
 ghost use Rattle.sqlite.specs.Held.{state};
-ghost use Rattle.archive_state.specs.Content.{Content};
 ghost use Rattle.store_rows.specs.Meaning.{is_closed};
 ghost use Rattle.store_tables.specs.Calls.{IsAsItWas, LeavesOnly, Settled};
 ghost use Rattle.store_tables.specs.Looking.{IsFailure, Looks};
 ghost use Rattle.store_tables.specs.Rows as rows;
 ghost use Rattle.store_tables.specs.Rows.{Rows};
+ghost use Rattle.staging.specs.Clearing.{IsCleared, LeavesSeen};
 ghost use Rattle.store.specs.Adopting.{
-  HasNoImport,
+  ClearsImports,
   IsRecognised,
-  KeepsArchive,
+  IsToClear,
   LeavesRefused,
   LeavesStore,
   RefusesToAdopt,
+  RenewsRows,
+  ShowsSeen,
   TakesUp,
+  TakesUpAnew,
   has_import,
   is_foreign,
 };
-ghost use Rattle.store.specs.Archives.{HasArchive, LeavesArchive};
 ghost use Rattle.store.specs.Histories.{has_broken, is_storage};
 
 use crate::reading::recognise;
+use old_rows::laws::what_is_seen_alike_means_the_same;
+use old_rows::renew;
 use record_text::RefusalKind;
+use records_anew::laws::what_was_sound_is_sound_anew;
 use sqlite::{Alter, Connection};
+use staged_rows::laws::what_is_seen_means_the_same;
 use staging::remove_open;
 use std::alloc::Global;
-use store_tables::{BatchRow, check_version, read_batches};
+use store_tables::{BatchRow, Version, check_version, read_batches};
 
 /// Takes up the archive of a store. After any refusal but 80 the connection still answers.
 pub(crate) fn take_up<S: Alter>(alloc: Global, conn: &mut Connection<S>) -> Result<(), RefusalKind>
@@ -48,26 +55,68 @@ pub(crate) fn take_up<S: Alter>(alloc: Global, conn: &mut Connection<S>) -> Resu
         → IsAsItWas (state S.Store conn.old) (state S.Store conn.new)) }
     ensures ended { conn.new.in_transaction ≡ false }
 {
+    what_is_seen_means_the_same();
     match recognise(conn) {
-        Ok(()) => remove_imports(alloc, conn),
+        Ok(Version::Second) => remove_imports(alloc, conn, true),
+        Ok(Version::First) => make_anew(alloc, conn),
         Err(kind) => Err(kind),
     }
 }
 
-/// Takes out imports that were left open. Where none was, nothing is written.
+/// Takes up an archive of the first version: imports that were left open are taken out of it, and then it is made one
+/// of the second version. Refusals as of `remove_imports` and `renew_rows`.
+fn make_anew<S: Alter>(alloc: Global, conn: &mut Connection<S>) -> Result<(), RefusalKind>
+    requires autocommit { conn.old.in_transaction ≡ false }
+    ensures takes { HasCleanDisk (state S.Store conn.new)
+        → TakesUpAnew (state S.Store conn.old) result (state S.Store conn.new) }
+    ensures failure { IfErr result IsFailure }
+    ensures clean { HasCleanDisk (state S.Store conn.new) → HasCleanDisk (state S.Store conn.old) }
+    ensures ended { conn.new.in_transaction ≡ false }
+{
+    what_is_seen_alike_means_the_same();
+    what_was_sound_is_sound_anew();
+    match remove_imports(alloc, conn, false) {
+        Ok(()) => renew_rows(alloc, conn),
+        Err(kind) => Err(kind),
+    }
+}
+
+/// Makes one of the second version of an archive of the first version, in one commit.
+///
+/// 80: the database failed, and that is done or not; or its rows are no archive of that version, and nothing is
+/// written. 1: memory was refused, and the connection still answers; nothing is written.
+fn renew_rows<S: Alter>(alloc: Global, conn: &mut Connection<S>) -> Result<(), RefusalKind>
+    requires autocommit { conn.old.in_transaction ≡ false }
+    ensures renews { HasCleanDisk (state S.Store conn.new)
+        → RenewsRows (state S.Store conn.old) result (state S.Store conn.new) }
+    ensures failure { IfErr result IsFailure }
+    ensures clean { HasCleanDisk (state S.Store conn.new) → HasCleanDisk (state S.Store conn.old) }
+    ensures ended { conn.new.in_transaction ≡ false }
+{
+    match renew(alloc, conn) {
+        Ok(()) => Ok(()),
+        Err(kind) => Err(failure_after(conn, kind)),
+    }
+}
+
+/// Takes out imports that were left open, of tables that have spans or have none. Where none was, nothing is written.
 ///
 /// 80: the database failed. 1: memory was refused, and the connection still answers. After either some rows of these
 /// imports may be left.
-fn remove_imports<S: Alter>(alloc: Global, conn: &mut Connection<S>) -> Result<(), RefusalKind>
+fn remove_imports<S: Alter>(
+    alloc: Global,
+    conn: &mut Connection<S>,
+    has_spans: bool,
+) -> Result<(), RefusalKind>
     requires autocommit { conn.old.in_transaction ≡ false }
-    ensures takes { HasCleanDisk (state S.Store conn.new)
-        → TakesUp (state S.Store conn.old) result (state S.Store conn.new) }
+    ensures clears { HasCleanDisk (state S.Store conn.new)
+        → ClearsImports has_spans (state S.Store conn.old) result (state S.Store conn.new) }
     ensures failure { IfErr result IsFailure }
     ensures clean { HasCleanDisk (state S.Store conn.new) → HasCleanDisk (state S.Store conn.old) }
     ensures ended { conn.new.in_transaction ≡ false }
 {
     match has_open(alloc, conn) {
-        Ok(true) => remove_them(alloc, conn),
+        Ok(true) => remove_them(alloc, conn, has_spans),
         Ok(false) => Ok(()),
         Err(kind) => Err(failure_after(conn, kind)),
     }
@@ -109,29 +158,31 @@ fn is_any_open(batches: &[BatchRow]) -> bool
 }
 
 /// Takes out imports of which one is open, at least. Refusals as of `remove_imports`.
-fn remove_them<S: Alter>(alloc: Global, conn: &mut Connection<S>) -> Result<(), RefusalKind>
+fn remove_them<S: Alter>(
+    alloc: Global,
+    conn: &mut Connection<S>,
+    has_spans: bool,
+) -> Result<(), RefusalKind>
     requires autocommit { conn.old.in_transaction ≡ false }
-    ensures keeps { HasCleanDisk (state S.Store conn.new)
-        → KeepsArchive (state S.Store conn.old) (has_broken result) (state S.Store conn.new) }
-    ensures finished { HasCleanDisk (state S.Store conn.new)
-        → OnOk result ((society : List ℕ) (c : Content) → HasArchive society c (state S.Store conn.old)
-        → HasNoImport (state S.Store conn.new)) }
+    ensures cleared { HasCleanDisk (state S.Store conn.new) → OnOk result ((rows : Rows)
+        → IsToClear has_spans (state S.Store conn.old) rows → IsCleared (state S.Store conn.new) rows) }
+    ensures stays { HasCleanDisk (state S.Store conn.new) → has_broken result ≡ false → (rows : Rows)
+        → IsToClear has_spans (state S.Store conn.old) rows → ShowsSeen (state S.Store conn.new) rows }
+    ensures crash { HasCleanDisk (state S.Store conn.new) → (rows : Rows)
+        → IsToClear has_spans (state S.Store conn.old) rows → LeavesSeen (state S.Store conn.new) rows }
     ensures failure { IfErr result IsFailure }
     ensures clean { HasCleanDisk (state S.Store conn.new) → HasCleanDisk (state S.Store conn.old) }
     ensures ended { conn.new.in_transaction ≡ false }
 {
-    match remove_open(alloc, conn) {
+    match remove_open(alloc, conn, has_spans) {
         Ok(()) => Ok(()),
         Err(kind) => Err(failure_after(conn, kind)),
     }
 }
 
-/// What the removal is refused with: 1 where memory was refused and the connection still answers, else 80.
+/// What a step of this is refused with: 1 where memory was refused and the connection still answers, else 80.
 fn failure_after<S: Alter>(conn: &mut Connection<S>, kind: RefusalKind) -> RefusalKind
     requires autocommit { conn.old.in_transaction ≡ false }
-    ensures archive { HasCleanDisk (state S.Store conn.new) → is_storage result ≡ false
-        → (society : List ℕ) (c : Content) → LeavesArchive (state S.Store conn.old) society (λ found. found ≡ c)
-        → HasArchive society c (state S.Store conn.new) }
     ensures settled { HasCleanDisk (state S.Store conn.new) → is_storage result ≡ false → (rows : Rows)
         → LeavesOnly (state S.Store conn.old) rows → Settled (state S.Store conn.new) rows }
     ensures same { is_storage result ≡ false → result ≡ kind }
@@ -151,19 +202,16 @@ fn failure_after<S: Alter>(conn: &mut Connection<S>, kind: RefusalKind) -> Refus
     }
 }
 
-/// Whether the connection still shows the version of its archive. Then it has what was committed last.
+/// Whether the connection still shows the version of an archive. Then it has what was committed last.
 fn shows_version<S: Alter>(conn: &mut Connection<S>) -> bool
     requires autocommit { conn.old.in_transaction ≡ false }
-    ensures archive { HasCleanDisk (state S.Store conn.new) → IsTrue result → (society : List ℕ) (c : Content)
-        → LeavesArchive (state S.Store conn.old) society (λ found. found ≡ c)
-        → HasArchive society c (state S.Store conn.new) }
     ensures settled { HasCleanDisk (state S.Store conn.new) → IsTrue result → (rows : Rows)
         → LeavesOnly (state S.Store conn.old) rows → Settled (state S.Store conn.new) rows }
     ensures survives { Survives (state S.Store conn.old) (state S.Store conn.new) (λ _. ⊥) }
     ensures ended { conn.new.in_transaction ≡ false }
 {
     match check_version(conn) {
-        Ok(()) => {
+        Ok(_) => {
             // For what they ensure: with no transaction the connection shows what was committed, and the trees obey
             // the schema.
             conn.is_autocommit();

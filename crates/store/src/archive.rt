@@ -4,6 +4,7 @@ ghost use Rattle.std.specs.Prelude.{
   ◌≡◌,
   ◌≢◌,
   ◌↔◌,
+  ◌⊎◌,
   ⊤,
   true,
   List,
@@ -36,6 +37,7 @@ ghost use Rattle.sqlite.specs.State.{HasCleanDisk};
 ghost use Rattle.sqlite.specs.Held.{state};
 ghost use Rattle.sqlite.specs.Tree.{Trees};
 ghost use Rattle.archive_view.specs.Looks.{is_stop};
+ghost use Rattle.date_spans.specs.Between.{AreAll, IsBetween};
 ghost use Rattle.record_text.specs.declared.refusal.RefusalKind.TheVariants as refusal;
 ghost use Rattle.archive_core.specs.Machine.{Does, import_of};
 ghost use Rattle.archive_core.specs.Steps.{refused_at};
@@ -57,7 +59,7 @@ ghost use Rattle.store.specs.Histories.{
   loses,
 };
 ghost use Rattle.store.specs.Importing.{HasAnswered, HasBegun, HasImport, HasPublished, StaysOn};
-ghost use Rattle.store.specs.Lives.{IsCall, IsOpenedOver, IsRefusedOver};
+ghost use Rattle.store.specs.Lives.{IsCall, IsOpenedOver, IsRefusedOver, IsTakenUpOver};
 ghost use Rattle.store.specs.Standing.{
   begun_as,
   heard,
@@ -70,13 +72,14 @@ ghost use Rattle.store.specs.Standing.{
 use crate::adopting::take_up;
 use crate::auditing::{self, audit_on};
 use crate::beginning::begin_on;
+use crate::days::between_on;
 use crate::failing::{has_broken, has_failed, loses};
 use crate::open_imports::{abandon_open, publish_open, stage_open, told};
 use crate::performing::perform_on;
 use crate::reading::{society_on, state_on};
+use archive_audits::Flaw;
 use archive_core::{Forest, Request};
 use archive_state::{Answer, State, Token};
-use audit::Fault;
 use import_commits::laws::an_import_that_is_begun_is_in_no_view;
 use record_text::{Refusal, RefusalKind, Text};
 use sqlite::{Alter, Connection};
@@ -129,9 +132,11 @@ impl<S: Alter> Archive<S> {
     }
 
     /// The archive that a store has. Imports that were left open are taken out of it; where none was, nothing is
-    /// written. At a refusal the connection is handed back.
+    /// written. Then one of the first version is made one of the second, in one commit, and its dates are read anew.
+    /// At a refusal the connection is handed back.
     ///
-    /// 82: the store has no archive. 83: a later program wrote it. 80: the database failed. 1: memory was refused.
+    /// 82: the store has no archive. 83: a later program wrote it. 80: the database failed, or it shows the first
+    /// version, and its rows are no archive of that version. 1: memory was refused.
     pub fn adopt(
         alloc: Global,
         mut conn: Connection<S>,
@@ -145,7 +150,7 @@ impl<S: Alter> Archive<S> {
         ensures quiet { IfOk result (λ made. made.failures ≡ 0) }
         ensures idle { IfOk result (λ made. (made.import ≡ None) × (shuts made.is_lost made.import ≡ false)) }
         ensures begins { IfOk result (λ made. HasCleanDisk (state S.Store made.conn) → (t : Trees)
-            → IsOpenedOver t (state S.Store conn) → IsOpenedOver t (state S.Store made.conn)) }
+            → IsOpenedOver t (state S.Store conn) → IsTakenUpOver t (state S.Store made.conn)) }
         ensures left { IfErr result (λ e. LeavesRefused S.Store (state S.Store conn) e.0 (state S.Store e.1)) }
         ensures foreign { IfErr result (λ e. is_foreign e.0 ≡ true
             → LeavesStore (state S.Store conn) (state S.Store e.1)) }
@@ -307,6 +312,10 @@ impl<S: Alter> Archive<S> {
         ensures left { IfOk result (λ more. IfSome self.old.import (λ i.
             (self.new.import ≡ Some (record i { left = drop 256 i.left }))
             × ((more ≡ false) ↔ (drop 256 i.left ≡ [])))) }
+        ensures idle { self.old.is_lost ≡ false → IfSome self.old.import (λ i. i.left ≡ []
+            → (result ≡ Ok false) × (self.new.conn ≡ self.old.conn)) }
+        ensures told { self.old.is_lost ≡ false → IsSome self.old.import
+            → IfErr result (λ kind. (kind ≡ refusal.OutOfMemory) ⊎ (kind ≡ refusal.Storage)) }
         ensures staged { HasCleanDisk (state S.Store self.new.conn) → OnOk result (IfSome self.old.import (λ i.
             StaysOn i (state S.Store self.old.conn) (record i { left = drop 256 i.left })
             (state S.Store self.new.conn))) }
@@ -426,6 +435,34 @@ impl<S: Alter> Archive<S> {
         read
     }
 
+    /// The numbers of the events and register entries whose date may mean a day from the first to the last, ascending.
+    /// Days are counted from 1970-01-01, day 0; any two are taken. A date that is a phrase, or spelt in no form, is
+    /// never found. Refusals as of `state`; it serves while an import is open, of which it sees nothing.
+    pub fn between_days(
+        &mut self,
+        alloc: Global,
+        first: i32,
+        last: i32,
+    ) -> Result<Vec<u32>, RefusalKind>
+        ensures reads { HasCleanDisk (state S.Store self.new.conn) → self.old.is_lost ≡ false
+            → Reads (λ _ c found. AreAll (IsBetween c.records first last) found.items) (state S.Store self.old.conn)
+            result (state S.Store self.new.conn) }
+        ensures lost { self.old.is_lost ≡ false → self.new.is_lost ≡ has_broken result }
+        ensures reopen { IsTrue self.old.is_lost → (result ≡ Err refusal.Reopen) × (self.new ≡ self.old) }
+        ensures open { self.new.import ≡ self.old.import }
+        ensures called { (r : Request) → IsCall S.Store self.old.conn
+            (standing r self.old.is_lost self.old.import) [] self.new.conn
+            (standing r self.new.is_lost self.new.import) }
+    {
+        if self.is_lost {
+            return Err(RefusalKind::Reopen);
+        }
+        an_import_that_is_begun_is_in_no_view();
+        let read = between_on(alloc, &mut self.conn, first, last);
+        self.is_lost = has_broken(&read);
+        read
+    }
+
     /// The society that the archive was made for. Refusals as of `state`.
     pub fn society(&mut self, alloc: Global) -> Result<Text, RefusalKind>
         ensures reads { HasCleanDisk (state S.Store self.new.conn) → self.old.is_lost ≡ false
@@ -492,8 +529,9 @@ impl<S: Alter> Archive<S> {
         }
     }
 
-    /// The same, and what breaks a rule, where a 40 says that what the tables mean is not sound.
-    pub fn audit_with_fault(&mut self, alloc: Global) -> Result<u32, (RefusalKind, Option<Fault>)>
+    /// The same, and what is wrong, where a 40 says that what the tables mean is not sound, or that a record does not
+    /// have the span of its date.
+    pub fn audit_with_fault(&mut self, alloc: Global) -> Result<u32, (RefusalKind, Option<Flaw>)>
         ensures judged { HasCleanDisk (state S.Store self.new.conn) → self.old.is_lost ≡ false
             → Judges (state S.Store self.old.conn) (without_fault result) }
         ensures told { HasCleanDisk (state S.Store self.new.conn) → self.old.is_lost ≡ false

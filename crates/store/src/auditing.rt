@@ -10,14 +10,13 @@ ghost use Rattle.store.specs.Histories as history;
 
 use crate::failing::is_storage;
 use crate::reading::refusal_after;
-use archive_audits::judge_tables;
-use audit::Fault;
+use archive_audits::{Flaw, judge_tables};
 use record_text::RefusalKind;
 use sqlite::{Alter, Connection};
 use std::alloc::Global;
 
-/// What an audit answers: how many records there are, or why not, with what breaks a rule where that was found.
-pub(crate) type Audit = Result<u32, (RefusalKind, Option<Fault>)>;
+/// What an audit answers: how many records there are, or why not, with what is wrong where that was found.
+pub(crate) type Audit = Result<u32, (RefusalKind, Option<Flaw>)>;
 
 /// How many records the archive has, where its tables are good. After any refusal but 80 the connection still answers.
 pub(crate) fn audit_on<S: Alter>(alloc: Global, conn: &mut Connection<S>) -> Audit

@@ -13,8 +13,7 @@ ghost use Rattle.archive_view.specs.Looks.{is_stop};
 ghost use Rattle.import_steps.specs.Imports.{OnlyAdds};
 ghost use Rattle.store_tables.specs.Calls.{Settled, LeavesOnly};
 ghost use Rattle.store_tables.specs.Rows.{Rows, with_batch};
-ghost use Rattle.staged_rows.specs.Staging.{rows_of_import};
-ghost use Rattle.import_commits.specs.Commits.{IsNextBatch, LeavesBegun};
+ghost use Rattle.import_commits.specs.Commits.{IsWhole, IsNextBatch, LeavesBegun};
 ghost use Rattle.store.specs.Archives.{LeavesArchive};
 ghost use Rattle.store.specs.Calls.{OnArchive};
 ghost use Rattle.store.specs.Histories.{is_storage};
@@ -121,7 +120,7 @@ fn open_import<S: Alter>(
     requires autocommit { conn.old.in_transaction ≡ false }
     ensures again { changes.kept ≡ None → conn.new ≡ conn.old }
     ensures whole { IfOk result (λ import. MatchOption import (changes.kept ≡ None) (λ i. (changes.kept ≢ None)
-        × (i ≡ record { batch = i.batch; changes = changes; left = rows_of_import i.batch changes.puts }))) }
+        × IsWhole i.batch changes i)) }
     ensures begun { HasCleanDisk (state S.Store conn.new) → IfOk result (λ import. IfSome import (λ i.
         (rows : Rows) → Settled (state S.Store conn.old) rows → IsNextBatch i.batch rows
         × Settled (state S.Store conn.new) (with_batch i.batch true rows))) }

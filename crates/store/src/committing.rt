@@ -1,6 +1,6 @@
 //! The changes of a request, written in one commit.
 
-ghost use Rattle.std.specs.Prelude.{◌≡◌, ◌⊎◌, false, IfOk, IfErr, OnOk, OnErr};
+ghost use Rattle.std.specs.Prelude.{◌≡◌, ◌⊎◌, true, false, IfOk, IfErr, OnOk, OnErr};
 ghost use Rattle.sqlite.specs.State.{HasCleanDisk};
 ghost use Rattle.sqlite.specs.Held.{state};
 ghost use Rattle.record_text.specs.declared.refusal.RefusalKind.TheVariants.{OutOfMemory, Storage};
@@ -9,8 +9,8 @@ ghost use Rattle.archive_state.specs.Content.{Content};
 ghost use Rattle.store_tables.specs.Calls.{Settled, LeavesOnly};
 ghost use Rattle.store_tables.specs.Rows.{Rows};
 ghost use Rattle.store_rows.specs.Meaning.{AllShallow};
-ghost use Rattle.store_rows.specs.Writing.{with_changes};
-ghost use Rattle.store.specs.Calls.{LeavesEither};
+ghost use Rattle.import_commits.specs.Commits.{LeavesEither as LeavesOneOf};
+ghost use Rattle.store.specs.Calls.{LeavesEither, Writes};
 ghost use Rattle.store.specs.Histories.{is_storage};
 
 use archive_state::Changes;
@@ -28,12 +28,11 @@ pub(crate) fn commit_changes<S: Alter>(
 ) -> Result<(), RefusalKind>
     requires autocommit { conn.old.in_transaction ≡ false }
     ensures done { HasCleanDisk (state S.Store conn.new)
-        → OnOk result ((rows : Rows) → Settled (state S.Store conn.old) rows → Settled (state S.Store conn.new)
-        (with_changes changes.now rows)) }
+        → OnOk result (Writes (state S.Store conn.old) changes.now (state S.Store conn.new)) }
     ensures shallow { OnOk result ((c : Content) → AllShallow c → AllShallow (applied c changes.now)) }
     ensures crash { HasCleanDisk (state S.Store conn.new)
-        → (rows : Rows) → Settled (state S.Store conn.old) rows → LeavesEither (state S.Store conn.new)
-        rows changes.now }
+        → (rows : Rows) → rows.has_spans ≡ true → Settled (state S.Store conn.old) rows
+        → LeavesEither (state S.Store conn.new) rows changes.now }
     ensures undone { HasCleanDisk (state S.Store conn.new)
         → IfErr result (λ kind. is_storage kind ≡ false → (rows : Rows) → Settled (state S.Store conn.old) rows
         → LeavesOnly (state S.Store conn.new) rows) }
@@ -57,20 +56,24 @@ fn try_commit<S: Alter>(
 ) -> Result<Result<(), Error>, RefusalKind>
     requires autocommit { conn.old.in_transaction ≡ false }
     ensures done { HasCleanDisk (state S.Store conn.new) → IfOk result (λ committed. OnOk committed
-        ((rows : Rows) → Settled (state S.Store conn.old) rows → Settled (state S.Store conn.new)
-        (with_changes changes.now rows))) }
+        (Writes (state S.Store conn.old) changes.now (state S.Store conn.new))) }
     ensures shallow { OnOk result ((c : Content) → AllShallow c → AllShallow (applied c changes.now)) }
     ensures crash { HasCleanDisk (state S.Store conn.new)
-        → (rows : Rows) → Settled (state S.Store conn.old) rows → LeavesEither (state S.Store conn.new)
-        rows changes.now }
+        → (rows : Rows) → rows.has_spans ≡ true → Settled (state S.Store conn.old) rows
+        → LeavesEither (state S.Store conn.new) rows changes.now }
     ensures undone { HasCleanDisk (state S.Store conn.new)
         → OnErr result ((rows : Rows) → Settled (state S.Store conn.old) rows
-        → LeavesOnly (state S.Store conn.new) rows) }
+        → LeavesOneOf (state S.Store conn.new) rows rows) }
     ensures refused { IfErr result (λ kind. (kind ≡ OutOfMemory) ⊎ (kind ≡ Storage)) }
     ensures clean { HasCleanDisk (state S.Store conn.new) → HasCleanDisk (state S.Store conn.old) }
     ensures ended { conn.new.in_transaction ≡ false }
 {
     let mut tx = conn.transaction();
-    write_changes(alloc, &mut tx, changes)?;
-    Ok(tx.commit())
+    match write_changes(alloc, &mut tx, changes) {
+        Ok(()) => Ok(tx.commit()),
+        Err(kind) => {
+            tx.rollback();
+            Err(kind)
+        }
+    }
 }

@@ -36,6 +36,8 @@ pub(crate) fn stage_on<S: Alter>(
     requires autocommit { conn.old.in_transaction ≡ false }
     ensures left { OnOk result (import.new ≡ record import.old { left = drop 256 import.old.left }) }
     ensures more { IfOk result (λ more. (more ≡ false) ↔ (import.new.left ≡ [])) }
+    ensures none { import.old.left ≡ [] → (result ≡ Ok false) × (conn.new ≡ conn.old) }
+    ensures refused { IfErr result (λ kind. (kind ≡ OutOfMemory) ⊎ (kind ≡ Storage)) }
     ensures staged { HasCleanDisk (state S.Store conn.new)
         → OnOk result (StaysOn import.old (state S.Store conn.old) import.new (state S.Store conn.new)) }
     ensures crash { HasCleanDisk (state S.Store conn.new) → (society : List ℕ) (c : Content) (r : Request)
@@ -100,6 +102,7 @@ pub(crate) fn abandon_on<S: Alter>(
     ensures ended { conn.new.in_transaction ≡ false }
 {
     an_import_that_is_begun_can_be_taken_out();
+    an_import_that_is_begun_is_in_no_view();
     an_import_that_is_taken_out_leaves_what_was();
-    remove_batch(conn, import.batch(), import.numbers())
+    remove_batch(conn, true, import.batch(), import.numbers())
 }

@@ -11,6 +11,7 @@ ghost use Rattle.archive_core.specs.declared.request.Request.{Request};
 ghost use Rattle.receipts.specs.declared.answer.Answer.{Answer};
 ghost use Rattle.store.specs.Archives.{HasArchive, IsArchive};
 ghost use Rattle.store.specs.Calls.{Performs};
+ghost use Rattle.store.specs.Earlier.{HoldsArchive};
 ghost use Rattle.staging.specs.Opened.{Import};
 ghost use Rattle.store.specs.Histories.{in_doubt};
 ghost use Rattle.store.specs.Importing.{Has};
@@ -27,6 +28,18 @@ pub fn a_stop_loses_nothing<S: Alter>()
     ensures { (before after : Trees) (calls : List Done) (more : List (List Done)) (society : List ℕ) (c : Content)
         → Life S.Store before calls more after → IsArchive society c before
         → (found : Content) × (dones : List Done) × IsArchive society found after × CountInAll calls more dones
+        × Runs c dones found }
+{
+    an_import_that_is_begun_is_in_no_view();
+}
+
+/// The same of an archive in tables of either version: of one of the first version the requests go on from what it is
+/// anew, however often it is stopped before it was made one of the second version, or while it is. What is found in the
+/// end is good tables of one of the two versions.
+pub fn a_stop_loses_nothing_of_either_version<S: Alter>()
+    ensures { (before after : Trees) (calls : List Done) (more : List (List Done)) (society : List ℕ) (c : Content)
+        → Life S.Store before calls more after → HoldsArchive society c before
+        → (found : Content) × (dones : List Done) × HoldsArchive society found after × CountInAll calls more dones
         × Runs c dones found }
 {
     an_import_that_is_begun_is_in_no_view();
@@ -50,7 +63,8 @@ pub fn has_the_archive<S: Alter>()
     an_import_that_is_begun_is_in_no_view();
 }
 
-/// A connection that was opened over tables, and shows them, has the archive that they are.
+/// A connection that was opened over tables, and shows them, has the archive that they are, in the version that they
+/// have.
 pub fn opened_over<S: Alter>()
     ensures { (opened : Held S) (t : Trees) → Opens (state S.Store opened) → IsLive (state S.Store opened)
         → (state S.Store opened).committed.trees ≡ t → IsOpenedOver t (state S.Store opened) }

@@ -7,6 +7,7 @@ mod archive;
 mod auditing;
 mod beginning;
 mod committing;
+mod days;
 mod deciding;
 mod failing;
 mod importing;

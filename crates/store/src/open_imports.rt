@@ -4,6 +4,7 @@ ghost use Rattle.std.specs.Prelude.{
   ◌≡◌,
   ◌≢◌,
   ◌↔◌,
+  ◌⊎◌,
   ℕ,
   List,
   [],
@@ -65,6 +66,8 @@ pub(crate) fn stage_open<S: Alter>(
     requires autocommit { conn.old.in_transaction ≡ false }
     ensures left { IfOk result (λ more. IfSome import.old (λ i.
         (import.new ≡ Some (record i { left = drop 256 i.left })) × ((more ≡ false) ↔ (drop 256 i.left ≡ [])))) }
+    ensures idle { IfSome import.old (λ i. i.left ≡ [] → (result ≡ Ok false) × (conn.new ≡ conn.old)) }
+    ensures refused { IsSome import.old → IfErr result (λ kind. (kind ≡ OutOfMemory) ⊎ (kind ≡ Storage)) }
     ensures staged { HasCleanDisk (state S.Store conn.new) → OnOk result (IfSome import.old (λ i.
         StaysOn i (state S.Store conn.old) (record i { left = drop 256 i.left }) (state S.Store conn.new))) }
     ensures stays { HasCleanDisk (state S.Store conn.new) → IfErr result (λ kind. is_storage kind ≡ false

@@ -12,9 +12,15 @@ ghost use Rattle.archive_view.specs.Looks.{is_stop};
 ghost use Rattle.store_tables.specs.Calls.{LeavesOnly, Settled};
 ghost use Rattle.store_tables.specs.Rows.{Rows};
 ghost use Rattle.store_rows.specs.Meaning.{AllShallow};
-ghost use Rattle.store_rows.specs.Writing.{with_changes};
 ghost use Rattle.store.specs.Histories.{is_storage};
-ghost use Rattle.store.specs.Calls.{Acknowledges, LeavesDoneOrNot, LeavesEither, OnArchive, Performs};
+ghost use Rattle.store.specs.Calls.{
+  Acknowledges,
+  LeavesDoneOrNot,
+  LeavesEither,
+  OnArchive,
+  Performs,
+  Writes,
+};
 
 use crate::archive::Archive;
 use crate::committing::commit_changes;
@@ -151,12 +157,12 @@ fn make_changes<S: Alter>(
     ensures again { changes.kept ≡ None → conn.new ≡ conn.old }
     ensures kept { IfErr result (λ _. changes.kept ≢ None) }
     ensures made { changes.kept ≢ None → HasCleanDisk (state S.Store conn.new)
-        → OnOk result ((rows : Rows) → Settled (state S.Store conn.old) rows → Settled (state S.Store conn.new)
-        (with_changes changes rows)) }
+        → OnOk result (Writes (state S.Store conn.old) changes (state S.Store conn.new)) }
     ensures shallow { changes.kept ≢ None
         → OnOk result ((c : Content) → AllShallow c → AllShallow (applied c changes)) }
     ensures crash { changes.kept ≢ None → HasCleanDisk (state S.Store conn.new)
-        → (rows : Rows) → Settled (state S.Store conn.old) rows → LeavesEither (state S.Store conn.new) rows changes }
+        → (rows : Rows) → rows.has_spans ≡ true → Settled (state S.Store conn.old) rows
+        → LeavesEither (state S.Store conn.new) rows changes }
     ensures undone { HasCleanDisk (state S.Store conn.new)
         → IfErr result (λ kind. is_storage kind ≡ false → (rows : Rows) → Settled (state S.Store conn.old) rows
         → LeavesOnly (state S.Store conn.new) rows) }

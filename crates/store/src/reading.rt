@@ -1,14 +1,14 @@
 //! What an archive holds, read of its tables.
 
-ghost use Rattle.std.specs.Prelude.{◌≡◌, ⊤, true, false, IfErr, IsTrue, OnOk};
+ghost use Rattle.std.specs.Prelude.{◌≡◌, true, false, IfErr, IfOk, IsTrue};
 ghost use Rattle.sqlite.specs.State.{HasCleanDisk, IsUnchanged, Survives};
 ghost use Rattle.sqlite.specs.Held.{state};
 ghost use Rattle.store_tables.specs.Calls.{IsAsItWas, LeavesOnly, Settled};
-ghost use Rattle.store_tables.specs.Looking.{Looks};
+ghost use Rattle.store_tables.specs.Looking.{IsFailure, Looks, version_number};
 ghost use Rattle.store_tables.specs.Rows.{Rows};
-ghost use Rattle.store.specs.Adopting.{IsRecognised, LeavesStore, RefusesToAdopt, is_foreign};
-ghost use Rattle.store.specs.Calls.{Reads};
-ghost use Rattle.store.specs.Histories.{is_storage};
+ghost use Rattle.store.specs.Adopting.{IsOfVersion, LeavesStore, RefusesToAdopt, is_foreign};
+ghost use Rattle.store.specs.Calls.{Reads, Stays};
+ghost use Rattle.store.specs.Histories.{has_broken, is_storage};
 
 use crate::failing::is_storage;
 use archive_state::State;
@@ -17,7 +17,7 @@ use sqlite::{Alter, Connection};
 use std::alloc::Global;
 use store_rows::read_state;
 use store_tables::connection::still_answers;
-use store_tables::{check_tables, check_version};
+use store_tables::{Version, check_tables, check_version};
 
 /// All that the archive holds. After any refusal but 80 the connection still answers.
 pub(crate) fn state_on<S: Alter>(
@@ -51,16 +51,20 @@ pub(crate) fn society_on<S: Alter>(
     }
 }
 
-/// Whether the store has an archive of the version that this program writes. After any refusal but 80 the connection
+/// The version of the archive that the store has, of the two that are known. After any refusal but 80 the connection
 /// still answers.
-pub(crate) fn recognise<S: Alter>(conn: &mut Connection<S>) -> Result<(), RefusalKind>
+pub(crate) fn recognise<S: Alter>(conn: &mut Connection<S>) -> Result<Version, RefusalKind>
     requires autocommit { conn.old.in_transaction ≡ false }
-    ensures reads { HasCleanDisk (state S.Store conn.new) → Reads (λ _ _ _. ⊤) (state S.Store conn.old) result
-        (state S.Store conn.new) }
+    ensures stays { HasCleanDisk (state S.Store conn.new)
+        → Stays (state S.Store conn.old) (has_broken result) (state S.Store conn.new) }
+    ensures version { HasCleanDisk (state S.Store conn.new) → IfOk result (λ version. (rows : Rows)
+        → Settled (state S.Store conn.old) rows → rows.version ≡ version_number version) }
+    ensures refused { HasCleanDisk (state S.Store conn.new) → IfErr result (λ kind. (rows : Rows)
+        → Settled (state S.Store conn.old) rows → IsFailure kind) }
     ensures told { HasCleanDisk (state S.Store conn.new)
         → IfErr result (RefusesToAdopt S.Store (state S.Store conn.old)) }
     ensures recognised { HasCleanDisk (state S.Store conn.new)
-        → OnOk result (IsRecognised S.Store (state S.Store conn.old)) }
+        → IfOk result (IsOfVersion S.Store (state S.Store conn.old)) }
     ensures left { LeavesStore (state S.Store conn.old) (state S.Store conn.new) }
     ensures unchanged { HasCleanDisk (state S.Store conn.new) → IfErr result (λ kind. is_foreign kind ≡ true
         → IsAsItWas (state S.Store conn.old) (state S.Store conn.new)) }
@@ -68,25 +72,29 @@ pub(crate) fn recognise<S: Alter>(conn: &mut Connection<S>) -> Result<(), Refusa
 {
     match look_at_tables(conn) {
         Err(kind) => Err(refusal_after(conn, kind)),
-        Ok(()) => Ok(()),
+        Ok(version) => Ok(version),
     }
 }
 
 /// The same, before it is known whether the connection still answers.
-fn look_at_tables<S: Alter>(conn: &mut Connection<S>) -> Result<(), RefusalKind>
+fn look_at_tables<S: Alter>(conn: &mut Connection<S>) -> Result<Version, RefusalKind>
     requires autocommit { conn.old.in_transaction ≡ false }
-    ensures looks { Looks (λ _ _. ⊤) (state S.Store conn.old) (state S.Store conn.new) result }
+    ensures looks { Looks (λ rows version. rows.version ≡ version_number version) (state S.Store conn.old)
+        (state S.Store conn.new) result }
     ensures told { HasCleanDisk (state S.Store conn.new)
         → IfErr result (RefusesToAdopt S.Store (state S.Store conn.old)) }
     ensures recognised { HasCleanDisk (state S.Store conn.new)
-        → OnOk result (IsRecognised S.Store (state S.Store conn.old)) }
+        → IfOk result (IsOfVersion S.Store (state S.Store conn.old)) }
     ensures survives { Survives (state S.Store conn.old) (state S.Store conn.new) (λ _. ⊥) }
     ensures unchanged { HasCleanDisk (state S.Store conn.new) → IfErr result (λ kind. is_foreign kind ≡ true
         → IsUnchanged (state S.Store conn.old) (state S.Store conn.new)) }
     ensures ended { conn.new.in_transaction ≡ false }
 {
     match check_version(conn) {
-        Ok(()) => check_tables(conn),
+        Ok(version) => match check_tables(conn, version) {
+            Ok(()) => Ok(version),
+            Err(kind) => Err(kind),
+        },
         Err(kind) => Err(kind),
     }
 }

@@ -168,7 +168,7 @@ changed_here n ls rows = lines_more n 0 ls (without_lines n rows)
     ∙ ap (λ (ks : List LineRow). map (λ (l : LineRow). l.line) ks ++ ls)
     (none_left (λ (l : LineRow). l.no) n rows.lines)
 
-line_put : (n k : ℕ) (ls : List (ℕ × Label)) (rows : Rows) → lines_of n (with_changed_lines k ls rows)
+pub line_put : (n k : ℕ) (ls : List (ℕ × Label)) (rows : Rows) → lines_of n (with_changed_lines k ls rows)
     ≡ cond (k == n) ls (lines_of n rows)
 line_put n k ls rows =
     elim (k == n) as (λ b. (k == n) ≡ b → lines_of n (with_changed_lines k ls rows) ≡ cond b ls (lines_of n rows)) [
@@ -210,7 +210,7 @@ pub rows_removed_only : (ns : List ℕ) (rows : Rows) → without_record_rows ns
 rows_removed_only [] rows = refl
 rows_removed_only (n ∷ ns) rows = rows_removed_only ns (without_record_row n rows)
 
-lines_only : (n at : ℕ) (ls : List (ℕ × Label)) (rows : Rows) → with_lines n at ls rows
+pub lines_only : (n at : ℕ) (ls : List (ℕ × Label)) (rows : Rows) → with_lines n at ls rows
     ≡ record rows { lines = (with_lines n at ls rows).lines }
 lines_only n at [] rows = refl
 lines_only n at (l ∷ ls) rows = lines_only n (at + 1) ls (with_line n at l rows)

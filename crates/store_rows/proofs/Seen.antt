@@ -10,7 +10,6 @@ use Rattle.std.proofs.Common.{
   List,
   [],
   ◌∷◌,
-  ◌++◌,
   map,
   filter,
   cond,

@@ -1,5 +1,5 @@
 -- Rows of which all that is read is this.
-use Rattle.std.proofs.Common.{◌≡◌, ◌∙◌, ℕ, Bool, List, [], ◌∷◌, map, refl, sym, ap, subst}
+use Rattle.std.proofs.Common.{◌≡◌, ℕ, Bool, List, [], ◌∷◌, map, refl, sym, subst}
 use Rattle.sqlite.specs.State.{State}
 use Rattle.stored_lines.specs.Line.{Label}
 use Rattle.receipts.specs.declared.answer.Receipt.{Receipt}
@@ -9,7 +9,8 @@ use Rattle.store_tables.specs.Rows.{LineRow, ReceiptRow, RecordRow, Rows, SlipLi
 use Rattle.store_tables.specs.Showing.{ShowsRead, ShowsRows}
 use Rattle.store_rows.specs.Meaning.{Means}
 
--- what no reader looks at is left empty: the kinds, the keys and the places of lines
+-- what no reader looks at is left empty or is that of a new archive: the version, the kinds, the keys and the places of
+-- lines, and the spans
 abbrev record_of : ℕ × ℕ → RecordRow
 record_of r = record { no = r.0; kind = []; batch = r.1 }
 
@@ -22,8 +23,10 @@ receipt_of r = record { id = 0; token = r.0; receipt = r.1 }
 abbrev slip_line_row : ℕ × (Bool × (ℕ × (ℕ × Label))) → SlipLineRow
 slip_line_row s = record { id = 0; slip = s.0; is_new = s.1.0; no = s.1.1.0; at = 0; line = s.1.1.1 }
 
-abbrev rows_of : ReadRows → Rows
-rows_of read = record {
+abbrev rows_of : Bool → ReadRows → Rows
+rows_of has_spans read = record {
+  version = 2;
+  has_spans = has_spans;
   next = read.next;
   society = [];
   batches = read.batches;
@@ -32,6 +35,7 @@ rows_of read = record {
   receipts = map receipt_of read.receipts;
   slips = read.slips;
   slip_lines = map slip_line_row read.slip_lines;
+  spans = [];
 }
 
 back : {X Y : Type 0} (make : Y → X) (read : X → Y) (same : (y : Y) → read (make y) ≡ y) (ys : List Y)
@@ -45,9 +49,9 @@ pair (a, b) = refl
 nested : {A B C D : Type 0} (p : A × (B × (C × D))) → (p.0, (p.1.0, (p.1.1.0, p.1.1.1))) ≡ p
 nested (a, (b, (c, d))) = refl
 
-read_back : (read : ReadRows) → read_of (rows_of read) ≡ read
-read_back read =
-    let same : read_of (rows_of read) ≡ record {
+read_back : (has_spans : Bool) (read : ReadRows) → read_of (rows_of has_spans read) ≡ read
+read_back has_spans read =
+    let same : read_of (rows_of has_spans read) ≡ record {
       next = read.next;
       batches = read.batches;
       records = read.records;
@@ -63,8 +67,11 @@ read_back read =
     ) refl in
     same
 
-pub shown_rows : (old : State) (read : ReadRows) (c : Content) → ((rows : Rows) → read_of rows ≡ read
+pub shown_rows : (old : State) (has_spans : Bool) (read : ReadRows) (c : Content) → ((rows : Rows) → read_of rows ≡ read
     → Means rows c) → ShowsRead read old old → (rows : Rows) × ShowsRows rows old × Means rows c
-shown_rows old read c means shown =
-    let same = read_back read in
-    (rows_of read, subst (λ r. ShowsRead r old old) (sym same) shown, means (rows_of read) same)
+shown_rows old has_spans read c means shown =
+    let same = read_back has_spans read in (
+      rows_of has_spans read,
+      subst (λ r. ShowsRead r old old) (sym same) shown,
+      means (rows_of has_spans read) same,
+    )

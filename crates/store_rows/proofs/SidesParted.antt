@@ -129,7 +129,7 @@ module _ (b : Bool) (n : ℕ) where
   deep_side [] = refl
   deep_side (l ∷ ls) = ap (λ r. (l.0 == 0) || r) (deep_side ls)
 
-  tree_piece : (t : Tree Label) → IsPiece begins_side (side_lines b n (flat 0 t))
+  pub tree_piece : (t : Tree Label) → IsPiece begins_side (side_lines b n (flat 0 t))
   tree_piece (node a f) = (refl, deep_side (flat_all 1 f) ∙ deep_all 0 f)
 
   pub stored_back : (ls : List (ℕ × Label)) → map (λ (l : SideLine). l.1.1) (side_lines b n ls) ≡ ls

@@ -92,10 +92,10 @@ bool_itself : (b : Bool) → beq b b ≡ true
 bool_itself true = refl
 bool_itself false = refl
 
-is_of_own : (b : Bool) (n : ℕ) (l : ℕ × Label) → is_of b n (b, (n, l)) ≡ true
+pub is_of_own : (b : Bool) (n : ℕ) (l : ℕ × Label) → is_of b n (b, (n, l)) ≡ true
 is_of_own b n l = and_from (beq b b) (n == n) (bool_itself b) (eq-eqb n n refl)
 
-is_of_same : (b : Bool) (n : ℕ) (l : SideLine) → is_of b n l ≡ true → (l.0 ≡ b) × (l.1.0 ≡ n)
+pub is_of_same : (b : Bool) (n : ℕ) (l : SideLine) → is_of b n l ≡ true → (l.0 ≡ b) × (l.1.0 ≡ n)
 is_of_same b n l h =
     let both : (beq l.0 b ≡ true) × ((l.1.0 == n) ≡ true) = and_parts (beq l.0 b) (l.1.0 == n) h in
     (same_bool l.0 b both.0, eqb-true l.1.0 n both.1)
@@ -109,7 +109,7 @@ all_of_side b n (r ∷ rows) h =
     let same : (r.1.0 ≡ b) × (r.1.1.0 ≡ n) = is_of_same b n r.1 parts.0 in
     λ i. (same.0 i, (same.1 i, r.1.1.1)) ∷ all_of_side b n rows parts.1 i
 
-side_all : (b : Bool) (n : ℕ) (ls : List (ℕ × Label)) (rows : List Row) → side_lines_in rows ≡ side_lines b n ls
+pub side_all : (b : Bool) (n : ℕ) (ls : List (ℕ × Label)) (rows : List Row) → side_lines_in rows ≡ side_lines b n ls
     → list_all (λ (r : Row). is_of b n r.1) rows ≡ true
 side_all b n [] [] e = refl
 side_all b n (l ∷ ls) [] e = absurd cc
@@ -142,7 +142,7 @@ mixed [] r first h = absurd cc
 mixed (x ∷ rows) r first h = let same : x ≡ r = cc in
     mixed_here x rows (ap (λ (y : Row). list_all (λ (z : Row). is_of y.1.0 y.1.1.0 z.1) (x ∷ rows)) same ∙ h)
 
-stored_of_rows : (rows : List Row) → map (λ (l : SideLine). l.1.1) (side_lines_in rows) ≡ map
+pub stored_of_rows : (rows : List Row) → map (λ (l : SideLine). l.1.1) (side_lines_in rows) ≡ map
     (λ (r : Row). r.1.1.1) rows
 stored_of_rows [] = refl
 stored_of_rows (r ∷ rows) = ap (λ (ls : List (ℕ × Label)). r.1.1.1 ∷ ls) (stored_of_rows rows)
@@ -167,7 +167,7 @@ one_more_side ss more s rows first others ls pushed parts is so_far =
     ∙ ap side_lines_in (sym parts))
     ∙ so_far
 
-some_lines : (rows : List Row) → 0 < length rows → side_lines_in rows ≡ [] → ⊥
+pub some_lines : (rows : List Row) → 0 < length rows → side_lines_in rows ≡ [] → ⊥
 some_lines [] some e = absurd (omega arith)
 some_lines (r ∷ rows) some e = cc
 

@@ -67,7 +67,7 @@ abbrev first : List SlipRow → Option SlipRow
 first [] = None
 first (s ∷ ss) = Some s
 
-first_own : (n : ℕ) (ss : List SlipRow) → slip_row_at n ss ≡ first (own (λ (s : SlipRow). s.no) n ss)
+pub first_own : (n : ℕ) (ss : List SlipRow) → slip_row_at n ss ≡ first (own (λ (s : SlipRow). s.no) n ss)
 first_own n [] = refl
 first_own n (s ∷ ss) =
     elim (s.no == n) as (λ b. cond b (Some s) (slip_row_at n ss) ≡ first
@@ -103,7 +103,7 @@ row_undone n k ss =
     ∙ first_changed (undone_at k) (own key n ss) ∙ ap (option_map (undone_at k)) (sym (first_own n ss))
 
 -- ---- its lines
-lines_more : (slip : ℕ) (is_new : Bool) (n at : ℕ) (ls : List (ℕ × Label)) (rows : Rows)
+pub lines_more : (slip : ℕ) (is_new : Bool) (n at : ℕ) (ls : List (ℕ × Label)) (rows : Rows)
     → slip_lines_of slip (with_slip_lines slip is_new n at ls rows) ≡ slip_lines_of slip rows ++ side_lines is_new n ls
 lines_more slip is_new n at [] rows = sym (append-nil (slip_lines_of slip rows))
 lines_more slip is_new n at (l ∷ ls) rows =
@@ -123,7 +123,7 @@ lines_more slip is_new n at (l ∷ ls) rows =
     (map-append slip_line_of (own key slip rows.slip_lines) (new ∷ []))
     ∙ append_assoc (slip_lines_of slip rows) (slip_line_of new ∷ []) (side_lines is_new n ls)
 
-lines_elsewhere : (m slip : ℕ) (is_new : Bool) (n at : ℕ) (ls : List (ℕ × Label)) (rows : Rows) → slip ≢ m
+pub lines_elsewhere : (m slip : ℕ) (is_new : Bool) (n at : ℕ) (ls : List (ℕ × Label)) (rows : Rows) → slip ≢ m
     → own (λ (s : SlipLineRow). s.slip) m (with_slip_lines slip is_new n at ls rows).slip_lines
     ≡ own (λ (s : SlipLineRow). s.slip) m rows.slip_lines
 lines_elsewhere m slip is_new n at [] rows off = refl
@@ -139,7 +139,7 @@ lines_elsewhere m slip is_new n at (l ∷ ls) rows off =
       line = l;
     }) rows.slip_lines off
 
-lines_only : (slip : ℕ) (is_new : Bool) (n at : ℕ) (ls : List (ℕ × Label)) (rows : Rows)
+pub lines_only : (slip : ℕ) (is_new : Bool) (n at : ℕ) (ls : List (ℕ × Label)) (rows : Rows)
     → with_slip_lines slip is_new n at ls rows
     ≡ record rows { slip_lines = (with_slip_lines slip is_new n at ls rows).slip_lines }
 lines_only slip is_new n at [] rows = refl

@@ -24,7 +24,7 @@ use Rattle.store_rows.specs.Grouped.{
   LacksChanges,
 }
 
-lines_same : (n : ℕ) (ls : List LineRow) → items_at n (map read_line ls) ≡ map (λ (l : LineRow). l.line)
+pub lines_same : (n : ℕ) (ls : List LineRow) → items_at n (map read_line ls) ≡ map (λ (l : LineRow). l.line)
     (filter (λ (l : LineRow). l.no == n) ls)
 lines_same n [] = refl
 lines_same n (l ∷ ls) = go (l.no == n) (lines_same n ls)
@@ -39,7 +39,7 @@ lines_same n (l ∷ ls) = go (l.no == n) (lines_same n ls)
     go true e = ap (λ t. l.line ∷ t) e
     go false e = e
 
-slip_lines_same : (n : ℕ) (ls : List SlipLineRow) → items_at n (map read_slip_line ls) ≡ map slip_line_of
+pub slip_lines_same : (n : ℕ) (ls : List SlipLineRow) → items_at n (map read_slip_line ls) ≡ map slip_line_of
     (filter (λ (s : SlipLineRow). s.slip == n) ls)
 slip_lines_same n [] = refl
 slip_lines_same n (l ∷ ls) = go (l.slip == n) (slip_lines_same n ls)
@@ -54,7 +54,7 @@ slip_lines_same n (l ∷ ls) = go (l.slip == n) (slip_lines_same n ls)
     go true e = ap (λ t. slip_line_of l ∷ t) e
     go false e = e
 
-recorded_same : (closed : ℕ → Bool) (n : ℕ) (rs : List RecordRow) → is_recorded closed (map read_record rs) n
+pub recorded_same : (closed : ℕ → Bool) (n : ℕ) (rs : List RecordRow) → is_recorded closed (map read_record rs) n
     ≡ list_any (λ (r : RecordRow). (r.no == n) && closed r.batch) rs
 recorded_same closed n [] = refl
 recorded_same closed n (r ∷ rs) = ap (λ b. ((r.no == n) && closed r.batch) || b) (recorded_same closed n rs)

@@ -42,7 +42,7 @@ refused_by kind f (inl none) = inl none
 refused_by kind f (inr bad) = inr (bad.0, f bad.1)
 
 -- batches that are closed by one test and the other
-recorded_alike : (f g : ℕ → Bool) → ((k : ℕ) → f k ≡ g k) → (rows : List (ℕ × ℕ)) (n : ℕ)
+pub recorded_alike : (f g : ℕ → Bool) → ((k : ℕ) → f k ≡ g k) → (rows : List (ℕ × ℕ)) (n : ℕ)
     → is_recorded f rows n ≡ is_recorded g rows n
 recorded_alike f g same [] n = refl
 recorded_alike f g same (r ∷ rs) n = cc (same r.1, recorded_alike f g same rs n)

@@ -4,4 +4,5 @@ pub mod Looking
 pub mod Meaning
 pub mod Shallow
 pub mod Sides
+pub mod Spans
 pub mod Writing

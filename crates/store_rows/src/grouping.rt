@@ -12,10 +12,7 @@ use store_tables::{BatchRow, LineRow, SlipLineRow};
 use stored_lines::StoredLine;
 
 /// The numbers of the closed batches.
-pub(crate) fn closed_batches(
-    alloc: Global,
-    batches: &[BatchRow],
-) -> Result<BTreeSet<u32>, AllocError>
+pub fn closed_batches(alloc: Global, batches: &[BatchRow]) -> Result<BTreeSet<u32>, AllocError>
     ensures { IfOk result (λ closed. (n : ℕ) → set.contains nat_cmp closed n ≡ is_closed n batches.now) }
 {
     let mut closed: BTreeSet<u32> = BTreeSet::new(alloc);
@@ -28,7 +25,7 @@ pub(crate) fn closed_batches(
 }
 
 /// The lines of each number, in order.
-pub(crate) fn grouped_lines(
+pub fn grouped_lines(
     alloc: Global,
     rows: Vec<LineRow>,
 ) -> Result<BTreeMap<u32, Vec<StoredLine>>, AllocError>
@@ -43,7 +40,7 @@ pub(crate) fn grouped_lines(
 }
 
 /// The lines of each slip, in order.
-pub(crate) fn grouped_slip_lines(
+pub fn grouped_slip_lines(
     alloc: Global,
     rows: Vec<SlipLineRow>,
 ) -> Result<BTreeMap<u32, Vec<SlipLineRow>>, AllocError>

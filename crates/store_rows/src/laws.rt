@@ -11,6 +11,7 @@ ghost use Rattle.archive_state.specs.declared.changes.Numbered.{Numbered};
 ghost use Rattle.store_tables.specs.Keyed.{lines_naming};
 ghost use Rattle.store_tables.specs.Rows.{Rows, LineRow, RecordRow};
 ghost use Rattle.store_rows.specs.Meaning.{Means, has_record};
+ghost use Rattle.store_rows.specs.Spans.{AreDrawn, Drawn, IsDated, KeepsSpans, with_dated_changes};
 ghost use Rattle.store_rows.specs.Writing.{with_changes};
 
 /// Rows mean one content at the most.
@@ -22,6 +23,26 @@ pub fn rows_mean_one_content()
 pub fn written_changes_mean_what_they_make()
     ensures { (changes : Changes) (rows : Rows) (c : Content) → Means rows c
         → Means (with_changes changes rows) (applied c changes) }
+{}
+
+/// Where each record had its span, each has it when the changes of a request and the spans of what it puts are written.
+pub fn written_spans_are_those_of_the_records()
+    ensures { (changes : Changes) (drawn : Drawn) (rows : Rows) (c : Content) → AreDrawn changes.puts drawn
+        → KeepsSpans rows c → KeepsSpans (with_dated_changes changes drawn rows) (applied c changes) }
+{}
+
+/// The spans change nothing of what rows mean, and no row in `record` and no line.
+pub fn spans_say_nothing_of_records()
+    ensures means { (changes : Changes) (drawn : Drawn) (rows : Rows) (c : Content)
+        → Means (with_changes changes rows) c → Means (with_dated_changes changes drawn rows) c }
+    ensures lines { (changes : Changes) (drawn : Drawn) (rows : Rows)
+        → (with_dated_changes changes drawn rows).lines ≡ (with_changes changes rows).lines }
+    ensures records { (changes : Changes) (drawn : Drawn) (rows : Rows)
+        → (with_dated_changes changes drawn rows).records ≡ (with_changes changes rows).records }
+    ensures society { (changes : Changes) (drawn : Drawn) (rows : Rows)
+        → (with_dated_changes changes drawn rows).society ≡ rows.society }
+    ensures dated { (changes : Changes) (drawn : Drawn) (rows : Rows) → IsDated rows
+        → IsDated (with_dated_changes changes drawn rows) }
 {}
 
 /// Changes leave the rows of every number that they neither put nor take out: its row in `record` and its lines,

@@ -3,13 +3,13 @@
 #![tactic(auto)]
 
 mod finding;
-mod grouping;
+pub mod grouping;
 pub mod laws;
 pub mod looking;
 mod reading;
-mod sides;
+pub mod sides;
 mod state;
 mod writing;
 
 pub use reading::read_state;
-pub use writing::{kind_word, remove_lines, remove_rows, write_changes, write_kept};
+pub use writing::{kind_word, remove_lines, remove_rows, remove_spans, write_changes, write_kept};

@@ -187,7 +187,7 @@ fn push(numbers: &mut Vec<u32>, number: u32) -> Result<(), AllocError>
 }
 
 /// Whether a number has a record: its row is of a batch that is closed.
-fn has_record<S: Alter>(
+pub fn has_record<S: Alter>(
     alloc: Global,
     conn: &mut Connection<S>,
     number: u32,

@@ -1,6 +1,6 @@
 //! The state of an archive, read of its tables.
 
-ghost use Rattle.std.specs.Prelude.{◌≡◌, ◌⊎◌, false, IfOk, IfErr};
+ghost use Rattle.std.specs.Prelude.{◌≡◌, ◌⊎◌, Bool, false, IfOk, IfErr};
 ghost use Rattle.sqlite.specs.State.{HasCleanDisk};
 ghost use Rattle.sqlite.specs.Held.{state};
 ghost use Rattle.record_text.specs.declared.refusal.RefusalKind.TheVariants.{BadStored};
@@ -25,7 +25,8 @@ pub fn read_state<S: Alter>(alloc: Global, conn: &mut Connection<S>) -> Result<S
     requires autocommit { conn.old.in_transaction ≡ false }
     ensures read { HasCleanDisk (state S.Store conn.new)
         → IfOk result (λ s. (rows : Rows) → Settled (state S.Store conn.old) rows → Means rows s) }
-    ensures shown { HasCleanDisk (state S.Store conn.new) → (state S.Store conn.old).now.schema ≡ archive_schema
+    ensures shown { HasCleanDisk (state S.Store conn.new) → (has_spans : Bool)
+        → (state S.Store conn.old).now.schema ≡ archive_schema has_spans
         → IfOk result (λ s. (rows : Rows) × ShowsRows rows (state S.Store conn.old) × Means rows s) }
     ensures same { HasCleanDisk (state S.Store conn.new)
         → IfOk result (λ _. (rows : Rows) → Settled (state S.Store conn.old) rows

@@ -73,7 +73,7 @@ fn push_side(sides: &mut VecDeque<Side>, side: Side) -> Result<(), AllocError>
 }
 
 /// How many lines the first side has: its own first line, and all before the next that begins one.
-fn first_side(lines: &[SlipLineRow]) -> usize
+pub fn first_side(lines: &[SlipLineRow]) -> usize
     requires { 0 < length lines.now }
     ensures within { (0 < result) × (result ≤ length lines.now) }
     ensures length { result ≡ first_length (side_lines_in lines.now) }
@@ -122,7 +122,7 @@ fn side_of(alloc: Global, lines: &[SlipLineRow]) -> Result<Side, RefusalKind>
 }
 
 /// Whether all lines are of one side and number.
-fn are_of_side(lines: &[SlipLineRow], is_new: bool, number: u32) -> bool
+pub fn are_of_side(lines: &[SlipLineRow], is_new: bool, number: u32) -> bool
     ensures { result ≡ list_all (λ r. is_of is_new number r.1) lines.now }
 {
     lines
@@ -131,7 +131,7 @@ fn are_of_side(lines: &[SlipLineRow], is_new: bool, number: u32) -> bool
 }
 
 /// What is stored in lines of one side.
-fn stored_in(alloc: Global, lines: &[SlipLineRow]) -> Result<Vec<StoredLine>, AllocError>
+pub fn stored_in(alloc: Global, lines: &[SlipLineRow]) -> Result<Vec<StoredLine>, AllocError>
     ensures { IfOk result (λ stored. stored.items ≡ map (λ r. r.1.1.1) lines.now) }
 {
     let mut stored = Vec::new(alloc);

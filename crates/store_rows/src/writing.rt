@@ -2,28 +2,31 @@
 
 mod record_rows;
 mod slip_rows;
+mod span_rows;
 
 ghost use Rattle.std.specs.Prelude.{◌≡◌, ◌⊎◌, OnOk, IfErr};
 ghost use Rattle.sqlite.specs.State.{HasCleanDisk, Survives};
 ghost use Rattle.sqlite.specs.Held.{state};
-ghost use Rattle.store_tables.specs.Calls.{Follows, Inside};
-ghost use Rattle.store_tables.specs.Rows.{Rows};
+ghost use Rattle.store_tables.specs.Calls.{Follows};
 ghost use Rattle.record_text.specs.declared.refusal.RefusalKind.TheVariants.{OutOfMemory, Storage};
 ghost use Rattle.archive_state.specs.Applied.{applied};
 ghost use Rattle.archive_state.specs.Content.{Content};
-ghost use Rattle.store_rows.specs.Meaning.{Means, AllShallow};
+ghost use Rattle.store_rows.specs.Meaning.{AllShallow};
 ghost use Rattle.store_rows.specs.Shallow.{AreShallowChanges};
+ghost use Rattle.store_rows.specs.Spans.{FollowsDrawn};
 ghost use Rattle.store_rows.specs.Writing.{with_changes, with_kept_written};
 
 use archive_state::{Changes, Kept};
 pub use record_rows::{kind_word, remove_lines, remove_rows};
 use record_text::RefusalKind;
+pub use span_rows::remove_spans;
 use sqlite::{Alter, Error, Transaction};
 use std::alloc::{AllocError, Global};
 use store_tables::rows;
 
-/// Writes the changes of a request. What the rows meant, they then mean with the changes made; and where all records
-/// could be read, all can be read afterwards.
+/// Writes the changes of a request, and the spans of the records that it puts, in tables that have spans. What the rows
+/// meant, they then mean with the changes made; where each record had its span, each has it afterwards; and where all
+/// records could be read, all can be read.
 ///
 /// 80: the database answered an error. 1: memory for the lines of a record was refused. After either the transaction is
 /// to be given up, since a part may be written.
@@ -34,17 +37,12 @@ pub fn write_changes<S: Alter>(
 ) -> Result<(), RefusalKind>
     ensures same_reference { tx.new.conn.ghost_name ≡ tx.old.conn.ghost_name }
     ensures ok { HasCleanDisk (state S.Store tx.new.conn.now)
-        → OnOk result (Follows (state S.Store tx.old.conn.now) (state S.Store tx.new.conn.now)
-        (with_changes changes.now)) }
+        → OnOk result (FollowsDrawn (state S.Store tx.old.conn.now) (state S.Store tx.new.conn.now) changes.now) }
     ensures survives { Survives (state S.Store tx.old.conn.now) (state S.Store tx.new.conn.now) (λ _. ⊥) }
     ensures shallow { OnOk result ((c : Content) → AllShallow c → AllShallow (applied c changes.now)) }
-    ensures means { HasCleanDisk (state S.Store tx.new.conn.now)
-        → OnOk result ((rows : Rows) (c : Content) → Inside (state S.Store tx.old.conn.now) rows → Means rows c
-        → Inside (state S.Store tx.new.conn.now) (with_changes changes.now rows) × Means (with_changes changes.now rows)
-        (applied c changes.now)) }
     ensures refused { IfErr result (λ kind. (kind ≡ OutOfMemory) ⊎ (kind ≡ Storage)) }
 {
-    match write_all(alloc, tx, changes) {
+    match write_dated(alloc, tx, changes) {
         Ok(()) => Ok(()),
         Err(Unwritten::Memory) => Err(RefusalKind::OutOfMemory),
         Err(Unwritten::Database) => Err(RefusalKind::Storage),
@@ -83,6 +81,23 @@ impl From<Error> for Unwritten {
 }
 
 /// The same, but for the refusals.
+fn write_dated<S: Alter>(
+    alloc: Global,
+    tx: &mut Transaction<'_, S>,
+    changes: &Changes,
+) -> Result<(), Unwritten>
+    ensures same_reference { tx.new.conn.ghost_name ≡ tx.old.conn.ghost_name }
+    ensures ok { HasCleanDisk (state S.Store tx.new.conn.now)
+        → OnOk result (FollowsDrawn (state S.Store tx.old.conn.now) (state S.Store tx.new.conn.now) changes.now) }
+    ensures survives { Survives (state S.Store tx.old.conn.now) (state S.Store tx.new.conn.now) (λ _. ⊥) }
+    ensures shallow { OnOk result (AreShallowChanges changes.now) }
+{
+    span_rows::remove_spans(tx, &changes.removals)?;
+    write_all(alloc, tx, changes)?;
+    span_rows::put_spans(alloc, tx, &changes.puts)
+}
+
+/// The changes without the spans.
 fn write_all<S: Alter>(
     alloc: Global,
     tx: &mut Transaction<'_, S>,

@@ -51,22 +51,26 @@ is_own : (n : ℕ) (x : LineRow) → list_all (holds ((Int (pos n) ∷ []) ∷ l
 unfolding binary
 is_own n x = ap (λ b. is_true (from_truth (Some b)) && true) (same_int x.no n) ∙ truth_of (x.no == n)
 
-pub reads_numbers_in : (old new : State) (n : ℕ) (read : List Row) (rows : Rows) → old.now.schema ≡ archive_schema
+pub reads_numbers_in : (old new : State) (n : ℕ) (read : List Row) (rows : Rows)
+    → old.now.schema ≡ archive_schema rows.has_spans
     → Holds rows old.now.trees → Shown numbers_in (Int (pos n) ∷ []) old new read
     → read ≡ map (λ (r : RecordRow). Int (pos r.no) ∷ []) (filter (λ (r : RecordRow). r.batch == n) rows.records)
 reads_numbers_in old new n read rows has was h =
-    let reads = reads_as numbers_in (Int (pos n) ∷ []) old new archive_schema has _ numbers_in_is numbers_in_plain
-    numbers_in_unlisted read h in
+    let reads = reads_as numbers_in (Int (pos n) ∷ []) old new (archive_schema rows.has_spans) has _
+    (numbers_in_is rows.has_spans) (numbers_in_plain rows.has_spans)
+    (numbers_in_unlisted rows.has_spans) read h in
     found_in_order record_values (λ (r : RecordRow). r.no) (λ _. refl) (Int (pos n) ∷ []) (with_key 3)
     (λ (r : RecordRow). r.batch == n) (in_batch n) 2 (col 1 0 ∷ []) (overlay old.now.trees []) rows.records
     read was.records (reads.answer Null)
 
-pub reads_own_lines : (old new : State) (n : ℕ) (read : List Row) (rows : Rows) → old.now.schema ≡ archive_schema
+pub reads_own_lines : (old new : State) (n : ℕ) (read : List Row) (rows : Rows)
+    → old.now.schema ≡ archive_schema rows.has_spans
     → Holds rows old.now.trees → Shown own_lines (Int (pos n) ∷ []) old new read
     → read ≡ map (λ (l : LineRow). Int (pos l.no) ∷ []) (filter (λ (l : LineRow). l.no == n) rows.lines)
 reads_own_lines old new n read rows has was h =
-    let reads = reads_as own_lines (Int (pos n) ∷ []) old new archive_schema has _ own_lines_is own_lines_plain
-    own_lines_unlisted read h in
+    let reads = reads_as own_lines (Int (pos n) ∷ []) old new (archive_schema rows.has_spans) has _
+    (own_lines_is rows.has_spans) (own_lines_plain rows.has_spans)
+    (own_lines_unlisted rows.has_spans) read h in
     found_in_order line_values (λ (l : LineRow). l.id) (λ _. refl) (Int (pos n) ∷ []) (with_key 2)
     (λ (l : LineRow). l.no == n) (is_own n) 3 (col 1 2 ∷ []) (overlay old.now.trees []) rows.lines read was.lines
     (reads.answer Null)

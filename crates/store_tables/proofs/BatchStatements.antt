@@ -86,16 +86,11 @@ use Rattle.store_tables.proofs.Writing.{updates, deletes, cast_int, cast_null, R
 use Rattle.store_tables.proofs.Finding.{simple, answered, map_twice}
 use Rattle.store_tables.proofs.Coded.{same_int, int_order, keeps_less, keeps_on}
 use Rattle.store_tables.proofs.Changing.{at_key, none_changed, keeps_changed}
-use Rattle.store_tables.proofs.Statements.{Becomes, becomes, others_of, truth_of}
+use Rattle.store_tables.proofs.Statements.{Becomes, becomes, no_work, others_of, spans_on, truth_of}
 
 permutation_none : {X : Type 0} (ys : List X) → IsPermutation [] ys → ys ≡ []
 permutation_none [] h = refl
 permutation_none (y ∷ ys) h = absurd (let e : length (y ∷ ys) ≡ 0 = length_permutation [] (y ∷ ys) h in cc)
-
--- a row that keeps its key sets off nothing
-no_work_1 : (olds : List Row) (row : Row) → works archive_schema Enforced 0 1 olds (row ∷ []) ≡ []
-unfolding same_name joined
-no_work_1 olds row = refl
 
 one_refuses : (b : Bool) (v : Work) → Restrict v → AllByRecursion Restrict
     (cons_option (if b then Some v else None) [] ++ [])
@@ -103,25 +98,28 @@ one_refuses true v p = (p, tt)
 one_refuses false v p = tt
 
 -- what refers to a batch restricts its deletion
-only_restricted : (olds : List Row) → AllByRecursion Restrict (works archive_schema Enforced 0 1 olds [])
+only_restricted : (b : Bool) (olds : List Row)
+    → AllByRecursion Restrict (works (archive_schema b) Enforced 0 1 olds [])
 unfolding same_name joined
-only_restricted olds = one_refuses _ _ refl
+only_restricted false olds = one_refuses _ _ refl
+only_restricted true olds = one_refuses _ _ refl
 
 passes_1 : (n : ℕ) (x : BatchRow) → list_all (holds ((Int (pos n) ∷ []) ∷ batch_values x ∷ [])) (with_key 0)
     ≡ (x.no == n)
 unfolding binary
 passes_1 n x = ap (λ b. is_true (from_truth (Some b)) && true) (same_int x.no n) ∙ truth_of (x.no == n)
 
-pub closes_batch : (old new : State) (n count : ℕ) → old.now.schema ≡ archive_schema
-    → Executes close_batch (Int (pos n) ∷ []) old new (Ok count) → Becomes old new (with_closed n)
-closes_batch old new n count has h =
+pub closes_batch : (old new : State) (n count : ℕ) (b : Bool) → old.now.schema ≡ archive_schema b
+    → Executes close_batch (Int (pos n) ∷ []) old new (Ok count) → Becomes b old new (with_closed n)
+closes_batch old new n count b has h =
     let params = Int (pos n) ∷ [] in
     let project = col 1 0 ∷ col 1 0 ∷ lit Null ∷ lit (Int (pos 0)) ∷ [] in
     let q : Program = record { lets = []; body = simple 1 (with_key 0) project [] } in
-    let w = runs_as close_batch params old new archive_schema has (Update 1 q) close_batch_is close_batch_plain
+    let w = runs_as close_batch params old new (archive_schema b) has (Update 1 q) (close_batch_is b)
+    (close_batch_plain b)
     count h in
-    let did = updates archive_schema batches 1 refl refl old new.now w.tally params
-    (statement_of close_batch (understood archive_schema close_batch)) q has w.changed in
+    let did = updates (archive_schema b) batches 1 refl refl old new.now w.tally params
+    (statement_of close_batch (understood (archive_schema b) close_batch)) q has w.changed in
     let read = did.1 in
     let db = old.now.trees in
     let now = new.now.trees in
@@ -130,16 +128,16 @@ closes_batch old new n count has h =
     let shown = (λ (x : BatchRow). eval_all project (params ∷ batch_values x ∷ [])) in
     let found = (λ (rows : Rows) (was : Holds rows db). answered batch_values params (with_key 0) (λ x. x.no == n)
     (passes_1 n) 1 project [] (overlay db []) rows.batches read was.batches.is (did.2.answer Null)) in
-    becomes old new w.sound did.0 (λ rows was.
+    becomes b old new w.sound did.0 (λ _. refl) (λ rows was.
     elim (at_key key n rows.batches was.batches.rise) [
       | inl none ↦
           let empty : read ≡ [] = permutation_none read
           (subst (λ xs. IsPermutation (map shown xs) read) none (found rows was)) in
           let edit = edit_of db batches [] Given 1 [] in
-          let applied = restricted_step archive_schema Enforced db now edit (only_restricted (taken_by db edit))
-          (subst (λ rs. Writes archive_schema Enforced db (edit_of db batches (ids_of rs) Given 1 rs) (Ok now))
+          let applied = restricted_step (archive_schema b) Enforced db now edit (only_restricted b (taken_by db edit))
+          (subst (λ rs. Writes (archive_schema b) Enforced db (edit_of db batches (ids_of rs) Given 1 rs) (Ok now))
           empty did.3) in
-          let same = others_of db now edit applied in
+          let same = others_of b db now edit applied in
           record {
             meta = same 0 (omega arith) (omega arith) ∙ was.meta;
             batches = subst (λ xs. Keeps batch_values key xs (now 1))
@@ -149,16 +147,17 @@ closes_batch old new n count has h =
             receipts = keeps_on _ _ _ (same 4 (omega arith) (omega arith)) was.receipts;
             slips = keeps_on _ _ _ (same 5 (omega arith) (omega arith)) was.slips;
             slip_lines = keeps_on _ _ _ (same 6 (omega arith) (omega arith)) was.slip_lines;
+            spans = spans_on b rows db now edit applied (omega arith) was.spans;
           }
       | inr (x, one, here) ↦
           let single : read ≡ shown x ∷ [] = one_permutation _ read
           (subst (λ xs. IsPermutation (map shown xs) read) one (found rows was)) in
           let edit = edit_of db batches (pos x.no ∷ []) Given 1 (shown x ∷ []) in
-          let applied = one_step archive_schema Enforced db now edit
-          (no_work_1 (taken_by db edit) (batch_values (g x)))
-          (subst (λ rs. Writes archive_schema Enforced db (edit_of db batches (ids_of rs) Given 1 rs) (Ok now))
+          let applied = one_step (archive_schema b) Enforced db now edit
+          (no_work b db edit refl refl)
+          (subst (λ rs. Writes (archive_schema b) Enforced db (edit_of db batches (ids_of rs) Given 1 rs) (Ok now))
           single did.3) in
-          let same = others_of db now edit applied in
+          let same = others_of b db now edit applied in
           let row : edited db edit ≡ put_row (batch_values (g x)) (without_all (db 1) (pos x.no ∷ [])) = rw
           (cast_null, cast_int (pos x.no), cast_int (pos 0)) refl in
           let away = ap (λ k. put_row (batch_values (g x)) (without_all (db 1) (pos k ∷ []))) here in
@@ -171,25 +170,28 @@ closes_batch old new n count has h =
             receipts = keeps_on _ _ _ (same 4 (omega arith) (omega arith)) was.receipts;
             slips = keeps_on _ _ _ (same 5 (omega arith) (omega arith)) was.slips;
             slip_lines = keeps_on _ _ _ (same 6 (omega arith) (omega arith)) was.slip_lines;
+            spans = spans_on b rows db now edit applied (omega arith) was.spans;
           }
     ])
 
-pub deletes_batch : (old new : State) (n count : ℕ) → old.now.schema ≡ archive_schema
-    → Executes delete_batch (Int (pos n) ∷ []) old new (Ok count) → Becomes old new (without_batch_row n)
-deletes_batch old new n count has h =
+pub deletes_batch : (old new : State) (n count : ℕ) (b : Bool) → old.now.schema ≡ archive_schema b
+    → Executes delete_batch (Int (pos n) ∷ []) old new (Ok count) → Becomes b old new (without_batch_row n)
+deletes_batch old new n count b has h =
     let params = Int (pos n) ∷ [] in
     let q : Program = record { lets = []; body = simple 1 (with_key 0) (col 1 0 ∷ []) [] } in
-    let w = runs_as delete_batch params old new archive_schema has (Delete 1 q) delete_batch_is delete_batch_plain
+    let w = runs_as delete_batch params old new (archive_schema b) has (Delete 1 q) (delete_batch_is b)
+    (delete_batch_plain b)
     count h in
-    let did = deletes archive_schema batches 1 refl refl old new.now w.tally params
-    (statement_of delete_batch (understood archive_schema delete_batch)) q has w.changed in
+    let did = deletes (archive_schema b) batches 1 refl refl old new.now w.tally params
+    (statement_of delete_batch (understood (archive_schema b) delete_batch)) q has w.changed in
     let found = did.1 in
     let db = old.now.trees in
     let now = new.now.trees in
     let edit = edit_of db batches (ids_of found) Given 0 [] in
-    let applied = restricted_step archive_schema Enforced db now edit (only_restricted (taken_by db edit)) did.3 in
-    let same = others_of db now edit applied in
-    becomes old new w.sound did.0 (λ rows was.
+    let applied = restricted_step (archive_schema b) Enforced db now edit (only_restricted b (taken_by db edit)) did.3
+    in
+    let same = others_of b db now edit applied in
+    becomes b old new w.sound did.0 (λ _. refl) (λ rows was.
     let all = answered batch_values params (with_key 0) (λ x. x.no == n) (passes_1 n) 1 (col 1 0 ∷ []) []
     (overlay db []) rows.batches found was.batches.is (did.2.answer Null) in
     let ids : IsPermutation
@@ -207,6 +209,7 @@ deletes_batch old new n count has h =
       receipts = keeps_on _ _ _ (same 4 (omega arith) (omega arith)) was.receipts;
       slips = keeps_on _ _ _ (same 5 (omega arith) (omega arith)) was.slips;
       slip_lines = keeps_on _ _ _ (same 6 (omega arith) (omega arith)) was.slip_lines;
+      spans = spans_on b rows db now edit applied (omega arith) was.spans;
     })
 
 -- ---- the lines of a number from a place on
@@ -226,27 +229,28 @@ passes_3 n at x =
     ap₂ (λ a b. is_true (from_truth (Some a)) && (is_true (from_truth (Some b)) && true)) (same_int x.no n)
     (not_below x.at at) ∙ both_true (x.no == n) (not (nat_lt x.at at))
 
-no_work_3 : (olds : List Row) → works archive_schema Enforced 0 3 olds [] ≡ []
+no_work_3 : (b : Bool) (olds : List Row) → works (archive_schema b) Enforced 0 3 olds [] ≡ []
 unfolding same_name joined
-no_work_3 olds = refl
+no_work_3 false olds = refl
+no_work_3 true olds = refl
 
-pub deletes_lines_from : (old new : State) (n at count : ℕ) → old.now.schema ≡ archive_schema
+pub deletes_lines_from : (old new : State) (n at count : ℕ) (b : Bool) → old.now.schema ≡ archive_schema b
     → Executes delete_lines_from (Int (pos n) ∷ Int (pos at) ∷ []) old new (Ok count)
-    → Becomes old new (without_lines_from n at)
-deletes_lines_from old new n at count has h =
+    → Becomes b old new (without_lines_from n at)
+deletes_lines_from old new n at count b has h =
     let params = Int (pos n) ∷ Int (pos at) ∷ [] in
     let q : Program = record { lets = []; body = simple 3 from_place (col 1 0 ∷ []) [] } in
-    let w = runs_as delete_lines_from params old new archive_schema has (Delete 3 q) delete_lines_from_is
-    delete_lines_from_plain count h in
-    let did = deletes archive_schema lines 3 refl refl old new.now w.tally params
-    (statement_of delete_lines_from (understood archive_schema delete_lines_from)) q has w.changed in
+    let w = runs_as delete_lines_from params old new (archive_schema b) has (Delete 3 q) (delete_lines_from_is b)
+    (delete_lines_from_plain b) count h in
+    let did = deletes (archive_schema b) lines 3 refl refl old new.now w.tally params
+    (statement_of delete_lines_from (understood (archive_schema b) delete_lines_from)) q has w.changed in
     let found = did.1 in
     let db = old.now.trees in
     let now = new.now.trees in
     let edit = edit_of db lines (ids_of found) Given 0 [] in
-    let applied = one_step archive_schema Enforced db now edit (no_work_3 (taken_by db edit)) did.3 in
-    let same = others_of db now edit applied in
-    becomes old new w.sound did.0 (λ rows was.
+    let applied = one_step (archive_schema b) Enforced db now edit (no_work_3 b (taken_by db edit)) did.3 in
+    let same = others_of b db now edit applied in
+    becomes b old new w.sound did.0 (λ _. refl) (λ rows was.
     let all = answered line_values params from_place (is_line_from n at) (passes_3 n at) 3 (col 1 0 ∷ []) []
     (overlay db []) rows.lines found was.lines.is (did.2.answer Null) in
     let ids : IsPermutation
@@ -263,4 +267,5 @@ deletes_lines_from old new n at count has h =
       receipts = keeps_on _ _ _ (same 4 (omega arith) (omega arith)) was.receipts;
       slips = keeps_on _ _ _ (same 5 (omega arith) (omega arith)) was.slips;
       slip_lines = keeps_on _ _ _ (same 6 (omega arith) (omega arith)) was.slip_lines;
+      spans = spans_on b rows db now edit applied (omega arith) was.spans;
     })

@@ -1,5 +1,5 @@
 -- What each statement on a batch and its rows means under the schema of an archive, as computing finds it.
-use Rattle.std.proofs.Common.{◌≡◌, pos, false, List, ℕ, [], ◌∷◌, codes, refl}
+use Rattle.std.proofs.Common.{◌≡◌, pos, false, List, ℕ, [], ◌∷◌, codes, refl, Bool}
 use Rattle.sqlite.specs.declared.types.Value.TheVariants.{Null, Int}
 use Rattle.sqlite.specs.Term.{Term, lit, col, op2}
 use Rattle.sqlite_sql.specs.declared.ops.BinaryOp.TheVariants.{Compare}
@@ -16,29 +16,29 @@ use Rattle.store_tables.specs.Schema.{archive_schema}
 abbrev pub close_batch : List ℕ
 close_batch = codes "UPDATE batch SET is_open = 0 WHERE no = ?1"
 
-pub close_batch_is : command_of (understood archive_schema close_batch) ≡ Update 1
+pub close_batch_is : (b : Bool) → command_of (understood (archive_schema b) close_batch) ≡ Update 1
     (record {
       lets = [];
       body = simple 1 (with_key 0) (col 1 0 ∷ col 1 0 ∷ lit Null ∷ lit (Int (pos 0)) ∷ []) [];
     })
 unfolding understood everything
-close_batch_is = refl
+close_batch_is b = refl
 
-pub close_batch_plain : IsPlain (understood archive_schema close_batch)
+pub close_batch_plain : (b : Bool) → IsPlain (understood (archive_schema b) close_batch)
 unfolding understood everything
-close_batch_plain = (refl, refl)
+close_batch_plain b = (refl, refl)
 
 abbrev pub delete_batch : List ℕ
 delete_batch = codes "DELETE FROM batch WHERE no = ?1"
 
-pub delete_batch_is : command_of (understood archive_schema delete_batch) ≡ Delete 1
+pub delete_batch_is : (b : Bool) → command_of (understood (archive_schema b) delete_batch) ≡ Delete 1
     (record { lets = []; body = simple 1 (with_key 0) (col 1 0 ∷ []) [] })
 unfolding understood everything
-delete_batch_is = refl
+delete_batch_is b = refl
 
-pub delete_batch_plain : IsPlain (understood archive_schema delete_batch)
+pub delete_batch_plain : (b : Bool) → IsPlain (understood (archive_schema b) delete_batch)
 unfolding understood everything
-delete_batch_plain = (refl, refl)
+delete_batch_plain b = (refl, refl)
 
 abbrev pub delete_lines_from : List ℕ
 delete_lines_from = codes "DELETE FROM line WHERE no = ?1 AND pos >= ?2"
@@ -47,43 +47,43 @@ delete_lines_from = codes "DELETE FROM line WHERE no = ?1 AND pos >= ?2"
 abbrev pub from_place : List Term
 from_place = op2 (Compare Eq Binary) (col 1 2) (col 0 0) ∷ op2 (Compare Ge Binary) (col 1 3) (col 0 1) ∷ []
 
-pub delete_lines_from_is : command_of (understood archive_schema delete_lines_from) ≡ Delete 3
+pub delete_lines_from_is : (b : Bool) → command_of (understood (archive_schema b) delete_lines_from) ≡ Delete 3
     (record { lets = []; body = simple 3 from_place (col 1 0 ∷ []) [] })
 unfolding understood everything
-delete_lines_from_is = refl
+delete_lines_from_is b = refl
 
-pub delete_lines_from_plain : IsPlain (understood archive_schema delete_lines_from)
+pub delete_lines_from_plain : (b : Bool) → IsPlain (understood (archive_schema b) delete_lines_from)
 unfolding understood everything
-delete_lines_from_plain = (refl, refl)
+delete_lines_from_plain b = (refl, refl)
 
 abbrev pub numbers_in : List ℕ
 numbers_in = codes "SELECT no FROM record WHERE batch = ?1 ORDER BY no"
 
-pub numbers_in_is : command_of (understood archive_schema numbers_in) ≡ Select
+pub numbers_in_is : (b : Bool) → command_of (understood (archive_schema b) numbers_in) ≡ Select
     (record { lets = []; body = simple 2 (with_key 3) (col 1 0 ∷ []) by_key }) (codes "no" ∷ [])
 unfolding understood everything
-numbers_in_is = refl
+numbers_in_is b = refl
 
-pub numbers_in_plain : IsPlain (understood archive_schema numbers_in)
+pub numbers_in_plain : (b : Bool) → IsPlain (understood (archive_schema b) numbers_in)
 unfolding understood everything
-numbers_in_plain = (refl, refl)
+numbers_in_plain b = (refl, refl)
 
-pub numbers_in_unlisted : reads_listing archive_schema numbers_in ≡ false
+pub numbers_in_unlisted : (b : Bool) → reads_listing (archive_schema b) numbers_in ≡ false
 unfolding understood everything
-numbers_in_unlisted = refl
+numbers_in_unlisted b = refl
 
 abbrev pub own_lines : List ℕ
 own_lines = codes "SELECT no FROM line WHERE no = ?1 ORDER BY id"
 
-pub own_lines_is : command_of (understood archive_schema own_lines) ≡ Select
+pub own_lines_is : (b : Bool) → command_of (understood (archive_schema b) own_lines) ≡ Select
     (record { lets = []; body = simple 3 (with_key 2) (col 1 2 ∷ []) by_key }) (codes "no" ∷ [])
 unfolding understood everything
-own_lines_is = refl
+own_lines_is b = refl
 
-pub own_lines_plain : IsPlain (understood archive_schema own_lines)
+pub own_lines_plain : (b : Bool) → IsPlain (understood (archive_schema b) own_lines)
 unfolding understood everything
-own_lines_plain = (refl, refl)
+own_lines_plain b = (refl, refl)
 
-pub own_lines_unlisted : reads_listing archive_schema own_lines ≡ false
+pub own_lines_unlisted : (b : Bool) → reads_listing (archive_schema b) own_lines ≡ false
 unfolding understood everything
-own_lines_unlisted = refl
+own_lines_unlisted b = refl

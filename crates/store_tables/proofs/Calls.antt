@@ -18,6 +18,9 @@ use Rattle.std.proofs.Common.{
   OnOk,
   IfOk,
   refl,
+  sym,
+  subst,
+  inr,
   ◌∙◌,
   arith,
   Bor,
@@ -35,6 +38,7 @@ use Rattle.sqlite.specs.State.{State, Executes, ExecutesInside}
 use Rattle.sqlite.specs.Table.{Table}
 use Rattle.sqlite.specs.Tree.{Trees}
 use Rattle.sqlite.specs.Values.{or_null, bound_value}
+use Rattle.sqlite_catalog.specs.Listing.{IsSound}
 use Rattle.sqlite_catalog.specs.Change.{indexed, created, next_tree, KeepsRows}
 use Rattle.sqlite_schema.specs.declared.schema.Index.{Index}
 use Rattle.record_text.specs.Text.{IsText}
@@ -42,7 +46,7 @@ use Rattle.store_tables.specs.Calls.{Inside, Follows, Built, Builds}
 use Rattle.store_tables.specs.Creating.{IsCreate, IsCreateIndex}
 use Rattle.store_tables.specs.Reading.{AreTyped}
 use Rattle.store_tables.specs.Rows.{Rows, bare, words_or_null, number_or_null}
-use Rattle.store_tables.specs.Schema.{archive_schema}
+use Rattle.store_tables.specs.Schema.{archive_schema, all_tables}
 use Rattle.store_tables.proofs.Coded.{all_then}
 use Rattle.store_tables.proofs.Created.{creates, creates_index}
 use Rattle.store_tables.proofs.Statements.{Becomes, inserts_meta}
@@ -54,17 +58,22 @@ is_inside false h = absurd (h refl)
 
 -- one statement in a transaction
 pub followed : (sql : List ℕ) (params : Row) (old new : State) (count : ℕ) (f : Rows → Rows)
-    → (old.now.schema ≡ archive_schema → Executes sql params old new (Ok count) → Becomes old new f)
+    → ((b : Bool) → old.now.schema ≡ archive_schema b → Executes sql params old new (Ok count) → Becomes b old new f)
     → ((rows : Rows) → AreTyped rows → AreTyped (f rows))
     → ExecutesInside 0 sql params old new (Ok count) → (rows : Rows) → Inside old rows → Inside new (f rows)
     × (new.committed ≡ old.committed)
 followed sql params old new count f means typed ran rows was =
-    let did = means was.schema ran.0 in (
+    let did = means rows.has_spans was.schema ran.0 in
+    let has = sym (did.same rows) in (
       record {
         is_open = ran.1.is_open;
         inside = ran.1.mode;
-        schema = did.schema;
-        good = record { sound = did.sound; holds = did.holds rows was.good.holds; typed = typed rows was.good.typed };
+        schema = subst (λ b. new.now.schema ≡ archive_schema b) has did.schema;
+        good = record {
+          sound = subst (λ b. IsSound (archive_schema b) new.now.trees) has did.sound;
+          holds = did.holds rows was.good.holds;
+          typed = typed rows was.good.typed;
+        };
       },
       ran.1.committed_is,
     )
@@ -132,7 +141,7 @@ builds_index schema at table index text old new count is ran was =
       ran.1.committed_is,
     )
 
-of_seven : (t : Trees) → AllByRecursion (λ (table : Table). t table.tree ≡ []) archive_schema.tables → (n : ℕ)
+of_seven : (t : Trees) → AllByRecursion (λ (table : Table). t table.tree ≡ []) (all_tables true) → (n : ℕ)
     → n < 7 → t n ≡ []
 of_seven t all zero low = all.0
 of_seven t all (suc zero) low = all.1.0
@@ -145,10 +154,13 @@ of_seven t all (suc (suc (suc (suc (suc (suc (suc n))))))) low = absurd (omega (
 
 pub begins : (society : List ℕ) (old new : State) (count : ℕ) → IsText society
     → ExecutesInside 0 insert_meta (Text society ∷ []) old new (Ok count)
-    → Built old archive_schema → Inside new (bare society) × (new.committed ≡ old.committed)
+    → Built old (archive_schema true) → Inside new (bare society) × (new.committed ≡ old.committed)
 begins society old new count text ran was =
-    let did = inserts_meta old new society count was.schema (of_seven old.now.trees was.empty) ran.0 in
+    let did = inserts_meta old new society count was.schema (of_seven old.now.trees was.empty)
+    was.empty.1.1.1.1.1.1.1.0 ran.0 in
     let typed : AreTyped (bare society) = record {
+      version = inr refl;
+      dated = λ second. refl;
       society = text;
       batches = tt;
       records = tt;
@@ -156,6 +168,7 @@ begins society old new count text ran was =
       receipts = tt;
       slips = tt;
       slip_lines = tt;
+      spans = tt;
     } in (
       record {
         is_open = ran.1.is_open;

@@ -1,5 +1,5 @@
--- Under the archive's schema no error tells that a store is no archive.
-use Rattle.std.proofs.Common.{◌≡◌, inl, inr, ℕ, List, false, None, Some, Option, sym, ap, subst, ◌∙◌}
+-- Under a schema of an archive no error tells that a store is no archive.
+use Rattle.std.proofs.Common.{◌≡◌, inl, inr, ℕ, List, false, None, Some, Option, sym, ap, subst, ◌∙◌, Bool}
 use Rattle.sqlite.specs.Order.{Row}
 use Rattle.sqlite_trees.specs.declared.error.StoreError.{StoreError}
 use Rattle.sqlite_trees.specs.declared.error.StoreError.TheVariants.{OutOfMemory, Io, Corrupt, Full, Broken, Unstorable}
@@ -32,8 +32,8 @@ by_query limit (Select q names) db params e (inr (inr h)) = ap tells_no_archive 
 by_query limit (Rows values width names) db params e h = ap tells_no_archive h.0
 by_query limit _ db params e h = ap tells_no_archive h
 
-module _ (sql : List ℕ) (plain : IsPlain (understood archive_schema sql)) (old new : State)
-    (has : old.now.schema ≡ archive_schema) (params : Row) (e : Error) where
+module _ (sql : List ℕ) (b : Bool) (plain : IsPlain (understood (archive_schema b) sql)) (old new : State)
+    (has : old.now.schema ≡ archive_schema b) (params : Row) (e : Error) where
   no_statement : IsNoStatement old sql params e → tells_no_archive e ≡ false
   no_statement (inl h) = absurd (subst IsPlain (sym (ap (λ s. understood s sql) has) ∙ h.1) plain)
   no_statement (inr (c, is, inl h)) = ap tells_no_archive h.1

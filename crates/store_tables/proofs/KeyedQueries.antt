@@ -226,98 +226,115 @@ both_pass t n x = go x.line.1.text x.line.1.target
 
 -- ---- the queries
 
-pub reads_batch : (old new : State) (n : ℕ) (read : List Row) (rows : Rows) → old.now.schema ≡ archive_schema
+pub reads_batch : (old new : State) (n : ℕ) (read : List Row) (rows : Rows)
+    → old.now.schema ≡ archive_schema rows.has_spans
     → Holds rows old.now.trees → Shown batch_at (Int (pos n) ∷ []) old new read
     → read ≡ map shown_batch (filter (λ (x : BatchRow). x.no == n) rows.batches)
 reads_batch old new n read rows has was h =
-    let reads = reads_as batch_at (Int (pos n) ∷ []) old new archive_schema has _ batch_at_is batch_at_plain
-    batch_at_unlisted read h in
+    let reads = reads_as batch_at (Int (pos n) ∷ []) old new (archive_schema rows.has_spans) has _
+    (batch_at_is rows.has_spans) (batch_at_plain rows.has_spans)
+    (batch_at_unlisted rows.has_spans) read h in
     found_in_order batch_values (λ (x : BatchRow). x.no) (λ _. refl) (Int (pos n) ∷ []) (with_key 0)
     (λ (x : BatchRow). x.no == n) (batch_passes n) 1 (col 1 0 ∷ col 1 2 ∷ []) (overlay old.now.trees [])
     rows.batches read was.batches (reads.answer Null)
 
-pub reads_record : (old new : State) (n : ℕ) (read : List Row) (rows : Rows) → old.now.schema ≡ archive_schema
+pub reads_record : (old new : State) (n : ℕ) (read : List Row) (rows : Rows)
+    → old.now.schema ≡ archive_schema rows.has_spans
     → Holds rows old.now.trees → Shown record_at (Int (pos n) ∷ []) old new read
     → read ≡ map shown_record (filter (λ (x : RecordRow). x.no == n) rows.records)
 reads_record old new n read rows has was h =
-    let reads = reads_as record_at (Int (pos n) ∷ []) old new archive_schema has _ record_at_is record_at_plain
-    record_at_unlisted read h in
+    let reads = reads_as record_at (Int (pos n) ∷ []) old new (archive_schema rows.has_spans) has _
+    (record_at_is rows.has_spans) (record_at_plain rows.has_spans)
+    (record_at_unlisted rows.has_spans) read h in
     found_in_order record_values (λ (x : RecordRow). x.no) (λ _. refl) (Int (pos n) ∷ []) (with_key 0)
     (λ (x : RecordRow). x.no == n) (record_passes n) 2 (col 1 0 ∷ col 1 3 ∷ []) (overlay old.now.trees [])
     rows.records read was.records (reads.answer Null)
 
-pub reads_lines_at : (old new : State) (n : ℕ) (read : List Row) (rows : Rows) → old.now.schema ≡ archive_schema
+pub reads_lines_at : (old new : State) (n : ℕ) (read : List Row) (rows : Rows)
+    → old.now.schema ≡ archive_schema rows.has_spans
     → Holds rows old.now.trees → Shown lines_at (Int (pos n) ∷ []) old new read
     → read ≡ map (λ (l : LineRow). line_fields l.line) (filter (λ (x : LineRow). x.no == n) rows.lines)
 reads_lines_at old new n read rows has was h =
-    let reads = reads_as lines_at (Int (pos n) ∷ []) old new archive_schema has _ lines_at_is lines_at_plain
-    lines_at_unlisted read h in
+    let reads = reads_as lines_at (Int (pos n) ∷ []) old new (archive_schema rows.has_spans) has _
+    (lines_at_is rows.has_spans) (lines_at_plain rows.has_spans)
+    (lines_at_unlisted rows.has_spans) read h in
     found_in_order line_values (λ (x : LineRow). x.id) (λ _. refl) (Int (pos n) ∷ []) (with_key 2)
     (λ (x : LineRow). x.no == n) (line_passes n) 3 (col 1 4 ∷ col 1 5 ∷ col 1 6 ∷ col 1 7 ∷ [])
     (overlay old.now.trees []) rows.lines read was.lines (reads.answer Null)
 
-pub reads_naming : (old new : State) (n : ℕ) (read : List Row) (rows : Rows) → old.now.schema ≡ archive_schema
+pub reads_naming : (old new : State) (n : ℕ) (read : List Row) (rows : Rows)
+    → old.now.schema ≡ archive_schema rows.has_spans
     → Holds rows old.now.trees → Shown lines_naming (Int (pos n) ∷ []) old new read
     → read ≡ map (λ (l : LineRow). Int (pos l.no) ∷ [])
     (filter (λ (x : LineRow). is_number n x.line.1.target) rows.lines)
 reads_naming old new n read rows has was h =
-    let reads = reads_as lines_naming (Int (pos n) ∷ []) old new archive_schema has _ lines_naming_is lines_naming_plain
-    lines_naming_unlisted read h in
+    let reads = reads_as lines_naming (Int (pos n) ∷ []) old new (archive_schema rows.has_spans) has _
+    (lines_naming_is rows.has_spans) (lines_naming_plain rows.has_spans)
+    (lines_naming_unlisted rows.has_spans) read h in
     found_in_order line_values (λ (x : LineRow). x.id) (λ _. refl) (Int (pos n) ∷ []) (with_key 7)
     (λ (x : LineRow). is_number n x.line.1.target) (naming_passes n) 3 (col 1 2 ∷ [])
     (overlay old.now.trees []) rows.lines read was.lines (reads.answer Null)
 
 pub reads_receipts_at : (old new : State) (token : List ℕ) (read : List Row) (rows : Rows)
-    → old.now.schema ≡ archive_schema → Holds rows old.now.trees → Shown receipts_at (Text token ∷ []) old new read
+    → old.now.schema ≡ archive_schema rows.has_spans → Holds rows old.now.trees
+    → Shown receipts_at (Text token ∷ []) old new read
     → read ≡ map shown_receipt (filter (λ (x : ReceiptRow). bytes_eq x.token token) rows.receipts)
 reads_receipts_at old new token read rows has was h =
-    let reads = reads_as receipts_at (Text token ∷ []) old new archive_schema has _ receipts_at_is receipts_at_plain
-    receipts_at_unlisted read h in
+    let reads = reads_as receipts_at (Text token ∷ []) old new (archive_schema rows.has_spans) has _
+    (receipts_at_is rows.has_spans) (receipts_at_plain rows.has_spans)
+    (receipts_at_unlisted rows.has_spans) read h in
     found_in_order receipt_values (λ (x : ReceiptRow). x.id) (λ _. refl) (Text token ∷ []) (with_key 2)
     (λ (x : ReceiptRow). bytes_eq x.token token) (receipt_passes token) 4
     (col 1 2 ∷ col 1 3 ∷ col 1 4 ∷ col 1 5 ∷ []) (overlay old.now.trees []) rows.receipts read was.receipts
     (reads.answer Null)
 
-pub reads_slip : (old new : State) (n : ℕ) (read : List Row) (rows : Rows) → old.now.schema ≡ archive_schema
+pub reads_slip : (old new : State) (n : ℕ) (read : List Row) (rows : Rows)
+    → old.now.schema ≡ archive_schema rows.has_spans
     → Holds rows old.now.trees → Shown slip_at (Int (pos n) ∷ []) old new read
     → read ≡ map shown_slip (filter (λ (x : SlipRow). x.no == n) rows.slips)
 reads_slip old new n read rows has was h =
-    let reads = reads_as slip_at (Int (pos n) ∷ []) old new archive_schema has _ slip_at_is slip_at_plain
-    slip_at_unlisted read h in
+    let reads = reads_as slip_at (Int (pos n) ∷ []) old new (archive_schema rows.has_spans) has _
+    (slip_at_is rows.has_spans) (slip_at_plain rows.has_spans)
+    (slip_at_unlisted rows.has_spans) read h in
     found_in_order slip_values (λ (x : SlipRow). x.no) (λ _. refl) (Int (pos n) ∷ []) (with_key 0)
     (λ (x : SlipRow). x.no == n) (slip_passes n) 5 (col 1 0 ∷ col 1 2 ∷ col 1 3 ∷ col 1 4 ∷ [])
     (overlay old.now.trees []) rows.slips read was.slips (reads.answer Null)
 
-pub reads_slip_lines_at : (old new : State) (n : ℕ) (read : List Row) (rows : Rows) → old.now.schema ≡ archive_schema
+pub reads_slip_lines_at : (old new : State) (n : ℕ) (read : List Row) (rows : Rows)
+    → old.now.schema ≡ archive_schema rows.has_spans
     → Holds rows old.now.trees → Shown slip_lines_at (Int (pos n) ∷ []) old new read
     → read ≡ map shown_slip_line (filter (λ (x : SlipLineRow). x.slip == n) rows.slip_lines)
 reads_slip_lines_at old new n read rows has was h =
-    let reads = reads_as slip_lines_at (Int (pos n) ∷ []) old new archive_schema has _ slip_lines_at_is
-    slip_lines_at_plain slip_lines_at_unlisted read h in
+    let reads = reads_as slip_lines_at (Int (pos n) ∷ []) old new (archive_schema rows.has_spans) has _
+    (slip_lines_at_is rows.has_spans)
+    (slip_lines_at_plain rows.has_spans) (slip_lines_at_unlisted rows.has_spans) read h in
     found_in_order slip_line_values (λ (x : SlipLineRow). x.id) (λ _. refl) (Int (pos n) ∷ []) (with_key 2)
     (λ (x : SlipLineRow). x.slip == n) (slip_line_passes n) 6
     (col 1 2 ∷ col 1 3 ∷ col 1 4 ∷ col 1 6 ∷ col 1 7 ∷ col 1 8 ∷ col 1 9 ∷ []) (overlay old.now.trees [])
     rows.slip_lines read was.slip_lines (reads.answer Null)
 
-pub reads_saying : (old new : State) (text : List ℕ) (read : List Row) (rows : Rows) → old.now.schema ≡ archive_schema
+pub reads_saying : (old new : State) (text : List ℕ) (read : List Row) (rows : Rows)
+    → old.now.schema ≡ archive_schema rows.has_spans
     → Holds rows old.now.trees → Shown lines_saying (Text text ∷ []) old new read
     → read ≡ map (λ (l : LineRow). Int (pos l.no) ∷ [])
     (filter (λ (x : LineRow). is_text text x.line.1.text) rows.lines)
 reads_saying old new text read rows has was h =
-    let reads = reads_as lines_saying (Text text ∷ []) old new archive_schema has _ lines_saying_is lines_saying_plain
-    lines_saying_unlisted read h in
+    let reads = reads_as lines_saying (Text text ∷ []) old new (archive_schema rows.has_spans) has _
+    (lines_saying_is rows.has_spans) (lines_saying_plain rows.has_spans)
+    (lines_saying_unlisted rows.has_spans) read h in
     found_in_order line_values (λ (x : LineRow). x.id) (λ _. refl) (Text text ∷ []) (with_key 6)
     (λ (x : LineRow). is_text text x.line.1.text) (saying_passes text []) 3 (col 1 2 ∷ [])
     (overlay old.now.trees []) rows.lines read was.lines (reads.answer Null)
 
 pub reads_saying_of : (old new : State) (text : List ℕ) (n : ℕ) (read : List Row) (rows : Rows)
-    → old.now.schema ≡ archive_schema → Holds rows old.now.trees → Shown lines_saying_of
+    → old.now.schema ≡ archive_schema rows.has_spans → Holds rows old.now.trees → Shown lines_saying_of
     (Text text ∷ Int (pos n) ∷ []) old new read
     → read ≡ map (λ (l : LineRow). Int (pos l.no) ∷ [])
     (filter (λ (x : LineRow). is_text text x.line.1.text && is_number n x.line.1.target) rows.lines)
 reads_saying_of old new text n read rows has was h =
-    let reads = reads_as lines_saying_of (Text text ∷ Int (pos n) ∷ []) old new archive_schema has _ lines_saying_of_is
-    lines_saying_of_plain lines_saying_of_unlisted read h in
+    let reads = reads_as lines_saying_of (Text text ∷ Int (pos n) ∷ []) old new (archive_schema rows.has_spans) has _
+    (lines_saying_of_is rows.has_spans)
+    (lines_saying_of_plain rows.has_spans) (lines_saying_of_unlisted rows.has_spans) read h in
     found_in_order line_values (λ (x : LineRow). x.id) (λ _. refl) (Text text ∷ Int (pos n) ∷ []) with_both
     (λ (x : LineRow). is_text text x.line.1.text && is_number n x.line.1.target) (both_pass text n) 3 (col 1 2 ∷ [])
     (overlay old.now.trees []) rows.lines read was.lines (reads.answer Null)

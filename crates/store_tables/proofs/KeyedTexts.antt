@@ -1,5 +1,5 @@
 -- What each query of one number or one token means under the schema of an archive, as computing finds it.
-use Rattle.std.proofs.Common.{◌≡◌, ℕ, List, [], ◌∷◌, codes, false, refl}
+use Rattle.std.proofs.Common.{◌≡◌, ℕ, List, [], ◌∷◌, codes, false, refl, Bool}
 use Rattle.sqlite.specs.Term.{Term, col, op2}
 use Rattle.sqlite_sql.specs.declared.ops.BinaryOp.TheVariants.{Compare}
 use Rattle.sqlite_sql.specs.declared.ops.CompareOp.TheVariants.{Eq}
@@ -15,108 +15,108 @@ use Rattle.store_tables.specs.Schema.{archive_schema}
 abbrev pub batch_at : List ℕ
 batch_at = codes "SELECT no, is_open FROM batch WHERE no = ?1 ORDER BY no"
 
-pub batch_at_is : command_of (understood archive_schema batch_at) ≡ Select
+pub batch_at_is : (b : Bool) → command_of (understood (archive_schema b) batch_at) ≡ Select
     (record { lets = []; body = simple 1 (with_key 0) (col 1 0 ∷ col 1 2 ∷ []) by_key })
     (codes "no" ∷ codes "is_open" ∷ [])
 unfolding understood everything
-batch_at_is = refl
+batch_at_is b = refl
 
-pub batch_at_plain : IsPlain (understood archive_schema batch_at)
+pub batch_at_plain : (b : Bool) → IsPlain (understood (archive_schema b) batch_at)
 unfolding understood everything
-batch_at_plain = (refl, refl)
+batch_at_plain b = (refl, refl)
 
-pub batch_at_unlisted : reads_listing archive_schema batch_at ≡ false
+pub batch_at_unlisted : (b : Bool) → reads_listing (archive_schema b) batch_at ≡ false
 unfolding understood everything
-batch_at_unlisted = refl
+batch_at_unlisted b = refl
 
 abbrev pub record_at : List ℕ
 record_at = codes "SELECT no, batch FROM record WHERE no = ?1 ORDER BY no"
 
-pub record_at_is : command_of (understood archive_schema record_at) ≡ Select
+pub record_at_is : (b : Bool) → command_of (understood (archive_schema b) record_at) ≡ Select
     (record { lets = []; body = simple 2 (with_key 0) (col 1 0 ∷ col 1 3 ∷ []) by_key })
     (codes "no" ∷ codes "batch" ∷ [])
 unfolding understood everything
-record_at_is = refl
+record_at_is b = refl
 
-pub record_at_plain : IsPlain (understood archive_schema record_at)
+pub record_at_plain : (b : Bool) → IsPlain (understood (archive_schema b) record_at)
 unfolding understood everything
-record_at_plain = (refl, refl)
+record_at_plain b = (refl, refl)
 
-pub record_at_unlisted : reads_listing archive_schema record_at ≡ false
+pub record_at_unlisted : (b : Bool) → reads_listing (archive_schema b) record_at ≡ false
 unfolding understood everything
-record_at_unlisted = refl
+record_at_unlisted b = refl
 
 abbrev pub lines_at : List ℕ
 lines_at = codes "SELECT depth, tag, text, dst FROM line WHERE no = ?1 ORDER BY id"
 
-pub lines_at_is : command_of (understood archive_schema lines_at) ≡ Select
+pub lines_at_is : (b : Bool) → command_of (understood (archive_schema b) lines_at) ≡ Select
     (record { lets = []; body = simple 3 (with_key 2) (col 1 4 ∷ col 1 5 ∷ col 1 6 ∷ col 1 7 ∷ []) by_key })
     (codes "depth" ∷ codes "tag" ∷ codes "text" ∷ codes "dst" ∷ [])
 unfolding understood everything
-lines_at_is = refl
+lines_at_is b = refl
 
-pub lines_at_plain : IsPlain (understood archive_schema lines_at)
+pub lines_at_plain : (b : Bool) → IsPlain (understood (archive_schema b) lines_at)
 unfolding understood everything
-lines_at_plain = (refl, refl)
+lines_at_plain b = (refl, refl)
 
-pub lines_at_unlisted : reads_listing archive_schema lines_at ≡ false
+pub lines_at_unlisted : (b : Bool) → reads_listing (archive_schema b) lines_at ≡ false
 unfolding understood everything
-lines_at_unlisted = refl
+lines_at_unlisted b = refl
 
 abbrev pub lines_naming : List ℕ
 lines_naming = codes "SELECT no FROM line WHERE dst = ?1 ORDER BY id"
 
-pub lines_naming_is : command_of (understood archive_schema lines_naming) ≡ Select
+pub lines_naming_is : (b : Bool) → command_of (understood (archive_schema b) lines_naming) ≡ Select
     (record { lets = []; body = simple 3 (with_key 7) (col 1 2 ∷ []) by_key }) (codes "no" ∷ [])
 unfolding understood everything
-lines_naming_is = refl
+lines_naming_is b = refl
 
-pub lines_naming_plain : IsPlain (understood archive_schema lines_naming)
+pub lines_naming_plain : (b : Bool) → IsPlain (understood (archive_schema b) lines_naming)
 unfolding understood everything
-lines_naming_plain = (refl, refl)
+lines_naming_plain b = (refl, refl)
 
-pub lines_naming_unlisted : reads_listing archive_schema lines_naming ≡ false
+pub lines_naming_unlisted : (b : Bool) → reads_listing (archive_schema b) lines_naming ≡ false
 unfolding understood everything
-lines_naming_unlisted = refl
+lines_naming_unlisted b = refl
 
 abbrev pub receipts_at : List ℕ
 receipts_at = codes "SELECT token, digest, first, count FROM receipt WHERE token = ?1 ORDER BY id"
 
-pub receipts_at_is : command_of (understood archive_schema receipts_at) ≡ Select
+pub receipts_at_is : (b : Bool) → command_of (understood (archive_schema b) receipts_at) ≡ Select
     (record { lets = []; body = simple 4 (with_key 2) (col 1 2 ∷ col 1 3 ∷ col 1 4 ∷ col 1 5 ∷ []) by_key })
     (codes "token" ∷ codes "digest" ∷ codes "first" ∷ codes "count" ∷ [])
 unfolding understood everything
-receipts_at_is = refl
+receipts_at_is b = refl
 
-pub receipts_at_plain : IsPlain (understood archive_schema receipts_at)
+pub receipts_at_plain : (b : Bool) → IsPlain (understood (archive_schema b) receipts_at)
 unfolding understood everything
-receipts_at_plain = (refl, refl)
+receipts_at_plain b = (refl, refl)
 
-pub receipts_at_unlisted : reads_listing archive_schema receipts_at ≡ false
+pub receipts_at_unlisted : (b : Bool) → reads_listing (archive_schema b) receipts_at ≡ false
 unfolding understood everything
-receipts_at_unlisted = refl
+receipts_at_unlisted b = refl
 
 abbrev pub slip_at : List ℕ
 slip_at = codes "SELECT no, keep, gone, undone FROM slip WHERE no = ?1 ORDER BY no"
 
-pub slip_at_is : command_of (understood archive_schema slip_at) ≡ Select
+pub slip_at_is : (b : Bool) → command_of (understood (archive_schema b) slip_at) ≡ Select
     (record { lets = []; body = simple 5 (with_key 0) (col 1 0 ∷ col 1 2 ∷ col 1 3 ∷ col 1 4 ∷ []) by_key })
     (codes "no" ∷ codes "keep" ∷ codes "gone" ∷ codes "undone" ∷ [])
 unfolding understood everything
-slip_at_is = refl
+slip_at_is b = refl
 
-pub slip_at_plain : IsPlain (understood archive_schema slip_at)
+pub slip_at_plain : (b : Bool) → IsPlain (understood (archive_schema b) slip_at)
 unfolding understood everything
-slip_at_plain = (refl, refl)
+slip_at_plain b = (refl, refl)
 
-pub slip_at_unlisted : reads_listing archive_schema slip_at ≡ false
+pub slip_at_unlisted : (b : Bool) → reads_listing (archive_schema b) slip_at ≡ false
 unfolding understood everything
-slip_at_unlisted = refl
+slip_at_unlisted b = refl
 
 abbrev pub slip_lines_at : List ℕ
 slip_lines_at = codes "SELECT slip, side, no, depth, tag, text, dst FROM slip_line WHERE slip = ?1 ORDER BY id"
 
-pub slip_lines_at_is : command_of (understood archive_schema slip_lines_at) ≡ Select
+pub slip_lines_at_is : (b : Bool) → command_of (understood (archive_schema b) slip_lines_at) ≡ Select
     (record {
       lets = [];
       body = simple 6 (with_key 2)
@@ -124,31 +124,31 @@ pub slip_lines_at_is : command_of (understood archive_schema slip_lines_at) ≡ 
     })
     (codes "slip" ∷ codes "side" ∷ codes "no" ∷ codes "depth" ∷ codes "tag" ∷ codes "text" ∷ codes "dst" ∷ [])
 unfolding understood everything
-slip_lines_at_is = refl
+slip_lines_at_is b = refl
 
-pub slip_lines_at_plain : IsPlain (understood archive_schema slip_lines_at)
+pub slip_lines_at_plain : (b : Bool) → IsPlain (understood (archive_schema b) slip_lines_at)
 unfolding understood everything
-slip_lines_at_plain = (refl, refl)
+slip_lines_at_plain b = (refl, refl)
 
-pub slip_lines_at_unlisted : reads_listing archive_schema slip_lines_at ≡ false
+pub slip_lines_at_unlisted : (b : Bool) → reads_listing (archive_schema b) slip_lines_at ≡ false
 unfolding understood everything
-slip_lines_at_unlisted = refl
+slip_lines_at_unlisted b = refl
 
 abbrev pub lines_saying : List ℕ
 lines_saying = codes "SELECT no FROM line WHERE text = ?1 ORDER BY id"
 
-pub lines_saying_is : command_of (understood archive_schema lines_saying) ≡ Select
+pub lines_saying_is : (b : Bool) → command_of (understood (archive_schema b) lines_saying) ≡ Select
     (record { lets = []; body = simple 3 (with_key 6) (col 1 2 ∷ []) by_key }) (codes "no" ∷ [])
 unfolding understood everything
-lines_saying_is = refl
+lines_saying_is b = refl
 
-pub lines_saying_plain : IsPlain (understood archive_schema lines_saying)
+pub lines_saying_plain : (b : Bool) → IsPlain (understood (archive_schema b) lines_saying)
 unfolding understood everything
-lines_saying_plain = (refl, refl)
+lines_saying_plain b = (refl, refl)
 
-pub lines_saying_unlisted : reads_listing archive_schema lines_saying ≡ false
+pub lines_saying_unlisted : (b : Bool) → reads_listing (archive_schema b) lines_saying ≡ false
 unfolding understood everything
-lines_saying_unlisted = refl
+lines_saying_unlisted b = refl
 
 abbrev pub lines_saying_of : List ℕ
 lines_saying_of = codes "SELECT no FROM line WHERE text = ?1 AND dst = ?2 ORDER BY id"
@@ -157,15 +157,15 @@ lines_saying_of = codes "SELECT no FROM line WHERE text = ?1 AND dst = ?2 ORDER 
 abbrev pub with_both : List Term
 with_both = op2 (Compare Eq Binary) (col 1 6) (col 0 0) ∷ op2 (Compare Eq Binary) (col 1 7) (col 0 1) ∷ []
 
-pub lines_saying_of_is : command_of (understood archive_schema lines_saying_of) ≡ Select
+pub lines_saying_of_is : (b : Bool) → command_of (understood (archive_schema b) lines_saying_of) ≡ Select
     (record { lets = []; body = simple 3 with_both (col 1 2 ∷ []) by_key }) (codes "no" ∷ [])
 unfolding understood everything
-lines_saying_of_is = refl
+lines_saying_of_is b = refl
 
-pub lines_saying_of_plain : IsPlain (understood archive_schema lines_saying_of)
+pub lines_saying_of_plain : (b : Bool) → IsPlain (understood (archive_schema b) lines_saying_of)
 unfolding understood everything
-lines_saying_of_plain = (refl, refl)
+lines_saying_of_plain b = (refl, refl)
 
-pub lines_saying_of_unlisted : reads_listing archive_schema lines_saying_of ≡ false
+pub lines_saying_of_unlisted : (b : Bool) → reads_listing (archive_schema b) lines_saying_of ≡ false
 unfolding understood everything
-lines_saying_of_unlisted = refl
+lines_saying_of_unlisted b = refl

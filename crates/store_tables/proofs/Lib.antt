@@ -17,6 +17,11 @@ pub mod Queries
 pub mod ReadingRows
 pub mod Reopening
 pub mod Showing
+pub mod ShowingSpans
+mod SpanQueries
+mod SpanStatements
+mod SpanTexts
+mod SpanTyped
 mod Statements
 mod Texts
 mod Typed

@@ -3,6 +3,7 @@ use Rattle.std.proofs.Common.{◌≡◌, ◌==◌, ◌&&◌, Bool, true, false, 
 use Rattle.std.specs.List.{AllByRecursion, list_any}
 use Rattle.sqlite.specs.Order.{Row}
 use Rattle.sqlite.specs.Ops.{is_true, from_truth, binary}
+use Rattle.sqlite.specs.Table.{Table}
 use Rattle.sqlite.specs.Tree.{Trees}
 use Rattle.sqlite_schema.specs.Names.{same_name}
 use Rattle.sqlite_schema.specs.Rules.{passes, agree}
@@ -10,8 +11,19 @@ use Rattle.sqlite_schema.specs.declared.schema.Constraint.TheVariants.{ForeignKe
 use Rattle.sqlite_value.specs.Keys.{joined, first_key, plain}
 use Rattle.store_tables.specs.Batches.{AreOwned}
 use Rattle.store_tables.specs.Calls.{Good}
-use Rattle.store_tables.specs.Rows.{Rows, BatchRow, RecordRow, LineRow, batch_values, record_values, line_values}
-use Rattle.store_tables.specs.Schema.{archive_schema, records, lines}
+use Rattle.store_tables.specs.Rows.{
+  Rows,
+  BatchRow,
+  RecordRow,
+  LineRow,
+  SpanRow,
+  HoldsSpans,
+  batch_values,
+  record_values,
+  line_values,
+  span_values,
+}
+use Rattle.store_tables.specs.Schema.{archive_schema, later_tables, lines, records, spans}
 use Rattle.store_tables.proofs.Coded.{same_int, list_any_same}
 use Rattle.store_tables.proofs.Statements.{truth_of}
 
@@ -40,46 +52,83 @@ agrees_record : (l : LineRow) (r : RecordRow) → agree plain (0 ∷ []) (record
 unfolding binary first_key
 agrees_record l r = ap (λ t. is_true (from_truth (Some t)) && true) (same_int r.no l.no) ∙ truth_of (r.no == l.no)
 
-record_refers : (db : Trees) (r : RecordRow) → passes ForeignKey archive_schema db records (record_values r) ≡ true
+agrees_span : (s : SpanRow) (r : RecordRow) → agree plain (0 ∷ []) (record_values r) (0 ∷ []) (span_values s)
+    ≡ (r.no == s.no)
+unfolding binary first_key
+agrees_span s r = ap (λ t. is_true (from_truth (Some t)) && true) (same_int r.no s.no) ∙ truth_of (r.no == s.no)
+
+record_refers : (b : Bool) (db : Trees) (r : RecordRow)
+    → passes ForeignKey (archive_schema b) db records (record_values r) ≡ true
     → list_any (λ parent. agree plain (0 ∷ []) parent (3 ∷ []) (record_values r)) (db 1) ≡ true
 unfolding same_name joined
-record_refers db r h = first_of _ _ h
+record_refers b db r h = first_of _ _ h
 
-line_refers : (db : Trees) (l : LineRow) → passes ForeignKey archive_schema db lines (line_values l) ≡ true
+line_refers : (b : Bool) (db : Trees) (l : LineRow)
+    → passes ForeignKey (archive_schema b) db lines (line_values l) ≡ true
     → list_any (λ parent. agree plain (0 ∷ []) parent (2 ∷ []) (line_values l)) (db 2) ≡ true
 unfolding same_name joined
-line_refers db l h = first_of _ _ h
+line_refers b db l h = first_of _ _ h
 
-batch_there : (db : Trees) (bs : List BatchRow) → db 1 ≡ map batch_values bs → (r : RecordRow)
-    → passes ForeignKey archive_schema db records (record_values r) ≡ true
+span_refers : (db : Trees) (s : SpanRow) → passes ForeignKey (archive_schema true) db spans (span_values s) ≡ true
+    → list_any (λ parent. agree plain (0 ∷ []) parent (0 ∷ []) (span_values s)) (db 2) ≡ true
+unfolding same_name joined
+span_refers db s h = first_of _ _ h
+
+batch_there : (b : Bool) (db : Trees) (bs : List BatchRow) → db 1 ≡ map batch_values bs → (r : RecordRow)
+    → passes ForeignKey (archive_schema b) db records (record_values r) ≡ true
     → list_any (λ (b : BatchRow). b.no == r.batch) bs ≡ true
-batch_there db bs is r h =
+batch_there b db bs is r h =
     let test = (λ (parent : Row). agree plain (0 ∷ []) parent (3 ∷ []) (record_values r)) in
     sym (ap (list_any test) is ∙ any_mapped test batch_values bs
     ∙ list_any_same (λ b. test (batch_values b)) (λ (b : BatchRow). b.no == r.batch) (agrees_batch r) bs)
-    ∙ record_refers db r h
+    ∙ record_refers b db r h
 
-record_there : (db : Trees) (rs : List RecordRow) → db 2 ≡ map record_values rs → (l : LineRow)
-    → passes ForeignKey archive_schema db lines (line_values l) ≡ true
+record_there : (b : Bool) (db : Trees) (rs : List RecordRow) → db 2 ≡ map record_values rs → (l : LineRow)
+    → passes ForeignKey (archive_schema b) db lines (line_values l) ≡ true
     → list_any (λ (r : RecordRow). r.no == l.no) rs ≡ true
-record_there db rs is l h =
+record_there b db rs is l h =
     let test = (λ (parent : Row). agree plain (0 ∷ []) parent (2 ∷ []) (line_values l)) in
     sym (ap (list_any test) is ∙ any_mapped test record_values rs
     ∙ list_any_same (λ r. test (record_values r)) (λ (r : RecordRow). r.no == l.no) (agrees_record l) rs)
-    ∙ line_refers db l h
+    ∙ line_refers b db l h
+
+spanned_there : (db : Trees) (rs : List RecordRow) → db 2 ≡ map record_values rs → (s : SpanRow)
+    → passes ForeignKey (archive_schema true) db spans (span_values s) ≡ true
+    → list_any (λ (r : RecordRow). r.no == s.no) rs ≡ true
+spanned_there db rs is s h =
+    let test = (λ (parent : Row). agree plain (0 ∷ []) parent (0 ∷ []) (span_values s)) in
+    sym (ap (list_any test) is ∙ any_mapped test record_values rs
+    ∙ list_any_same (λ r. test (record_values r)) (λ (r : RecordRow). r.no == s.no) (agrees_span s) rs)
+    ∙ span_refers db s h
+
+-- the first schema has no spans
+spans_owned : (b : Bool) (db : Trees) (rs : List RecordRow) (ss : List SpanRow) → db 2 ≡ map record_values rs
+    → HoldsSpans b ss db
+    → AllByRecursion (λ (t : Table). AllByRecursion (λ row. passes ForeignKey (archive_schema b) db t row ≡ true)
+    (db t.tree)) (later_tables b)
+    → AllByRecursion (λ (s : SpanRow). list_any (λ (r : RecordRow). r.no == s.no) rs ≡ true) ss
+spans_owned false db rs ss is holds keys =
+    subst (AllByRecursion (λ (s : SpanRow). list_any (λ (r : RecordRow). r.no == s.no) rs ≡ true)) (sym holds) tt
+spans_owned true db rs ss is holds keys =
+    all_mapped (λ row. passes ForeignKey (archive_schema true) db spans row ≡ true)
+    (λ (s : SpanRow). list_any (λ (r : RecordRow). r.no == s.no) rs ≡ true) span_values (spanned_there db rs is) ss
+    (subst (AllByRecursion (λ row. passes ForeignKey (archive_schema true) db spans row ≡ true)) holds.is keys.0)
 
 pub owned : (rows : Rows) (t : Trees) → Good rows t → AreOwned rows
 owned rows t good =
+    let b = rows.has_spans in
     let keys = good.sound.obeys.rules ForeignKey in
     record {
-      lines = all_mapped (λ row. passes ForeignKey archive_schema t lines row ≡ true)
+      lines = all_mapped (λ row. passes ForeignKey (archive_schema b) t lines row ≡ true)
           (λ (l : LineRow). list_any (λ (r : RecordRow). r.no == l.no) rows.records ≡ true) line_values
-          (record_there t rows.records good.holds.records.is) rows.lines
-          (subst (AllByRecursion (λ row. passes ForeignKey archive_schema t lines row ≡ true)) good.holds.lines.is
+          (record_there b t rows.records good.holds.records.is) rows.lines
+          (subst (AllByRecursion (λ row. passes ForeignKey (archive_schema b) t lines row ≡ true)) good.holds.lines.is
           keys.1.1.1.0);
-      records = all_mapped (λ row. passes ForeignKey archive_schema t records row ≡ true)
+      records = all_mapped (λ row. passes ForeignKey (archive_schema b) t records row ≡ true)
           (λ (r : RecordRow). list_any (λ (b : BatchRow). b.no == r.batch) rows.batches ≡ true) record_values
-          (batch_there t rows.batches good.holds.batches.is) rows.records
-          (subst (AllByRecursion (λ row. passes ForeignKey archive_schema t records row ≡ true)) good.holds.records.is
+          (batch_there b t rows.batches good.holds.batches.is) rows.records
+          (subst (AllByRecursion (λ row. passes ForeignKey (archive_schema b) t records row ≡ true))
+          good.holds.records.is
           keys.1.1.0);
+      spans = spans_owned b t rows.records rows.spans good.holds.records.is good.holds.spans keys.1.1.1.1.1.1.1;
     }

@@ -16,6 +16,7 @@ use Rattle.std.proofs.Common.{
   Err,
   OnOk,
   IfOk,
+  IfErr,
   IsTrue,
   refl,
   sym,
@@ -23,6 +24,7 @@ use Rattle.std.proofs.Common.{
   subst,
   ◌∙◌,
   arith,
+  Bool,
 }
 use Rattle.std.proofs.lemmas.Bool.{cases_Bool}
 use Rattle.std.specs.List.{AllByRecursion}
@@ -53,9 +55,12 @@ use Rattle.sqlite_trees.specs.declared.error.StoreError.{StoreError}
 use Rattle.sqlite_trees.specs.declared.error.StoreError.TheVariants.{OutOfMemory, Io, Corrupt, Full, Broken, Unstorable}
 use Rattle.record_text.specs.declared.refusal.RefusalKind.{RefusalKind}
 use Rattle.record_text.specs.declared.refusal.RefusalKind.TheVariants.{Storage, NotAnArchive}
-use Rattle.store_tables.specs.Looking.{IsFailure, Looks}
+use Rattle.store_tables.specs.Looking.{IsFailure, Looks, version_number}
 use Rattle.store_tables.specs.Prepared.{IsUnderstood, NamesMissing, IsRefusedTables, PreparesAll}
+use Rattle.store_tables.specs.Calls.{Settled}
+use Rattle.store_tables.specs.Rows.{Rows}
 use Rattle.store_tables.specs.Schema.{archive_schema}
+use Rattle.store_tables.specs.declared.version.Version.{Version}
 use Rattle.store_tables.specs.Telling.{tells_no_archive}
 use Rattle.store_tables.proofs.Calls.{on_ok}
 use Rattle.store_tables.proofs.Failing.{by_store}
@@ -233,23 +238,27 @@ prepared_lost queries more {old} {new} {kind} result is p = subst (PreparesAll (
     })
 
 -- ---- on settled tables
-not_missing : (sql : List ℕ) → IsPlain (understood archive_schema sql) → ¬ NamesMissing archive_schema sql
-not_missing sql plain why = subst IsPlain why.1 plain
+not_missing : (b : Bool) (sql : List ℕ) → IsPlain (understood (archive_schema b) sql)
+    → ¬ NamesMissing (archive_schema b) sql
+not_missing b sql plain why = subst IsPlain why.1 plain
 
-refused_settled : (queries : List (List ℕ)) → AllByRecursion (λ sql. IsPlain (understood archive_schema sql)) queries
-    → (old new : State) → old.now.schema ≡ archive_schema → (kind : RefusalKind) → IsRefusedTables queries old new kind
+refused_settled : (b : Bool) (queries : List (List ℕ))
+    → AllByRecursion (λ sql. IsPlain (understood (archive_schema b) sql)) queries
+    → (old new : State) → old.now.schema ≡ archive_schema b → (kind : RefusalKind)
+    → IsRefusedTables queries old new kind
     → IsFailure kind
-refused_settled queries plain old new has Storage why = inr refl
-refused_settled queries plain old new has NotAnArchive why =
-    absurd (not_missing why.1.0 (all_has queries plain why.1.0 why.1.1)
+refused_settled b queries plain old new has Storage why = inr refl
+refused_settled b queries plain old new has NotAnArchive why =
+    absurd (not_missing b why.1.0 (all_has queries plain why.1.0 why.1.1)
     (subst (λ s. NamesMissing s why.1.0) has why.1.2))
   where
-    all_has : (xs : List (List ℕ)) → AllByRecursion (λ sql. IsPlain (understood archive_schema sql)) xs → (x : List ℕ)
-        → Has xs x → IsPlain (understood archive_schema x)
+    all_has : (xs : List (List ℕ)) → AllByRecursion (λ sql. IsPlain (understood (archive_schema b) sql)) xs
+        → (x : List ℕ)
+        → Has xs x → IsPlain (understood (archive_schema b) x)
     all_has [] all x has = absurd has
-    all_has (y ∷ xs) all x (inl is) = subst (λ sql. IsPlain (understood archive_schema sql)) (sym is) all.0
+    all_has (y ∷ xs) all x (inl is) = subst (λ sql. IsPlain (understood (archive_schema b) sql)) (sym is) all.0
     all_has (y ∷ xs) all x (inr has) = all_has xs all.1 x has
-refused_settled queries plain old new has _ why = absurd why
+refused_settled b queries plain old new has _ why = absurd why
 
 any_read : {A E : Type 0} {P : A → Type 0} (r : Result A E) → ((a : A) → P a) → IfOk r P
 any_read (Ok a) h = h a
@@ -259,17 +268,17 @@ same_read : {A E : Type 0} {P Q : Type 0} (r : Result A E) → (P → Q) → OnO
 same_read (Ok a) f h = f h
 same_read (Err e) f h = tt
 
--- queries that are plain under the archive's schema are refused for a failure alone
-pub looks_prepared : {A : Type 0} (queries : List (List ℕ))
-    → AllByRecursion (λ sql. IsPlain (understood archive_schema sql)) queries
-    → (old new : State) (result : Result A RefusalKind)
+-- queries that are plain under the schema of an archive are refused for a failure alone
+pub looks_prepared : {A : Type 0} (queries : List (List ℕ)) (b : Bool)
+    → AllByRecursion (λ sql. IsPlain (understood (archive_schema b) sql)) queries
+    → (old new : State) → old.now.schema ≡ archive_schema b → (result : Result A RefusalKind)
     → (IsTrue old.is_open → (t : Trees) → old.may_leave t → t ≡ old.committed.trees)
     → PreparesAll queries old new result → Looks (λ _ _. ⊤) old new result
-looks_prepared queries plain old new result only p = record {
+looks_prepared queries b plain old new has result only p = record {
   read = λ clean. any_read result (λ a rows was. tt);
   same = λ clean. same_read result (λ same rows was. still_settled old new rows same was) (p.same clean);
   refused = λ clean. IfErr-weaker result _ _
-      (λ kind why rows was. refused_settled queries plain old new was.schema kind why) (p.refused clean);
+      (λ kind why rows was. refused_settled b queries plain old new has kind why) (p.refused clean);
   crash = λ clean rows was t leaves. elim (p.survives.crash clean t leaves) [
     | inl before ↦
         only_committed old rows t was (only was.is_open t before)
@@ -277,3 +286,31 @@ looks_prepared queries plain old new result only p = record {
   ];
   clean = λ clean. omega (arith, p.survives.clean, clean);
 }
+
+-- tables that show the version that was found are looked at as in one call
+pub looks_at_tables : {B : Type 0} {queries : List (List ℕ)} (old mid new : State) (version : Version)
+    (result : Result B RefusalKind)
+    → Looks (λ rows (found : Version). rows.version ≡ version_number found) old mid (Ok version)
+    → PreparesAll queries mid new result
+    → ((rows : Rows) → Settled mid rows → rows.version ≡ version_number version → Looks (λ _ _. ⊤) mid new result)
+    → Looks (λ _ _. ⊤) old new result
+looks_at_tables {B} old mid new version result first p then = record {
+  read = λ clean. any_read result (λ b rows was. tt);
+  same = λ clean. same_read result
+      (λ same rows was. still_settled mid new rows same (first.same (before clean) rows was)) (p.same clean);
+  refused = λ clean. each_settled result (first.same (before clean)) (λ rows was. (at clean rows was).refused clean);
+  crash = λ clean rows was. (at clean rows was).crash clean rows (first.same (before clean) rows was);
+  clean = λ clean. first.clean (before clean);
+}
+  where
+    before : HasCleanDisk new → HasCleanDisk mid
+    before clean = omega (arith, p.survives.clean, clean)
+
+    at : HasCleanDisk new → (rows : Rows) → Settled old rows → Looks (λ _ _. ⊤) mid new result
+    at clean rows was = then rows (first.same (before clean) rows was) (first.read (before clean) rows was)
+
+    each_settled : (r : Result B RefusalKind) → ((rows : Rows) → Settled old rows → Settled mid rows)
+        → ((rows : Rows) → Settled old rows → IfErr r (λ kind. (it : Rows) → Settled mid it → IsFailure kind))
+        → IfErr r (λ kind. (rows : Rows) → Settled old rows → IsFailure kind)
+    each_settled (Ok b) to h = tt
+    each_settled (Err kind) to h = λ rows was. h rows was rows (to rows was)

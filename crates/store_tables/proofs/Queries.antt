@@ -1,5 +1,5 @@
 -- What the queries answer.
-use Rattle.std.proofs.Common.{◌≡◌, ℕ, pos, List, [], ◌∷◌, map, refl, sym, ap, ap₂, true, subst, ◌∙◌, Less, Equal}
+use Rattle.std.proofs.Common.{◌≡◌, ℕ, pos, List, [], ◌∷◌, map, refl, sym, ap, ap₂, true, subst, ◌∙◌, Less, Equal, Bool}
 use Rattle.std.specs.Ordering.{ordering_then}
 use Rattle.std.specs.List.{AllByRecursion}
 use Rattle.sqlite.specs.declared.types.Value.TheVariants.{Null, Int}
@@ -110,60 +110,68 @@ module _ {X : Type 0} (enc : X → Row) (key : X → ℕ) (keyed : (x : X) → r
       ≡ Less)) (sym (filter_all xs)) rise) answer
       ∙ ap (map (λ x. eval_all project ([] ∷ enc x ∷ []))) (filter_all xs)
 
-pub reads_meta : (old new : State) (read : List Row) (rows : Rows) → old.now.schema ≡ archive_schema
+pub reads_meta : (old new : State) (read : List Row) (rows : Rows) → old.now.schema ≡ archive_schema rows.has_spans
     → Holds rows old.now.trees → Shown select_meta [] old new read → read ≡ shown_meta rows ∷ []
 reads_meta old new read rows has was h =
-    let reads = reads_as select_meta [] old new archive_schema has _ select_meta_is select_meta_plain
-    select_meta_unlisted read h in
+    let reads = reads_as select_meta [] old new (archive_schema rows.has_spans) has _ (select_meta_is rows.has_spans)
+    (select_meta_plain rows.has_spans)
+    (select_meta_unlisted rows.has_spans) read h in
     one_permutation _ read (answered meta_values [] [] (λ _. true) (λ _. refl) 0 (col 1 2 ∷ col 1 3 ∷ col 1 4 ∷ []) []
     (overlay old.now.trees []) (rows ∷ []) read was.meta (reads.answer Null))
 
-pub reads_batches : (old new : State) (read : List Row) (rows : Rows) → old.now.schema ≡ archive_schema
+pub reads_batches : (old new : State) (read : List Row) (rows : Rows) → old.now.schema ≡ archive_schema rows.has_spans
     → Holds rows old.now.trees → Shown select_batches [] old new read → read ≡ map shown_batch rows.batches
 reads_batches old new read rows has was h =
-    let reads = reads_as select_batches [] old new archive_schema has _ select_batches_is select_batches_plain
-    select_batches_unlisted read h in
+    let reads = reads_as select_batches [] old new (archive_schema rows.has_spans) has _
+    (select_batches_is rows.has_spans) (select_batches_plain rows.has_spans)
+    (select_batches_unlisted rows.has_spans) read h in
     all_in_order batch_values (λ (x : BatchRow). x.no) (λ _. refl) 1 (col 1 0 ∷ col 1 2 ∷ [])
     (overlay old.now.trees []) rows.batches read was.batches (reads.answer Null)
 
-pub reads_records : (old new : State) (read : List Row) (rows : Rows) → old.now.schema ≡ archive_schema
+pub reads_records : (old new : State) (read : List Row) (rows : Rows) → old.now.schema ≡ archive_schema rows.has_spans
     → Holds rows old.now.trees → Shown select_records [] old new read → read ≡ map shown_record rows.records
 reads_records old new read rows has was h =
-    let reads = reads_as select_records [] old new archive_schema has _ select_records_is select_records_plain
-    select_records_unlisted read h in
+    let reads = reads_as select_records [] old new (archive_schema rows.has_spans) has _
+    (select_records_is rows.has_spans) (select_records_plain rows.has_spans)
+    (select_records_unlisted rows.has_spans) read h in
     all_in_order record_values (λ (x : RecordRow). x.no) (λ _. refl) 2 (col 1 0 ∷ col 1 3 ∷ [])
     (overlay old.now.trees []) rows.records read was.records (reads.answer Null)
 
-pub reads_lines : (old new : State) (read : List Row) (rows : Rows) → old.now.schema ≡ archive_schema
+pub reads_lines : (old new : State) (read : List Row) (rows : Rows) → old.now.schema ≡ archive_schema rows.has_spans
     → Holds rows old.now.trees → Shown select_lines [] old new read → read ≡ map shown_line rows.lines
 reads_lines old new read rows has was h =
-    let reads = reads_as select_lines [] old new archive_schema has _ select_lines_is select_lines_plain
-    select_lines_unlisted read h in
+    let reads = reads_as select_lines [] old new (archive_schema rows.has_spans) has _ (select_lines_is rows.has_spans)
+    (select_lines_plain rows.has_spans)
+    (select_lines_unlisted rows.has_spans) read h in
     all_in_order line_values (λ (x : LineRow). x.id) (λ _. refl) 3
     (col 1 2 ∷ col 1 4 ∷ col 1 5 ∷ col 1 6 ∷ col 1 7 ∷ []) (overlay old.now.trees []) rows.lines read was.lines
     (reads.answer Null)
 
-pub reads_receipts : (old new : State) (read : List Row) (rows : Rows) → old.now.schema ≡ archive_schema
+pub reads_receipts : (old new : State) (read : List Row) (rows : Rows) → old.now.schema ≡ archive_schema rows.has_spans
     → Holds rows old.now.trees → Shown select_receipts [] old new read → read ≡ map shown_receipt rows.receipts
 reads_receipts old new read rows has was h =
-    let reads = reads_as select_receipts [] old new archive_schema has _ select_receipts_is select_receipts_plain
-    select_receipts_unlisted read h in
+    let reads = reads_as select_receipts [] old new (archive_schema rows.has_spans) has _
+    (select_receipts_is rows.has_spans) (select_receipts_plain rows.has_spans)
+    (select_receipts_unlisted rows.has_spans) read h in
     all_in_order receipt_values (λ (x : ReceiptRow). x.id) (λ _. refl) 4 (col 1 2 ∷ col 1 3 ∷ col 1 4 ∷ col 1 5 ∷ [])
     (overlay old.now.trees []) rows.receipts read was.receipts (reads.answer Null)
 
-pub reads_slips : (old new : State) (read : List Row) (rows : Rows) → old.now.schema ≡ archive_schema
+pub reads_slips : (old new : State) (read : List Row) (rows : Rows) → old.now.schema ≡ archive_schema rows.has_spans
     → Holds rows old.now.trees → Shown select_slips [] old new read → read ≡ map shown_slip rows.slips
 reads_slips old new read rows has was h =
-    let reads = reads_as select_slips [] old new archive_schema has _ select_slips_is select_slips_plain
-    select_slips_unlisted read h in
+    let reads = reads_as select_slips [] old new (archive_schema rows.has_spans) has _ (select_slips_is rows.has_spans)
+    (select_slips_plain rows.has_spans)
+    (select_slips_unlisted rows.has_spans) read h in
     all_in_order slip_values (λ (x : SlipRow). x.no) (λ _. refl) 5 (col 1 0 ∷ col 1 2 ∷ col 1 3 ∷ col 1 4 ∷ [])
     (overlay old.now.trees []) rows.slips read was.slips (reads.answer Null)
 
-pub reads_slip_lines : (old new : State) (read : List Row) (rows : Rows) → old.now.schema ≡ archive_schema
+pub reads_slip_lines : (old new : State) (read : List Row) (rows : Rows)
+    → old.now.schema ≡ archive_schema rows.has_spans
     → Holds rows old.now.trees → Shown select_slip_lines [] old new read → read ≡ map shown_slip_line rows.slip_lines
 reads_slip_lines old new read rows has was h =
-    let reads = reads_as select_slip_lines [] old new archive_schema has _ select_slip_lines_is select_slip_lines_plain
-    select_slip_lines_unlisted read h in
+    let reads = reads_as select_slip_lines [] old new (archive_schema rows.has_spans) has _
+    (select_slip_lines_is rows.has_spans) (select_slip_lines_plain rows.has_spans)
+    (select_slip_lines_unlisted rows.has_spans) read h in
     all_in_order slip_line_values (λ (x : SlipLineRow). x.id) (λ _. refl) 6
     (col 1 2 ∷ col 1 3 ∷ col 1 4 ∷ col 1 6 ∷ col 1 7 ∷ col 1 8 ∷ col 1 9 ∷ []) (overlay old.now.trees [])
     rows.slip_lines read was.slip_lines (reads.answer Null)
@@ -182,7 +190,7 @@ still_settled old new rows same was = record {
 pub only_committed : (old : State) (c : Rows) (t : Trees) → Settled old c → t ≡ old.committed.trees → Good c t
 only_committed old c t was is = subst (Good c) (sym (is ∙ ap (λ (d : Database). d.trees) was.settled)) was.good
 
--- a text that is plain under the archive's schema
-pub plain_under : (sql : List ℕ) (old : State) → IsPlain (understood archive_schema sql)
-    → old.now.schema ≡ archive_schema → IsPlain (understood old.now.schema sql)
-plain_under sql old plain has = subst (λ s. IsPlain (understood s sql)) (sym has) plain
+-- a text that is plain under each schema of an archive
+pub plain_under : (sql : List ℕ) (old : State) → ((b : Bool) → IsPlain (understood (archive_schema b) sql)) → (b : Bool)
+    → old.now.schema ≡ archive_schema b → IsPlain (understood old.now.schema sql)
+plain_under sql old plain b has = subst (λ s. IsPlain (understood s sql)) (sym has) (plain b)

@@ -27,7 +27,7 @@ use Rattle.sqlite.specs.Table.{Table}
 use Rattle.sqlite.specs.Schema.{Schema}
 use Rattle.sqlite_schema.specs.declared.schema.Index.{Index}
 use Rattle.sqlite_rules.specs.Lists.{Has}
-use Rattle.std.proofs.Common.{inl, inr, slice_get, Some, None, Option, if◌then◌else◌}
+use Rattle.std.proofs.Common.{inl, inr, slice_get, Some, None, Option, Bool, true, false, if◌then◌else◌}
 use Rattle.std.specs.Str.{bytes_eq}
 use Rattle.sqlite_trees.specs.Objects.{catalog_tree}
 use Rattle.sqlite_catalog.specs.Listing.{
@@ -96,50 +96,58 @@ abbrev find_named : List ℕ → List Table → Option Table
 find_named name [] = None
 find_named name (t ∷ ts) = if bytes_eq t.name name then Some t else find_named name ts
 
-abbrev IsPlainTable : Table → Type 0
-IsPlainTable t = (t.uniques ≡ []) × (find_named t.name all_tables ≡ Some t)
+abbrev IsPlainTable : Bool → Table → Type 0
+IsPlainTable b t = (t.uniques ≡ []) × (find_named t.name (all_tables b) ≡ Some t)
 
 of_each : (P : Table → Type 0) (ts : List Table) (t : Table) → AllByRecursion P ts → Has ts t → P t
 of_each P [] t all has = absurd has
 of_each P (u ∷ us) t all (inl e) = subst P (sym e) all.0
 of_each P (u ∷ us) t all (inr more) = of_each P us t all.1 more
 
--- of the archive's tables each has a name of its own, and none has a UNIQUE
-plain_tables : AllByRecursion IsPlainTable all_tables
-plain_tables = (
+-- of an archive's tables each has a name of its own, and none has a UNIQUE
+plain_tables : (b : Bool) → AllByRecursion (IsPlainTable b) (all_tables b)
+plain_tables false = (
   (refl, refl),
   ((refl, refl), ((refl, refl), ((refl, refl), ((refl, refl), ((refl, refl), ((refl, refl), tt)))))),
 )
+plain_tables true = (
+  (refl, refl),
+  (
+    (refl, refl),
+    ((refl, refl), ((refl, refl), ((refl, refl), ((refl, refl), ((refl, refl), ((refl, refl), tt)))))),
+  ),
+)
 
-no_uniques : (t : Table) → Has archive_schema.tables t → t.uniques ≡ []
-no_uniques t has = (of_each IsPlainTable all_tables t plain_tables has).0
+no_uniques : (b : Bool) (t : Table) → Has (all_tables b) t → t.uniques ≡ []
+no_uniques b t has = (of_each (IsPlainTable b) (all_tables b) t (plain_tables b) has).0
 
 same_some : (t u : Table) → ◌≡◌ {A = Option Table} (Some t) (Some u) → t ≡ u
 same_some t u e = cc
 
-one_named : (t u : Table) → Has archive_schema.tables t → Has archive_schema.tables u → t.name ≡ u.name → t ≡ u
-one_named t u p q h = same_some t u (sym (of_each IsPlainTable all_tables t plain_tables p).1
-    ∙ ap (λ n. find_named n all_tables) h ∙ (of_each IsPlainTable all_tables u plain_tables q).1)
+one_named : (b : Bool) (t u : Table) → Has (all_tables b) t → Has (all_tables b) u → t.name ≡ u.name → t ≡ u
+one_named b t u p q h = same_some t u (sym (of_each (IsPlainTable b) (all_tables b) t (plain_tables b) p).1
+    ∙ ap (λ n. find_named n (all_tables b)) h ∙ (of_each (IsPlainTable b) (all_tables b) u (plain_tables b) q).1)
 
-one_index : (row : Row) (a b : Index) → IsIndexRow archive_schema.tables row a
-    → IsIndexRow archive_schema.tables row b → a ≡ b
-one_index row a b p q =
+one_index : (has_spans : Bool) (row : Row) (a b : Index) → IsIndexRow (all_tables has_spans) row a
+    → IsIndexRow (all_tables has_spans) row b → a ≡ b
+one_index has_spans row a b p q =
     let tree = same_id a.tree b.tree (sym p.described.id ∙ q.described.id) in
     let owner = same_text p.table.name q.table.name (sym p.described.owner_is ∙ q.described.owner_is) in
-    let table = one_named p.table q.table p.listed q.listed owner in
-    one_defined q.table a b (column row 4) (no_uniques q.table q.listed) tree
+    let table = one_named has_spans p.table q.table p.listed q.listed owner in
+    one_defined q.table a b (column row 4) (no_uniques has_spans q.table q.listed) tree
     (subst (λ t. IsDefined t a (column row 4)) table p.defined) q.defined
 
-pub sound_once : (s : Schema) (t : Trees) → IsSound archive_schema t → IsSound s t → s ≡ archive_schema
-sound_once s t p q =
+pub sound_once : (b : Bool) (s : Schema) (t : Trees) → IsSound (archive_schema b) t → IsSound s t
+    → s ≡ archive_schema b
+sound_once b s t p q =
     let ours = p.lists.listed in
     let its = q.lists.listed in
-    let tables = zipped_once IsTableRow one_table (filter is_table_row (t catalog_tree)) s.tables archive_schema.tables
+    let tables = zipped_once IsTableRow one_table (filter is_table_row (t catalog_tree)) s.tables (all_tables b)
     its.tables ours.tables in
-    let indexes = zipped_once (IsIndexRow archive_schema.tables) one_index (filter is_index_row (t catalog_tree))
-    s.indexes archive_schema.indexes
+    let indexes = zipped_once (IsIndexRow (all_tables b)) (one_index b) (filter is_index_row (t catalog_tree))
+    s.indexes (archive_schema b).indexes
     (subst (λ ts. AllZip (IsIndexRow ts) (filter is_index_row (t catalog_tree)) s.indexes) tables its.indexes)
     ours.indexes in
     let views = none_zipped IsViewRow IsViewRow (filter is_view_row (t catalog_tree)) s.views ours.views its.views in
     ap (λ ts. record { tables = ts; indexes = s.indexes; views = s.views }) tables
-    ∙ ap₂ (λ is vs. record { tables = archive_schema.tables; indexes = is; views = vs }) indexes views
+    ∙ ap₂ (λ is vs. record { tables = all_tables b; indexes = is; views = vs }) indexes views

@@ -70,16 +70,18 @@ shown_between sql params x a b y rows plain before after h =
       ),
     )
 
-module _ {Y : Type 0} (sql : List ℕ) (plain : IsPlain (understood archive_schema sql)) (Shows : Row → Y → Type 0) where
-  pub unchanged_each : (old new : State) (items : List Y) → old.now.schema ≡ archive_schema
+module _ {Y : Type 0} (sql : List ℕ)
+    (plain : (has_spans : Bool) → IsPlain (understood (archive_schema has_spans) sql)) (Shows : Row → Y → Type 0) where
+  pub unchanged_each : (old new : State) (items : List Y) (has_spans : Bool) → old.now.schema ≡ archive_schema has_spans
       → ShowsEach sql Shows old new items → IsUnchanged old new
-  unchanged_each old new items has h =
-      unchanged_by sql [] old new h.0 (plain_under sql old plain has) h.1
+  unchanged_each old new items has_spans has h =
+      unchanged_by sql [] old new h.0 (plain_under sql old plain has_spans has) h.1
 
-  pub each_between : (x a b y : State) (items : List Y) → a.now.schema ≡ archive_schema → IsUnchanged x a
+  pub each_between : (x a b y : State) (items : List Y) (has_spans : Bool) → a.now.schema ≡ archive_schema has_spans
+      → IsUnchanged x a
       → IsUnchanged b y → ShowsEach sql Shows a b items → ShowsEach sql Shows x y items
-  each_between x a b y items has before after h =
-      (h.0, shown_between sql [] x a b y h.0 (plain_under sql a plain has) before after h.1, h.2)
+  each_between x a b y items has_spans has before after h =
+      (h.0, shown_between sql [] x a b y h.0 (plain_under sql a plain has_spans has) before after h.1, h.2)
 
 -- what is read as the items shows them
 items_of : {X Y : Type 0} (shown : X → Row) (read : X → Y) (Shows : Row → Y → Type 0) (all : List Row)
@@ -109,108 +111,119 @@ seen_before old new h = (
   refl,
 )
 
-pub has_after : (old new : State) → IsUnchanged old new → old.now.schema ≡ archive_schema
-    → new.now.schema ≡ archive_schema
-has_after old new h has = ap (λ (d : Database). d.schema) h.0.now_is ∙ has
+pub has_after : (old new : State) (has_spans : Bool) → IsUnchanged old new → old.now.schema ≡ archive_schema has_spans
+    → new.now.schema ≡ archive_schema has_spans
+has_after old new has_spans h has = ap (λ (d : Database). d.schema) h.0.now_is ∙ has
 
 -- three queries, one after the other: each shows what it does between the first state and the last
-module _ {A B C : Type 0} (first second third : List ℕ) (plain : IsPlain (understood archive_schema first)
-    × IsPlain (understood archive_schema second) × IsPlain (understood archive_schema third))
+module _ {A B C : Type 0} (first second third : List ℕ)
+    (plain : ((has_spans : Bool) → IsPlain (understood (archive_schema has_spans) first))
+    × ((has_spans : Bool) → IsPlain (understood (archive_schema has_spans) second))
+    × ((has_spans : Bool) → IsPlain (understood (archive_schema has_spans) third)))
     (First : Row → A → Type 0) (Second : Row → B → Type 0) (Third : Row → C → Type 0) where
   pub shows_three : (old one two new : State) (xs : List A) (ys : List B) (zs : List C)
-      → old.now.schema ≡ archive_schema → ShowsEach first First old one xs
-      → (one.now.schema ≡ archive_schema → ShowsEach second Second one two ys)
-      → (two.now.schema ≡ archive_schema → ShowsEach third Third two new zs)
+      (has_spans : Bool) → old.now.schema ≡ archive_schema has_spans → ShowsEach first First old one xs
+      → (one.now.schema ≡ archive_schema has_spans → ShowsEach second Second one two ys)
+      → (two.now.schema ≡ archive_schema has_spans → ShowsEach third Third two new zs)
       → ShowsEach first First old new xs × ShowsEach second Second old new ys × ShowsEach third Third old new zs
-  shows_three old one two new xs ys zs has a b c =
-      let kept_one = unchanged_each first plain.0 First old one xs has a in
-      let has_one = has_after old one kept_one has in
+  shows_three old one two new xs ys zs has_spans has a b c =
+      let kept_one = unchanged_each first plain.0 First old one xs has_spans has a in
+      let has_one = has_after old one has_spans kept_one has in
       let shows_two = b has_one in
-      let kept_two = unchanged_each second plain.1 Second one two ys has_one shows_two in
-      let has_two = has_after one two kept_two has_one in
+      let kept_two = unchanged_each second plain.1 Second one two ys has_spans has_one shows_two in
+      let has_two = has_after one two has_spans kept_two has_one in
       let shows_last = c has_two in
-      let kept_last = unchanged_each third plain.2 Third two new zs has_two shows_last in
+      let kept_last = unchanged_each third plain.2 Third two new zs has_spans has_two shows_last in
       let rest = unchanged_then one two new kept_two kept_last in
       let two_steps = unchanged_then old one two kept_one kept_two in (
-        each_between first plain.0 First old old one new xs has (seen_before old one kept_one) rest a,
-        each_between second plain.1 Second old one two new ys has_one kept_one kept_last shows_two,
-        each_between third plain.2 Third old two new new zs has_two two_steps (seen_after two new kept_last)
+        each_between first plain.0 First old old one new xs has_spans has (seen_before old one kept_one) rest a,
+        each_between second plain.1 Second old one two new ys has_spans has_one kept_one kept_last shows_two,
+        each_between third plain.2 Third old two new new zs has_spans has_two two_steps (seen_after two new kept_last)
             shows_last,
       )
 
 pub shows_records : (old one two new : State) (batches : List BatchRow) (records : List (ℕ × ℕ))
-    (lines : List (ℕ × (ℕ × Label))) → old.now.schema ≡ archive_schema
+    (lines : List (ℕ × (ℕ × Label))) (has_spans : Bool) → old.now.schema ≡ archive_schema has_spans
     → ShowsEach batch_query ShowsBatch old one batches
-    → (one.now.schema ≡ archive_schema → ShowsEach record_query ShowsRecord one two records)
-    → (two.now.schema ≡ archive_schema → ShowsEach line_query ShowsLine two new lines)
+    → (one.now.schema ≡ archive_schema has_spans → ShowsEach record_query ShowsRecord one two records)
+    → (two.now.schema ≡ archive_schema has_spans → ShowsEach line_query ShowsLine two new lines)
     → ShowsRecords batches records lines old new
-shows_records old one two new batches records lines has a b c =
+shows_records old one two new batches records lines has_spans has a b c =
     let all = shows_three batch_query record_query line_query
     (select_batches_plain, select_records_plain, select_lines_plain) ShowsBatch ShowsRecord ShowsLine old one two new
-    batches records lines has a b c in
+    batches records lines has_spans has a b c in
     record { batches_shown = all.0; records_shown = all.1; lines_shown = all.2 }
 
 pub shows_history : (old one two new : State) (receipts : List (List ℕ × Receipt)) (slips : List SlipRow)
-    (slip_lines : List (ℕ × (Bool × (ℕ × (ℕ × Label))))) → old.now.schema ≡ archive_schema
+    (slip_lines : List (ℕ × (Bool × (ℕ × (ℕ × Label))))) (has_spans : Bool) → old.now.schema ≡ archive_schema has_spans
     → ShowsEach receipt_query ShowsReceipt old one receipts
-    → (one.now.schema ≡ archive_schema → ShowsEach slip_query ShowsSlip one two slips)
-    → (two.now.schema ≡ archive_schema → ShowsEach slip_line_query ShowsSlipLine two new slip_lines)
+    → (one.now.schema ≡ archive_schema has_spans → ShowsEach slip_query ShowsSlip one two slips)
+    → (two.now.schema ≡ archive_schema has_spans → ShowsEach slip_line_query ShowsSlipLine two new slip_lines)
     → ShowsHistory receipts slips slip_lines old new
-shows_history old one two new receipts slips slip_lines has a b c =
+shows_history old one two new receipts slips slip_lines has_spans has a b c =
     let all = shows_three receipt_query slip_query slip_line_query
     (select_receipts_plain, select_slips_plain, select_slip_lines_plain) ShowsReceipt ShowsSlip ShowsSlipLine old one
-    two new receipts slips slip_lines has a b c in
+    two new receipts slips slip_lines has_spans has a b c in
     record { receipts_shown = all.0; slips_shown = all.1; slip_lines_shown = all.2 }
 
 -- records between two states are so between two others that see the same
 records_between : (x a b y : State) (batches : List BatchRow) (records : List (ℕ × ℕ))
-    (lines : List (ℕ × (ℕ × Label))) → a.now.schema ≡ archive_schema → IsUnchanged x a → IsUnchanged b y
+    (lines : List (ℕ × (ℕ × Label))) (has_spans : Bool) → a.now.schema ≡ archive_schema has_spans → IsUnchanged x a
+    → IsUnchanged b y
     → ShowsRecords batches records lines a b → ShowsRecords batches records lines x y
-records_between x a b y batches records lines has before after h = record {
-  batches_shown = each_between batch_query select_batches_plain ShowsBatch x a b y batches has before after
+records_between x a b y batches records lines has_spans has before after h = record {
+  batches_shown = each_between batch_query select_batches_plain ShowsBatch x a b y batches has_spans has before after
       h.batches_shown;
-  records_shown = each_between record_query select_records_plain ShowsRecord x a b y records has before after
+  records_shown = each_between record_query select_records_plain ShowsRecord x a b y records has_spans has before after
       h.records_shown;
-  lines_shown = each_between line_query select_lines_plain ShowsLine x a b y lines has before after h.lines_shown;
+  lines_shown = each_between line_query select_lines_plain ShowsLine x a b y lines has_spans has before after
+      h.lines_shown;
 }
 
 history_between : (x a b y : State) (receipts : List (List ℕ × Receipt)) (slips : List SlipRow)
-    (slip_lines : List (ℕ × (Bool × (ℕ × (ℕ × Label))))) → a.now.schema ≡ archive_schema → IsUnchanged x a
+    (slip_lines : List (ℕ × (Bool × (ℕ × (ℕ × Label))))) (has_spans : Bool) → a.now.schema ≡ archive_schema has_spans
+    → IsUnchanged x a
     → IsUnchanged b y → ShowsHistory receipts slips slip_lines a b → ShowsHistory receipts slips slip_lines x y
-history_between x a b y receipts slips slip_lines has before after h = record {
-  receipts_shown = each_between receipt_query select_receipts_plain ShowsReceipt x a b y receipts has before after
+history_between x a b y receipts slips slip_lines has_spans has before after h = record {
+  receipts_shown = each_between receipt_query select_receipts_plain ShowsReceipt x a b y receipts has_spans has before
+      after
       h.receipts_shown;
-  slips_shown = each_between slip_query select_slips_plain ShowsSlip x a b y slips has before after h.slips_shown;
-  slip_lines_shown = each_between slip_line_query select_slip_lines_plain ShowsSlipLine x a b y slip_lines has before
+  slips_shown = each_between slip_query select_slips_plain ShowsSlip x a b y slips has_spans has before after
+      h.slips_shown;
+  slip_lines_shown = each_between slip_line_query select_slip_lines_plain ShowsSlipLine x a b y slip_lines has_spans has
+      before
       after h.slip_lines_shown;
 }
 
 -- all that is read, part by part
-pub shows_read : (old one two new : State) (read : ReadRows) (society : List ℕ) → old.now.schema ≡ archive_schema
+pub shows_read : (old one two new : State) (read : ReadRows) (society : List ℕ) (has_spans : Bool)
+    → old.now.schema ≡ archive_schema has_spans
     → ShowsEach meta_query ShowsMeta old one ((read.next, society) ∷ [])
-    → (one.now.schema ≡ archive_schema → ShowsRecords read.batches read.records read.lines one two)
-    → (two.now.schema ≡ archive_schema → ShowsHistory read.receipts read.slips read.slip_lines two new)
+    → (one.now.schema ≡ archive_schema has_spans → ShowsRecords read.batches read.records read.lines one two)
+    → (two.now.schema ≡ archive_schema has_spans → ShowsHistory read.receipts read.slips read.slip_lines two new)
     → ShowsRead read old new
-shows_read old one two new read society has a b c =
-    let kept_one = unchanged_each meta_query select_meta_plain ShowsMeta old one _ has a in
-    let has_one = has_after old one kept_one has in
+shows_read old one two new read society has_spans has a b c =
+    let kept_one = unchanged_each meta_query select_meta_plain ShowsMeta old one _ has_spans has a in
+    let has_one = has_after old one has_spans kept_one has in
     let shows_two = b has_one in
-    let kept_two = unchanged_each line_query select_lines_plain ShowsLine one two read.lines has_one
+    let kept_two = unchanged_each line_query select_lines_plain ShowsLine one two read.lines has_spans has_one
     shows_two.lines_shown in
-    let has_two = has_after one two kept_two has_one in
+    let has_two = has_after one two has_spans kept_two has_one in
     let shows_last = c has_two in
-    let kept_last = unchanged_each slip_query select_slips_plain ShowsSlip two new read.slips has_two
+    let kept_last = unchanged_each slip_query select_slips_plain ShowsSlip two new read.slips has_spans has_two
     shows_last.slips_shown in
     let rest = unchanged_then one two new kept_two kept_last in
     let two_steps = unchanged_then old one two kept_one kept_two in
     record {
       meta = (
         society,
-        each_between meta_query select_meta_plain ShowsMeta old old one new _ has (seen_before old one kept_one) rest a,
+        each_between meta_query select_meta_plain ShowsMeta old old one new _ has_spans has
+            (seen_before old one kept_one) rest a,
       );
-      records = records_between old one two new read.batches read.records read.lines has_one kept_one kept_last
+      records = records_between old one two new read.batches read.records read.lines has_spans has_one kept_one
+          kept_last
           shows_two;
-      history = history_between old two new new read.receipts read.slips read.slip_lines has_two two_steps
+      history = history_between old two new new read.receipts read.slips read.slip_lines has_spans has_two two_steps
           (seen_after two new kept_last) shows_last;
     }
 
@@ -228,17 +241,20 @@ unchanged_back old new h = (
 )
 
 -- what the queries show until the last, they show of the tables as they are
-pub read_at : (old new : State) (read : ReadRows) → old.now.schema ≡ archive_schema → ShowsRead read old new
+pub read_at : (old new : State) (read : ReadRows) (has_spans : Bool) → old.now.schema ≡ archive_schema has_spans
+    → ShowsRead read old new
     → ShowsRead read old old
-read_at old new read has h =
-    let kept = unchanged_each line_query select_lines_plain ShowsLine old new read.lines has h.records.lines_shown in
+read_at old new read has_spans has h =
+    let kept = unchanged_each line_query select_lines_plain ShowsLine old new read.lines has_spans has
+    h.records.lines_shown in
     let back = unchanged_back old new kept in
     let same = seen_before old new kept in
     record {
       meta = (
         h.meta.0,
-        each_between meta_query select_meta_plain ShowsMeta old old new old _ has same back h.meta.1,
+        each_between meta_query select_meta_plain ShowsMeta old old new old _ has_spans has same back h.meta.1,
       );
-      records = records_between old old new old read.batches read.records read.lines has same back h.records;
-      history = history_between old old new old read.receipts read.slips read.slip_lines has same back h.history;
+      records = records_between old old new old read.batches read.records read.lines has_spans has same back h.records;
+      history = history_between old old new old read.receipts read.slips read.slip_lines has_spans has same back
+          h.history;
     }

@@ -67,7 +67,9 @@ use Rattle.store_tables.specs.Rows.{
   ReceiptRow,
   SlipRow,
   SlipLineRow,
+  SpanRow,
   Holds,
+  HoldsSpans,
   meta_values,
   batch_values,
   line_values,
@@ -134,15 +136,21 @@ use Rattle.store_tables.proofs.Finding.{simple, answered, map_twice}
 use Rattle.store_tables.proofs.Coded.{same_int, keeps_put, keeps_last, keeps_less, keeps_on, chosen_key}
 
 -- what a statement makes of the tables
-pub record Becomes (old new : State) (f : Rows → Rows) : Type 0 where
-  pub schema : new.now.schema ≡ archive_schema
-  pub sound : IsSound archive_schema new.now.trees
+pub record Becomes (b : Bool) (old new : State) (f : Rows → Rows) : Type 0 where
+  pub schema : new.now.schema ≡ archive_schema b
+  pub sound : IsSound (archive_schema b) new.now.trees
+  pub same : (rows : Rows) → (f rows).has_spans ≡ rows.has_spans
   pub holds : (rows : Rows) → Holds rows old.now.trees → Holds (f rows) new.now.trees
 
-pub becomes : {f : Rows → Rows} (old new : State) → IsDatabase new.now → new.now.schema ≡ archive_schema
-    → ((rows : Rows) → Holds rows old.now.trees → Holds (f rows) new.now.trees) → Becomes old new f
-becomes old new sound has holds =
-    record { schema = has; sound = subst (λ s. IsSound s new.now.trees) has sound; holds = holds }
+pub becomes : {f : Rows → Rows} (b : Bool) (old new : State) → IsDatabase new.now → new.now.schema ≡ archive_schema b
+    → ((rows : Rows) → (f rows).has_spans ≡ rows.has_spans)
+    → ((rows : Rows) → Holds rows old.now.trees → Holds (f rows) new.now.trees) → Becomes b old new f
+becomes b old new sound has same holds = record {
+  schema = has;
+  sound = subst (λ s. IsSound s new.now.trees) has sound;
+  same = same;
+  holds = holds;
+}
 
 pub truth_of : (b : Bool) → (is_true (from_truth (Some b)) && true) ≡ b
 truth_of true = refl
@@ -161,38 +169,59 @@ cast_words (Some t) = refl
 abbrev pub Others : Trees → Trees → ℕ → Type 0
 Others old new at = (t : ℕ) → t < 7 → t ≢ at → new t ≡ old t
 
-pub others_of : (old new : Trees) (edit : Edit) → Applies archive_schema Enforced old edit new
+pub others_of : (b : Bool) (old new : Trees) (edit : Edit) → Applies (archive_schema b) Enforced old edit new
     → Others old new edit.table.tree
-others_of old new edit a t low off =
+others_of b old new edit a t low off =
     a.others t off (
       omega (arith, low),
       (omega (arith, low), (omega (arith, low), (omega (arith, low), (omega (arith, low), tt)))),
     )
 
+-- a change of another table leaves the spans
+same_spans : (b : Bool) (xs : List SpanRow) (old new : Trees) → new 12 ≡ old 12 → HoldsSpans b xs old
+    → HoldsSpans b xs new
+same_spans false xs old new same was = was
+same_spans true xs old new same was = keeps_on _ _ _ same was
+
+pub spans_on : (b : Bool) (rows : Rows) (old new : Trees) (edit : Edit)
+    → Applies (archive_schema b) Enforced old edit new → 12 ≢ edit.table.tree
+    → HoldsSpans rows.has_spans rows.spans old → HoldsSpans rows.has_spans rows.spans new
+spans_on b rows old new edit a off was = same_spans rows.has_spans rows.spans old new
+    (a.others 12 off (omega arith, (omega arith, (omega arith, (omega arith, (omega arith, tt)))))) was
+
+-- what sets off nothing in either schema
+pub no_work : (b : Bool) (db : Trees) (edit : Edit)
+    → works (archive_schema false) Enforced 0 edit.table.tree (taken_by db edit) edit.news ≡ []
+    → works (archive_schema true) Enforced 0 edit.table.tree (taken_by db edit) edit.news ≡ []
+    → works (archive_schema b) Enforced 0 edit.table.tree (taken_by db edit) edit.news ≡ []
+no_work false db edit p q = p
+no_work true db edit p q = q
+
 -- ---- rows with a given key
 
-pub inserts_batch : (old new : State) (n : ℕ) (is_open : Bool) (count : ℕ) → old.now.schema ≡ archive_schema
+pub inserts_batch : (old new : State) (n : ℕ) (is_open : Bool) (count : ℕ) (b : Bool)
+    → old.now.schema ≡ archive_schema b
     → Executes insert_batch (Int (pos n) ∷ Int (pos (flag is_open)) ∷ []) old new (Ok count)
-    → Becomes old new (with_batch n is_open)
-inserts_batch old new n is_open count has h =
+    → Becomes b old new (with_batch n is_open)
+inserts_batch old new n is_open count b has h =
     let params = Int (pos n) ∷ Int (pos (flag is_open)) ∷ [] in
     let terms = col 0 0 ∷ lit Null ∷ col 0 1 ∷ [] in
-    let w = runs_as insert_batch params old new archive_schema has (Insert 1 (Values terms 3)) insert_batch_is
-    insert_batch_plain count h in
-    let did = inserts archive_schema batches 1 refl refl old new.now w.tally params
-    (statement_of insert_batch (understood archive_schema insert_batch)) terms 3 has w.changed in
+    let w = runs_as insert_batch params old new (archive_schema b) has (Insert 1 (Values terms 3)) (insert_batch_is b)
+    (insert_batch_plain b) count h in
+    let did = inserts (archive_schema b) batches 1 refl refl old new.now w.tally params
+    (statement_of insert_batch (understood (archive_schema b) insert_batch)) terms 3 has w.changed in
     let db = old.now.trees in
     let now = new.now.trees in
     let edit = edit_of db batches [] Chosen 0 (value_rows params 3 1 terms) in
-    let applied = one_step archive_schema Enforced db now edit refl did.1 in
-    let same = others_of db now edit applied in
+    let applied = one_step (archive_schema b) Enforced db now edit (no_work b db edit refl refl) did.1 in
+    let same = others_of b db now edit applied in
     let item : BatchRow = record { no = n; is_open = is_open } in
     let row : edited db edit ≡ put_row (batch_values item) (db 1) = rw (
       cast_int (pos n),
       cast_int (pos (flag is_open)),
       cast_null,
     ) refl in
-    becomes old new w.sound did.0 (λ rows was. record {
+    becomes b old new w.sound did.0 (λ _. refl) (λ rows was. record {
       meta = same 0 (omega arith) (omega arith) ∙ was.meta;
       batches = keeps_on _ _ (now 1) (applied.rows ∙ row)
           (keeps_put batch_values (λ (b : BatchRow). b.no) (λ _. refl) item rows.batches (db 1) was.batches);
@@ -201,30 +230,32 @@ inserts_batch old new n is_open count has h =
       receipts = keeps_on _ _ _ (same 4 (omega arith) (omega arith)) was.receipts;
       slips = keeps_on _ _ _ (same 5 (omega arith) (omega arith)) was.slips;
       slip_lines = keeps_on _ _ _ (same 6 (omega arith) (omega arith)) was.slip_lines;
+      spans = spans_on b rows db now edit applied (omega arith) was.spans;
     })
 
-pub inserts_record : (old new : State) (n : ℕ) (kind : List ℕ) (batch : ℕ) (count : ℕ) → old.now.schema ≡ archive_schema
+pub inserts_record : (old new : State) (n : ℕ) (kind : List ℕ) (batch : ℕ) (count : ℕ) (b : Bool)
+    → old.now.schema ≡ archive_schema b
     → Executes insert_record (Int (pos n) ∷ Text kind ∷ Int (pos batch) ∷ []) old new (Ok count)
-    → Becomes old new (with_record_row n kind batch)
-inserts_record old new n kind batch count has h =
+    → Becomes b old new (with_record_row n kind batch)
+inserts_record old new n kind batch count b has h =
     let params = Int (pos n) ∷ Text kind ∷ Int (pos batch) ∷ [] in
     let terms = col 0 0 ∷ lit Null ∷ col 0 1 ∷ col 0 2 ∷ [] in
-    let w = runs_as insert_record params old new archive_schema has (Insert 2 (Values terms 4)) insert_record_is
-    insert_record_plain count h in
-    let did = inserts archive_schema records 2 refl refl old new.now w.tally params
-    (statement_of insert_record (understood archive_schema insert_record)) terms 4 has w.changed in
+    let w = runs_as insert_record params old new (archive_schema b) has (Insert 2 (Values terms 4)) (insert_record_is b)
+    (insert_record_plain b) count h in
+    let did = inserts (archive_schema b) records 2 refl refl old new.now w.tally params
+    (statement_of insert_record (understood (archive_schema b) insert_record)) terms 4 has w.changed in
     let db = old.now.trees in
     let now = new.now.trees in
     let edit = edit_of db records [] Chosen 0 (value_rows params 4 1 terms) in
-    let applied = one_step archive_schema Enforced db now edit refl did.1 in
-    let same = others_of db now edit applied in
+    let applied = one_step (archive_schema b) Enforced db now edit (no_work b db edit refl refl) did.1 in
+    let same = others_of b db now edit applied in
     let item : RecordRow = record { no = n; kind = kind; batch = batch } in
     let row : edited db edit ≡ put_row (record_values item) (db 2) = rw (
       cast_int (pos n),
       cast_int (pos batch),
       cast_null,
     ) refl in
-    becomes old new w.sound did.0 (λ rows was. record {
+    becomes b old new w.sound did.0 (λ _. refl) (λ rows was. record {
       meta = same 0 (omega arith) (omega arith) ∙ was.meta;
       batches = keeps_on _ _ _ (same 1 (omega arith) (omega arith)) was.batches;
       records = keeps_on _ _ (now 2) (applied.rows ∙ row)
@@ -233,24 +264,26 @@ inserts_record old new n kind batch count has h =
       receipts = keeps_on _ _ _ (same 4 (omega arith) (omega arith)) was.receipts;
       slips = keeps_on _ _ _ (same 5 (omega arith) (omega arith)) was.slips;
       slip_lines = keeps_on _ _ _ (same 6 (omega arith) (omega arith)) was.slip_lines;
+      spans = spans_on b rows db now edit applied (omega arith) was.spans;
     })
 
-pub inserts_slip : (old new : State) (n keep gone : ℕ) (is_undone : Bool) (count : ℕ) → old.now.schema ≡ archive_schema
+pub inserts_slip : (old new : State) (n keep gone : ℕ) (is_undone : Bool) (count : ℕ) (b : Bool)
+    → old.now.schema ≡ archive_schema b
     → Executes insert_slip (Int (pos n) ∷ Int (pos keep) ∷ Int (pos gone) ∷ Int (pos (flag is_undone)) ∷ [])
     old new (Ok count)
-    → Becomes old new (with_slip_row n keep gone is_undone)
-inserts_slip old new n keep gone is_undone count has h =
+    → Becomes b old new (with_slip_row n keep gone is_undone)
+inserts_slip old new n keep gone is_undone count b has h =
     let params = Int (pos n) ∷ Int (pos keep) ∷ Int (pos gone) ∷ Int (pos (flag is_undone)) ∷ [] in
     let terms = col 0 0 ∷ lit Null ∷ col 0 1 ∷ col 0 2 ∷ col 0 3 ∷ [] in
-    let w = runs_as insert_slip params old new archive_schema has (Insert 5 (Values terms 5)) insert_slip_is
-    insert_slip_plain count h in
-    let did = inserts archive_schema slips 5 refl refl old new.now w.tally params
-    (statement_of insert_slip (understood archive_schema insert_slip)) terms 5 has w.changed in
+    let w = runs_as insert_slip params old new (archive_schema b) has (Insert 5 (Values terms 5)) (insert_slip_is b)
+    (insert_slip_plain b) count h in
+    let did = inserts (archive_schema b) slips 5 refl refl old new.now w.tally params
+    (statement_of insert_slip (understood (archive_schema b) insert_slip)) terms 5 has w.changed in
     let db = old.now.trees in
     let now = new.now.trees in
     let edit = edit_of db slips [] Chosen 0 (value_rows params 5 1 terms) in
-    let applied = one_step archive_schema Enforced db now edit refl did.1 in
-    let same = others_of db now edit applied in
+    let applied = one_step (archive_schema b) Enforced db now edit (no_work b db edit refl refl) did.1 in
+    let same = others_of b db now edit applied in
     let item : SlipRow = record { no = n; keep = keep; gone = gone; is_undone = is_undone } in
     let row : edited db edit ≡ put_row (slip_values item) (db 5) = rw (
       cast_int (pos n),
@@ -259,7 +292,7 @@ inserts_slip old new n keep gone is_undone count has h =
       cast_int (pos (flag is_undone)),
       cast_null,
     ) refl in
-    becomes old new w.sound did.0 (λ rows was. record {
+    becomes b old new w.sound did.0 (λ _. refl) (λ rows was. record {
       meta = same 0 (omega arith) (omega arith) ∙ was.meta;
       batches = keeps_on _ _ _ (same 1 (omega arith) (omega arith)) was.batches;
       records = keeps_on _ _ _ (same 2 (omega arith) (omega arith)) was.records;
@@ -268,25 +301,27 @@ inserts_slip old new n keep gone is_undone count has h =
       slips = keeps_on _ _ (now 5) (applied.rows ∙ row)
           (keeps_put slip_values (λ (s : SlipRow). s.no) (λ _. refl) item rows.slips (db 5) was.slips);
       slip_lines = keeps_on _ _ _ (same 6 (omega arith) (omega arith)) was.slip_lines;
+      spans = spans_on b rows db now edit applied (omega arith) was.spans;
     })
 
 -- ---- rows whose key is chosen
 
-pub inserts_line : (old new : State) (n at : ℕ) (line : ℕ × Label) (count : ℕ) → old.now.schema ≡ archive_schema
+pub inserts_line : (old new : State) (n at : ℕ) (line : ℕ × Label) (count : ℕ) (b : Bool)
+    → old.now.schema ≡ archive_schema b
     → Executes insert_line (Int (pos n) ∷ Int (pos at) ∷ line_fields line) old new (Ok count)
-    → Becomes old new (with_line n at line)
-inserts_line old new n at line count has h =
+    → Becomes b old new (with_line n at line)
+inserts_line old new n at line count b has h =
     let params = Int (pos n) ∷ Int (pos at) ∷ line_fields line in
     let terms = lit Null ∷ lit Null ∷ col 0 0 ∷ col 0 1 ∷ col 0 2 ∷ col 0 3 ∷ col 0 4 ∷ col 0 5 ∷ [] in
-    let w = runs_as insert_line params old new archive_schema has (Insert 3 (Values terms 8)) insert_line_is
-    insert_line_plain count h in
-    let did = inserts archive_schema lines 3 refl refl old new.now w.tally params
-    (statement_of insert_line (understood archive_schema insert_line)) terms 8 has w.changed in
+    let w = runs_as insert_line params old new (archive_schema b) has (Insert 3 (Values terms 8)) (insert_line_is b)
+    (insert_line_plain b) count h in
+    let did = inserts (archive_schema b) lines 3 refl refl old new.now w.tally params
+    (statement_of insert_line (understood (archive_schema b) insert_line)) terms 8 has w.changed in
     let db = old.now.trees in
     let now = new.now.trees in
     let edit = edit_of db lines [] Chosen 0 (value_rows params 8 1 terms) in
-    let applied = one_step archive_schema Enforced db now edit refl did.1 in
-    let same = others_of db now edit applied in
+    let applied = one_step (archive_schema b) Enforced db now edit (no_work b db edit refl refl) did.1 in
+    let same = others_of b db now edit applied in
     let fields = Null ∷ Int (pos n) ∷ Int (pos at) ∷ line_fields line in
     let row : edited db edit ≡ put_row (Int (next_rowid (db 3)) ∷ fields) (db 3) = rw (
       cast_null,
@@ -296,7 +331,7 @@ inserts_line old new n at line count has h =
       cast_words line.1.text,
       cast_number line.1.target,
     ) refl in
-    becomes old new w.sound did.0 (λ rows was.
+    becomes b old new w.sound did.0 (λ _. refl) (λ rows was.
     let item : LineRow = record { id = next_key (λ (l : LineRow). l.id) rows.lines; no = n; at = at; line = line } in
     record {
       meta = same 0 (omega arith) (omega arith) ∙ was.meta;
@@ -308,28 +343,30 @@ inserts_line old new n at line count has h =
       receipts = keeps_on _ _ _ (same 4 (omega arith) (omega arith)) was.receipts;
       slips = keeps_on _ _ _ (same 5 (omega arith) (omega arith)) was.slips;
       slip_lines = keeps_on _ _ _ (same 6 (omega arith) (omega arith)) was.slip_lines;
+      spans = spans_on b rows db now edit applied (omega arith) was.spans;
     })
 
 pub inserts_receipt : (old new : State) (token : List ℕ) (receipt : Receipt) (count : ℕ)
-    → old.now.schema ≡ archive_schema
+    (b : Bool) → old.now.schema ≡ archive_schema b
     → Executes insert_receipt (Text token ∷ receipt_fields receipt) old new (Ok count)
-    → Becomes old new (with_receipt token receipt)
-inserts_receipt old new token receipt count has h =
+    → Becomes b old new (with_receipt token receipt)
+inserts_receipt old new token receipt count b has h =
     let params = Text token ∷ receipt_fields receipt in
     let terms = lit Null ∷ lit Null ∷ col 0 0 ∷ col 0 1 ∷ col 0 2 ∷ col 0 3 ∷ [] in
-    let w = runs_as insert_receipt params old new archive_schema has (Insert 4 (Values terms 6)) insert_receipt_is
-    insert_receipt_plain count h in
-    let did = inserts archive_schema receipts 4 refl refl old new.now w.tally params
-    (statement_of insert_receipt (understood archive_schema insert_receipt)) terms 6 has w.changed in
+    let w = runs_as insert_receipt params old new (archive_schema b) has (Insert 4 (Values terms 6))
+    (insert_receipt_is b)
+    (insert_receipt_plain b) count h in
+    let did = inserts (archive_schema b) receipts 4 refl refl old new.now w.tally params
+    (statement_of insert_receipt (understood (archive_schema b) insert_receipt)) terms 6 has w.changed in
     let db = old.now.trees in
     let now = new.now.trees in
     let edit = edit_of db receipts [] Chosen 0 (value_rows params 6 1 terms) in
-    let applied = one_step archive_schema Enforced db now edit refl did.1 in
-    let same = others_of db now edit applied in
+    let applied = one_step (archive_schema b) Enforced db now edit (no_work b db edit refl refl) did.1 in
+    let same = others_of b db now edit applied in
     let fields = Null ∷ Text token ∷ receipt_fields receipt in
     let row : edited db edit ≡ put_row (Int (next_rowid (db 4)) ∷ fields) (db 4) = rw
     (cast_null, cast_int (pos receipt.answer.first), cast_int (pos receipt.answer.count)) refl in
-    becomes old new w.sound did.0 (λ rows was.
+    becomes b old new w.sound did.0 (λ _. refl) (λ rows was.
     let item : ReceiptRow = record {
       id = next_key (λ (r : ReceiptRow). r.id) rows.receipts;
       token = token;
@@ -346,25 +383,27 @@ inserts_receipt old new token receipt count has h =
           (db 4) refl was.receipts);
       slips = keeps_on _ _ _ (same 5 (omega arith) (omega arith)) was.slips;
       slip_lines = keeps_on _ _ _ (same 6 (omega arith) (omega arith)) was.slip_lines;
+      spans = spans_on b rows db now edit applied (omega arith) was.spans;
     })
 
 pub inserts_slip_line : (old new : State) (slip : ℕ) (is_new : Bool) (n at : ℕ) (line : ℕ × Label) (count : ℕ)
-    → old.now.schema ≡ archive_schema
+    (b : Bool) → old.now.schema ≡ archive_schema b
     → Executes insert_slip_line (Int (pos slip) ∷ Int (pos (flag is_new)) ∷ Int (pos n) ∷ Int (pos at)
-    ∷ line_fields line) old new (Ok count) → Becomes old new (with_slip_line slip is_new n at line)
-inserts_slip_line old new slip is_new n at line count has h =
+    ∷ line_fields line) old new (Ok count) → Becomes b old new (with_slip_line slip is_new n at line)
+inserts_slip_line old new slip is_new n at line count b has h =
     let params = Int (pos slip) ∷ Int (pos (flag is_new)) ∷ Int (pos n) ∷ Int (pos at) ∷ line_fields line in
     let terms = lit Null ∷ lit Null ∷ col 0 0 ∷ col 0 1 ∷ col 0 2 ∷ col 0 3 ∷ col 0 4 ∷ col 0 5 ∷ col 0 6
     ∷ col 0 7 ∷ [] in
-    let w = runs_as insert_slip_line params old new archive_schema has (Insert 6 (Values terms 10)) insert_slip_line_is
-    insert_slip_line_plain count h in
-    let did = inserts archive_schema slip_lines 6 refl refl old new.now w.tally params
-    (statement_of insert_slip_line (understood archive_schema insert_slip_line)) terms 10 has w.changed in
+    let w = runs_as insert_slip_line params old new (archive_schema b) has (Insert 6 (Values terms 10))
+    (insert_slip_line_is b)
+    (insert_slip_line_plain b) count h in
+    let did = inserts (archive_schema b) slip_lines 6 refl refl old new.now w.tally params
+    (statement_of insert_slip_line (understood (archive_schema b) insert_slip_line)) terms 10 has w.changed in
     let db = old.now.trees in
     let now = new.now.trees in
     let edit = edit_of db slip_lines [] Chosen 0 (value_rows params 10 1 terms) in
-    let applied = one_step archive_schema Enforced db now edit refl did.1 in
-    let same = others_of db now edit applied in
+    let applied = one_step (archive_schema b) Enforced db now edit (no_work b db edit refl refl) did.1 in
+    let same = others_of b db now edit applied in
     let fields = Null ∷ Int (pos slip) ∷ Int (pos (flag is_new)) ∷ Int (pos n) ∷ Int (pos at) ∷ line_fields line in
     let row : edited db edit ≡ put_row (Int (next_rowid (db 6)) ∷ fields) (db 6) = rw (
       cast_null,
@@ -376,7 +415,7 @@ inserts_slip_line old new slip is_new n at line count has h =
       cast_words line.1.text,
       cast_number line.1.target,
     ) refl in
-    becomes old new w.sound did.0 (λ rows was.
+    becomes b old new w.sound did.0 (λ _. refl) (λ rows was.
     let item : SlipLineRow = record {
       id = next_key (λ (s : SlipLineRow). s.id) rows.slip_lines;
       slip = slip;
@@ -396,6 +435,7 @@ inserts_slip_line old new slip is_new n at line count has h =
           (chosen_key slip_line_values (λ (s : SlipLineRow). s.id) (λ _. refl) rows.slip_lines
           (db 6) was.slip_lines.is)) (keeps_last slip_line_values (λ (s : SlipLineRow). s.id)
           (λ _. refl) item rows.slip_lines (db 6) refl was.slip_lines);
+      spans = spans_on b rows db now edit applied (omega arith) was.spans;
     })
 
 -- ---- DELETE
@@ -404,26 +444,27 @@ passes_3 : (n : ℕ) (x : LineRow) → list_all (holds ((Int (pos n) ∷ []) ∷
 unfolding binary
 passes_3 n x = ap (λ b. is_true (from_truth (Some b)) && true) (same_int x.no n) ∙ truth_of (x.no == n)
 
-no_work_3 : (olds : List Row) → works archive_schema Enforced 0 3 olds [] ≡ []
+no_work_3 : (b : Bool) (olds : List Row) → works (archive_schema b) Enforced 0 3 olds [] ≡ []
 unfolding same_name joined
-no_work_3 olds = refl
+no_work_3 false olds = refl
+no_work_3 true olds = refl
 
-pub deletes_lines : (old new : State) (n count : ℕ) → old.now.schema ≡ archive_schema
-    → Executes delete_lines (Int (pos n) ∷ []) old new (Ok count) → Becomes old new (without_lines n)
-deletes_lines old new n count has h =
+pub deletes_lines : (old new : State) (n count : ℕ) (b : Bool) → old.now.schema ≡ archive_schema b
+    → Executes delete_lines (Int (pos n) ∷ []) old new (Ok count) → Becomes b old new (without_lines n)
+deletes_lines old new n count b has h =
     let params = Int (pos n) ∷ [] in
     let q : Program = record { lets = []; body = simple 3 (with_key 2) (col 1 0 ∷ []) [] } in
-    let w = runs_as delete_lines params old new archive_schema has (Delete 3 q) delete_lines_is
-    delete_lines_plain count h in
-    let did = deletes archive_schema lines 3 refl refl old new.now w.tally params
-    (statement_of delete_lines (understood archive_schema delete_lines)) q has w.changed in
+    let w = runs_as delete_lines params old new (archive_schema b) has (Delete 3 q) (delete_lines_is b)
+    (delete_lines_plain b) count h in
+    let did = deletes (archive_schema b) lines 3 refl refl old new.now w.tally params
+    (statement_of delete_lines (understood (archive_schema b) delete_lines)) q has w.changed in
     let found = did.1 in
     let db = old.now.trees in
     let now = new.now.trees in
     let edit = edit_of db lines (ids_of found) Given 0 [] in
-    let applied = one_step archive_schema Enforced db now edit (no_work_3 (taken_by db edit)) did.3 in
-    let same = others_of db now edit applied in
-    becomes old new w.sound did.0 (λ rows was.
+    let applied = one_step (archive_schema b) Enforced db now edit (no_work_3 b (taken_by db edit)) did.3 in
+    let same = others_of b db now edit applied in
+    becomes b old new w.sound did.0 (λ _. refl) (λ rows was.
     let all = answered line_values params (with_key 2) (λ x. x.no == n) (passes_3 n) 3 (col 1 0 ∷ []) []
     (overlay db []) rows.lines found was.lines.is (did.2.answer Null) in
     let ids : IsPermutation
@@ -440,6 +481,7 @@ deletes_lines old new n count has h =
       receipts = keeps_on _ _ _ (same 4 (omega arith) (omega arith)) was.receipts;
       slips = keeps_on _ _ _ (same 5 (omega arith) (omega arith)) was.slips;
       slip_lines = keeps_on _ _ _ (same 6 (omega arith) (omega arith)) was.slip_lines;
+      spans = spans_on b rows db now edit applied (omega arith) was.spans;
     })
 
 passes_6 : (n : ℕ) (x : SlipLineRow) → list_all (holds ((Int (pos n) ∷ []) ∷ slip_line_values x ∷ []))
@@ -447,26 +489,27 @@ passes_6 : (n : ℕ) (x : SlipLineRow) → list_all (holds ((Int (pos n) ∷ [])
 unfolding binary
 passes_6 n x = ap (λ b. is_true (from_truth (Some b)) && true) (same_int x.slip n) ∙ truth_of (x.slip == n)
 
-no_work_6 : (olds : List Row) → works archive_schema Enforced 0 6 olds [] ≡ []
+no_work_6 : (b : Bool) (olds : List Row) → works (archive_schema b) Enforced 0 6 olds [] ≡ []
 unfolding same_name joined
-no_work_6 olds = refl
+no_work_6 false olds = refl
+no_work_6 true olds = refl
 
-pub deletes_slip_lines : (old new : State) (n count : ℕ) → old.now.schema ≡ archive_schema
-    → Executes delete_slip_lines (Int (pos n) ∷ []) old new (Ok count) → Becomes old new (without_slip_lines n)
-deletes_slip_lines old new n count has h =
+pub deletes_slip_lines : (old new : State) (n count : ℕ) (b : Bool) → old.now.schema ≡ archive_schema b
+    → Executes delete_slip_lines (Int (pos n) ∷ []) old new (Ok count) → Becomes b old new (without_slip_lines n)
+deletes_slip_lines old new n count b has h =
     let params = Int (pos n) ∷ [] in
     let q : Program = record { lets = []; body = simple 6 (with_key 2) (col 1 0 ∷ []) [] } in
-    let w = runs_as delete_slip_lines params old new archive_schema has (Delete 6 q) delete_slip_lines_is
-    delete_slip_lines_plain count h in
-    let did = deletes archive_schema slip_lines 6 refl refl old new.now w.tally params
-    (statement_of delete_slip_lines (understood archive_schema delete_slip_lines)) q has w.changed in
+    let w = runs_as delete_slip_lines params old new (archive_schema b) has (Delete 6 q) (delete_slip_lines_is b)
+    (delete_slip_lines_plain b) count h in
+    let did = deletes (archive_schema b) slip_lines 6 refl refl old new.now w.tally params
+    (statement_of delete_slip_lines (understood (archive_schema b) delete_slip_lines)) q has w.changed in
     let found = did.1 in
     let db = old.now.trees in
     let now = new.now.trees in
     let edit = edit_of db slip_lines (ids_of found) Given 0 [] in
-    let applied = one_step archive_schema Enforced db now edit (no_work_6 (taken_by db edit)) did.3 in
-    let same = others_of db now edit applied in
-    becomes old new w.sound did.0 (λ rows was.
+    let applied = one_step (archive_schema b) Enforced db now edit (no_work_6 b (taken_by db edit)) did.3 in
+    let same = others_of b db now edit applied in
+    becomes b old new w.sound did.0 (λ _. refl) (λ rows was.
     let all = answered slip_line_values params (with_key 2) (λ x. x.slip == n) (passes_6 n) 6 (col 1 0 ∷ []) []
     (overlay db []) rows.slip_lines found was.slip_lines.is (did.2.answer Null) in
     let ids : IsPermutation
@@ -485,6 +528,7 @@ deletes_slip_lines old new n count has h =
       slip_lines = keeps_on _ _ (now 6) applied.rows
           (keeps_less slip_line_values (λ (s : SlipLineRow). s.id) (λ _. refl) (λ x. x.slip == n) rows.slip_lines (db 6)
           (ids_of found) ids was.slip_lines);
+      spans = spans_on b rows db now edit applied (omega arith) was.spans;
     })
 
 passes_2 : (n : ℕ) (x : RecordRow) → list_all (holds ((Int (pos n) ∷ []) ∷ record_values x ∷ []))
@@ -492,41 +536,52 @@ passes_2 : (n : ℕ) (x : RecordRow) → list_all (holds ((Int (pos n) ∷ []) �
 unfolding binary
 passes_2 n x = ap (λ b. is_true (from_truth (Some b)) && true) (same_int x.no n) ∙ truth_of (x.no == n)
 
-two_refuse : (b : Bool) (v w : Work) → Restrict v → Restrict w → AllByRecursion Restrict
-    (cons_option (if b then Some v else None) (cons_option (if b then Some w else None) []) ++ [])
-two_refuse true v w p q = (p, (q, tt))
-two_refuse false v w p q = tt
-
--- what refers to a record, or to a slip, restricts its deletion
-pub only_restricted : (olds : List Row) → AllByRecursion Restrict (works archive_schema Enforced 0 2 olds [])
-unfolding same_name joined
-only_restricted olds = two_refuse _ _ _ refl refl
-
 one_refuses : (b : Bool) (v : Work) → Restrict v → AllByRecursion Restrict
     (cons_option (if b then Some v else None) [] ++ [])
 one_refuses true v p = (p, tt)
 one_refuses false v p = tt
 
-pub only_restricted_slips : (olds : List Row) → AllByRecursion Restrict (works archive_schema Enforced 0 5 olds [])
-unfolding same_name joined
-only_restricted_slips olds = one_refuses _ _ refl
+two_refuse : (b : Bool) (v w : Work) → Restrict v → Restrict w → AllByRecursion Restrict
+    (cons_option (if b then Some v else None) (cons_option (if b then Some w else None) []) ++ [])
+two_refuse true v w p q = (p, (q, tt))
+two_refuse false v w p q = tt
 
-pub deletes_record : (old new : State) (n count : ℕ) → old.now.schema ≡ archive_schema
-    → Executes delete_record (Int (pos n) ∷ []) old new (Ok count) → Becomes old new (without_record_row n)
-deletes_record old new n count has h =
+three_refuse : (b : Bool) (v w x : Work) → Restrict v → Restrict w → Restrict x → AllByRecursion Restrict
+    (cons_option (if b then Some v else None) (cons_option (if b then Some w else None) [])
+    ++ (cons_option (if b then Some x else None) [] ++ []))
+three_refuse true v w x p q r = (p, (q, (r, tt)))
+three_refuse false v w x p q r = tt
+
+-- what refers to a record, or to a slip, restricts its deletion
+pub only_restricted : (b : Bool) (olds : List Row)
+    → AllByRecursion Restrict (works (archive_schema b) Enforced 0 2 olds [])
+unfolding same_name joined
+only_restricted false olds = two_refuse _ _ _ refl refl
+only_restricted true olds = three_refuse _ _ _ _ refl refl refl
+
+pub only_restricted_slips : (b : Bool) (olds : List Row)
+    → AllByRecursion Restrict (works (archive_schema b) Enforced 0 5 olds [])
+unfolding same_name joined
+only_restricted_slips false olds = one_refuses _ _ refl
+only_restricted_slips true olds = one_refuses _ _ refl
+
+pub deletes_record : (old new : State) (n count : ℕ) (b : Bool) → old.now.schema ≡ archive_schema b
+    → Executes delete_record (Int (pos n) ∷ []) old new (Ok count) → Becomes b old new (without_record_row n)
+deletes_record old new n count b has h =
     let params = Int (pos n) ∷ [] in
     let q : Program = record { lets = []; body = simple 2 (with_key 0) (col 1 0 ∷ []) [] } in
-    let w = runs_as delete_record params old new archive_schema has (Delete 2 q) delete_record_is
-    delete_record_plain count h in
-    let did = deletes archive_schema records 2 refl refl old new.now w.tally params
-    (statement_of delete_record (understood archive_schema delete_record)) q has w.changed in
+    let w = runs_as delete_record params old new (archive_schema b) has (Delete 2 q) (delete_record_is b)
+    (delete_record_plain b) count h in
+    let did = deletes (archive_schema b) records 2 refl refl old new.now w.tally params
+    (statement_of delete_record (understood (archive_schema b) delete_record)) q has w.changed in
     let found = did.1 in
     let db = old.now.trees in
     let now = new.now.trees in
     let edit = edit_of db records (ids_of found) Given 0 [] in
-    let applied = restricted_step archive_schema Enforced db now edit (only_restricted (taken_by db edit)) did.3 in
-    let same = others_of db now edit applied in
-    becomes old new w.sound did.0 (λ rows was.
+    let applied = restricted_step (archive_schema b) Enforced db now edit (only_restricted b (taken_by db edit)) did.3
+    in
+    let same = others_of b db now edit applied in
+    becomes b old new w.sound did.0 (λ _. refl) (λ rows was.
     let all = answered record_values params (with_key 0) (λ x. x.no == n) (passes_2 n) 2 (col 1 0 ∷ []) []
     (overlay db []) rows.records found was.records.is (did.2.answer Null) in
     let ids : IsPermutation
@@ -544,6 +599,7 @@ deletes_record old new n count has h =
       receipts = keeps_on _ _ _ (same 4 (omega arith) (omega arith)) was.receipts;
       slips = keeps_on _ _ _ (same 5 (omega arith) (omega arith)) was.slips;
       slip_lines = keeps_on _ _ _ (same 6 (omega arith) (omega arith)) was.slip_lines;
+      spans = spans_on b rows db now edit applied (omega arith) was.spans;
     })
 
 -- ---- UPDATE of the one row of meta
@@ -551,31 +607,32 @@ deletes_record old new n count has h =
 only_one : (c : Rows) → without_all (meta_values c ∷ []) (pos 1 ∷ []) ≡ []
 only_one c = ap (λ b. cond (not b) (meta_values c ∷ []) []) (same_int 1 1)
 
-pub sets_next : (old new : State) (n count : ℕ) → old.now.schema ≡ archive_schema
-    → Executes set_next (Int (pos n) ∷ []) old new (Ok count) → Becomes old new (with_next n)
-sets_next old new n count has h =
+pub sets_next : (old new : State) (n count : ℕ) (b : Bool) → old.now.schema ≡ archive_schema b
+    → Executes set_next (Int (pos n) ∷ []) old new (Ok count) → Becomes b old new (with_next n)
+sets_next old new n count b has h =
     let params = Int (pos n) ∷ [] in
     let project = col 1 0 ∷ col 1 0 ∷ lit Null ∷ col 1 2 ∷ col 0 0 ∷ col 1 4 ∷ [] in
     let q : Program = record { lets = []; body = simple 0 [] project [] } in
-    let w = runs_as set_next params old new archive_schema has (Update 0 q) set_next_is set_next_plain count h in
-    let did = updates archive_schema meta 0 refl refl old new.now w.tally params
-    (statement_of set_next (understood archive_schema set_next)) q has w.changed in
+    let w = runs_as set_next params old new (archive_schema b) has (Update 0 q) (set_next_is b) (set_next_plain b) count
+    h in
+    let did = updates (archive_schema b) meta 0 refl refl old new.now w.tally params
+    (statement_of set_next (understood (archive_schema b) set_next)) q has w.changed in
     let rows = did.1 in
     let db = old.now.trees in
     let now = new.now.trees in
-    becomes old new w.sound did.0 (λ c was.
+    becomes b old new w.sound did.0 (λ _. refl) (λ c was.
     let found : IsPermutation
-    ((Int (pos 1) ∷ Int (pos 1) ∷ Null ∷ Int (pos 1) ∷ Int (pos n) ∷ Text c.society ∷ []) ∷ []) rows =
+    ((Int (pos 1) ∷ Int (pos 1) ∷ Null ∷ Int (pos c.version) ∷ Int (pos n) ∷ Text c.society ∷ []) ∷ []) rows =
     answered meta_values params [] (λ _. true) (λ _. refl) 0 project [] (overlay db []) (c ∷ []) rows was.meta
     (did.2.answer Null) in
     let one = one_permutation _ rows found in
     let edit = edit_of db meta (pos 1 ∷ []) Given 1
-    ((Int (pos 1) ∷ Int (pos 1) ∷ Null ∷ Int (pos 1) ∷ Int (pos n) ∷ Text c.society ∷ []) ∷ []) in
-    let applied = one_step archive_schema Enforced db now edit refl
-    (subst (λ rs. Writes archive_schema Enforced db (edit_of db meta (ids_of rs) Given 1 rs) (Ok now)) one did.3) in
-    let same = others_of db now edit applied in
+    ((Int (pos 1) ∷ Int (pos 1) ∷ Null ∷ Int (pos c.version) ∷ Int (pos n) ∷ Text c.society ∷ []) ∷ []) in
+    let applied = one_step (archive_schema b) Enforced db now edit (no_work b db edit refl refl)
+    (subst (λ rs. Writes (archive_schema b) Enforced db (edit_of db meta (ids_of rs) Given 1 rs) (Ok now)) one did.3) in
+    let same = others_of b db now edit applied in
     let row : edited db edit ≡ put_row (meta_values (with_next n c)) (without_all (db 0) (pos 1 ∷ [])) = rw
-    (cast_null, cast_int (pos 1), cast_int (pos n)) refl in
+    (cast_null, cast_int (pos 1), cast_int (pos c.version), cast_int (pos n)) refl in
     record {
       meta = applied.rows ∙ row ∙ ap (λ rs. put_row (meta_values (with_next n c)) (without_all rs (pos 1 ∷ [])))
           was.meta ∙ ap (put_row (meta_values (with_next n c))) (only_one c);
@@ -585,36 +642,55 @@ sets_next old new n count has h =
       receipts = keeps_on _ _ _ (same 4 (omega arith) (omega arith)) was.receipts;
       slips = keeps_on _ _ _ (same 5 (omega arith) (omega arith)) was.slips;
       slip_lines = keeps_on _ _ _ (same 6 (omega arith) (omega arith)) was.slip_lines;
+      spans = spans_on b c db now edit applied (omega arith) was.spans;
     })
 
 -- ---- the first row, in a store whose tables have none
 
-pub inserts_meta : (old new : State) (society : List ℕ) (count : ℕ) → old.now.schema ≡ archive_schema
-    → ((t : ℕ) → t < 7 → old.now.trees t ≡ []) → Executes insert_meta (Text society ∷ []) old new (Ok count)
-    → (new.now.schema ≡ archive_schema) × IsSound archive_schema new.now.trees × Holds (bare society) new.now.trees
-inserts_meta old new society count has empty h =
+pub inserts_meta : (old new : State) (society : List ℕ) (count : ℕ) → old.now.schema ≡ archive_schema true
+    → ((t : ℕ) → t < 7 → old.now.trees t ≡ []) → old.now.trees 12 ≡ []
+    → Executes insert_meta (Text society ∷ []) old new (Ok count)
+    → (new.now.schema ≡ archive_schema true) × IsSound (archive_schema true) new.now.trees × Holds (bare society)
+    new.now.trees
+inserts_meta old new society count has empty none h =
     let params = Text society ∷ [] in
-    let terms = lit (Int (pos 1)) ∷ lit Null ∷ lit (Int (pos 1)) ∷ lit (Int (pos 1)) ∷ col 0 0 ∷ [] in
-    let w = runs_as insert_meta params old new archive_schema has (Insert 0 (Values terms 5)) insert_meta_is
-    insert_meta_plain count h in
-    let did = inserts archive_schema meta 0 refl refl old new.now w.tally params
-    (statement_of insert_meta (understood archive_schema insert_meta)) terms 5 has w.changed in
+    let terms = lit (Int (pos 1)) ∷ lit Null ∷ lit (Int (pos 2)) ∷ lit (Int (pos 1)) ∷ col 0 0 ∷ [] in
+    let w = runs_as insert_meta params old new (archive_schema true) has (Insert 0 (Values terms 5))
+    (insert_meta_is true)
+    (insert_meta_plain true) count h in
+    let did = inserts (archive_schema true) meta 0 refl refl old new.now w.tally params
+    (statement_of insert_meta (understood (archive_schema true) insert_meta)) terms 5 has w.changed in
     let db = old.now.trees in
     let now = new.now.trees in
     let edit = edit_of db meta [] Chosen 0 (value_rows params 5 1 terms) in
-    let applied = one_step archive_schema Enforced db now edit refl did.1 in
-    let same = others_of db now edit applied in
-    let row : edited db edit ≡ put_row (meta_values (bare society)) (db 0) = rw (cast_int (pos 1), cast_null) refl in
-    let none = (λ (t : ℕ) (low : t < 7) (off : t ≢ 0). same t low off ∙ empty t low) in (
+    let applied = one_step (archive_schema true) Enforced db now edit refl did.1 in
+    let same = others_of true db now edit applied in
+    let row : edited db edit ≡ put_row (meta_values (bare society)) (db 0) = rw
+    (cast_int (pos 1), cast_int (pos 2), cast_null) refl in
+    let each = (λ (t : ℕ) (low : t < 7) (off : t ≢ 0). same t low off ∙ empty t low) in (
       did.0,
       subst (λ s. IsSound s now) did.0 w.sound,
       record {
         meta = applied.rows ∙ row ∙ ap (put_row (meta_values (bare society))) (empty 0 (omega arith));
-        batches = record { is = none 1 (omega arith) (omega arith); rise = tt };
-        records = record { is = none 2 (omega arith) (omega arith); rise = tt };
-        lines = record { is = none 3 (omega arith) (omega arith); rise = tt };
-        receipts = record { is = none 4 (omega arith) (omega arith); rise = tt };
-        slips = record { is = none 5 (omega arith) (omega arith); rise = tt };
-        slip_lines = record { is = none 6 (omega arith) (omega arith); rise = tt };
+        batches = record { is = each 1 (omega arith) (omega arith); rise = tt };
+        records = record { is = each 2 (omega arith) (omega arith); rise = tt };
+        lines = record { is = each 3 (omega arith) (omega arith); rise = tt };
+        receipts = record { is = each 4 (omega arith) (omega arith); rise = tt };
+        slips = record { is = each 5 (omega arith) (omega arith); rise = tt };
+        slip_lines = record { is = each 6 (omega arith) (omega arith); rise = tt };
+        spans = record {
+          is = applied.others 12 (omega arith) (
+            omega arith,
+            (
+              omega arith,
+              (
+                omega arith,
+                (omega arith, (omega arith, tt)),
+              ),
+            ),
+          )
+              ∙ none;
+          rise = tt;
+        };
       },
     )

@@ -1,5 +1,5 @@
 -- What each text of SQL means under the schema of an archive, as computing finds it.
-use Rattle.std.proofs.Common.{◌≡◌, ℕ, pos, List, [], ◌∷◌, codes, false, Ok, refl}
+use Rattle.std.proofs.Common.{◌≡◌, ℕ, pos, List, [], ◌∷◌, codes, false, Ok, refl, Bool}
 use Rattle.sqlite.specs.declared.types.Value.TheVariants.{Null, Int}
 use Rattle.sqlite.specs.Term.{Term, lit, col, op2}
 use Rattle.sqlite_sql.specs.declared.ops.BinaryOp.TheVariants.{Compare}
@@ -120,7 +120,7 @@ unfolding understood everything
 line_by_text_is = refl
 
 abbrev pub insert_meta : List ℕ
-insert_meta = codes "INSERT INTO meta (one, version, next, society) VALUES (1, 1, 1, ?1)"
+insert_meta = codes "INSERT INTO meta (one, version, next, society) VALUES (1, 2, 1, ?1)"
 
 abbrev pub insert_batch : List ℕ
 insert_batch = codes "INSERT INTO batch (no, is_open) VALUES (?1, ?2)"
@@ -164,245 +164,245 @@ with_key place = op2 (Compare Eq Binary) (col 1 place) (col 0 0) ∷ []
 abbrev pub by_key : List (Term × Key)
 by_key = (col 1 0, ascending Binary) ∷ []
 
-pub insert_meta_is : command_of (understood archive_schema insert_meta) ≡ Insert 0
-    (Values (lit (Int (pos 1)) ∷ lit Null ∷ lit (Int (pos 1)) ∷ lit (Int (pos 1)) ∷ col 0 0 ∷ []) 5)
+pub insert_meta_is : (b : Bool) → command_of (understood (archive_schema b) insert_meta) ≡ Insert 0
+    (Values (lit (Int (pos 1)) ∷ lit Null ∷ lit (Int (pos 2)) ∷ lit (Int (pos 1)) ∷ col 0 0 ∷ []) 5)
 unfolding understood everything
-insert_meta_is = refl
+insert_meta_is b = refl
 
-pub insert_meta_plain : IsPlain (understood archive_schema insert_meta)
+pub insert_meta_plain : (b : Bool) → IsPlain (understood (archive_schema b) insert_meta)
 unfolding understood everything
-insert_meta_plain = (refl, refl)
+insert_meta_plain b = (refl, refl)
 
-pub insert_batch_is : command_of (understood archive_schema insert_batch) ≡ Insert 1
+pub insert_batch_is : (b : Bool) → command_of (understood (archive_schema b) insert_batch) ≡ Insert 1
     (Values (col 0 0 ∷ lit Null ∷ col 0 1 ∷ []) 3)
 unfolding understood everything
-insert_batch_is = refl
+insert_batch_is b = refl
 
-pub insert_batch_plain : IsPlain (understood archive_schema insert_batch)
+pub insert_batch_plain : (b : Bool) → IsPlain (understood (archive_schema b) insert_batch)
 unfolding understood everything
-insert_batch_plain = (refl, refl)
+insert_batch_plain b = (refl, refl)
 
-pub insert_record_is : command_of (understood archive_schema insert_record) ≡ Insert 2
+pub insert_record_is : (b : Bool) → command_of (understood (archive_schema b) insert_record) ≡ Insert 2
     (Values (col 0 0 ∷ lit Null ∷ col 0 1 ∷ col 0 2 ∷ []) 4)
 unfolding understood everything
-insert_record_is = refl
+insert_record_is b = refl
 
-pub insert_record_plain : IsPlain (understood archive_schema insert_record)
+pub insert_record_plain : (b : Bool) → IsPlain (understood (archive_schema b) insert_record)
 unfolding understood everything
-insert_record_plain = (refl, refl)
+insert_record_plain b = (refl, refl)
 
-pub delete_record_is : command_of (understood archive_schema delete_record) ≡ Delete 2
+pub delete_record_is : (b : Bool) → command_of (understood (archive_schema b) delete_record) ≡ Delete 2
     (record { lets = []; body = simple 2 (with_key 0) (col 1 0 ∷ []) [] })
 unfolding understood everything
-delete_record_is = refl
+delete_record_is b = refl
 
-pub delete_record_plain : IsPlain (understood archive_schema delete_record)
+pub delete_record_plain : (b : Bool) → IsPlain (understood (archive_schema b) delete_record)
 unfolding understood everything
-delete_record_plain = (refl, refl)
+delete_record_plain b = (refl, refl)
 
-pub insert_line_is : command_of (understood archive_schema insert_line) ≡ Insert 3
+pub insert_line_is : (b : Bool) → command_of (understood (archive_schema b) insert_line) ≡ Insert 3
     (Values (lit Null ∷ lit Null ∷ col 0 0 ∷ col 0 1 ∷ col 0 2 ∷ col 0 3 ∷ col 0 4 ∷ col 0 5 ∷ []) 8)
 unfolding understood everything
-insert_line_is = refl
+insert_line_is b = refl
 
-pub insert_line_plain : IsPlain (understood archive_schema insert_line)
+pub insert_line_plain : (b : Bool) → IsPlain (understood (archive_schema b) insert_line)
 unfolding understood everything
-insert_line_plain = (refl, refl)
+insert_line_plain b = (refl, refl)
 
-pub delete_lines_is : command_of (understood archive_schema delete_lines) ≡ Delete 3
+pub delete_lines_is : (b : Bool) → command_of (understood (archive_schema b) delete_lines) ≡ Delete 3
     (record { lets = []; body = simple 3 (with_key 2) (col 1 0 ∷ []) [] })
 unfolding understood everything
-delete_lines_is = refl
+delete_lines_is b = refl
 
-pub delete_lines_plain : IsPlain (understood archive_schema delete_lines)
+pub delete_lines_plain : (b : Bool) → IsPlain (understood (archive_schema b) delete_lines)
 unfolding understood everything
-delete_lines_plain = (refl, refl)
+delete_lines_plain b = (refl, refl)
 
-pub set_next_is : command_of (understood archive_schema set_next) ≡ Update 0
+pub set_next_is : (b : Bool) → command_of (understood (archive_schema b) set_next) ≡ Update 0
     (record { lets = []; body = simple 0 [] (col 1 0 ∷ col 1 0 ∷ lit Null ∷ col 1 2 ∷ col 0 0 ∷ col 1 4 ∷ []) [] })
 unfolding understood everything
-set_next_is = refl
+set_next_is b = refl
 
-pub set_next_plain : IsPlain (understood archive_schema set_next)
+pub set_next_plain : (b : Bool) → IsPlain (understood (archive_schema b) set_next)
 unfolding understood everything
-set_next_plain = (refl, refl)
+set_next_plain b = (refl, refl)
 
-pub insert_receipt_is : command_of (understood archive_schema insert_receipt) ≡ Insert 4
+pub insert_receipt_is : (b : Bool) → command_of (understood (archive_schema b) insert_receipt) ≡ Insert 4
     (Values (lit Null ∷ lit Null ∷ col 0 0 ∷ col 0 1 ∷ col 0 2 ∷ col 0 3 ∷ []) 6)
 unfolding understood everything
-insert_receipt_is = refl
+insert_receipt_is b = refl
 
-pub insert_receipt_plain : IsPlain (understood archive_schema insert_receipt)
+pub insert_receipt_plain : (b : Bool) → IsPlain (understood (archive_schema b) insert_receipt)
 unfolding understood everything
-insert_receipt_plain = (refl, refl)
+insert_receipt_plain b = (refl, refl)
 
-pub select_meta_is : command_of (understood archive_schema select_meta) ≡ Select
+pub select_meta_is : (b : Bool) → command_of (understood (archive_schema b) select_meta) ≡ Select
     (record { lets = []; body = simple 0 [] (col 1 2 ∷ col 1 3 ∷ col 1 4 ∷ []) [] })
     (codes "version" ∷ codes "next" ∷ codes "society" ∷ [])
 unfolding understood everything
-select_meta_is = refl
+select_meta_is b = refl
 
-pub select_meta_plain : IsPlain (understood archive_schema select_meta)
+pub select_meta_plain : (b : Bool) → IsPlain (understood (archive_schema b) select_meta)
 unfolding understood everything
-select_meta_plain = (refl, refl)
+select_meta_plain b = (refl, refl)
 
-pub select_meta_unlisted : reads_listing archive_schema select_meta ≡ false
+pub select_meta_unlisted : (b : Bool) → reads_listing (archive_schema b) select_meta ≡ false
 unfolding understood everything
-select_meta_unlisted = refl
+select_meta_unlisted b = refl
 
-pub select_batches_is : command_of (understood archive_schema select_batches) ≡ Select
+pub select_batches_is : (b : Bool) → command_of (understood (archive_schema b) select_batches) ≡ Select
     (record { lets = []; body = simple 1 [] (col 1 0 ∷ col 1 2 ∷ []) by_key }) (codes "no" ∷ codes "is_open" ∷ [])
 unfolding understood everything
-select_batches_is = refl
+select_batches_is b = refl
 
-pub select_batches_plain : IsPlain (understood archive_schema select_batches)
+pub select_batches_plain : (b : Bool) → IsPlain (understood (archive_schema b) select_batches)
 unfolding understood everything
-select_batches_plain = (refl, refl)
+select_batches_plain b = (refl, refl)
 
-pub select_batches_unlisted : reads_listing archive_schema select_batches ≡ false
+pub select_batches_unlisted : (b : Bool) → reads_listing (archive_schema b) select_batches ≡ false
 unfolding understood everything
-select_batches_unlisted = refl
+select_batches_unlisted b = refl
 
-pub select_records_is : command_of (understood archive_schema select_records) ≡ Select
+pub select_records_is : (b : Bool) → command_of (understood (archive_schema b) select_records) ≡ Select
     (record { lets = []; body = simple 2 [] (col 1 0 ∷ col 1 3 ∷ []) by_key }) (codes "no" ∷ codes "batch" ∷ [])
 unfolding understood everything
-select_records_is = refl
+select_records_is b = refl
 
-pub select_records_plain : IsPlain (understood archive_schema select_records)
+pub select_records_plain : (b : Bool) → IsPlain (understood (archive_schema b) select_records)
 unfolding understood everything
-select_records_plain = (refl, refl)
+select_records_plain b = (refl, refl)
 
-pub select_records_unlisted : reads_listing archive_schema select_records ≡ false
+pub select_records_unlisted : (b : Bool) → reads_listing (archive_schema b) select_records ≡ false
 unfolding understood everything
-select_records_unlisted = refl
+select_records_unlisted b = refl
 
-pub select_lines_is : command_of (understood archive_schema select_lines) ≡ Select
+pub select_lines_is : (b : Bool) → command_of (understood (archive_schema b) select_lines) ≡ Select
     (record { lets = []; body = simple 3 [] (col 1 2 ∷ col 1 4 ∷ col 1 5 ∷ col 1 6 ∷ col 1 7 ∷ []) by_key })
     (codes "no" ∷ codes "depth" ∷ codes "tag" ∷ codes "text" ∷ codes "dst" ∷ [])
 unfolding understood everything
-select_lines_is = refl
+select_lines_is b = refl
 
-pub select_lines_plain : IsPlain (understood archive_schema select_lines)
+pub select_lines_plain : (b : Bool) → IsPlain (understood (archive_schema b) select_lines)
 unfolding understood everything
-select_lines_plain = (refl, refl)
+select_lines_plain b = (refl, refl)
 
-pub select_lines_unlisted : reads_listing archive_schema select_lines ≡ false
+pub select_lines_unlisted : (b : Bool) → reads_listing (archive_schema b) select_lines ≡ false
 unfolding understood everything
-select_lines_unlisted = refl
+select_lines_unlisted b = refl
 
-pub select_receipts_is : command_of (understood archive_schema select_receipts) ≡ Select
+pub select_receipts_is : (b : Bool) → command_of (understood (archive_schema b) select_receipts) ≡ Select
     (record { lets = []; body = simple 4 [] (col 1 2 ∷ col 1 3 ∷ col 1 4 ∷ col 1 5 ∷ []) by_key })
     (codes "token" ∷ codes "digest" ∷ codes "first" ∷ codes "count" ∷ [])
 unfolding understood everything
-select_receipts_is = refl
+select_receipts_is b = refl
 
-pub select_receipts_plain : IsPlain (understood archive_schema select_receipts)
+pub select_receipts_plain : (b : Bool) → IsPlain (understood (archive_schema b) select_receipts)
 unfolding understood everything
-select_receipts_plain = (refl, refl)
+select_receipts_plain b = (refl, refl)
 
-pub select_receipts_unlisted : reads_listing archive_schema select_receipts ≡ false
+pub select_receipts_unlisted : (b : Bool) → reads_listing (archive_schema b) select_receipts ≡ false
 unfolding understood everything
-select_receipts_unlisted = refl
+select_receipts_unlisted b = refl
 
 abbrev pub update_record : List ℕ
 update_record = codes "UPDATE record SET kind = ?2, batch = ?3 WHERE no = ?1"
 
-pub update_record_is : command_of (understood archive_schema update_record) ≡ Update 2
+pub update_record_is : (b : Bool) → command_of (understood (archive_schema b) update_record) ≡ Update 2
     (record { lets = []; body = simple 2 (with_key 0) (col 1 0 ∷ col 1 0 ∷ lit Null ∷ col 0 1 ∷ col 0 2 ∷ []) [] })
 unfolding understood everything
-update_record_is = refl
+update_record_is b = refl
 
-pub update_record_plain : IsPlain (understood archive_schema update_record)
+pub update_record_plain : (b : Bool) → IsPlain (understood (archive_schema b) update_record)
 unfolding understood everything
-update_record_plain = (refl, refl)
+update_record_plain b = (refl, refl)
 
 abbrev pub insert_slip : List ℕ
 insert_slip = codes "INSERT INTO slip (no, keep, gone, undone) VALUES (?1, ?2, ?3, ?4)"
 
-pub insert_slip_is : command_of (understood archive_schema insert_slip) ≡ Insert 5
+pub insert_slip_is : (b : Bool) → command_of (understood (archive_schema b) insert_slip) ≡ Insert 5
     (Values (col 0 0 ∷ lit Null ∷ col 0 1 ∷ col 0 2 ∷ col 0 3 ∷ []) 5)
 unfolding understood everything
-insert_slip_is = refl
+insert_slip_is b = refl
 
-pub insert_slip_plain : IsPlain (understood archive_schema insert_slip)
+pub insert_slip_plain : (b : Bool) → IsPlain (understood (archive_schema b) insert_slip)
 unfolding understood everything
-insert_slip_plain = (refl, refl)
+insert_slip_plain b = (refl, refl)
 
 abbrev pub undo_slip : List ℕ
 undo_slip = codes "UPDATE slip SET undone = 1 WHERE no = ?1"
 
-pub undo_slip_is : command_of (understood archive_schema undo_slip) ≡ Update 5
+pub undo_slip_is : (b : Bool) → command_of (understood (archive_schema b) undo_slip) ≡ Update 5
     (record {
       lets = [];
       body = simple 5 (with_key 0)
           (col 1 0 ∷ col 1 0 ∷ lit Null ∷ col 1 2 ∷ col 1 3 ∷ lit (Int (pos 1)) ∷ []) [];
     })
 unfolding understood everything
-undo_slip_is = refl
+undo_slip_is b = refl
 
-pub undo_slip_plain : IsPlain (understood archive_schema undo_slip)
+pub undo_slip_plain : (b : Bool) → IsPlain (understood (archive_schema b) undo_slip)
 unfolding understood everything
-undo_slip_plain = (refl, refl)
+undo_slip_plain b = (refl, refl)
 
 abbrev pub insert_slip_line : List ℕ
 insert_slip_line = codes
     "INSERT INTO slip_line (slip, side, no, pos, depth, tag, text, dst) VALUES (?1, ?2, ?3, ?4, ?5, ?6, ?7, ?8)"
 
-pub insert_slip_line_is : command_of (understood archive_schema insert_slip_line) ≡ Insert 6
+pub insert_slip_line_is : (b : Bool) → command_of (understood (archive_schema b) insert_slip_line) ≡ Insert 6
     (Values (lit Null ∷ lit Null ∷ col 0 0 ∷ col 0 1 ∷ col 0 2 ∷ col 0 3 ∷ col 0 4 ∷ col 0 5 ∷ col 0 6 ∷ col 0 7 ∷ [])
     10)
 unfolding understood everything
-insert_slip_line_is = refl
+insert_slip_line_is b = refl
 
-pub insert_slip_line_plain : IsPlain (understood archive_schema insert_slip_line)
+pub insert_slip_line_plain : (b : Bool) → IsPlain (understood (archive_schema b) insert_slip_line)
 unfolding understood everything
-insert_slip_line_plain = (refl, refl)
+insert_slip_line_plain b = (refl, refl)
 
 abbrev pub delete_slip_lines : List ℕ
 delete_slip_lines = codes "DELETE FROM slip_line WHERE slip = ?1"
 
-pub delete_slip_lines_is : command_of (understood archive_schema delete_slip_lines) ≡ Delete 6
+pub delete_slip_lines_is : (b : Bool) → command_of (understood (archive_schema b) delete_slip_lines) ≡ Delete 6
     (record { lets = []; body = simple 6 (with_key 2) (col 1 0 ∷ []) [] })
 unfolding understood everything
-delete_slip_lines_is = refl
+delete_slip_lines_is b = refl
 
-pub delete_slip_lines_plain : IsPlain (understood archive_schema delete_slip_lines)
+pub delete_slip_lines_plain : (b : Bool) → IsPlain (understood (archive_schema b) delete_slip_lines)
 unfolding understood everything
-delete_slip_lines_plain = (refl, refl)
+delete_slip_lines_plain b = (refl, refl)
 
 abbrev pub select_slips : List ℕ
 select_slips = codes "SELECT no, keep, gone, undone FROM slip ORDER BY no"
 
-pub select_slips_is : command_of (understood archive_schema select_slips) ≡ Select
+pub select_slips_is : (b : Bool) → command_of (understood (archive_schema b) select_slips) ≡ Select
     (record { lets = []; body = simple 5 [] (col 1 0 ∷ col 1 2 ∷ col 1 3 ∷ col 1 4 ∷ []) by_key })
     (codes "no" ∷ codes "keep" ∷ codes "gone" ∷ codes "undone" ∷ [])
 unfolding understood everything
-select_slips_is = refl
+select_slips_is b = refl
 
-pub select_slips_plain : IsPlain (understood archive_schema select_slips)
+pub select_slips_plain : (b : Bool) → IsPlain (understood (archive_schema b) select_slips)
 unfolding understood everything
-select_slips_plain = (refl, refl)
+select_slips_plain b = (refl, refl)
 
-pub select_slips_unlisted : reads_listing archive_schema select_slips ≡ false
+pub select_slips_unlisted : (b : Bool) → reads_listing (archive_schema b) select_slips ≡ false
 unfolding understood everything
-select_slips_unlisted = refl
+select_slips_unlisted b = refl
 
 abbrev pub select_slip_lines : List ℕ
 select_slip_lines = codes "SELECT slip, side, no, depth, tag, text, dst FROM slip_line ORDER BY id"
 
-pub select_slip_lines_is : command_of (understood archive_schema select_slip_lines) ≡ Select
+pub select_slip_lines_is : (b : Bool) → command_of (understood (archive_schema b) select_slip_lines) ≡ Select
     (record {
       lets = [];
       body = simple 6 [] (col 1 2 ∷ col 1 3 ∷ col 1 4 ∷ col 1 6 ∷ col 1 7 ∷ col 1 8 ∷ col 1 9 ∷ [])
           by_key;
     }) (codes "slip" ∷ codes "side" ∷ codes "no" ∷ codes "depth" ∷ codes "tag" ∷ codes "text" ∷ codes "dst" ∷ [])
 unfolding understood everything
-select_slip_lines_is = refl
+select_slip_lines_is b = refl
 
-pub select_slip_lines_plain : IsPlain (understood archive_schema select_slip_lines)
+pub select_slip_lines_plain : (b : Bool) → IsPlain (understood (archive_schema b) select_slip_lines)
 unfolding understood everything
-select_slip_lines_plain = (refl, refl)
+select_slip_lines_plain b = (refl, refl)
 
-pub select_slip_lines_unlisted : reads_listing archive_schema select_slip_lines ≡ false
+pub select_slip_lines_unlisted : (b : Bool) → reads_listing (archive_schema b) select_slip_lines ≡ false
 unfolding understood everything
-select_slip_lines_unlisted = refl
+select_slip_lines_unlisted b = refl

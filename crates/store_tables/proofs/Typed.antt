@@ -48,7 +48,7 @@ use Rattle.store_tables.specs.Rows.{
 }
 use Rattle.store_tables.proofs.Coded.{all_then, kept_by}
 
-put_all : {X : Type 0} (P : X → Type 0) (key : X → ℕ) (p : X) (qs : List X) → P p → AllByRecursion P qs
+pub put_all : {X : Type 0} (P : X → Type 0) (key : X → ℕ) (p : X) (qs : List X) → P p → AllByRecursion P qs
     → AllByRecursion P (put_by key p qs)
 put_all P key p [] h all = (h, tt)
 put_all P key p (q ∷ qs) h all = go (nat_cmp (key q) (key p)) (put_all P key p qs h all.1)
@@ -61,6 +61,8 @@ put_all P key p (q ∷ qs) h all = go (nat_cmp (key q) (key p)) (put_all P key p
 
 pub typed_next : (n : ℕ) (rows : Rows) → AreTyped rows → AreTyped (with_next n rows)
 typed_next n rows t = record {
+  version = t.version;
+  dated = t.dated;
   society = t.society;
   batches = t.batches;
   records = t.records;
@@ -68,12 +70,15 @@ typed_next n rows t = record {
   receipts = t.receipts;
   slips = t.slips;
   slip_lines = t.slip_lines;
+  spans = t.spans;
 }
 
 pub typed_batch : (n : ℕ) (is_open : Bool) → IsU32 n → (rows : Rows) → AreTyped rows
     → AreTyped (with_batch n is_open rows)
 typed_batch n is_open low rows t =
     record {
+      version = t.version;
+      dated = t.dated;
       society = t.society;
       batches = put_all _ (λ (b : BatchRow). b.no) _ rows.batches low t.batches;
       records = t.records;
@@ -81,6 +86,7 @@ typed_batch n is_open low rows t =
       receipts = t.receipts;
       slips = t.slips;
       slip_lines = t.slip_lines;
+      spans = t.spans;
     }
 
 closed_all : (n : ℕ) (bs : List BatchRow) → AllByRecursion (λ (b : BatchRow). IsU32 b.no) bs
@@ -94,6 +100,8 @@ closed_all n (b ∷ bs) h = (go (b.no == n), closed_all n bs h.1)
 
 pub typed_closed : (n : ℕ) (rows : Rows) → AreTyped rows → AreTyped (with_closed n rows)
 typed_closed n rows t = record {
+  version = t.version;
+  dated = t.dated;
   society = t.society;
   batches = closed_all n rows.batches t.batches;
   records = t.records;
@@ -101,10 +109,13 @@ typed_closed n rows t = record {
   receipts = t.receipts;
   slips = t.slips;
   slip_lines = t.slip_lines;
+  spans = t.spans;
 }
 
 pub typed_less_batch : (n : ℕ) (rows : Rows) → AreTyped rows → AreTyped (without_batch_row n rows)
 typed_less_batch n rows t = record {
+  version = t.version;
+  dated = t.dated;
   society = t.society;
   batches = kept_by _ _ rows.batches t.batches;
   records = t.records;
@@ -112,10 +123,13 @@ typed_less_batch n rows t = record {
   receipts = t.receipts;
   slips = t.slips;
   slip_lines = t.slip_lines;
+  spans = t.spans;
 }
 
 pub typed_less_lines_from : (n at : ℕ) (rows : Rows) → AreTyped rows → AreTyped (without_lines_from n at rows)
 typed_less_lines_from n at rows t = record {
+  version = t.version;
+  dated = t.dated;
   society = t.society;
   batches = t.batches;
   records = t.records;
@@ -123,11 +137,14 @@ typed_less_lines_from n at rows t = record {
   receipts = t.receipts;
   slips = t.slips;
   slip_lines = t.slip_lines;
+  spans = t.spans;
 }
 
 pub typed_record : (n : ℕ) (kind : List ℕ) (batch : ℕ) → IsU32 n → IsU32 batch → (rows : Rows) → AreTyped rows
     → AreTyped (with_record_row n kind batch rows)
 typed_record n kind batch low first rows t = record {
+  version = t.version;
+  dated = t.dated;
   society = t.society;
   batches = t.batches;
   records = put_all _ (λ (r : RecordRow). r.no) _ rows.records (low, first) t.records;
@@ -135,6 +152,7 @@ typed_record n kind batch low first rows t = record {
   receipts = t.receipts;
   slips = t.slips;
   slip_lines = t.slip_lines;
+  spans = t.spans;
 }
 
 record_all : (n : ℕ) (kind : List ℕ) (batch : ℕ) → IsU32 batch → (rs : List RecordRow)
@@ -152,6 +170,8 @@ record_all n kind batch low (r ∷ rs) h = (go (r.no == n), record_all n kind ba
 pub typed_record_at : (n : ℕ) (kind : List ℕ) (batch : ℕ) → IsU32 batch → (rows : Rows) → AreTyped rows
     → AreTyped (record_at n kind batch rows)
 typed_record_at n kind batch low rows t = record {
+  version = t.version;
+  dated = t.dated;
   society = t.society;
   batches = t.batches;
   records = record_all n kind batch low rows.records t.records;
@@ -159,10 +179,13 @@ typed_record_at n kind batch low rows t = record {
   receipts = t.receipts;
   slips = t.slips;
   slip_lines = t.slip_lines;
+  spans = t.spans;
 }
 
 pub typed_less_record : (n : ℕ) (rows : Rows) → AreTyped rows → AreTyped (without_record_row n rows)
 typed_less_record n rows t = record {
+  version = t.version;
+  dated = t.dated;
   society = t.society;
   batches = t.batches;
   records = kept_by _ _ rows.records t.records;
@@ -170,11 +193,14 @@ typed_less_record n rows t = record {
   receipts = t.receipts;
   slips = t.slips;
   slip_lines = t.slip_lines;
+  spans = t.spans;
 }
 
 pub typed_line : (n at : ℕ) (line : ℕ × Label) → IsU32 n → IsTypedLine line → (rows : Rows) → AreTyped rows
     → AreTyped (with_line n at line rows)
 typed_line n at line low is rows t = record {
+  version = t.version;
+  dated = t.dated;
   society = t.society;
   batches = t.batches;
   records = t.records;
@@ -182,10 +208,13 @@ typed_line n at line low is rows t = record {
   receipts = t.receipts;
   slips = t.slips;
   slip_lines = t.slip_lines;
+  spans = t.spans;
 }
 
 pub typed_less_lines : (n : ℕ) (rows : Rows) → AreTyped rows → AreTyped (without_lines n rows)
 typed_less_lines n rows t = record {
+  version = t.version;
+  dated = t.dated;
   society = t.society;
   batches = t.batches;
   records = t.records;
@@ -193,11 +222,14 @@ typed_less_lines n rows t = record {
   receipts = t.receipts;
   slips = t.slips;
   slip_lines = t.slip_lines;
+  spans = t.spans;
 }
 
 pub typed_receipt : (token : List ℕ) (receipt : Receipt) → IsToken token → IsTypedReceipt receipt → (rows : Rows)
     → AreTyped rows → AreTyped (with_receipt token receipt rows)
 typed_receipt token receipt is kept rows t = record {
+  version = t.version;
+  dated = t.dated;
   society = t.society;
   batches = t.batches;
   records = t.records;
@@ -205,11 +237,14 @@ typed_receipt token receipt is kept rows t = record {
   receipts = all_then _ rows.receipts _ t.receipts (is, kept);
   slips = t.slips;
   slip_lines = t.slip_lines;
+  spans = t.spans;
 }
 
 pub typed_slip : (n keep gone : ℕ) (is_undone : Bool) → IsU32 n → IsU32 keep → IsU32 gone → (rows : Rows)
     → AreTyped rows → AreTyped (with_slip_row n keep gone is_undone rows)
 typed_slip n keep gone is_undone a b c rows t = record {
+  version = t.version;
+  dated = t.dated;
   society = t.society;
   batches = t.batches;
   records = t.records;
@@ -218,6 +253,7 @@ typed_slip n keep gone is_undone a b c rows t = record {
   slips = put_all IsTypedSlip (λ (s : SlipRow). s.no) _ rows.slips
       (a, b, c) t.slips;
   slip_lines = t.slip_lines;
+  spans = t.spans;
 }
 
 undone_all : (n : ℕ) (ss : List SlipRow) → AllByRecursion IsTypedSlip ss → AllByRecursion IsTypedSlip
@@ -231,6 +267,8 @@ undone_all n (s ∷ ss) h = (go (s.no == n), undone_all n ss h.1)
 
 pub typed_undone : (n : ℕ) (rows : Rows) → AreTyped rows → AreTyped (with_undone n rows)
 typed_undone n rows t = record {
+  version = t.version;
+  dated = t.dated;
   society = t.society;
   batches = t.batches;
   records = t.records;
@@ -238,11 +276,14 @@ typed_undone n rows t = record {
   receipts = t.receipts;
   slips = undone_all n rows.slips t.slips;
   slip_lines = t.slip_lines;
+  spans = t.spans;
 }
 
 pub typed_slip_line : (slip : ℕ) (is_new : Bool) (n at : ℕ) (line : ℕ × Label) → IsU32 slip → IsU32 n → IsTypedLine line
     → (rows : Rows) → AreTyped rows → AreTyped (with_slip_line slip is_new n at line rows)
 typed_slip_line slip is_new n at line a b is rows t = record {
+  version = t.version;
+  dated = t.dated;
   society = t.society;
   batches = t.batches;
   records = t.records;
@@ -250,10 +291,13 @@ typed_slip_line slip is_new n at line a b is rows t = record {
   receipts = t.receipts;
   slips = t.slips;
   slip_lines = all_then _ rows.slip_lines _ t.slip_lines (a, b, is);
+  spans = t.spans;
 }
 
 pub typed_less_slip_lines : (n : ℕ) (rows : Rows) → AreTyped rows → AreTyped (without_slip_lines n rows)
 typed_less_slip_lines n rows t = record {
+  version = t.version;
+  dated = t.dated;
   society = t.society;
   batches = t.batches;
   records = t.records;
@@ -261,4 +305,5 @@ typed_less_slip_lines n rows t = record {
   receipts = t.receipts;
   slips = t.slips;
   slip_lines = kept_by _ _ rows.slip_lines t.slip_lines;
+  spans = t.spans;
 }

@@ -20,6 +20,7 @@ use Rattle.std.proofs.Common.{
   subst,
   ◌∙◌,
   arith,
+  Bool,
 }
 use Rattle.std.specs.List.{list_all}
 use Rattle.std.specs.List.Sorted.{IsPermutation}
@@ -30,8 +31,6 @@ use Rattle.sqlite.specs.Order.{Row}
 use Rattle.sqlite.specs.Ops.{is_true, from_truth, binary}
 use Rattle.sqlite.specs.Term.{holds, eval_all, col, lit}
 use Rattle.sqlite.specs.Tree.{Trees, put_row}
-use Rattle.sqlite_schema.specs.Names.{same_name}
-use Rattle.sqlite_value.specs.Keys.{joined}
 use Rattle.sqlite.specs.Command.TheVariants.{Update}
 use Rattle.sqlite_schema.specs.declared.program.Program.{Program}
 use Rattle.sqlite.specs.Program.{overlay}
@@ -39,7 +38,7 @@ use Rattle.sqlite_schema.specs.declared.schema.Keys.TheVariants.{Enforced}
 use Rattle.sqlite.specs.Rowids.TheVariants.{Given}
 use Rattle.sqlite.specs.Edit.{edit_of, edited, taken_by}
 use Rattle.sqlite_rules.specs.Calls.{ids_of}
-use Rattle.sqlite_rules.specs.Action.{works, Writes}
+use Rattle.sqlite_rules.specs.Action.{Writes}
 use Rattle.sqlite.specs.State.{State, Executes}
 use Rattle.sqlite.proofs.Callers.{runs_as, one_step, one_permutation, statement_of}
 use Rattle.sqlite.specs.Listing.{understood}
@@ -72,7 +71,9 @@ use Rattle.store_tables.proofs.Changing.{at_key, put_over, none_changed, keeps_c
 use Rattle.store_tables.proofs.Statements.{
   Becomes,
   becomes,
+  no_work,
   others_of,
+  spans_on,
   only_restricted,
   only_restricted_slips,
   truth_of,
@@ -83,33 +84,25 @@ permutation_none : {X : Type 0} (ys : List X) → IsPermutation [] ys → ys ≡
 permutation_none [] h = refl
 permutation_none (y ∷ ys) h = absurd (let e : length (y ∷ ys) ≡ 0 = length_permutation [] (y ∷ ys) h in cc)
 
--- a row that keeps its key sets off nothing
-no_work_2 : (olds : List Row) (row : Row) → works archive_schema Enforced 0 2 olds (row ∷ []) ≡ []
-unfolding same_name joined
-no_work_2 olds row = refl
-
-no_work_5 : (olds : List Row) (row : Row) → works archive_schema Enforced 0 5 olds (row ∷ []) ≡ []
-unfolding same_name joined
-no_work_5 olds row = refl
-
 passes_2 : (params : Row) (n : ℕ) (x : RecordRow) → list_all (holds ((Int (pos n) ∷ params) ∷ record_values x ∷ []))
     (with_key 0) ≡ (x.no == n)
 unfolding binary
 passes_2 params n x = ap (λ b. is_true (from_truth (Some b)) && true) (same_int x.no n) ∙ truth_of (x.no == n)
 
-pub updates_record : (old new : State) (n : ℕ) (kind : List ℕ) (batch : ℕ) (count : ℕ) → old.now.schema ≡ archive_schema
+pub updates_record : (old new : State) (n : ℕ) (kind : List ℕ) (batch : ℕ) (count : ℕ) (b : Bool)
+    → old.now.schema ≡ archive_schema b
     → Executes update_record (Int (pos n) ∷ Text kind ∷ Int (pos batch) ∷ []) old new (Ok count)
-    → Becomes old new (record_at n kind batch)
+    → Becomes b old new (record_at n kind batch)
     × ((rows : Rows) → Holds rows old.now.trees
     → count ≡ length (filter (λ (x : RecordRow). x.no == n) rows.records))
-updates_record old new n kind batch count has h =
+updates_record old new n kind batch count b has h =
     let params = Int (pos n) ∷ Text kind ∷ Int (pos batch) ∷ [] in
     let project = col 1 0 ∷ col 1 0 ∷ lit Null ∷ col 0 1 ∷ col 0 2 ∷ [] in
     let q : Program = record { lets = []; body = simple 2 (with_key 0) project [] } in
-    let w = runs_as update_record params old new archive_schema has (Update 2 q) update_record_is
-    update_record_plain count h in
-    let did = updates archive_schema records 2 refl refl old new.now w.tally params
-    (statement_of update_record (understood archive_schema update_record)) q has w.changed in
+    let w = runs_as update_record params old new (archive_schema b) has (Update 2 q) (update_record_is b)
+    (update_record_plain b) count h in
+    let did = updates (archive_schema b) records 2 refl refl old new.now w.tally params
+    (statement_of update_record (understood (archive_schema b) update_record)) q has w.changed in
     let read = did.1 in
     let db = old.now.trees in
     let now = new.now.trees in
@@ -121,16 +114,17 @@ updates_record old new n kind batch count has h =
     let found = (λ (rows : Rows) (was : Holds rows db). answered record_values params (with_key 0) (λ x. x.no == n)
     (passes_2 (Text kind ∷ Int (pos batch) ∷ []) n) 2 project [] (overlay db []) rows.records read was.records.is
     (did.2.answer Null)) in (
-      becomes old new w.sound did.0 (λ rows was.
+      becomes b old new w.sound did.0 (λ _. refl) (λ rows was.
           elim (at_key key n rows.records was.records.rise) [
             | inl none ↦
                 let empty : read ≡ [] = permutation_none read
                 (subst (λ xs. IsPermutation (map shown xs) read) none (found rows was)) in
                 let edit = edit_of db records [] Given 1 [] in
-                let applied = restricted_step archive_schema Enforced db now edit (only_restricted (taken_by db edit))
-                (subst (λ rs. Writes archive_schema Enforced db (edit_of db records (ids_of rs) Given 1 rs)
+                let applied = restricted_step (archive_schema b) Enforced db now edit
+                (only_restricted b (taken_by db edit))
+                (subst (λ rs. Writes (archive_schema b) Enforced db (edit_of db records (ids_of rs) Given 1 rs)
                 (Ok now)) empty did.3) in
-                let same = others_of db now edit applied in
+                let same = others_of b db now edit applied in
                 record {
                   meta = same 0 (omega arith) (omega arith) ∙ was.meta;
                   batches = keeps_on _ _ _ (same 1 (omega arith) (omega arith)) was.batches;
@@ -140,16 +134,17 @@ updates_record old new n kind batch count has h =
                   receipts = keeps_on _ _ _ (same 4 (omega arith) (omega arith)) was.receipts;
                   slips = keeps_on _ _ _ (same 5 (omega arith) (omega arith)) was.slips;
                   slip_lines = keeps_on _ _ _ (same 6 (omega arith) (omega arith)) was.slip_lines;
+                  spans = spans_on b rows db now edit applied (omega arith) was.spans;
                 }
             | inr (x, one, here) ↦
                 let single : read ≡ shown x ∷ [] = one_permutation _ read
                 (subst (λ xs. IsPermutation (map shown xs) read) one (found rows was)) in
                 let edit = edit_of db records (pos x.no ∷ []) Given 1 (shown x ∷ []) in
-                let applied = one_step archive_schema Enforced db now edit
-                (no_work_2 (taken_by db edit) (record_values (g x)))
-                (subst (λ rs. Writes archive_schema Enforced db (edit_of db records (ids_of rs) Given 1 rs)
+                let applied = one_step (archive_schema b) Enforced db now edit
+                (no_work b db edit refl refl)
+                (subst (λ rs. Writes (archive_schema b) Enforced db (edit_of db records (ids_of rs) Given 1 rs)
                 (Ok now)) single did.3) in
-                let same = others_of db now edit applied in
+                let same = others_of b db now edit applied in
                 let row : edited db edit ≡ put_row (record_values (g x)) (without_all (db 2) (pos x.no ∷ [])) = rw
                 (cast_null, cast_int (pos x.no), cast_int (pos batch)) refl in
                 let away = ap (λ k. put_row (record_values (g x)) (without_all (db 2) (pos k ∷ []))) here in
@@ -162,6 +157,7 @@ updates_record old new n kind batch count has h =
                   receipts = keeps_on _ _ _ (same 4 (omega arith) (omega arith)) was.receipts;
                   slips = keeps_on _ _ _ (same 5 (omega arith) (omega arith)) was.slips;
                   slip_lines = keeps_on _ _ _ (same 6 (omega arith) (omega arith)) was.slip_lines;
+                  spans = spans_on b rows db now edit applied (omega arith) was.spans;
                 }
           ]),
       λ rows was. elim (at_key key n rows.records was.records.rise) [
@@ -181,17 +177,18 @@ passes_5 : (params : Row) (n : ℕ) (x : SlipRow) → list_all (holds ((Int (pos
 unfolding binary
 passes_5 params n x = ap (λ b. is_true (from_truth (Some b)) && true) (same_int x.no n) ∙ truth_of (x.no == n)
 
-pub undoes_slip : (old new : State) (n : ℕ) (count : ℕ) → old.now.schema ≡ archive_schema
+pub undoes_slip : (old new : State) (n : ℕ) (count : ℕ) (b : Bool) → old.now.schema ≡ archive_schema b
     → Executes undo_slip (Int (pos n) ∷ []) old new (Ok count)
-    → Becomes old new (with_undone n)
+    → Becomes b old new (with_undone n)
     × ((rows : Rows) → Holds rows old.now.trees → count ≡ length (filter (λ (x : SlipRow). x.no == n) rows.slips))
-undoes_slip old new n count has h =
+undoes_slip old new n count b has h =
     let params = Int (pos n) ∷ [] in
     let project = col 1 0 ∷ col 1 0 ∷ lit Null ∷ col 1 2 ∷ col 1 3 ∷ lit (Int (pos 1)) ∷ [] in
     let q : Program = record { lets = []; body = simple 5 (with_key 0) project [] } in
-    let w = runs_as undo_slip params old new archive_schema has (Update 5 q) undo_slip_is undo_slip_plain count h in
-    let did = updates archive_schema slips 5 refl refl old new.now w.tally params
-    (statement_of undo_slip (understood archive_schema undo_slip)) q has w.changed in
+    let w = runs_as undo_slip params old new (archive_schema b) has (Update 5 q) (undo_slip_is b) (undo_slip_plain b)
+    count h in
+    let did = updates (archive_schema b) slips 5 refl refl old new.now w.tally params
+    (statement_of undo_slip (understood (archive_schema b) undo_slip)) q has w.changed in
     let read = did.1 in
     let db = old.now.trees in
     let now = new.now.trees in
@@ -202,17 +199,17 @@ undoes_slip old new n count has h =
     ∙ ap (λ o. unwrap_or o 0) did.4 in
     let found = (λ (rows : Rows) (was : Holds rows db). answered slip_values params (with_key 0) (λ x. x.no == n)
     (passes_5 [] n) 5 project [] (overlay db []) rows.slips read was.slips.is (did.2.answer Null)) in (
-      becomes old new w.sound did.0 (λ rows was.
+      becomes b old new w.sound did.0 (λ _. refl) (λ rows was.
           elim (at_key key n rows.slips was.slips.rise) [
             | inl none ↦
                 let empty : read ≡ [] = permutation_none read
                 (subst (λ xs. IsPermutation (map shown xs) read) none (found rows was)) in
                 let edit = edit_of db slips [] Given 1 [] in
-                let applied = restricted_step archive_schema Enforced db now edit
-                (only_restricted_slips (taken_by db edit))
-                (subst (λ rs. Writes archive_schema Enforced db (edit_of db slips (ids_of rs) Given 1 rs) (Ok now))
+                let applied = restricted_step (archive_schema b) Enforced db now edit
+                (only_restricted_slips b (taken_by db edit))
+                (subst (λ rs. Writes (archive_schema b) Enforced db (edit_of db slips (ids_of rs) Given 1 rs) (Ok now))
                 empty did.3) in
-                let same = others_of db now edit applied in
+                let same = others_of b db now edit applied in
                 record {
                   meta = same 0 (omega arith) (omega arith) ∙ was.meta;
                   batches = keeps_on _ _ _ (same 1 (omega arith) (omega arith)) was.batches;
@@ -222,16 +219,17 @@ undoes_slip old new n count has h =
                   slips = subst (λ xs. Keeps slip_values key xs (now 5)) (sym (none_changed key n g rows.slips none))
                       (keeps_on _ _ (now 5) applied.rows was.slips);
                   slip_lines = keeps_on _ _ _ (same 6 (omega arith) (omega arith)) was.slip_lines;
+                  spans = spans_on b rows db now edit applied (omega arith) was.spans;
                 }
             | inr (x, one, here) ↦
                 let single : read ≡ shown x ∷ [] = one_permutation _ read
                 (subst (λ xs. IsPermutation (map shown xs) read) one (found rows was)) in
                 let edit = edit_of db slips (pos x.no ∷ []) Given 1 (shown x ∷ []) in
-                let applied = one_step archive_schema Enforced db now edit
-                (no_work_5 (taken_by db edit) (slip_values (g x)))
-                (subst (λ rs. Writes archive_schema Enforced db (edit_of db slips (ids_of rs) Given 1 rs) (Ok now))
+                let applied = one_step (archive_schema b) Enforced db now edit
+                (no_work b db edit refl refl)
+                (subst (λ rs. Writes (archive_schema b) Enforced db (edit_of db slips (ids_of rs) Given 1 rs) (Ok now))
                 single did.3) in
-                let same = others_of db now edit applied in
+                let same = others_of b db now edit applied in
                 let row : edited db edit ≡ put_row (slip_values (g x)) (without_all (db 5) (pos x.no ∷ [])) = rw (
                   cast_null,
                   cast_int (pos x.no),
@@ -249,6 +247,7 @@ undoes_slip old new n count has h =
                   slips = keeps_on _ _ (now 5) (applied.rows ∙ row ∙ away)
                       (keeps_changed slip_values key (λ _. refl) n g x rows.slips (db 5) one here here was.slips);
                   slip_lines = keeps_on _ _ _ (same 6 (omega arith) (omega arith)) was.slip_lines;
+                  spans = spans_on b rows db now edit applied (omega arith) was.spans;
                 }
           ]),
       λ rows was. elim (at_key key n rows.slips was.slips.rise) [

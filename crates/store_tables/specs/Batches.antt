@@ -1,7 +1,7 @@
 -- The rows of one batch, as they are read, and to what rows belong.
 use Rattle.std.specs.Prelude.{ℕ, ◌≡◌, ◌==◌, true, List, length, map, filter}
 use Rattle.std.specs.List.{AllByRecursion, list_any}
-use Rattle.store_tables.specs.Rows.{Rows, BatchRow, RecordRow, LineRow}
+use Rattle.store_tables.specs.Rows.{Rows, BatchRow, RecordRow, LineRow, SpanRow}
 
 -- the numbers of a batch, in order
 abbrev pub numbers_in : ℕ → Rows → List ℕ
@@ -11,9 +11,11 @@ numbers_in batch rows = map (λ (r : RecordRow). r.no) (filter (λ (r : RecordRo
 abbrev pub count_of_lines : ℕ → Rows → ℕ
 count_of_lines n rows = length (filter (λ (l : LineRow). l.no == n) rows.lines)
 
--- each line is of a number that has a row in `record`, and each such row is of a batch that is there
+-- each line and each span is of a number that has a row in `record`, and each such row is of a batch that is there
 pub record AreOwned (rows : Rows) : Type 0 where
   pub lines : AllByRecursion (λ (l : LineRow). list_any (λ (r : RecordRow). r.no == l.no) rows.records ≡ true)
       rows.lines
   pub records : AllByRecursion (λ (r : RecordRow). list_any (λ (b : BatchRow). b.no == r.batch) rows.batches ≡ true)
       rows.records
+  pub spans : AllByRecursion (λ (s : SpanRow). list_any (λ (r : RecordRow). r.no == s.no) rows.records ≡ true)
+      rows.spans

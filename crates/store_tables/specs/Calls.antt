@@ -1,5 +1,5 @@
 -- What a call does to the tables, and what a crash may leave of them.
-use Rattle.std.specs.Prelude.{◌≡◌, false, IsTrue, []}
+use Rattle.std.specs.Prelude.{◌≡◌, true, false, IsTrue, []}
 use Rattle.std.specs.List.{AllByRecursion}
 use Rattle.sqlite.specs.Schema.{Schema}
 use Rattle.sqlite.specs.Table.{Table}
@@ -12,7 +12,7 @@ use Rattle.store_tables.specs.Rows.{Rows, Holds}
 
 -- the trees list the archive's schema and obey it, and hold these rows, whose values are those of the program's types
 pub record Good (rows : Rows) (t : Trees) : Type 0 where
-  pub sound : IsSound archive_schema t
+  pub sound : IsSound (archive_schema rows.has_spans) t
   pub holds : Holds rows t
   pub typed : AreTyped rows
 
@@ -21,14 +21,14 @@ pub record Settled (s : State) (rows : Rows) : Type 0 where
   pub is_open : IsTrue s.is_open
   pub autocommit : s.in_transaction ≡ false
   pub settled : s.committed ≡ s.now
-  pub schema : s.now.schema ≡ archive_schema
+  pub schema : s.now.schema ≡ archive_schema rows.has_spans
   pub good : Good rows s.now.trees
 
 -- a transaction is open, in which the tables hold these rows
 pub record Inside (s : State) (rows : Rows) : Type 0 where
   pub is_open : IsTrue s.is_open
   pub inside : IsTrue s.in_transaction
-  pub schema : s.now.schema ≡ archive_schema
+  pub schema : s.now.schema ≡ archive_schema rows.has_spans
   pub good : Good rows s.now.trees
 
 -- calls in a transaction, or none: they make this of the rows, and commit nothing
@@ -38,6 +38,16 @@ Follows old new f = (rows : Rows) → Inside old rows → Inside new (f rows) ×
 -- whatever a crash may leave is good, and holds these rows
 abbrev pub LeavesOnly : State → Rows → Type 0
 LeavesOnly s rows = (t : Trees) → s.may_leave t → Good rows t
+
+-- the same of tables that have spans
+abbrev pub FollowsDated : State → State → (Rows → Rows) → Type 0
+FollowsDated old new f = (rows : Rows) → rows.has_spans ≡ true → Inside old rows
+    → Inside new (f rows) × (new.committed ≡ old.committed)
+
+-- the same of tables that have none
+abbrev pub FollowsUndated : State → State → (Rows → Rows) → Type 0
+FollowsUndated old new f = (rows : Rows) → rows.has_spans ≡ false → Inside old rows
+    → Inside new (f rows) × (new.committed ≡ old.committed)
 
 -- the connection shows what it showed, and has what was committed
 abbrev pub IsAsItWas : State → State → Type 0

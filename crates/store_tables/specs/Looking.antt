@@ -8,6 +8,8 @@ use Rattle.record_text.specs.declared.refusal.RefusalKind.{RefusalKind}
 use Rattle.record_text.specs.declared.refusal.RefusalKind.TheVariants.{OutOfMemory, Storage, NewerSchema, NotAnArchive}
 use Rattle.store_tables.specs.Calls.{Settled, LeavesOnly}
 use Rattle.store_tables.specs.Rows.{Rows}
+use Rattle.store_tables.specs.declared.version.Version.{Version}
+use Rattle.store_tables.specs.declared.version.Version.TheVariants.{First, Second}
 use Rattle.store_tables.specs.Telling.{tells_no_archive}
 
 -- memory was refused, or the database failed
@@ -35,12 +37,17 @@ HasVersion version rows = (more : Row) × (rows ≡ (Int (pos version) ∷ more)
 abbrev pub ShowsVersion : ℕ → State → State → Type 0
 ShowsVersion version old new = (rows : List Row) × Shown meta_query [] old new rows × HasVersion version rows
 
-abbrev pub IsLater : (ℕ → Type 0) → Type 0
-IsLater Is = (version : ℕ) × (1 < version) × Is version
+-- the number that a version is shown by
+abbrev pub version_number : Version → ℕ
+version_number First = 1
+version_number Second = 2
 
--- neither this version nor a later one
+abbrev pub IsLater : (ℕ → Type 0) → Type 0
+IsLater Is = (version : ℕ) × (2 < version) × Is version
+
+-- neither the first version nor the second, nor a later one
 abbrev pub HasNoVersion : List Row → Type 0
-HasNoVersion rows = ¬ HasVersion 1 rows × ¬ IsLater (λ version. HasVersion version rows)
+HasNoVersion rows = ¬ HasVersion 1 rows × ¬ HasVersion 2 rows × ¬ IsLater (λ version. HasVersion version rows)
 
 -- why the rows of `meta` are refused
 abbrev pub IsRefusedRows : List Row → RefusalKind → Type 0

@@ -11,6 +11,8 @@ use Rattle.sqlite_rules.specs.Lists.{Has}
 use Rattle.record_text.specs.declared.refusal.RefusalKind.{RefusalKind}
 use Rattle.record_text.specs.declared.refusal.RefusalKind.TheVariants.{Storage, NotAnArchive}
 use Rattle.store_tables.specs.Looking.{meta_query}
+use Rattle.store_tables.specs.declared.version.Version.{Version}
+use Rattle.store_tables.specs.declared.version.Version.TheVariants.{First, Second}
 use Rattle.store_tables.specs.Telling.{lacks, tells_no_archive}
 
 abbrev pub batch_query : List ℕ
@@ -37,9 +39,17 @@ slip_line_query = codes "SELECT slip, side, no, depth, tag, text, dst FROM slip_
 abbrev pub history_queries : List (List ℕ)
 history_queries = receipt_query ∷ slip_query ∷ slip_line_query ∷ []
 
--- the queries that read the tables
+-- the queries that read the tables of the first schema
 abbrev pub all_queries : List (List ℕ)
 all_queries = meta_query ∷ record_queries ++ history_queries
+
+abbrev pub span_query : List ℕ
+span_query = codes "SELECT no, lo, hi FROM span ORDER BY no"
+
+-- the queries that read the tables of a version
+abbrev pub queries_of : Version → List (List ℕ)
+queries_of First = all_queries
+queries_of Second = all_queries ++ span_query ∷ []
 
 -- the schema has all that the text names
 abbrev pub IsUnderstood : Schema → List ℕ → Type 0

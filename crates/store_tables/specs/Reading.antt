@@ -1,12 +1,23 @@
 -- What the queries show of the rows: all but the keys that say nothing, the kinds, and the places of lines, which are
 -- in order.
-use Rattle.std.specs.Prelude.{ℕ, Bool, List, map, length, ◌≡◌, ◌<◌, ◌^◌, IfSome}
+use Rattle.std.specs.Prelude.{ℕ, ℤ, Bool, true, List, map, length, ◌≡◌, ◌⊎◌, ◌<◌, ◌^◌, IfSome, FitsSigned}
+use Rattle.std.specs.Int.{w32}
 use Rattle.std.specs.List.{AllByRecursion}
 use Rattle.stored_lines.specs.Line.{Label}
 use Rattle.record_text.specs.Text.{IsTag, IsText}
 use Rattle.receipts.specs.Tokens.{IsToken}
 use Rattle.receipts.specs.declared.answer.Receipt.{Receipt}
-use Rattle.store_tables.specs.Rows.{Rows, BatchRow, RecordRow, LineRow, ReceiptRow, SlipRow, SlipLineRow, slip_line_of}
+use Rattle.store_tables.specs.Rows.{
+  Rows,
+  BatchRow,
+  RecordRow,
+  LineRow,
+  ReceiptRow,
+  SlipRow,
+  SlipLineRow,
+  SpanRow,
+  slip_line_of,
+}
 
 pub record ReadRows : Type 0 where
   pub next : ℕ
@@ -45,6 +56,10 @@ read_of rows = record {
 }
 
 -- ---- values that the program's types have
+-- a version that this program reads
+abbrev pub IsVersion : ℕ → Type 0
+IsVersion version = (version ≡ 1) ⊎ (version ≡ 2)
+
 -- a number of 32 bits
 abbrev pub IsU32 : ℕ → Type 0
 IsU32 n = n < 2 ^ 32
@@ -58,8 +73,18 @@ IsTypedReceipt r = (length r.digest ≡ 32) × IsU32 r.answer.first × IsU32 r.a
 abbrev pub IsTypedSlip : SlipRow → Type 0
 IsTypedSlip s = IsU32 s.no × IsU32 s.keep × IsU32 s.gone
 
--- each value of the rows is one of its type: numbers of 32 bits, texts, tags, tokens, digests of 32 bytes
+-- a day, a number of 32 bits with a sign
+abbrev pub IsDay : ℤ → Type 0
+IsDay day = FitsSigned w32 day
+
+abbrev pub IsTypedSpan : SpanRow → Type 0
+IsTypedSpan s = IsU32 s.no × IfSome s.lo IsDay × IfSome s.hi IsDay
+
+-- each value of the rows is one of its type: numbers of 32 bits, texts, tags, tokens, digests of 32 bytes; and the
+-- second version has spans
 pub record AreTyped (rows : Rows) : Type 0 where
+  pub version : IsVersion rows.version
+  pub dated : rows.version ≡ 2 → rows.has_spans ≡ true
   pub society : IsText rows.society
   pub batches : AllByRecursion (λ (b : BatchRow). IsU32 b.no) rows.batches
   pub records : AllByRecursion (λ (r : RecordRow). IsU32 r.no × IsU32 r.batch) rows.records
@@ -67,3 +92,4 @@ pub record AreTyped (rows : Rows) : Type 0 where
   pub receipts : AllByRecursion (λ (r : ReceiptRow). IsToken r.token × IsTypedReceipt r.receipt) rows.receipts
   pub slips : AllByRecursion IsTypedSlip rows.slips
   pub slip_lines : AllByRecursion (λ (s : SlipLineRow). IsU32 s.slip × IsU32 s.no × IsTypedLine s.line) rows.slip_lines
+  pub spans : AllByRecursion IsTypedSpan rows.spans

@@ -22,6 +22,7 @@ use Rattle.std.specs.Prelude.{
   Option,
   List,
   ℕ,
+  ℤ,
   pos,
 }
 use Rattle.std.specs.Ordering.{match_ordering, nat_cmp}
@@ -69,8 +70,17 @@ pub record SlipLineRow : Type 0 where
   pub at : ℕ
   pub line : ℕ × Label
 
--- the next number, the society, and the rows of each table in the order of their keys
+-- the days that the date of a record may mean: the first and the last one, from 1970-01-01, day 0
+pub record SpanRow : Type 0 where
+  pub no : ℕ
+  pub lo : Option ℤ
+  pub hi : Option ℤ
+
+-- the version that `meta` shows, whether the schema is the second one, which has spans, the next number, the society,
+-- and the rows of each table in the order of their keys
 pub record Rows : Type 0 where
+  pub version : ℕ
+  pub has_spans : Bool
   pub next : ℕ
   pub society : List ℕ
   pub batches : List BatchRow
@@ -79,6 +89,7 @@ pub record Rows : Type 0 where
   pub receipts : List ReceiptRow
   pub slips : List SlipRow
   pub slip_lines : List SlipLineRow
+  pub spans : List SpanRow
 
 -- ---- the values of a row: first its key, and again nothing in the key's own column
 abbrev pub number_or_null : Option ℕ → Value
@@ -89,12 +100,16 @@ abbrev pub words_or_null : Option (List ℕ) → Value
 words_or_null None = Null
 words_or_null (Some t) = Words t
 
+abbrev pub day_or_null : Option ℤ → Value
+day_or_null None = Null
+day_or_null (Some day) = Int day
+
 abbrev pub flag : Bool → ℕ
 flag false = 0
 flag true = 1
 
 abbrev pub meta_values : Rows → Row
-meta_values rows = Int (pos 1) ∷ Null ∷ Int (pos 1) ∷ Int (pos rows.next) ∷ Words rows.society ∷ []
+meta_values rows = Int (pos 1) ∷ Null ∷ Int (pos rows.version) ∷ Int (pos rows.next) ∷ Words rows.society ∷ []
 
 abbrev pub batch_values : BatchRow → Row
 batch_values b = Int (pos b.no) ∷ Null ∷ Int (pos (flag b.is_open)) ∷ []
@@ -122,11 +137,19 @@ abbrev pub slip_line_values : SlipLineRow → Row
 slip_line_values s = Int (pos s.id) ∷ Null ∷ Int (pos s.slip) ∷ Int (pos (flag s.is_new)) ∷ Int (pos s.no) ∷ Int
     (pos s.at) ∷ line_fields s.line
 
+abbrev pub span_values : SpanRow → Row
+span_values s = Int (pos s.no) ∷ Null ∷ day_or_null s.lo ∷ day_or_null s.hi ∷ []
+
 -- ---- that trees hold the rows
 -- the rows of a tree are those of the items, whose keys ascend
 pub record Keeps {X : Type 0} (values : X → Row) (key : X → ℕ) (xs : List X) (tree : List Row) : Type 0 where
   pub is : tree ≡ map values xs
   pub rise : IsAscending (λ a b. key a < key b) xs
+
+-- the first schema has no spans
+abbrev pub HoldsSpans : Bool → List SpanRow → Trees → Type 0
+HoldsSpans false spans t = spans ≡ []
+HoldsSpans true spans t = Keeps span_values (λ (s : SpanRow). s.no) spans (t 12)
 
 pub record Holds (rows : Rows) (t : Trees) : Type 0 where
   pub meta : t 0 ≡ meta_values rows ∷ []
@@ -136,6 +159,7 @@ pub record Holds (rows : Rows) (t : Trees) : Type 0 where
   pub receipts : Keeps receipt_values (λ (r : ReceiptRow). r.id) rows.receipts (t 4)
   pub slips : Keeps slip_values (λ (s : SlipRow). s.no) rows.slips (t 5)
   pub slip_lines : Keeps slip_line_values (λ (s : SlipLineRow). s.id) rows.slip_lines (t 6)
+  pub spans : HoldsSpans rows.has_spans rows.spans t
 
 -- ---- what one call makes of the rows
 -- the key of a row that gets the next one: one above the last
@@ -258,9 +282,26 @@ with_slip_lines slip is_new n at [] rows = rows
 with_slip_lines slip is_new n at (l ∷ ls) rows = with_slip_lines slip is_new n (at + 1) ls
     (with_slip_line slip is_new n at l rows)
 
+-- a span in the order of the numbers, in place of one of its number
+abbrev pub with_span : ℕ → Option ℤ → Option ℤ → Rows → Rows
+with_span n lo hi rows =
+    record rows { spans = put_by (λ (s : SpanRow). s.no) (record { no = n; lo = lo; hi = hi }) rows.spans }
+
+abbrev pub without_span : ℕ → Rows → Rows
+without_span n rows = record rows { spans = filter (λ (s : SpanRow). not (s.no == n)) rows.spans }
+
+-- ---- the second schema, made of the first one: its table has no rows yet; then `meta` shows its version
+abbrev pub with_span_table : Rows → Rows
+with_span_table rows = record rows { has_spans = true }
+
+abbrev pub with_version : ℕ → Rows → Rows
+with_version version rows = record rows { version = version }
+
 -- what a new archive holds: its meta row alone, and then batch 0, which is closed
 abbrev pub bare : List ℕ → Rows
 bare society = record {
+  version = 2;
+  has_spans = true;
   next = 1;
   society = society;
   batches = [];
@@ -269,6 +310,7 @@ bare society = record {
   receipts = [];
   slips = [];
   slip_lines = [];
+  spans = [];
 }
 
 abbrev pub nothing_yet : List ℕ → Rows

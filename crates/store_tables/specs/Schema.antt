@@ -1,5 +1,5 @@
--- The tables of an archive, schema 1, and the schemas that come before it while they are made. Our own; the numbers of
--- trees are those that SQLite gives, one to each CREATE, from 0.
+-- The tables of an archive, as the first schema has them and as the second one does, and the schemas that come before
+-- while they are made. Our own; the numbers of trees are those that SQLite gives, one to each CREATE, from 0.
 use Rattle.sqlite.specs.Collation.TheVariants.{Binary}
 use Rattle.std.specs.Prelude.{true, false, Bool, [], ◌∷◌, Some, codes, List, ℕ}
 use Rattle.sqlite.specs.declared.types.Value.TheVariants.{Null}
@@ -119,12 +119,24 @@ line_by_text = record {
   is_unique = false;
 }
 
-abbrev pub all_tables : List Table
-all_tables = meta ∷ batches ∷ records ∷ lines ∷ receipts ∷ slips ∷ slip_lines ∷ []
+-- the days that the dates of records may mean: the first and the last one, each null where there is none
+abbrev pub spans : Table
+spans = a_table (codes "span") 12 (codes "no")
+    (a_column (codes "lo") Integer false ∷ a_column (codes "hi") Integer false ∷ [])
+    (to_number_of (codes "record") 0 ∷ [])
 
-abbrev pub archive_schema : Schema
-archive_schema = record {
-  tables = all_tables;
+-- what the second schema has beside the first one
+abbrev pub later_tables : Bool → List Table
+later_tables false = []
+later_tables true = spans ∷ []
+
+abbrev pub all_tables : Bool → List Table
+all_tables has_spans = meta ∷ batches ∷ records ∷ lines ∷ receipts ∷ slips ∷ slip_lines ∷ later_tables has_spans
+
+-- the schema of an archive: the second one where it has spans, else the first one
+abbrev pub archive_schema : Bool → Schema
+archive_schema has_spans = record {
+  tables = all_tables has_spans;
   indexes = line_by_record ∷ line_by_target ∷ receipt_by_token
       ∷ slip_line_by_slip ∷ line_by_text ∷ [];
   views = [];
@@ -161,14 +173,14 @@ schema_7 = record {
 }
 
 abbrev pub schema_8 : Schema
-schema_8 = record { tables = all_tables; indexes = line_by_record ∷ []; views = [] }
+schema_8 = record { tables = all_tables false; indexes = line_by_record ∷ []; views = [] }
 
 abbrev pub schema_9 : Schema
-schema_9 = record { tables = all_tables; indexes = line_by_record ∷ line_by_target ∷ []; views = [] }
+schema_9 = record { tables = all_tables false; indexes = line_by_record ∷ line_by_target ∷ []; views = [] }
 
 abbrev pub schema_10 : Schema
 schema_10 = record {
-  tables = all_tables;
+  tables = all_tables false;
   indexes = line_by_record ∷ line_by_target ∷ receipt_by_token
       ∷ [];
   views = [];
@@ -176,7 +188,7 @@ schema_10 = record {
 
 abbrev pub schema_11 : Schema
 schema_11 = record {
-  tables = all_tables;
+  tables = all_tables false;
   indexes = line_by_record ∷ line_by_target ∷ receipt_by_token
       ∷ slip_line_by_slip ∷ [];
   views = [];

@@ -15,9 +15,10 @@ use Rattle.store_tables.specs.Prepared.{
   receipt_query,
   slip_query,
   slip_line_query,
+  span_query,
 }
 use Rattle.store_tables.specs.Reading.{ReadRows, read_of}
-use Rattle.store_tables.specs.Rows.{BatchRow, Rows, SlipRow}
+use Rattle.store_tables.specs.Rows.{BatchRow, Rows, SlipRow, SpanRow, day_or_null}
 
 -- ---- that a row shows an item
 -- the columns from a place on: a number is a flag, which is set where it is not 0
@@ -58,6 +59,10 @@ ShowsSlip row s = IsNumberAt row 0 s.no × IsNumberAt row 1 s.keep × IsNumberAt
 abbrev pub ShowsSlipLine : Row → ℕ × (Bool × (ℕ × (ℕ × Label))) → Type 0
 ShowsSlipLine row s = IsNumberAt row 0 s.0 × IsFlagAt row 1 s.1.0 × IsNumberAt row 2 s.1.1.0 × IsLineAt row 3 s.1.1.1
 
+-- a number, and the days that may be missing
+abbrev pub ShowsSpan : Row → SpanRow → Type 0
+ShowsSpan row s = IsNumberAt row 0 s.no × (column row 1 ≡ day_or_null s.lo) × (column row 2 ≡ day_or_null s.hi)
+
 -- ---- what the queries show
 -- a query shows a row for each item, in their order
 abbrev pub ShowsEach : {Y : Type 0} → List ℕ → (Row → Y → Type 0) → State → State → List Y → Type 0
@@ -84,3 +89,7 @@ pub record ShowsRead (read : ReadRows) (old new : State) : Type 0 where
 -- whoever reads the tables is shown these rows, and leaves the tables as they are
 abbrev pub ShowsRows : Rows → State → Type 0
 ShowsRows rows s = ShowsRead (read_of rows) s s
+
+-- whoever reads the spans is shown these, and leaves the tables as they are
+abbrev pub ShowsSpans : List SpanRow → State → Type 0
+ShowsSpans spans s = ShowsEach span_query ShowsSpan s s spans

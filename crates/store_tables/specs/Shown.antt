@@ -10,13 +10,15 @@ use Rattle.store_tables.specs.Rows.{
   ReceiptRow,
   SlipRow,
   SlipLineRow,
+  SpanRow,
+  day_or_null,
   flag,
   line_fields,
   receipt_fields,
 }
 
 abbrev pub shown_meta : Rows → Row
-shown_meta rows = Int (pos 1) ∷ Int (pos rows.next) ∷ Words rows.society ∷ []
+shown_meta rows = Int (pos rows.version) ∷ Int (pos rows.next) ∷ Words rows.society ∷ []
 
 abbrev pub shown_batch : BatchRow → Row
 shown_batch b = Int (pos b.no) ∷ Int (pos (flag b.is_open)) ∷ []
@@ -35,3 +37,6 @@ shown_slip s = Int (pos s.no) ∷ Int (pos s.keep) ∷ Int (pos s.gone) ∷ Int 
 
 abbrev pub shown_slip_line : SlipLineRow → Row
 shown_slip_line s = Int (pos s.slip) ∷ Int (pos (flag s.is_new)) ∷ Int (pos s.no) ∷ line_fields s.line
+
+abbrev pub shown_span : SpanRow → Row
+shown_span s = Int (pos s.no) ∷ day_or_null s.lo ∷ day_or_null s.hi ∷ []

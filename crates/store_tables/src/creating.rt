@@ -1,6 +1,6 @@
 //! A new archive.
 
-ghost use Rattle.std.specs.Prelude.{◌≡◌, ◌⊎◌, ℕ, false, OnOk};
+ghost use Rattle.std.specs.Prelude.{◌≡◌, ◌⊎◌, ℕ, true, false, OnOk};
 ghost use Rattle.sqlite.specs.State.{HasCleanDisk, Survives};
 ghost use Rattle.sqlite.specs.Held.{state};
 ghost use Rattle.sqlite.specs.Schema.{Schema};
@@ -14,6 +14,7 @@ ghost use Rattle.store_tables.specs.Creating.{IsCreate, IsCreateIndex};
 ghost use Rattle.store_tables.specs.Calls.{Builds, Built, Inside, SettledBlank, IsBlank, Settled, Good};
 
 use crate::rows;
+use crate::spans::CREATE_SPANS;
 use record_text::Text;
 use sqlite::{Alter, Connection, Error, Transaction, params};
 
@@ -89,7 +90,8 @@ fn create_receipts<S: Alter>(tx: &mut Transaction<'_, S>) -> Result<(), Error>
 fn create_indexes<S: Alter>(tx: &mut Transaction<'_, S>) -> Result<(), Error>
     ensures same_reference { tx.new.conn.ghost_name ≡ tx.old.conn.ghost_name }
     ensures ok { HasCleanDisk (state S.Store tx.new.conn.now)
-        → OnOk result (Builds (state S.Store tx.old.conn.now) (state S.Store tx.new.conn.now) schema_7 archive_schema) }
+        → OnOk result (Builds (state S.Store tx.old.conn.now) (state S.Store tx.new.conn.now) schema_7
+        (archive_schema false)) }
     ensures survives { Survives (state S.Store tx.old.conn.now) (state S.Store tx.new.conn.now) (λ _. ⊥) }
 {
     create_index(tx, "CREATE INDEX line_by_record ON line (no)")?;
@@ -102,19 +104,30 @@ fn create_indexes<S: Alter>(tx: &mut Transaction<'_, S>) -> Result<(), Error>
 fn insert_meta<S: Alter>(tx: &mut Transaction<'_, S>, society: &Text) -> Result<(), Error>
     ensures same_reference { tx.new.conn.ghost_name ≡ tx.old.conn.ghost_name }
     ensures ok { HasCleanDisk (state S.Store tx.new.conn.now)
-        → OnOk result (Built (state S.Store tx.old.conn.now) archive_schema
+        → OnOk result (Built (state S.Store tx.old.conn.now) (archive_schema true)
         → Inside (state S.Store tx.new.conn.now) (bare society.now)
         × ((state S.Store tx.new.conn.now).committed ≡ (state S.Store tx.old.conn.now).committed)) }
     ensures survives { Survives (state S.Store tx.old.conn.now) (state S.Store tx.new.conn.now) (λ _. ⊥) }
 {
     tx.execute(
-        "INSERT INTO meta (one, version, next, society) VALUES (1, 1, 1, ?1)",
+        "INSERT INTO meta (one, version, next, society) VALUES (1, 2, 1, ?1)",
         params![society.as_str()],
     )?;
     Ok(())
 }
 
-/// The indexes, and what a new archive holds.
+/// The table of spans, which comes last, as it does in an archive of the first schema that is made anew.
+fn create_span_table<S: Alter>(tx: &mut Transaction<'_, S>) -> Result<(), Error>
+    ensures same_reference { tx.new.conn.ghost_name ≡ tx.old.conn.ghost_name }
+    ensures ok { HasCleanDisk (state S.Store tx.new.conn.now)
+        → OnOk result (Builds (state S.Store tx.old.conn.now) (state S.Store tx.new.conn.now) (archive_schema false)
+        (archive_schema true)) }
+    ensures survives { Survives (state S.Store tx.old.conn.now) (state S.Store tx.new.conn.now) (λ _. ⊥) }
+{
+    create_table(tx, CREATE_SPANS)
+}
+
+/// The indexes, the table of spans, and what a new archive holds.
 fn fill<S: Alter>(tx: &mut Transaction<'_, S>, society: &Text) -> Result<(), Error>
     ensures same_reference { tx.new.conn.ghost_name ≡ tx.old.conn.ghost_name }
     ensures ok { HasCleanDisk (state S.Store tx.new.conn.now)
@@ -124,6 +137,7 @@ fn fill<S: Alter>(tx: &mut Transaction<'_, S>, society: &Text) -> Result<(), Err
     ensures survives { Survives (state S.Store tx.old.conn.now) (state S.Store tx.new.conn.now) (λ _. ⊥) }
 {
     create_indexes(tx)?;
+    create_span_table(tx)?;
     insert_meta(tx, society)?;
     rows::insert_batch(tx, 0, false)
 }

@@ -10,11 +10,14 @@ pub mod lines;
 mod reading;
 pub mod records;
 pub mod rows;
+pub mod spans;
 mod stored;
 mod typing;
 mod version;
 
 pub use creating::create;
 pub use reading::{read_batches, read_rows, society};
-pub use stored::{BatchRow, LineRow, ReceiptRow, RecordRow, SlipLineRow, SlipRow, StoredRows};
-pub use version::{check_tables, check_version};
+pub use stored::{
+    BatchRow, LineRow, ReceiptRow, RecordRow, SlipLineRow, SlipRow, SpanRow, StoredRows,
+};
+pub use version::{Version, check_tables, check_version};

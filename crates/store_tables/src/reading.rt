@@ -1,6 +1,6 @@
 //! All rows of an archive, read from its tables.
 
-ghost use Rattle.std.specs.Prelude.{◌≡◌, ◌⊎◌, List, [], ◌∷◌, false, map, IfOk, IfErr};
+ghost use Rattle.std.specs.Prelude.{◌≡◌, ◌⊎◌, Bool, List, [], ◌∷◌, false, map, IfOk, IfErr};
 ghost use Rattle.std.specs.List.{AllByRecursion};
 ghost use Rattle.sqlite.specs.declared.types.Value.{Value};
 ghost use Rattle.sqlite.specs.Held.{state};
@@ -70,7 +70,8 @@ pub fn read_rows<S: Alter>(
 ) -> Result<StoredRows, RefusalKind>
     requires autocommit { conn.old.in_transaction ≡ false }
     ensures looks { Looks (λ rows read. read ≡ read_of rows) (state S.Store conn.old) (state S.Store conn.new) result }
-    ensures shown { HasCleanDisk (state S.Store conn.new) → (state S.Store conn.old).now.schema ≡ archive_schema
+    ensures shown { HasCleanDisk (state S.Store conn.new) → (has_spans : Bool)
+        → (state S.Store conn.old).now.schema ≡ archive_schema has_spans
         → IfOk result (λ read. ShowsRead read
         (state S.Store conn.old) (state S.Store conn.new)) }
     ensures ended { conn.new.in_transaction ≡ false }
@@ -106,7 +107,8 @@ pub(crate) fn read_meta<S: Alter>(
     requires autocommit { conn.old.in_transaction ≡ false }
     ensures looks { Looks (λ rows meta. meta ≡ read_meta rows) (state S.Store conn.old)
         (state S.Store conn.new) result }
-    ensures shown { HasCleanDisk (state S.Store conn.new) → (state S.Store conn.old).now.schema ≡ archive_schema
+    ensures shown { HasCleanDisk (state S.Store conn.new) → (has_spans : Bool)
+        → (state S.Store conn.old).now.schema ≡ archive_schema has_spans
         → IfOk result (λ meta. ShowsEach meta_query ShowsMeta (state S.Store conn.old)
         (state S.Store conn.new) (meta ∷ [])) }
     ensures ended { conn.new.in_transaction ≡ false }
@@ -123,7 +125,8 @@ fn read_records_by_batch<S: Alter>(
     ensures looks { Looks (λ rows all. (all.0.items ≡ rows.batches) × (all.1.items ≡ map read_record rows.records)
         × (all.2.items ≡ map read_line rows.lines))
         (state S.Store conn.old) (state S.Store conn.new) result }
-    ensures shown { HasCleanDisk (state S.Store conn.new) → (state S.Store conn.old).now.schema ≡ archive_schema
+    ensures shown { HasCleanDisk (state S.Store conn.new) → (has_spans : Bool)
+        → (state S.Store conn.old).now.schema ≡ archive_schema has_spans
         → IfOk result (λ all. ShowsRecords all.0.items all.1.items all.2.items
         (state S.Store conn.old) (state S.Store conn.new)) }
     ensures ended { conn.new.in_transaction ≡ false }
@@ -143,7 +146,8 @@ fn read_history<S: Alter>(
     ensures looks { Looks (λ rows all. (all.0.items ≡ map read_receipt rows.receipts) × (all.1.items ≡ rows.slips)
         × (all.2.items ≡ map read_slip_line rows.slip_lines))
         (state S.Store conn.old) (state S.Store conn.new) result }
-    ensures shown { HasCleanDisk (state S.Store conn.new) → (state S.Store conn.old).now.schema ≡ archive_schema
+    ensures shown { HasCleanDisk (state S.Store conn.new) → (has_spans : Bool)
+        → (state S.Store conn.old).now.schema ≡ archive_schema has_spans
         → IfOk result (λ all. ShowsHistory all.0.items all.1.items all.2.items
         (state S.Store conn.old) (state S.Store conn.new)) }
     ensures ended { conn.new.in_transaction ≡ false }
@@ -161,7 +165,8 @@ fn read_meta_rows<S: Alter>(
     requires autocommit { conn.old.in_transaction ≡ false }
     ensures looks { Looks (λ rows items. items.items ≡ read_meta rows ∷ []) (state S.Store conn.old)
         (state S.Store conn.new) result }
-    ensures shown { HasCleanDisk (state S.Store conn.new) → (state S.Store conn.old).now.schema ≡ archive_schema
+    ensures shown { HasCleanDisk (state S.Store conn.new) → (has_spans : Bool)
+        → (state S.Store conn.old).now.schema ≡ archive_schema has_spans
         → IfOk result (λ items. ShowsEach meta_query ShowsMeta (state S.Store conn.old)
         (state S.Store conn.new) items.items) }
     ensures ended { conn.new.in_transaction ≡ false }
@@ -177,7 +182,8 @@ pub fn read_batches<S: Alter>(
     requires autocommit { conn.old.in_transaction ≡ false }
     ensures looks { Looks (λ rows items. items.items ≡ rows.batches) (state S.Store conn.old)
         (state S.Store conn.new) result }
-    ensures shown { HasCleanDisk (state S.Store conn.new) → (state S.Store conn.old).now.schema ≡ archive_schema
+    ensures shown { HasCleanDisk (state S.Store conn.new) → (has_spans : Bool)
+        → (state S.Store conn.old).now.schema ≡ archive_schema has_spans
         → IfOk result (λ items. ShowsEach batch_query ShowsBatch (state S.Store conn.old)
         (state S.Store conn.new) items.items) }
     ensures ended { conn.new.in_transaction ≡ false }
@@ -192,7 +198,8 @@ fn read_records<S: Alter>(
     requires autocommit { conn.old.in_transaction ≡ false }
     ensures looks { Looks (λ rows items. items.items ≡ map read_record rows.records) (state S.Store conn.old)
         (state S.Store conn.new) result }
-    ensures shown { HasCleanDisk (state S.Store conn.new) → (state S.Store conn.old).now.schema ≡ archive_schema
+    ensures shown { HasCleanDisk (state S.Store conn.new) → (has_spans : Bool)
+        → (state S.Store conn.old).now.schema ≡ archive_schema has_spans
         → IfOk result (λ items. ShowsEach record_query ShowsRecord (state S.Store conn.old)
         (state S.Store conn.new) items.items) }
     ensures ended { conn.new.in_transaction ≡ false }
@@ -207,7 +214,8 @@ fn read_lines<S: Alter>(
     requires autocommit { conn.old.in_transaction ≡ false }
     ensures looks { Looks (λ rows items. items.items ≡ map read_line rows.lines) (state S.Store conn.old)
         (state S.Store conn.new) result }
-    ensures shown { HasCleanDisk (state S.Store conn.new) → (state S.Store conn.old).now.schema ≡ archive_schema
+    ensures shown { HasCleanDisk (state S.Store conn.new) → (has_spans : Bool)
+        → (state S.Store conn.old).now.schema ≡ archive_schema has_spans
         → IfOk result (λ items. ShowsEach line_query ShowsLine (state S.Store conn.old)
         (state S.Store conn.new) items.items) }
     ensures ended { conn.new.in_transaction ≡ false }
@@ -222,7 +230,8 @@ fn read_receipts<S: Alter>(
     requires autocommit { conn.old.in_transaction ≡ false }
     ensures looks { Looks (λ rows items. items.items ≡ map read_receipt rows.receipts) (state S.Store conn.old)
         (state S.Store conn.new) result }
-    ensures shown { HasCleanDisk (state S.Store conn.new) → (state S.Store conn.old).now.schema ≡ archive_schema
+    ensures shown { HasCleanDisk (state S.Store conn.new) → (has_spans : Bool)
+        → (state S.Store conn.old).now.schema ≡ archive_schema has_spans
         → IfOk result (λ items. ShowsEach receipt_query ShowsReceipt (state S.Store conn.old)
         (state S.Store conn.new) items.items) }
     ensures ended { conn.new.in_transaction ≡ false }
@@ -237,7 +246,8 @@ fn read_slips<S: Alter>(
     requires autocommit { conn.old.in_transaction ≡ false }
     ensures looks { Looks (λ rows items. items.items ≡ rows.slips) (state S.Store conn.old)
         (state S.Store conn.new) result }
-    ensures shown { HasCleanDisk (state S.Store conn.new) → (state S.Store conn.old).now.schema ≡ archive_schema
+    ensures shown { HasCleanDisk (state S.Store conn.new) → (has_spans : Bool)
+        → (state S.Store conn.old).now.schema ≡ archive_schema has_spans
         → IfOk result (λ items. ShowsEach slip_query ShowsSlip (state S.Store conn.old)
         (state S.Store conn.new) items.items) }
     ensures ended { conn.new.in_transaction ≡ false }
@@ -252,7 +262,8 @@ fn read_slip_lines<S: Alter>(
     requires autocommit { conn.old.in_transaction ≡ false }
     ensures looks { Looks (λ rows items. items.items ≡ map read_slip_line rows.slip_lines) (state S.Store conn.old)
         (state S.Store conn.new) result }
-    ensures shown { HasCleanDisk (state S.Store conn.new) → (state S.Store conn.old).now.schema ≡ archive_schema
+    ensures shown { HasCleanDisk (state S.Store conn.new) → (has_spans : Bool)
+        → (state S.Store conn.old).now.schema ≡ archive_schema has_spans
         → IfOk result (λ items. ShowsEach slip_line_query ShowsSlipLine (state S.Store conn.old)
         (state S.Store conn.new) items.items) }
     ensures ended { conn.new.in_transaction ≡ false }
@@ -268,7 +279,7 @@ pub(crate) fn read_all<T: FromRow, S: Alter>(
     params: &[ValueRef<'_>],
 ) -> Result<Vec<T>, RefusalKind>
     requires autocommit { conn.old.in_transaction ≡ false }
-    requires plain { IsPlain (understood archive_schema sql.now) }
+    requires plain { (has_spans : Bool) → IsPlain (understood (archive_schema has_spans) sql.now) }
     ensures read { HasCleanDisk (state S.Store conn.new) → IfOk result (λ items.
         (shown : List (List Value)) × Shown sql.now (bound params.now) (state S.Store conn.old)
         (state S.Store conn.new) shown × EachWith T.reads_as shown items.items) }
@@ -296,7 +307,7 @@ pub(crate) fn ask<S: Alter>(
     params: &[ValueRef<'_>],
 ) -> Result<Vec<Row>, Error>
     requires autocommit { conn.old.in_transaction ≡ false }
-    requires plain { IsPlain (understood archive_schema sql.now) }
+    requires plain { (has_spans : Bool) → IsPlain (understood (archive_schema has_spans) sql.now) }
     ensures shown { HasCleanDisk (state S.Store conn.new)
         → IfOk result (λ rows. Shown sql.now (bound params.now) (state S.Store conn.old)
         (state S.Store conn.new) rows.items) }

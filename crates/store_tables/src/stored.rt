@@ -110,7 +110,23 @@ impl Model for SlipLineRow {
     ghost view = { λ a. (a.slip, (a.is_new, (a.number, a.line))) };
 }
 
-/// All rows of an archive, in the order of their keys.
+/// The days that the date of a record may mean: the first and the last one, from 1970-01-01, day 0.
+#[derive(Drop)]
+pub struct SpanRow {
+    pub number: u32,
+    pub lo: Option<i32>,
+    pub hi: Option<i32>,
+}
+
+impl Model for SpanRow {
+    ghost use Rattle.store_tables.specs.Rows as rows;
+
+    ghost Value = { rows.SpanRow };
+
+    ghost view = { λ a. record { no = a.number; lo = a.lo; hi = a.hi } };
+}
+
+/// All rows of an archive but its spans, in the order of their keys.
 #[derive(Drop)]
 pub struct StoredRows {
     pub next: u64,

@@ -37,6 +37,7 @@ ghost use Rattle.store_tables.specs.Reading.{
   IsTypedLine,
   IsTypedReceipt,
   IsTypedSlip,
+  IsTypedSpan,
   read_record,
   read_line,
   read_receipt,
@@ -52,6 +53,7 @@ ghost use Rattle.store_tables.specs.Showing.{
   ShowsRecord,
   ShowsSlip,
   ShowsSlipLine,
+  ShowsSpan,
 };
 ghost use Rattle.store_tables.specs.Rows as rows;
 ghost use Rattle.store_tables.specs.Rows.{line_fields, words_or_null};
@@ -63,9 +65,10 @@ ghost use Rattle.store_tables.specs.Shown.{
   shown_receipt,
   shown_slip,
   shown_slip_line,
+  shown_span,
 };
 
-use crate::stored::{BatchRow, LineRow, ReceiptRow, RecordRow, SlipLineRow, SlipRow};
+use crate::stored::{BatchRow, LineRow, ReceiptRow, RecordRow, SlipLineRow, SlipRow, SpanRow};
 use receipts::{Answer, Receipt, Token};
 use record_text::{RefusalKind, Tag, Text};
 use sqlite::types::FromSql;
@@ -320,6 +323,20 @@ impl FromRow for SlipLineRow {
             is_new: value(row, 1)?,
             number: value(row, 2)?,
             line: line_at(row, 3)?,
+        })
+    }
+}
+
+impl FromRow for SpanRow {
+    ghost reads_as = { IsReadAs shown_span (λ (s : rows.SpanRow). s) ShowsSpan };
+
+    ghost is_readable = { ShowsTyped shown_span IsTypedSpan };
+
+    fn from_row(row: &Row) -> Result<SpanRow, RefusalKind> {
+        Ok(SpanRow {
+            number: value(row, 0)?,
+            lo: value(row, 1)?,
+            hi: value(row, 2)?,
         })
     }
 }

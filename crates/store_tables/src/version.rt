@@ -1,11 +1,21 @@
 //! Whether a store is an archive of this program.
 
-ghost use Rattle.std.specs.Prelude.{◌≡◌, ◌≢◌, [], ◌∷◌, ⊤, true, false, IfErr, OnOk};
+ghost use Rattle.std.specs.Prelude.{◌≡◌, ◌≢◌, [], ◌∷◌, ⊤, true, false, IfErr, IfOk, OnOk};
 ghost use Rattle.sqlite.specs.Held.{state};
 ghost use Rattle.sqlite.specs.State.{HasCleanDisk, Survives};
 ghost use Rattle.record_text.specs.declared.refusal.RefusalKind.TheVariants as refusal;
-ghost use Rattle.store_tables.specs.Looking.{Looks, HasVersion, ShowsVersion, IsLater, IsRefusedRows, IsRefusedStore};
-ghost use Rattle.store_tables.specs.Prepared.{PreparesAll, all_queries, history_queries, record_queries};
+ghost use Rattle.store_tables.specs.Calls.{Settled};
+ghost use Rattle.store_tables.specs.Looking.{
+  Looks,
+  HasVersion,
+  ShowsVersion,
+  IsLater,
+  IsRefusedRows,
+  IsRefusedStore,
+  version_number,
+};
+ghost use Rattle.store_tables.specs.Prepared.{PreparesAll, all_queries, queries_of, history_queries, record_queries};
+ghost use Rattle.store_tables.specs.Reading.{IsVersion};
 ghost use Rattle.store_tables.specs.Rows.{Rows};
 ghost use Rattle.store_tables.specs.Shown.{shown_meta};
 ghost use Rattle.store_tables.specs.Telling.{tells_no_archive};
@@ -14,21 +24,30 @@ use crate::reading::{
     SELECT_BATCHES, SELECT_LINES, SELECT_META, SELECT_RECEIPTS, SELECT_RECORDS, SELECT_SLIP_LINES,
     SELECT_SLIPS, ask,
 };
+use crate::spans::SELECT_SPANS;
 use record_text::RefusalKind;
 use sqlite::{Alter, Connection, Error, ErrorCode, Row};
 use sqlite_resolve::CompileError;
 
-/// The version of the tables that this program writes.
-const VERSION: u64 = 1;
+/// The version of an archive's tables.
+#[derive(Clone, Copy, Debug, PartialEq, Eq)]
+pub enum Version {
+    /// Its dates are read by the grammar before French Republican dates, and it has no table of spans.
+    First,
+    /// The version that this program writes.
+    Second,
+}
 
-/// Whether the store is an archive of the version that this program writes. `NotAnArchive`: its table `meta` or a
-/// column of it is missing, or it shows neither this version nor a later one. `NewerSchema`: a later program wrote
-/// it. `OutOfMemory`: memory was refused. `Storage`: the database failed.
-pub fn check_version<S: Alter>(conn: &mut Connection<S>) -> Result<(), RefusalKind>
+/// The version of the archive in a store. `NotAnArchive`: its table `meta` or a column of it is missing, or it shows
+/// none of these versions and no later one. `NewerSchema`: a later program wrote it. `OutOfMemory`: memory was
+/// refused. `Storage`: the database failed.
+pub fn check_version<S: Alter>(conn: &mut Connection<S>) -> Result<Version, RefusalKind>
     requires autocommit { conn.old.in_transaction ≡ false }
-    ensures looks { Looks (λ _ _. ⊤) (state S.Store conn.old) (state S.Store conn.new) result }
+    ensures looks { Looks (λ rows version. rows.version ≡ version_number version) (state S.Store conn.old)
+        (state S.Store conn.new) result }
     ensures version { HasCleanDisk (state S.Store conn.new)
-        → OnOk result (ShowsVersion 1 (state S.Store conn.old) (state S.Store conn.new)) }
+        → IfOk result (λ version. ShowsVersion (version_number version) (state S.Store conn.old)
+        (state S.Store conn.new)) }
     ensures newer { HasCleanDisk (state S.Store conn.new)
         → IfErr result (λ kind. kind ≡ refusal.NewerSchema
         → IsLater (λ v. ShowsVersion v (state S.Store conn.old) (state S.Store conn.new))) }
@@ -43,33 +62,40 @@ pub fn check_version<S: Alter>(conn: &mut Connection<S>) -> Result<(), RefusalKi
     }
 }
 
-/// Whether the rows of `meta` are one, and that of this version.
-fn version_of(rows: &[Row]) -> Result<(), RefusalKind>
-    ensures version { OnOk result (HasVersion 1 rows.now) }
+/// The version that the rows of `meta` show, where they are one.
+fn version_of(rows: &[Row]) -> Result<Version, RefusalKind>
+    ensures version { IfOk result (λ version. HasVersion (version_number version) rows.now) }
     ensures newer { IfErr result (λ kind. kind ≡ refusal.NewerSchema → IsLater (λ v. HasVersion v rows.now)) }
     ensures told { IfErr result (IsRefusedRows rows.now) }
-    ensures known { IfErr result (λ kind. (r : Rows) → rows.now ≡ shown_meta r ∷ [] → kind ≡ refusal.OutOfMemory) }
+    ensures known { IfErr result (λ kind. (r : Rows) → IsVersion r.version → rows.now ≡ shown_meta r ∷ []
+        → kind ≡ refusal.OutOfMemory) }
 {
     let [row] = rows else {
         return Err(RefusalKind::NotAnArchive);
     };
     match row.get(0) {
-        Ok(VERSION) => Ok(()),
-        Ok(version) if version > VERSION => Err(RefusalKind::NewerSchema),
+        Ok(1u64) => Ok(Version::First),
+        Ok(2) => Ok(Version::Second),
+        Ok(version) if version > 2 => Err(RefusalKind::NewerSchema),
         Err(Error::SqliteFailure(ErrorCode::OutOfMemory)) => Err(RefusalKind::OutOfMemory),
         _ => Err(RefusalKind::NotAnArchive),
     }
 }
 
-/// Whether the store has the tables of an archive, each with the columns that are read. `NotAnArchive`: one is
-/// missing. `Storage`: the database failed.
-pub fn check_tables<S: Alter>(conn: &mut Connection<S>) -> Result<(), RefusalKind>
+/// Whether the store has the tables of an archive of a version, each with the columns that are read. `NotAnArchive`:
+/// one is missing. `Storage`: the database failed.
+pub fn check_tables<S: Alter>(conn: &mut Connection<S>, version: Version) -> Result<(), RefusalKind>
     requires autocommit { conn.old.in_transaction ≡ false }
-    ensures looks { Looks (λ _ _. ⊤) (state S.Store conn.old) (state S.Store conn.new) result }
-    ensures told { PreparesAll all_queries (state S.Store conn.old) (state S.Store conn.new) result }
+    ensures looks { (rows : Rows) → Settled (state S.Store conn.old) rows → rows.version ≡ version_number version
+        → Looks (λ _ _. ⊤) (state S.Store conn.old) (state S.Store conn.new) result }
+    ensures told { PreparesAll (queries_of version) (state S.Store conn.old) (state S.Store conn.new) result }
     ensures ended { conn.new.in_transaction ≡ false }
 {
-    prepare_all(conn)
+    prepare_all(conn)?;
+    match version {
+        Version::First => Ok(()),
+        Version::Second => prepare(conn, SELECT_SPANS),
+    }
 }
 
 fn prepare_all<S: Alter>(conn: &mut Connection<S>) -> Result<(), RefusalKind>

@@ -4,22 +4,14 @@ use Rattle.archive_audits.proofs.reading.judge_tables.Goals as goal
 
 pub returns-in-Ok-clause-judged : goal.returns-in-Ok-clause-judged
 returns-in-Ok-clause-judged g c clean =
-    read_judges (state g.S.Store c.args.conn.now) c.in-Ok.held (c.in-Ok.ensures.read clean) c.judge.result
-    (c.in-Ok.ensures.shown clean) c.judge.ensures.good c.judge.ensures.bad
+    read_judges (state g.S.Store c.args.conn.now) c.in-Ok.held c.in-Ok.spans.items (c.in-Ok.ensures.read clean)
+    c.judge.result (c.in-Ok.ensures.shown clean) c.judge.ensures.good c.judge.ensures.bad
 
 pub returns-in-Ok-clause-told : goal.returns-in-Ok-clause-told
 returns-in-Ok-clause-told g c clean =
-    read_tells (state g.S.Store c.args.conn.now) c.in-Ok.held (c.in-Ok.ensures.read clean) c.judge.result
-    c.judge.ensures.told
-
-pub returns-in-Ok-clause-kept : goal.returns-in-Ok-clause-kept
-returns-in-Ok-clause-kept g c clean =
-    record { crash = c.in-Ok.ensures.crash clean; clean = c.in-Ok.ensures.clean clean }
+    read_tells (state g.S.Store c.args.conn.now) c.in-Ok.held c.in-Ok.spans.items (c.in-Ok.ensures.read clean)
+    c.judge.result c.judge.ensures.told
 
 pub returns-in-Err-clause-judged : goal.returns-in-Err-clause-judged
 returns-in-Err-clause-judged g c clean =
     unread_judges (state g.S.Store c.args.conn.now) c.in-Err.kind (c.in-Err.ensures.refused clean)
-
-pub returns-in-Err-clause-kept : goal.returns-in-Err-clause-kept
-returns-in-Err-clause-kept g c clean =
-    record { crash = c.in-Err.ensures.crash clean; clean = c.in-Err.ensures.clean clean }

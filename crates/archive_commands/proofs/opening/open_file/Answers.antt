@@ -1,7 +1,7 @@
 use Rattle.std.proofs.Common.{refl, ap, ◌∙◌, inl, inr}
 use Rattle.sqlite.specs.Effect.{Database}
 use Rattle.sqlite.specs.Files.{file_state}
-use Rattle.store.proofs.Opened.{opened_over}
+use Rattle.store.proofs.Opened.{opened_over, opened_over_old}
 use Rattle.archive_commands.proofs.opening.open_file.Goals as goal
 
 pub returns-in-Ok-adopt-clause-opened : goal.returns-in-Ok-adopt-clause-opened
@@ -48,3 +48,19 @@ returns-in-Ok-clause-refused g c = (
         | inr failed ↦ inr (failed.0, (c.in-Ok.conn, held, failed.1 clean))
       ]),
 )
+
+pub returns-in-Ok-adopt-clause-anew : goal.returns-in-Ok-adopt-clause-anew
+returns-in-Ok-adopt-clause-anew g c = λ clean society content t holds was.
+    let takes = c.in-Ok-adopt.ensures.adopted.1 clean in
+    let opened = c.in-Ok.ensures.opened takes.keeps.clean in
+    takes.anew.finished society content
+    (opened_over_old (file_state c.in-Ok.conn) t society content opened.0 opened.1
+    ((c.in-Ok.ensures.found takes.keeps.clean).holds t holds) was)
+
+pub returns-in-Ok-clause-kept : goal.returns-in-Ok-clause-kept
+returns-in-Ok-clause-kept g c = λ clean society content t holds was.
+    let takes = c.in-Err-adopt.ensures.refused clean in
+    let opened = c.in-Ok.ensures.opened takes.keeps.clean in
+    let had = opened_over_old (file_state c.in-Ok.conn) t society content opened.0 opened.1
+    ((c.in-Ok.ensures.found takes.keeps.clean).holds t holds) was in
+    (takes.anew.refused society content had, takes.anew.crash society content had)

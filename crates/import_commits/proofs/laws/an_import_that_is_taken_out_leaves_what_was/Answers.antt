@@ -3,4 +3,4 @@ use Rattle.import_commits.proofs.laws.an_import_that_is_taken_out_leaves_what_wa
 
 pub returns : goal.returns
 returns c = λ before rows i content begun fresh adds means.
-    taken_out before rows i content begun fresh adds means c.an_import_that_is_taken_out_leaves_nothing.ensures
+    taken_out before rows i content begun fresh adds c.an_import_that_is_taken_out_leaves_nothing.ensures

@@ -1,5 +1,8 @@
-use Rattle.staged_rows.proofs.Published.{whole}
+use Rattle.staged_rows.proofs.Published.{whole, whole_spans}
 use Rattle.staged_rows.proofs.laws.a_published_import_means_what_it_makes.Goals as goal
 
-pub returns : goal.returns
-returns c = whole
+pub returns-clause-means : goal.returns-clause-means
+returns-clause-means c = whole
+
+pub returns-clause-spans : goal.returns-clause-spans
+returns-clause-spans c = whole_spans

@@ -8,4 +8,7 @@ puts-preserved c =
     c.saturating_add-count.ensures c.puts.invariant
 
 pub returns : goal.returns
-returns c batch = all_counted batch c.args.puts.now c.puts.put-index c.puts.count _ c.puts-test.false c.puts.invariant
+returns c batch drawn other =
+    all_counted batch c.args.puts.now c.args.spans.now drawn c.puts.put-index c.puts.count
+    c.saturating_add.result _ c.requires.dated other c.puts-test.false c.puts.invariant
+    c.saturating_add.ensures

@@ -7,5 +7,5 @@ use Rattle.staging.proofs.removing.remove_open.Given as goal
 abbrev pub invariant-batches : goal.invariant-batches
 invariant-batches g l = record {
   ended : l.conn.in_transaction ≡ false;
-  way : IsClearing (state g.S.Store l.fn.conn) (state g.S.Store l.conn) (drop l.batch-index l.batch-items);
+  way : IsClearing l.has_spans (state g.S.Store l.fn.conn) (state g.S.Store l.conn) (drop l.batch-index l.batch-items);
 }

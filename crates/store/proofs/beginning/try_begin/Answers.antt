@@ -21,10 +21,10 @@ returns-in-Ok-open_import-clause-begun g c clean =
     (λ i whole next society content rows was keeps.
     let did = next rows (c.in-Ok.ensures.same before rows content was keeps.means keeps.shallow).0 in
     subst (λ a. HasBegun society content rows r a i new) (sym (ap (λ (x : Changes). x.answer) c.changes.view_is))
-    (subst (λ x. HasBegun society content rows r changes.answer x new) (sym whole.1)
+    (subst (λ x. HasBegun society content rows r changes.answer x new) (sym whole.1.2)
     (has_begun c.an_import_that_is_begun_is_in_no_view.ensures c.nothing_is_there_of_the_next_batch.ensures society
     content rows changes old was keeps (c.in-Ok.ensures.adds before rows content was keeps.means keeps.shallow) r
-    i.batch new (c.in-Ok.ensures.decides before rows content was keeps.means keeps.shallow)
+    i.batch whole.1.0 new whole.1.1 (c.in-Ok.ensures.decides before rows content was keeps.means keeps.shallow)
     (c.in-Ok.ensures.exact before rows content was keeps.means keeps.shallow) c.in-Ok.ensures.words whole.0 did.0
     did.1)))
 

@@ -11,7 +11,8 @@ returns-clause-published g c clean =
       (
         with_published import.batch import.changes has.0,
         did has.0 has.1,
-        published_keeps c.a_published_import_is_whole.ensures c.what_an_import_adds_can_be_read.ensures society content
+        published_keeps c.a_published_import_is_whole.ensures.means c.a_published_import_is_whole.ensures.spans
+            c.what_an_import_adds_can_be_read.ensures society content
             r import has.0 has.2 none (shallow none),
         published_rows c.a_published_import_leaves_the_rows_of_other_numbers.ensures society content r import has.0
             has.2 none,
@@ -20,6 +21,7 @@ returns-clause-published g c clean =
 
 pub returns-clause-crash : goal.returns-clause-crash
 returns-clause-crash g c clean society content r has none t l =
-    publish_leaves c.an_import_that_is_begun_is_in_no_view.ensures c.a_published_import_is_whole.ensures
-    c.what_an_import_adds_can_be_read.ensures society content r c.args.import.now has.0
+    publish_leaves c.an_import_that_is_begun_is_in_no_view.ensures c.a_published_import_is_whole.ensures.means
+    c.a_published_import_is_whole.ensures.spans c.what_an_import_adds_can_be_read.ensures society content r
+    c.args.import.now has.0
     (state g.S.Store c.publish.new.conn) has.2 none (c.publish.ensures.crash clean has.0 has.1) t l

@@ -4,7 +4,7 @@ use Rattle.sqlite.specs.State.{HasCleanDisk}
 use Rattle.staged_rows.specs.Staging.{with_staged}
 use Rattle.store.specs.Histories.{is_storage}
 use Rattle.store.specs.Importing.{HasImport}
-use Rattle.store.proofs.Imports.{memory_of, stage_keeps, stage_leaves}
+use Rattle.store.proofs.Imports.{has_spans, memory_of, stage_keeps, stage_leaves}
 use Rattle.store.proofs.importing.stage_on.Goals as goal
 
 pub returns-in-Ok-clause-staged : goal.returns-in-Ok-clause-staged
@@ -15,7 +15,8 @@ returns-in-Ok-clause-staged g c clean society content r has =
     (sym c.in-Ok.ensures.left) (
       (
         with_staged (take 256 import.left) has.0,
-        c.in-Ok.ensures.staged clean has.0 has.1,
+        c.in-Ok.ensures.staged clean has.0
+            (has_spans c.an_import_that_is_begun_is_in_no_view.ensures society content r import has.0 has.2) has.1,
         stage_keeps c.a_stage_goes_on.ensures 256 society content r import has.0 has.2,
       ),
       refl,
@@ -24,7 +25,10 @@ returns-in-Ok-clause-staged g c clean society content r has =
 pub returns-in-Ok-clause-crash : goal.returns-in-Ok-clause-crash
 returns-in-Ok-clause-crash g c clean society content r has t l =
     stage_leaves c.an_import_that_is_begun_is_in_no_view.ensures c.a_stage_goes_on.ensures 256 society content r
-    c.args.import.now has.0 (state g.S.Store c.stage.new.conn) has.2 (c.in-Ok.ensures.crash clean has.0 has.1) t l
+    c.args.import.now has.0 (state g.S.Store c.stage.new.conn) has.2
+    (c.in-Ok.ensures.crash clean has.0
+    (has_spans c.an_import_that_is_begun_is_in_no_view.ensures society content r c.args.import.now has.0 has.2) has.1)
+    t l
 
 pub returns-in-Err-clause-crash : goal.returns-in-Err-clause-crash
 returns-in-Err-clause-crash g c clean society content r has t l =
@@ -32,7 +36,9 @@ returns-in-Err-clause-crash g c clean society content r has t l =
     let mid = state g.S.Store c.stage.new.conn in
     let before : HasCleanDisk mid = omega (arith, after.survives.clean, clean) in
     stage_leaves c.an_import_that_is_begun_is_in_no_view.ensures c.a_stage_goes_on.ensures 256 society content r
-    c.args.import.now has.0 mid has.2 (c.in-Err.ensures.crash before has.0 has.1) t
+    c.args.import.now has.0 mid has.2
+    (c.in-Err.ensures.crash before has.0
+    (has_spans c.an_import_that_is_begun_is_in_no_view.ensures society content r c.args.import.now has.0 has.2) has.1) t
     (elim (after.survives.crash clean t l) [ inl was ↦ was | inr none ↦ absurd none ])
 
 pub returns-in-Err-clause-stays : goal.returns-in-Err-clause-stays

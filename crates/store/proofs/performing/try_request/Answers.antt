@@ -32,7 +32,7 @@ returns-in-Ok-make_changes-clause-acknowledged g c clean society content rows wa
     (λ none. acknowledged_again society content rows r changes keeps decided words new exact none
     (subst (λ h. Settled (state g.S.Store h) rows) (sym (made.again none)) settled))
     (λ some. acknowledged_anew society content rows r changes keeps decided words new exact (made.shallow some content)
-    (made.made some clean rows settled)))
+    (made.made some clean rows keeps.dated.has_spans settled)))
 
 pub returns-in-Ok-make_changes-clause-repeated : goal.returns-in-Ok-make_changes-clause-repeated
 returns-in-Ok-make_changes-clause-repeated g c clean society content rows was keeps kept =
@@ -58,7 +58,8 @@ returns-in-Err-make_changes-clause-crash g c clean society content rows was keep
     done_or_not society content rows c.args.request.now c.in-Ok.changes keeps
     (c.in-Ok.ensures.decides before rows content was keeps.means keeps.shallow) c.in-Ok.ensures.words
     (state g.S.Store c.make_changes.new.conn)
-    (made.crash made.kept clean rows (c.in-Ok.ensures.same before rows content was keeps.means keeps.shallow).0)
+    (made.crash made.kept clean rows keeps.dated.has_spans
+    (c.in-Ok.ensures.same before rows content was keeps.means keeps.shallow).0)
 
 pub returns-in-Err-make_changes-clause-repeated : goal.returns-in-Err-make_changes-clause-repeated
 returns-in-Err-make_changes-clause-repeated g c clean society content rows was keeps kept =

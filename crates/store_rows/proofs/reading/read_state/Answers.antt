@@ -14,8 +14,9 @@ returns-clause-refused g c clean =
     ]) c.state_of.ensures.refused
 
 pub returns-clause-shown : goal.returns-clause-shown
-returns-clause-shown g c clean has =
+returns-clause-shown g c clean has_spans has =
     let old = state g.S.Store c.args.conn.now in
-    let shown = read_at old (state g.S.Store c.read_rows.new.conn) _ has (c.in_ok-read.ensures.shown clean has) in
-    if_ok c.state_of.result (λ held means. shown_rows old _ held means shown)
+    let shown = read_at old (state g.S.Store c.read_rows.new.conn) _ has_spans has
+    (c.in_ok-read.ensures.shown clean has_spans has) in
+    if_ok c.state_of.result (λ held means. shown_rows old has_spans _ held means shown)
     c.state_of.ensures.read

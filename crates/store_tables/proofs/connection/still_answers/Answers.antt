@@ -20,7 +20,7 @@ settled_again old mid new rows undone same live leaves ended only =
       is_open = same.0.is_open;
       autocommit = ended;
       settled = settled;
-      schema = sound_once new.now.schema new.now.trees good.sound (live same.0.is_open).0;
+      schema = sound_once rows.has_spans new.now.schema new.now.trees good.sound (live same.0.is_open).0;
       good = good;
     }
 

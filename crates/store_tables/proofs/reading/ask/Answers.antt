@@ -14,7 +14,8 @@ returns-clause-same g c clean =
     let new = state g.S.Store c.query_all.new.self in
     if_ok c.query_all.result
     (λ read shown rows was. still_settled old new rows
-    (unchanged_by _ _ old new read.items (plain_under c.args.sql.now old c.requires.plain was.schema) shown) was)
+    (unchanged_by _ _ old new read.items (plain_under c.args.sql.now old c.requires.plain rows.has_spans was.schema)
+    shown) was)
     (c.query_all.ensures.ok clean)
 
 pub returns-clause-known : goal.returns-clause-known
@@ -22,7 +23,7 @@ returns-clause-known g c clean =
     let old = state g.S.Store c.args.conn.now in
     let new = state g.S.Store c.query_all.new.self in
     IfErr-weaker c.query_all.result _ _
-    (λ e fails rows was. fails_known c.args.sql.now c.requires.plain old new was.schema
+    (λ e fails rows was. fails_known c.args.sql.now rows.has_spans (c.requires.plain rows.has_spans) old new was.schema
     (bound c.args.params.now) e fails) (c.query_all.ensures.err clean)
 
 pub returns-clause-crash : goal.returns-clause-crash
@@ -31,5 +32,5 @@ returns-clause-crash g c clean rows was t leaves =
     elim (c.query_all.ensures.survives.crash clean t leaves) [
       | inl before ↦ only_committed old rows t was (g.met.S.Store.settled c.args.conn.now.store t was.is_open before)
       | inr commits ↦ absurd
-          (never_commits _ _ old t (plain_under c.args.sql.now old c.requires.plain was.schema) commits)
+          (never_commits _ _ old t (plain_under c.args.sql.now old c.requires.plain rows.has_spans was.schema) commits)
     ]

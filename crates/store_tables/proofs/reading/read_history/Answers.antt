@@ -15,10 +15,10 @@ returns-in_err-slip_lines-clause-looks g c =
     (looks_then c.in_ok-receipts.ensures.looks c.in_ok-slips.ensures.looks) c.in_err-slip_lines.ensures.looks
 
 pub returns-clause-shown : goal.returns-clause-shown
-returns-clause-shown g c clean has =
+returns-clause-shown g c clean has_spans has =
     let clean_two = c.in_ok-slip_lines.ensures.looks.clean clean in
     let clean_one = c.in_ok-slips.ensures.looks.clean clean_two in
     shows_history (state g.S.Store c.args.conn.now) (state g.S.Store c.read_receipts.new.conn)
     (state g.S.Store c.read_slips.new.conn) (state g.S.Store c.read_slip_lines.new.conn) _
-    _ _ has (c.in_ok-receipts.ensures.shown clean_one has)
-    (c.in_ok-slips.ensures.shown clean_two) (c.in_ok-slip_lines.ensures.shown clean)
+    _ _ has_spans has (c.in_ok-receipts.ensures.shown clean_one has_spans has)
+    (c.in_ok-slips.ensures.shown clean_two has_spans) (c.in_ok-slip_lines.ensures.shown clean has_spans)

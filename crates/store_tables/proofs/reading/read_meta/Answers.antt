@@ -18,8 +18,8 @@ returns-clause-looks g c =
     ]) c.only.ensures.err)
 
 pub returns-clause-shown : goal.returns-clause-shown
-returns-clause-shown g c clean has =
+returns-clause-shown g c clean has_spans has =
     if_ok c.only.result
     (λ meta is. subst (ShowsEach meta_query ShowsMeta (state g.S.Store c.args.conn.now)
-    (state g.S.Store c.read_meta_rows.new.conn)) is (c.in_ok-read_meta_rows.ensures.shown clean has))
+    (state g.S.Store c.read_meta_rows.new.conn)) is (c.in_ok-read_meta_rows.ensures.shown clean has_spans has))
     c.only.ensures.ok

@@ -15,10 +15,11 @@ returns-in_err-lines-clause-looks g c =
     (looks_then c.in_ok-batches.ensures.looks c.in_ok-records.ensures.looks) c.in_err-lines.ensures.looks
 
 pub returns-clause-shown : goal.returns-clause-shown
-returns-clause-shown g c clean has =
+returns-clause-shown g c clean has_spans has =
     let clean_two = c.in_ok-lines.ensures.looks.clean clean in
     let clean_one = c.in_ok-records.ensures.looks.clean clean_two in
     shows_records (state g.S.Store c.args.conn.now) (state g.S.Store c.read_batches.new.conn)
     (state g.S.Store c.read_records.new.conn) (state g.S.Store c.read_lines.new.conn) _ _
-    _ has (c.in_ok-batches.ensures.shown clean_one has) (c.in_ok-records.ensures.shown clean_two)
-    (c.in_ok-lines.ensures.shown clean)
+    _ has_spans has (c.in_ok-batches.ensures.shown clean_one has_spans has) (c.in_ok-records.ensures.shown clean_two
+    has_spans)
+    (c.in_ok-lines.ensures.shown clean has_spans)

@@ -23,12 +23,12 @@ returns-clause-looks g c =
     (λ rows is. read_whole rows _ (ap (λ (p : ℕ × List ℕ). p.0) (c.meta.view_is ∙ is.0.0)) is.0.1 is.1) tt
 
 pub returns-clause-shown : goal.returns-clause-shown
-returns-clause-shown g c clean has =
+returns-clause-shown g c clean has_spans has =
     let clean_two = c.in_ok-receipts.ensures.looks.clean clean in
     let clean_one = c.in_ok-batches.ensures.looks.clean clean_two in
     shows_read (state g.S.Store c.args.conn.now) (state g.S.Store c.read_meta.new.conn)
-    (state g.S.Store c.read_records_by_batch.new.conn) (state g.S.Store c.read_history.new.conn) _ _ has
+    (state g.S.Store c.read_records_by_batch.new.conn) (state g.S.Store c.read_history.new.conn) _ _ has_spans has
     (subst (λ meta. ShowsEach meta_query ShowsMeta (state g.S.Store c.args.conn.now)
     (state g.S.Store c.read_meta.new.conn) (meta ∷ [])) (sym c.meta.view_is)
-    (c.in_ok-meta.ensures.shown clean_one has)) (c.in_ok-batches.ensures.shown clean_two)
-    (c.in_ok-receipts.ensures.shown clean)
+    (c.in_ok-meta.ensures.shown clean_one has_spans has)) (c.in_ok-batches.ensures.shown clean_two has_spans)
+    (c.in_ok-receipts.ensures.shown clean has_spans)

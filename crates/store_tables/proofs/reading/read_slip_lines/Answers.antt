@@ -26,7 +26,7 @@ returns-clause-looks g c =
     (λ rows t. t.slip_lines) did.read did.refused did.same did.crash did.clean
 
 pub returns-clause-shown : goal.returns-clause-shown
-returns-clause-shown g c clean has =
+returns-clause-shown g c clean has_spans has =
     if_ok c.read_all.result
     (λ items. shows_each shown_slip_line read_slip_line ShowsSlipLine select_slip_lines
     (state g.S.Store c.args.conn.now)

@@ -11,5 +11,5 @@ returns-clause-ok g c clean rows inside =
     let new = state g.S.Store c.execute.new.self.conn.now in
     let ran = rw (c.params-to_sql.ensures) at (c.in_ok-execute.ensures.runs clean inside.inside) in
     followed _ _ old new _ (with_undone c.args.number)
-    (λ has did. (undoes_slip old new c.args.number c.in_ok-execute.field-0 has did).0)
+    (λ b has did. (undoes_slip old new c.args.number c.in_ok-execute.field-0 b has did).0)
     (typed_undone c.args.number) ran rows inside

@@ -15,8 +15,8 @@ returns-clause-ok g c clean rows inside =
     let ran = rw (c.params-to_sql.ensures, c.params-to_sql-2.ensures, c.params-to_sql-3.ensures) at
     (c.in_ok-changed.ensures.runs clean inside.inside) in
     followed _ _ old new _ (record_at c.args.number c.args.kind.now c.args.batch)
-    (λ has did. (updates_record old new c.args.number c.args.kind.now c.args.batch
-    c.in_ok-changed.changed has did).0)
+    (λ b has did. (updates_record old new c.args.number c.args.kind.now c.args.batch
+    c.in_ok-changed.changed b has did).0)
     (typed_record_at c.args.number c.args.kind.now c.args.batch low) ran rows inside
 
 pub returns-clause-counts : goal.returns-clause-counts
@@ -25,5 +25,6 @@ returns-clause-counts g c clean rows inside =
     let new = state g.S.Store c.execute.new.self.conn.now in
     let ran = rw (c.params-to_sql.ensures, c.params-to_sql-2.ensures, c.params-to_sql-3.ensures) at
     (c.in_ok-changed.ensures.runs clean inside.inside) in
-    (updates_record old new c.args.number c.args.kind.now c.args.batch c.in_ok-changed.changed inside.schema ran.0).1
+    (updates_record old new c.args.number c.args.kind.now c.args.batch c.in_ok-changed.changed rows.has_spans
+    inside.schema ran.0).1
     rows inside.good.holds

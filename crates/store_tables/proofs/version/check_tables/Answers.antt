@@ -1,10 +1,14 @@
+use Rattle.std.proofs.Common.{rules, ◌≡◌, Bool, true, false, List, ℕ, [], ◌∷◌, ◌∙◌, ap, sym, subst}
 use Rattle.std.specs.List.{AllByRecursion}
 use Rattle.sqlite.specs.Held.{state}
 use Rattle.sqlite.specs.Listing.{understood}
 use Rattle.sqlite.proofs.Callers.{IsPlain}
-use Rattle.store_tables.specs.Prepared.{all_queries}
+use Rattle.store_tables.specs.Looking.{version_number}
+use Rattle.store_tables.specs.Prepared.{PreparesAll, all_queries, queries_of, span_query}
 use Rattle.store_tables.specs.Schema.{archive_schema}
-use Rattle.store_tables.proofs.Preparing.{looks_prepared}
+use Rattle.store_tables.specs.declared.version.Version.TheVariants.{Second}
+use Rattle.store_tables.proofs.Preparing.{looks_prepared, prepared_lost, prepared_then}
+use Rattle.store_tables.proofs.SpanTexts.{select_spans_plain}
 use Rattle.store_tables.proofs.Texts.{
   select_meta_plain,
   select_batches_plain,
@@ -16,20 +20,70 @@ use Rattle.store_tables.proofs.Texts.{
 }
 use Rattle.store_tables.proofs.version.check_tables.Goals as goal
 
-all_plain : AllByRecursion (λ sql. IsPlain (understood archive_schema sql)) all_queries
-all_plain = (
-  select_meta_plain,
+abbrev ArePlain : Bool → List (List ℕ) → Type 0
+ArePlain b queries = AllByRecursion (λ sql. IsPlain (understood (archive_schema b) sql)) queries
+
+all_plain : (b : Bool) → ArePlain b all_queries
+all_plain b = (
+  select_meta_plain b,
   (
-    select_batches_plain,
+    select_batches_plain b,
     (
-      select_records_plain,
-      (select_lines_plain, (select_receipts_plain, (select_slips_plain, (select_slip_lines_plain, tt)))),
+      select_records_plain b,
+      (
+        select_lines_plain b,
+        (select_receipts_plain b, (select_slips_plain b, (select_slip_lines_plain b, tt))),
+      ),
     ),
   ),
 )
 
-pub returns-clause-looks : goal.returns-clause-looks
-returns-clause-looks g c =
-    looks_prepared all_queries all_plain (state g.S.Store c.args.conn.now) (state g.S.Store c.prepare_all.new.conn)
-    c.prepare_all.result (λ is_open t. g.met.S.Store.settled c.args.conn.now.store t is_open)
-    c.prepare_all.ensures.told
+all_and_spans_plain : (b : Bool) → b ≡ true → ArePlain b (queries_of Second)
+all_and_spans_plain false none = absurd cc
+all_and_spans_plain true dated =
+    let them = all_plain true in (
+      them.0,
+      (
+        them.1.0,
+        (
+          them.1.1.0,
+          (
+            them.1.1.1.0,
+            (
+              them.1.1.1.1.0,
+              (
+                them.1.1.1.1.1.0,
+                (them.1.1.1.1.1.1.0, (select_spans_plain, tt)),
+              ),
+            ),
+          ),
+        ),
+      ),
+    )
+
+pub returns-in_err-prepare_all-clause-looks : goal.returns-in_err-prepare_all-clause-looks
+returns-in_err-prepare_all-clause-looks g c rows was is =
+    looks_prepared all_queries rows.has_spans (all_plain rows.has_spans) (state g.S.Store c.args.conn.now)
+    (state g.S.Store c.prepare_all.new.conn) was.schema c.from_residual.result
+    (λ is_open t. g.met.S.Store.settled c.args.conn.now.store t is_open)
+    (prepared_lost all_queries [] c.from_residual.result (search rules) c.in_err-prepare_all.ensures.told)
+
+pub returns-in-First-clause-looks : goal.returns-in-First-clause-looks
+returns-in-First-clause-looks g c rows was is =
+    looks_prepared all_queries rows.has_spans (all_plain rows.has_spans) (state g.S.Store c.args.conn.now)
+    (state g.S.Store c.prepare_all.new.conn) was.schema _
+    (λ is_open t. g.met.S.Store.settled c.args.conn.now.store t is_open) c.in_ok-prepare_all.ensures.told
+
+pub returns-in-Second-clause-told : goal.returns-in-Second-clause-told
+returns-in-Second-clause-told g c =
+    subst (λ version. PreparesAll (queries_of version) (state g.S.Store c.args.conn.now)
+    (state g.S.Store c.prepare.new.conn) c.prepare.result) (sym c.in-Second.is)
+    (prepared_then all_queries (span_query ∷ []) c.in_ok-prepare_all.ensures.told c.prepare.ensures.told)
+
+pub returns-in-Second-clause-looks : goal.returns-in-Second-clause-looks
+returns-in-Second-clause-looks g c rows was is =
+    looks_prepared (queries_of Second) rows.has_spans
+    (all_and_spans_plain rows.has_spans (was.good.typed.dated (is ∙ ap version_number c.in-Second.is)))
+    (state g.S.Store c.args.conn.now) (state g.S.Store c.prepare.new.conn) was.schema c.prepare.result
+    (λ is_open t. g.met.S.Store.settled c.args.conn.now.store t is_open)
+    (prepared_then all_queries (span_query ∷ []) c.in_ok-prepare_all.ensures.told c.prepare.ensures.told)

@@ -1,16 +1,19 @@
-use Rattle.std.proofs.Common.{◌≡◌, inl, inr, List, [], ◌∷◌, Result, Ok, Err, IfOk, sym, subst, ◌∙◌}
+use Rattle.std.proofs.Common.{◌≡◌, inl, inr, ℕ, pos, List, [], ◌∷◌, Ok, sym, subst, ◌∙◌}
 use Rattle.std.proofs.lemmas.Bool.{cases_Bool}
 use Rattle.std.proofs.lemmas.Result.{IfErr-weaker}
 use Rattle.sqlite.specs.State.{State, Shown}
+use Rattle.sqlite.specs.declared.types.Value.TheVariants.{Int}
 use Rattle.record_text.specs.declared.refusal.RefusalKind.{RefusalKind}
 use Rattle.record_text.specs.declared.refusal.RefusalKind.TheVariants.{OutOfMemory, NewerSchema, NotAnArchive}
 use Rattle.store_tables.specs.Telling.{tells_no_archive}
 use Rattle.sqlite.specs.Held.{state}
 use Rattle.sqlite.specs.Order.{Row}
-use Rattle.store_tables.specs.Looking.{Looks, meta_query, IsRefusedRows, IsRefusedStore}
+use Rattle.store_tables.specs.Looking.{Looks, HasVersion, meta_query, version_number, IsRefusedRows, IsRefusedStore}
+use Rattle.store_tables.specs.Reading.{IsVersion}
+use Rattle.store_tables.specs.Rows.{Rows}
 use Rattle.store_tables.specs.Shown.{shown_meta}
 use Rattle.store_tables.proofs.Asking.{meta_survives}
-use Rattle.store_tables.proofs.Calls.{on_ok}
+use Rattle.store_tables.proofs.Calls.{if_ok}
 use Rattle.store_tables.proofs.Queries.{reads_meta}
 use Rattle.store_tables.proofs.ReadingRows.{looks_with}
 use Rattle.store_tables.proofs.Texts.{select_meta_plain}
@@ -19,30 +22,36 @@ use Rattle.store_tables.proofs.version.check_version.Goals as goal
 pub ask-requires-clause-plain : goal.ask-requires-clause-plain
 ask-requires-clause-plain g c = select_meta_plain
 
-any_ok : {A E : Type 0} {Q : A → Type 0} (r : Result A E) → ((a : A) → Q a) → IfOk r Q
-any_ok (Ok a) h = h a
-any_ok (Err e) h = tt
+-- the rows show one version
+same_version : (rows : List Row) (r : Rows) (n : ℕ) → rows ≡ shown_meta r ∷ [] → HasVersion n rows → r.version ≡ n
+same_version rows r n is has = let same : shown_meta r ∷ [] ≡ (Int (pos n) ∷ has.0) ∷ [] = sym is ∙ has.1 in cc
 
 pub returns-in-Ok-clause-looks : goal.returns-in-Ok-clause-looks
 returns-in-Ok-clause-looks g c =
     let old = state g.S.Store c.args.conn.now in
     let new = state g.S.Store c.ask.new.conn in
     let did = c.in-Ok.ensures in
-    let looked : Looks (λ rows (all : List Row). all ≡ shown_meta rows ∷ []) old new (Ok c.in-Ok.rows.items) = record {
-      read = λ clean rows was. reads_meta old new c.in-Ok.rows.items rows was.schema was.good.holds (did.shown clean);
+    let looked : Looks (λ rows (all : List Row). (all ≡ shown_meta rows ∷ []) × IsVersion rows.version) old new
+    (Ok c.in-Ok.rows.items) = record {
+      read = λ clean rows was. (
+        reads_meta old new c.in-Ok.rows.items rows was.schema was.good.holds (did.shown clean),
+        was.good.typed.version,
+      );
       same = did.same;
       refused = λ clean. tt;
       crash = did.crash;
       clean = did.clean;
     } in
-    looks_with c.version_of.result looked (any_ok c.version_of.result (λ _ _ _. tt))
-    (IfErr-weaker c.version_of.result _ _ (λ kind is rows was. inl (is rows (c.deref.ensures.value ∙ was)))
+    looks_with c.version_of.result looked
+    (if_ok c.version_of.result (λ version is rows was. same_version _ rows (version_number version)
+    (c.deref.ensures.value ∙ was.0) is) c.version_of.ensures.version)
+    (IfErr-weaker c.version_of.result _ _ (λ kind is rows was. inl (is rows was.1 (c.deref.ensures.value ∙ was.0)))
     c.version_of.ensures.known)
 
 pub returns-in-Ok-clause-version : goal.returns-in-Ok-clause-version
 returns-in-Ok-clause-version g c clean =
-    on_ok c.version_of.result
-    (λ is. (c.in-Ok.rows.items, c.in-Ok.ensures.shown clean, (is.0, sym c.deref.ensures.value ∙ is.1)))
+    if_ok c.version_of.result
+    (λ version is. (c.in-Ok.rows.items, c.in-Ok.ensures.shown clean, (is.0, sym c.deref.ensures.value ∙ is.1)))
     c.version_of.ensures.version
 
 pub returns-in-Ok-clause-newer : goal.returns-in-Ok-clause-newer

@@ -1,10 +1,28 @@
-use Rattle.std.proofs.Common.{arith}
-use Rattle.staging.proofs.Cursors.{some_lines, some_rows}
+use Rattle.std.proofs.Common.{arith, sym, ◌∙◌}
+use Rattle.staging.proofs.Cursors.{at_end, lines_more, rows_more, some_first, some_spans, there}
+use Rattle.staging.proofs.cursor.Cursor.has_more.Goals.{else-self-puts, then-self-puts}
 use Rattle.staging.proofs.cursor.Cursor.has_more.Goals as goal
 
-pub returns-then-self-puts : goal.returns-then-self-puts
-returns-then-self-puts c batch = some_rows batch c.args.puts.now c.args.self.now (omega (arith, c.if-self-puts.true))
+pub returns-then-self-puts-2 : goal.returns-then-self-puts-2
+returns-then-self-puts-2 c batch =
+    let ps = c.args.puts.now in
+    let ds = c.args.spans.now in
+    let cursor = c.args.self.now in
+    let on = c.if-self-puts-2.true in
+    elim c.if-self-puts.branch [
+      | then-self-puts w ↦ some_first batch ps ds cursor c.if-self-puts.value on
+          (rows_more batch ps ds cursor (omega (arith, w.if-self-puts.true)))
+      | else-self-puts w ↦ some_first batch ps ds cursor c.if-self-puts.value on
+          (lines_more batch ps ds cursor c.requires.placed (there cursor.done _ (sym w.value-is ∙ on)))
+    ]
 
-pub returns-else-self-puts : goal.returns-else-self-puts
-returns-else-self-puts c batch = some_lines batch c.args.puts.now c.args.self.now c.requires.placed
-    (omega (arith, c.if-self-puts.false))
+pub returns-else-self-puts-2 : goal.returns-else-self-puts-2
+returns-else-self-puts-2 c batch =
+    let cursor = c.args.self.now in
+    let off = c.if-self-puts-2.false in
+    elim c.if-self-puts.branch [
+      | then-self-puts w ↦ absurd (let past = at_end cursor.rows _ (sym w.value-is ∙ off) in
+          omega (arith, past, w.if-self-puts.true))
+      | else-self-puts w ↦ some_spans batch c.args.puts.now c.args.spans.now cursor
+          (omega (arith, w.if-self-puts.false)) (at_end cursor.done _ (sym w.value-is ∙ off))
+    ]

@@ -1,0 +1,23 @@
+//! What is found where the tables of an archive are not good.
+
+use audit::Fault;
+use std::fmt;
+
+/// What is wrong with tables that can be read.
+#[derive(Clone, Copy, Debug, PartialEq, Eq)]
+pub enum Flaw {
+    /// What they mean breaks the rule of a sound archive.
+    Rule(Fault),
+    /// The record of a number has a date and no span, or a span that is not that of its date.
+    Span(u32),
+}
+
+impl fmt::Display for Flaw {
+    /// `record 17: its span is not that of its date`.
+    fn fmt<W: fmt::Write>(&self, f: &mut fmt::Formatter<W>) -> fmt::Result {
+        match self {
+            Flaw::Rule(fault) => write!(f, "{fault}"),
+            Flaw::Span(number) => write!(f, "record {number}: its span is not that of its date"),
+        }
+    }
+}

@@ -1,0 +1,3 @@
+mod Days
+mod Rising
+mod Seen

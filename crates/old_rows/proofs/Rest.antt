@@ -1,0 +1,100 @@
+-- What the rows that are written leave of all else.
+use Rattle.std.proofs.Common.{◌≡◌, ℕ, Bool, true, false, List, [], ◌∷◌, Option, Some, None, refl, sym, ap, ◌∙◌, cond}
+use Rattle.std.specs.List.{list_any}
+use Rattle.gedcom_date.specs.declared.value.Span.{Span}
+use Rattle.stored_lines.specs.Line.{Label}
+use Rattle.store_tables.specs.Rows.{Rows, with_changed_lines, with_slip_lines, without_lines, without_slip_lines}
+use Rattle.store_rows.specs.Spans.{with_span_if}
+use Rattle.store_rows.proofs.Puts as puts
+use Rattle.store_rows.proofs.Slips as slips
+use Rattle.old_rows.specs.Renewing.{
+  RecordAnew,
+  SideAnew,
+  SlipAnew,
+  with_record_anew,
+  with_records_anew,
+  with_sides_anew,
+  with_slip_anew,
+  with_slips_anew,
+}
+
+-- ---- records
+changed_only : (n : ℕ) (ls : List (ℕ × Label)) (rows : Rows) → with_changed_lines n ls rows
+    ≡ record rows { lines = (with_changed_lines n ls rows).lines }
+changed_only n ls rows = puts.lines_only n 0 ls (without_lines n rows)
+
+abbrev with_lines_if : Bool → ℕ → List (ℕ × Label) → Rows → Rows
+with_lines_if b n ls rows = cond b (with_changed_lines n ls rows) rows
+
+lines_if_only : (b : Bool) (n : ℕ) (ls : List (ℕ × Label)) (rows : Rows) → with_lines_if b n ls rows
+    ≡ record rows { lines = (with_lines_if b n ls rows).lines }
+lines_if_only true n ls rows = changed_only n ls rows
+lines_if_only false n ls rows = refl
+
+pub spans_stay : (b : Bool) (n : ℕ) (ls : List (ℕ × Label)) (rows : Rows)
+    → (cond b (with_changed_lines n ls rows) rows).spans ≡ rows.spans
+spans_stay b n ls rows = ap (λ (r : Rows). r.spans) (lines_if_only b n ls rows)
+
+span_only : (n : ℕ) (span : Option Span) (rows : Rows) → with_span_if n span rows
+    ≡ record rows { spans = (with_span_if n span rows).spans }
+span_only n None rows = refl
+span_only n (Some s) rows = refl
+
+pub span_lines : (n : ℕ) (span : Option Span) (rows : Rows) → (with_span_if n span rows).lines ≡ rows.lines
+span_lines n span rows = ap (λ (r : Rows). r.lines) (span_only n span rows)
+
+record_only : (r : RecordAnew) (rows : Rows) → with_record_anew r rows
+    ≡ record rows { lines = (with_record_anew r rows).lines; spans = (with_record_anew r rows).spans }
+record_only r rows =
+    let mid : Rows = with_lines_if r.anew.has_changed r.number r.anew.lines rows in
+    let after : Rows = with_span_if r.number r.anew.span mid in
+    span_only r.number r.anew.span mid
+    ∙ (λ i. record (lines_if_only r.anew.has_changed r.number r.anew.lines rows i) { spans = after.spans })
+    ∙ sym (λ i. record rows { lines = span_lines r.number r.anew.span mid i; spans = after.spans })
+
+pub records_only : (rs : List RecordAnew) (rows : Rows) → with_records_anew rs rows
+    ≡ record rows { lines = (with_records_anew rs rows).lines; spans = (with_records_anew rs rows).spans }
+records_only [] rows = refl
+records_only (r ∷ rs) rows =
+    let after : Rows = with_records_anew rs (with_record_anew r rows) in
+    records_only rs (with_record_anew r rows)
+    ∙ ap (λ (x : Rows). record x { lines = after.lines; spans = after.spans }) (record_only r rows)
+
+-- ---- slips
+sides_only : (n : ℕ) (ss : List SideAnew) (rows : Rows) → with_sides_anew n ss rows
+    ≡ record rows { slip_lines = (with_sides_anew n ss rows).slip_lines }
+sides_only n [] rows = refl
+sides_only n (s ∷ ss) rows =
+    let mid : Rows = with_slip_lines n s.is_new s.number 0 s.anew.lines rows in
+    let after : Rows = with_sides_anew n ss mid in
+    sides_only n ss mid
+    ∙ ap (λ (x : Rows). record x { slip_lines = after.slip_lines })
+    (slips.lines_only n s.is_new s.number 0 s.anew.lines rows)
+
+abbrev with_sides_if : Bool → ℕ → List SideAnew → Rows → Rows
+with_sides_if b n ss rows = cond b (with_sides_anew n ss (without_slip_lines n rows)) rows
+
+sides_if_only : (b : Bool) (n : ℕ) (ss : List SideAnew) (rows : Rows) → with_sides_if b n ss rows
+    ≡ record rows { slip_lines = (with_sides_if b n ss rows).slip_lines }
+sides_if_only true n ss rows = sides_only n ss (without_slip_lines n rows)
+sides_if_only false n ss rows = refl
+
+slip_only : (s : SlipAnew) (rows : Rows) → with_slip_anew s rows
+    ≡ record rows { slip_lines = (with_slip_anew s rows).slip_lines }
+slip_only s rows = sides_if_only (list_any (λ (side : SideAnew). side.anew.has_changed) s.sides) s.number s.sides rows
+
+pub slips_only : (ss : List SlipAnew) (rows : Rows) → with_slips_anew ss rows
+    ≡ record rows { slip_lines = (with_slips_anew ss rows).slip_lines }
+slips_only [] rows = refl
+slips_only (s ∷ ss) rows =
+    let after : Rows = with_slips_anew ss (with_slip_anew s rows) in
+    slips_only ss (with_slip_anew s rows)
+    ∙ ap (λ (x : Rows). record x { slip_lines = after.slip_lines }) (slip_only s rows)
+
+-- ---- the table of spans
+pub record_keeps : (r : RecordAnew) (rows : Rows) → rows.has_spans ≡ true → (with_record_anew r rows).has_spans ≡ true
+record_keeps r rows has = ap (λ (x : Rows). x.has_spans) (record_only r rows) ∙ has
+
+pub lines_keep : (b : Bool) (n : ℕ) (ls : List (ℕ × Label)) (rows : Rows) → rows.has_spans ≡ true
+    → (cond b (with_changed_lines n ls rows) rows).has_spans ≡ true
+lines_keep b n ls rows has = ap (λ (x : Rows). x.has_spans) (lines_if_only b n ls rows) ∙ has

@@ -1,0 +1,38 @@
+-- What a transaction makes of tables of the first version, when it is committed.
+use Rattle.std.proofs.Common.{◌≡◌, false, true, inl, inr, [], Result, Ok, Err, refl, sym, ap, ◌∙◌, subst}
+use Rattle.std.specs.Prelude.{IfErr}
+use Rattle.sqlite.specs.Effect.{Database}
+use Rattle.sqlite.specs.State.{Shows, State}
+use Rattle.sqlite.specs.Tree.{Trees}
+use Rattle.archive_state.specs.Content.{Content}
+use Rattle.store_tables.specs.Calls.{FollowsUndated, Good, Settled}
+use Rattle.store_tables.specs.Rows.{HoldsSpans, Rows}
+use Rattle.old_rows.specs.Renewing.{IsRenewed, LeavesEither, LeavesRenewed}
+
+pub settles : (old mid new : State) (f : Rows → Rows) (rows : Rows)
+    → FollowsUndated (record old { in_transaction = true }) mid f → Shows mid new mid.now mid.now false
+    → rows.has_spans ≡ false → Settled old rows → Settled new (f rows)
+settles old mid new f rows follows shows none was =
+    let inside = (follows rows none
+    (record { is_open = was.is_open; inside = refl; schema = was.schema; good = was.good })).0 in
+    record {
+      is_open = shows.is_open;
+      autocommit = shows.mode;
+      settled = shows.committed_is ∙ sym shows.now_is;
+      schema = ap (λ (d : Database). d.schema) shows.now_is ∙ inside.schema;
+      good = subst (Good (f rows)) (sym (ap (λ (d : Database). d.trees) shows.now_is)) inside.good;
+    }
+
+-- the exit of a `?`
+pub if_err : {A E : Type 0} (r : Result A E) (P : E → Type 0) → ((e : E) → P e) → IfErr r P
+if_err (Ok a) P h = tt
+if_err (Err e) P h = h e
+
+-- tables without spans have none
+pub no_spans : (rows : Rows) (t : Trees) → Good rows t → rows.has_spans ≡ false → rows.spans ≡ []
+no_spans rows t good none = subst (λ b. HoldsSpans b rows.spans t) none good.holds.spans
+
+-- what a stop may leave of one renewal, and of any
+pub left : (s : State) (rows after : Rows) (c : Content) → IsRenewed rows c after → LeavesEither s rows after
+    → LeavesRenewed s rows c
+left s rows after c is either t l = elim (either t l) [ inl good ↦ inl good | inr good ↦ inr (after, is, good) ]

@@ -1,0 +1,79 @@
+-- Calls in a transaction over tables that have spans: one after the other, and loops of them.
+use Rattle.std.proofs.Common.{◌≡◌, true, false, refl, sym, subst, ◌∙◌, arith, cond, Result, OnOk}
+use Rattle.std.specs.List.{list_any}
+use Rattle.sqlite.specs.State.{State, HasCleanDisk, Survives}
+use Rattle.sqlite.proofs.StateLemmas.{survives_then}
+use Rattle.store_tables.specs.Calls.{Inside, Follows, FollowsDated, FollowsUndated}
+use Rattle.store_tables.specs.Rows.{Rows, with_span_table, with_version, without_slip_lines}
+use Rattle.store_tables.proofs.Calls.{follows_then, on_ok}
+use Rattle.old_rows.specs.Renewing.{SideAnew, SlipAnew, with_sides_anew, with_slip_anew}
+
+-- the tables have spans afterwards, where they had some
+abbrev pub KeepsTable : (Rows → Rows) → Type 0
+KeepsTable f = (rows : Rows) → rows.has_spans ≡ true → (f rows).has_spans ≡ true
+
+pub dated_then : (a b c : State) (f g : Rows → Rows) → KeepsTable f → FollowsDated a b f → FollowsDated b c g
+    → FollowsDated a c (λ rows. g (f rows))
+dated_then a b c f g keeps p q rows has was =
+    let one = p rows has was in
+    let two = q (f rows) (keeps rows has) one.0 in
+    (two.0, two.1 ∙ one.1)
+
+pub dated : (a b : State) (f : Rows → Rows) → Follows a b f → FollowsDated a b f
+dated a b f p rows has was = p rows was
+
+pub dated_last : {A E : Type 0} (r : Result A E) (a b c : State) (f g : Rows → Rows) → KeepsTable f → Follows a b f
+    → OnOk r (FollowsDated b c g) → OnOk r (FollowsDated a c (λ rows. g (f rows)))
+dated_last r a b c f g keeps one = on_ok r (dated_then a b c f g keeps (dated a b f one))
+
+-- the table of spans and the version, then what is of records, then what is of slips
+pub renewed : {A E : Type 0} (r : Result A E) (a b c d e : State) (f g : Rows → Rows)
+    → FollowsUndated a b with_span_table → FollowsDated b c (with_version 2) → FollowsDated c d f
+    → OnOk r (Follows d e g)
+    → OnOk r (FollowsUndated a e (λ rows. g (f (with_version 2 (with_span_table rows)))))
+renewed r a b c d e f g p q s = on_ok r (λ last rows none was.
+    let one = p rows none was in
+    let two = q (with_span_table rows) refl one.0 in
+    let three = s (with_version 2 (with_span_table rows)) refl two.0 in
+    let four = last (f (with_version 2 (with_span_table rows))) three.0 in
+    (four.0, four.1 ∙ three.1 ∙ two.1 ∙ one.1))
+
+-- nothing is written of a slip of which no record changes
+pub no_slip : (s : State) (slip : SlipAnew) → list_any (λ (side : SideAnew). side.anew.has_changed) slip.sides ≡ false
+    → Follows s s (with_slip_anew slip)
+no_slip s slip none rows was = (
+  subst (λ b. Inside s (cond b (with_sides_anew slip.number slip.sides (without_slip_lines slip.number rows)) rows))
+      (sym none) was,
+  refl,
+)
+
+-- all is written of another
+pub all_slip : {A E : Type 0} (r : Result A E) (a b c : State) (slip : SlipAnew)
+    → list_any (λ (side : SideAnew). side.anew.has_changed) slip.sides ≡ true
+    → Follows a b (without_slip_lines slip.number) → OnOk r (Follows b c (with_sides_anew slip.number slip.sides))
+    → OnOk r (Follows a c (with_slip_anew slip))
+all_slip r a b c slip some one = on_ok r (λ two rows was.
+    let did = follows_then a b c (without_slip_lines slip.number) (with_sides_anew slip.number slip.sides) one two
+    rows was in (
+      subst (λ b. Inside c
+          (cond b (with_sides_anew slip.number slip.sides (without_slip_lines slip.number rows)) rows))
+          (sym some) did.0,
+      did.1,
+    ))
+
+-- at each turn, what is left leads from here to where all leads
+pub record IsOnItsWay (old now : State) (all left : Rows → Rows) : Type 0 where
+  pub survives : Survives old now (λ _. ⊥)
+  pub leads : HasCleanDisk now → (rows : Rows) → rows.has_spans ≡ true → Inside old rows → (here : Rows)
+      × (here.has_spans ≡ true) × Inside now here × (now.committed ≡ old.committed) × (left here ≡ all rows)
+
+pub goes_on : (old mid now : State) (all left one rest : Rows → Rows) → IsOnItsWay old mid all left → KeepsTable one
+    → (HasCleanDisk now → FollowsDated mid now one) → Survives mid now (λ _. ⊥)
+    → ((rows : Rows) → left rows ≡ rest (one rows)) → IsOnItsWay old now all rest
+goes_on old mid now all left one rest way keeps step kept is = record {
+  survives = survives_then old mid now _ _ (λ _. ⊥) (λ _ db none. none) (λ _ db none. none) way.survives kept;
+  leads = λ clean rows had was.
+      let came = way.leads (omega (arith, kept.clean)) rows had was in
+      let next = step clean came.0 came.1 came.2 in
+      (one came.0, keeps came.0 came.1, next.0, next.1 ∙ came.3, sym (is came.0) ∙ came.4);
+}

@@ -1,0 +1,348 @@
+-- What is at each number when what is read anew is written.
+use Rattle.std.proofs.Common.{
+  ◌≡◌,
+  ◌≢◌,
+  ℕ,
+  Bool,
+  true,
+  false,
+  List,
+  [],
+  ◌∷◌,
+  ◌++◌,
+  map,
+  Option,
+  Some,
+  None,
+  refl,
+  sym,
+  ap,
+  ◌∙◌,
+  cond,
+  subst,
+  append_assoc,
+  append-nil,
+}
+use Rattle.std.specs.Prelude.{◌==◌, ◌||◌}
+use Rattle.std.specs.List.{flat_map, list_any}
+use Rattle.gedcom_date.specs.declared.value.Span.{Span}
+use Rattle.stored_lines.specs.Line.{Label}
+use Rattle.records.specs.Stored.{stored}
+use Rattle.record_shapes.specs.Lists.{EachOf}
+use Rattle.date_spans.specs.Spans.{IsSpanOf, date_in}
+use Rattle.records_anew.specs.Anew.{OldChange, anew, change_anew}
+use Rattle.records_anew.specs.Old.{OldRecord, WasKeptAs}
+use Rattle.store_tables.specs.Rows.{
+  Rows,
+  SlipLineRow,
+  SpanRow,
+  lines_of,
+  put_by,
+  slip_line_of,
+  slip_lines_of,
+  with_changed_lines,
+  with_slip_lines,
+  with_span,
+  without_slip_lines,
+}
+use Rattle.store_rows.specs.Meaning.{change_lines}
+use Rattle.store_rows.specs.Sides.{SideLine}
+use Rattle.store_rows.specs.Spans.{span_at, with_span_if}
+use Rattle.store_rows.proofs.Own.{it, none_left, not_it, others_left, own, put_elsewhere, put_here}
+use Rattle.store_rows.proofs.Puts.{line_put}
+use Rattle.store_rows.proofs.Slips as slips
+use Rattle.old_rows.specs.Meaning.{IsOldChange, old_change_lines}
+use Rattle.old_rows.specs.Reading.{AreChangesAnewOf, lines_anew}
+use Rattle.old_rows.specs.Renewing.{
+  IsAnewOf,
+  RecordAnew,
+  SideAnew,
+  SlipAnew,
+  with_record_anew,
+  with_records_anew,
+  with_sides_anew,
+  with_slip_anew,
+  with_slips_anew,
+}
+use Rattle.old_rows.proofs.Rest.{span_lines, spans_stay}
+
+-- ---- items of numbers, one after the other: what waits for the first of a number is got by it, and is kept
+module _ {A : Type 0} (key : A → ℕ) (E : A → Type 0) (step : A → Rows → Rows) (P Q : Rows → Type 0) (n : ℕ)
+    (keeps : (a : A) (now : Rows) → E a → P now → P (step a now))
+    (gets : (a : A) (now : Rows) → E a → (key a == n) ≡ true → Q now → P (step a now))
+    (waits : (a : A) (now : Rows) → E a → (key a == n) ≡ false → Q now → Q (step a now))
+    (all : List A → Rows → Rows) (none : (now : Rows) → all [] now ≡ now)
+    (more : (a : A) (as' : List A) (now : Rows) → all (a ∷ as') now ≡ all as' (step a now)) where
+  kept_by_all : (as' : List A) (now : Rows) → EachOf E as' → P now → P (all as' now)
+  kept_by_all [] now each here = subst P (sym (none now)) here
+  kept_by_all (a ∷ as') now each here =
+      subst P (sym (more a as' now)) (kept_by_all as' (step a now) each.1 (keeps a now each.0 here))
+
+  pub got_by_all : (as' : List A) (now : Rows) → EachOf E as' → list_any (λ a. key a == n) as' ≡ true → Q now
+      → P (all as' now)
+  got_by_all [] now each some here = absurd cc
+  got_by_all (a ∷ as') now each some here =
+      subst P (sym (more a as' now))
+      (elim (key a == n) as (λ b. (key a == n) ≡ b → (b || list_any (λ x. key x == n) as') ≡ true
+      → P (all as' (step a now))) [
+        | true ↦ λ e _. kept_by_all as' (step a now) each.1 (gets a now each.0 e here)
+        | false ↦ λ e left. got_by_all as' (step a now) each.1 left (waits a now each.0 e here)
+      ] refl some)
+
+-- ---- the lines of a record
+module _ (lines : ℕ → List (ℕ × Label)) (n : ℕ) (o : OldRecord) (was : WasKeptAs (lines n) o) where
+  abbrev IsRead : RecordAnew → Type 0
+  IsRead r = IsAnewOf (lines r.number) r.anew
+
+  at_it : (r : RecordAnew) → IsRead r → (r.number == n) ≡ true → IsAnewOf (lines n) r.anew
+  at_it r is e = subst (λ k. IsAnewOf (lines k) r.anew) (it r.number n e) is
+
+  lines_after : (r : RecordAnew) (now : Rows) → lines_of n (with_record_anew r now)
+      ≡ cond r.anew.has_changed (cond (r.number == n) r.anew.lines (lines_of n now)) (lines_of n now)
+  lines_after r now =
+      lines_under (with_span_if r.number r.anew.span (cond r.anew.has_changed
+      (with_changed_lines r.number r.anew.lines now) now))
+      (cond r.anew.has_changed (with_changed_lines r.number r.anew.lines now) now)
+      (span_lines r.number r.anew.span (cond r.anew.has_changed (with_changed_lines r.number r.anew.lines now) now))
+      ∙ (elim r.anew.has_changed as (λ b. lines_of n (cond b (with_changed_lines r.number r.anew.lines now) now)
+      ≡ cond b (cond (r.number == n) r.anew.lines (lines_of n now)) (lines_of n now)) [
+        | true ↦ line_put n r.number r.anew.lines now
+        | false ↦ refl
+      ])
+    where
+      lines_under : (a b : Rows) → a.lines ≡ b.lines → lines_of n a ≡ lines_of n b
+      lines_under a b e i = lines_of n (record b { lines = e i })
+
+  abbrev HasLines : Rows → Type 0
+  HasLines now = lines_of n now ≡ stored (anew o)
+
+  abbrev HadLines : Rows → Type 0
+  HadLines now = lines_of n now ≡ lines n
+
+  lines_kept : (r : RecordAnew) (now : Rows) → IsRead r → HasLines now → HasLines (with_record_anew r now)
+  lines_kept r now is here = lines_after r now
+      ∙ (elim r.anew.has_changed as (λ b. cond b (cond (r.number == n) r.anew.lines (lines_of n now)) (lines_of n now)
+      ≡ stored (anew o)) [
+        | true ↦ elim (r.number == n) as (λ b. (r.number == n) ≡ b
+            → cond b r.anew.lines (lines_of n now) ≡ stored (anew o)) [
+              | true ↦ λ e. (at_it r is e).kept o was
+              | false ↦ λ e. here
+            ] refl
+        | false ↦ here
+      ])
+
+  lines_got : (r : RecordAnew) (now : Rows) → IsRead r → (r.number == n) ≡ true → HadLines now
+      → HasLines (with_record_anew r now)
+  lines_got r now is e here = lines_after r now
+      ∙ (elim r.anew.has_changed as (λ b. r.anew.has_changed ≡ b
+      → cond b (cond (r.number == n) r.anew.lines (lines_of n now)) (lines_of n now) ≡ stored (anew o)) [
+        | true ↦ λ _. ap (λ b. cond b r.anew.lines (lines_of n now)) e ∙ (at_it r is e).kept o was
+        | false ↦ λ none. here ∙ sym ((at_it r is e).same none) ∙ (at_it r is e).kept o was
+      ] refl)
+
+  lines_wait : (r : RecordAnew) (now : Rows) → IsRead r → (r.number == n) ≡ false → HadLines now
+      → HadLines (with_record_anew r now)
+  lines_wait r now is e here = lines_after r now
+      ∙ ap (λ b. cond r.anew.has_changed (cond b r.anew.lines (lines_of n now)) (lines_of n now)) e
+      ∙ (elim r.anew.has_changed as (λ b. cond b (lines_of n now) (lines_of n now) ≡ lines n)
+      [ true ↦ here | false ↦ here ])
+
+  pub lines_written : (rs : List RecordAnew) (now : Rows) → EachOf IsRead rs
+      → list_any (λ (r : RecordAnew). r.number == n) rs ≡ true → lines_of n now ≡ lines n
+      → lines_of n (with_records_anew rs now) ≡ stored (anew o)
+  lines_written rs now each some here =
+      got_by_all (λ (r : RecordAnew). r.number) IsRead with_record_anew HasLines HadLines n lines_kept lines_got
+      lines_wait with_records_anew (λ _. refl) (λ _ _ _. refl) rs now each some here
+
+  -- ---- its span
+  abbrev span_in : SpanRow → Span
+  span_in s = record { lo = s.lo; hi = s.hi }
+
+  abbrev first : List SpanRow → Option Span
+  first [] = None
+  first (s ∷ ss) = Some (span_in s)
+
+  first_own : (k : ℕ) (ss : List SpanRow) → span_at k ss ≡ first (own (λ (s : SpanRow). s.no) k ss)
+  first_own k [] = refl
+  first_own k (s ∷ ss) =
+      elim (s.no == k) as (λ b. cond b (Some (span_in s)) (span_at k ss) ≡ first
+      (cond b (s ∷ own (λ (j : SpanRow). j.no) k ss) (own (λ (j : SpanRow). j.no) k ss))) [
+        | true ↦ refl
+        | false ↦ first_own k ss
+      ]
+
+  span_put : (k : ℕ) (span : Span) (rows : Rows) → span_at n (with_span k span.lo span.hi rows).spans
+      ≡ cond (k == n) (Some span) (span_at n rows.spans)
+  span_put k span rows =
+      let key = λ (s : SpanRow). s.no in
+      let row : SpanRow = record { no = k; lo = span.lo; hi = span.hi } in
+      first_own n (put_by key row rows.spans) ∙
+      (elim (k == n) as (λ b. (k == n) ≡ b → first (own key n (put_by key row rows.spans)) ≡ cond b (Some span)
+      (span_at n rows.spans)) [
+        | true ↦ λ e. let (more, is) = put_here key n row rows.spans (it k n e) in ap first is
+        | false ↦ λ e. ap first (put_elsewhere key n row rows.spans (not_it k n e)) ∙ sym (first_own n rows.spans)
+      ] refl)
+
+  -- one that is there is put, and none leaves what was there
+  abbrev span_or : Option Span → Option Span → Option Span
+  span_or None before = before
+  span_or (Some s) before = Some s
+
+  span_if : (k : ℕ) (span : Option Span) (rows : Rows) → span_at n (with_span_if k span rows).spans
+      ≡ cond (k == n) (span_or span (span_at n rows.spans)) (span_at n rows.spans)
+  span_if k None rows = elim (k == n) as (λ b. span_at n rows.spans ≡ cond b (span_at n rows.spans)
+      (span_at n rows.spans)) [ true ↦ refl | false ↦ refl ]
+  span_if k (Some s) rows = span_put k s rows
+
+  span_after : (r : RecordAnew) (now : Rows) → span_at n (with_record_anew r now).spans
+      ≡ cond (r.number == n) (span_or r.anew.span (span_at n now.spans)) (span_at n now.spans)
+  span_after r now =
+      let mid : Rows = cond r.anew.has_changed (with_changed_lines r.number r.anew.lines now) now in
+      span_if r.number r.anew.span mid
+      ∙ ap (λ (ss : List SpanRow). cond (r.number == n) (span_or r.anew.span (span_at n ss)) (span_at n ss))
+      (spans_stay r.anew.has_changed r.number r.anew.lines now)
+
+  abbrev Spanned : Option Span → Type 0
+  Spanned span = IsSpanOf (date_in (anew o)) span
+
+  abbrev HasSpan : Rows → Type 0
+  HasSpan now = Spanned (span_at n now.spans)
+
+  abbrev HadNone : Rows → Type 0
+  HadNone now = span_at n now.spans ≡ None
+
+  or_kept : (span before : Option Span) → Spanned span → Spanned before → Spanned (span_or span before)
+  or_kept None before h k = k
+  or_kept (Some s) before h k = h
+
+  or_got : (span before : Option Span) → before ≡ None → Spanned span → Spanned (span_or span before)
+  or_got None before none h = subst Spanned (sym none) h
+  or_got (Some s) before none h = h
+
+  span_kept : (r : RecordAnew) (now : Rows) → IsRead r → HasSpan now → HasSpan (with_record_anew r now)
+  span_kept r now is here = subst Spanned (sym (span_after r now))
+      (elim (r.number == n) as (λ b. (r.number == n) ≡ b
+      → Spanned (cond b (span_or r.anew.span (span_at n now.spans)) (span_at n now.spans))) [
+        | true ↦ λ e. or_kept r.anew.span (span_at n now.spans) ((at_it r is e).spanned o was) here
+        | false ↦ λ e. here
+      ] refl)
+
+  span_got : (r : RecordAnew) (now : Rows) → IsRead r → (r.number == n) ≡ true → HadNone now
+      → HasSpan (with_record_anew r now)
+  span_got r now is e none = subst Spanned
+      (sym (span_after r now
+      ∙ ap (λ b. cond b (span_or r.anew.span (span_at n now.spans)) (span_at n now.spans)) e))
+      (or_got r.anew.span (span_at n now.spans) none ((at_it r is e).spanned o was))
+
+  span_waits : (r : RecordAnew) (now : Rows) → IsRead r → (r.number == n) ≡ false → HadNone now
+      → HadNone (with_record_anew r now)
+  span_waits r now is e none = span_after r now
+      ∙ ap (λ b. cond b (span_or r.anew.span (span_at n now.spans)) (span_at n now.spans)) e ∙ none
+
+  pub span_written : (rs : List RecordAnew) (now : Rows) → EachOf IsRead rs
+      → list_any (λ (r : RecordAnew). r.number == n) rs ≡ true → span_at n now.spans ≡ None
+      → IsSpanOf (date_in (anew o)) (span_at n (with_records_anew rs now).spans)
+  span_written rs now each some none =
+      got_by_all (λ (r : RecordAnew). r.number) IsRead with_record_anew HasSpan HadNone n span_kept span_got
+      span_waits with_records_anew (λ _. refl) (λ _ _ _. refl) rs now each some none
+
+-- ---- the lines of a slip
+sides_more : (n : ℕ) (ss : List SideAnew) (rows : Rows) → slip_lines_of n (with_sides_anew n ss rows)
+    ≡ slip_lines_of n rows ++ flat_map lines_anew ss
+sides_more n [] rows = sym (append-nil (slip_lines_of n rows))
+sides_more n (s ∷ ss) rows =
+    let mid : Rows = with_slip_lines n s.is_new s.number 0 s.anew.lines rows in
+    sides_more n ss mid
+    ∙ ap (λ (ls : List SideLine). ls ++ flat_map lines_anew ss)
+    (slips.lines_more n s.is_new s.number 0 s.anew.lines rows)
+    ∙ append_assoc (slip_lines_of n rows) (lines_anew s) (flat_map lines_anew ss)
+
+sides_elsewhere : (m n : ℕ) (ss : List SideAnew) (rows : Rows) → n ≢ m
+    → own (λ (s : SlipLineRow). s.slip) m (with_sides_anew n ss rows).slip_lines
+    ≡ own (λ (s : SlipLineRow). s.slip) m rows.slip_lines
+sides_elsewhere m n [] rows off = refl
+sides_elsewhere m n (s ∷ ss) rows off =
+    sides_elsewhere m n ss (with_slip_lines n s.is_new s.number 0 s.anew.lines rows) off
+    ∙ slips.lines_elsewhere m n s.is_new s.number 0 s.anew.lines rows off
+
+sides_put : (n k : ℕ) (ss : List SideAnew) (rows : Rows)
+    → slip_lines_of n (with_sides_anew k ss (without_slip_lines k rows))
+    ≡ cond (k == n) (flat_map lines_anew ss) (slip_lines_of n rows)
+sides_put n k ss rows =
+    elim (k == n) as (λ b. (k == n) ≡ b → slip_lines_of n (with_sides_anew k ss (without_slip_lines k rows))
+    ≡ cond b (flat_map lines_anew ss) (slip_lines_of n rows)) [
+      | true ↦ λ e. ap (λ j. slip_lines_of n (with_sides_anew j ss (without_slip_lines j rows))) (it k n e)
+          ∙ sides_more n ss (without_slip_lines n rows)
+          ∙ ap (λ (ls : List SlipLineRow). map slip_line_of ls ++ flat_map lines_anew ss)
+          (none_left (λ (s : SlipLineRow). s.slip) n rows.slip_lines)
+      | false ↦ λ e. ap (map slip_line_of)
+          (sides_elsewhere n k ss (without_slip_lines k rows) (not_it k n e)
+          ∙ others_left (λ (s : SlipLineRow). s.slip) n k rows.slip_lines (not_it k n e))
+    ] refl
+
+module _ (lines : ℕ → List SideLine) (n : ℕ) (cs : List OldChange) (were : EachOf IsOldChange cs)
+    (was : lines n ≡ flat_map old_change_lines cs) where
+  abbrev IsSlipRead : SlipAnew → Type 0
+  IsSlipRead s = AreChangesAnewOf (lines s.number) s.sides
+
+  abbrev changes_in : SlipAnew → Bool
+  changes_in s = list_any (λ (side : SideAnew). side.anew.has_changed) s.sides
+
+  slip_it : (s : SlipAnew) → IsSlipRead s → (s.number == n) ≡ true → AreChangesAnewOf (lines n) s.sides
+  slip_it s is e = subst (λ k. AreChangesAnewOf (lines k) s.sides) (it s.number n e) is
+
+  slip_after : (s : SlipAnew) (now : Rows) → slip_lines_of n (with_slip_anew s now)
+      ≡ cond (changes_in s) (cond (s.number == n) (flat_map lines_anew s.sides) (slip_lines_of n now))
+      (slip_lines_of n now)
+  slip_after s now =
+      elim (changes_in s) as (λ b. slip_lines_of n (cond b (with_sides_anew s.number s.sides
+      (without_slip_lines s.number now)) now)
+      ≡ cond b (cond (s.number == n) (flat_map lines_anew s.sides) (slip_lines_of n now)) (slip_lines_of n now)) [
+        | true ↦ sides_put n s.number s.sides now
+        | false ↦ refl
+      ]
+
+  abbrev HasSlip : Rows → Type 0
+  HasSlip now = slip_lines_of n now ≡ flat_map change_lines (map change_anew cs)
+
+  abbrev HadSlip : Rows → Type 0
+  HadSlip now = slip_lines_of n now ≡ lines n
+
+  slip_kept : (s : SlipAnew) (now : Rows) → IsSlipRead s → HasSlip now → HasSlip (with_slip_anew s now)
+  slip_kept s now is here = slip_after s now
+      ∙ (elim (changes_in s) as (λ b. cond b (cond (s.number == n) (flat_map lines_anew s.sides)
+      (slip_lines_of n now)) (slip_lines_of n now) ≡ flat_map change_lines (map change_anew cs)) [
+        | true ↦ elim (s.number == n) as (λ b. (s.number == n) ≡ b
+            → cond b (flat_map lines_anew s.sides) (slip_lines_of n now) ≡ flat_map change_lines
+            (map change_anew cs)) [
+              | true ↦ λ e. (slip_it s is e).kept cs were was
+              | false ↦ λ e. here
+            ] refl
+        | false ↦ here
+      ])
+
+  slip_got : (s : SlipAnew) (now : Rows) → IsSlipRead s → (s.number == n) ≡ true → HadSlip now
+      → HasSlip (with_slip_anew s now)
+  slip_got s now is e here = slip_after s now
+      ∙ (elim (changes_in s) as (λ b. changes_in s ≡ b
+      → cond b (cond (s.number == n) (flat_map lines_anew s.sides) (slip_lines_of n now)) (slip_lines_of n now)
+      ≡ flat_map change_lines (map change_anew cs)) [
+        | true ↦ λ _. ap (λ b. cond b (flat_map lines_anew s.sides) (slip_lines_of n now)) e
+            ∙ (slip_it s is e).kept cs were was
+        | false ↦ λ none. here ∙ sym ((slip_it s is e).same none) ∙ (slip_it s is e).kept cs were was
+      ] refl)
+
+  slip_waits : (s : SlipAnew) (now : Rows) → IsSlipRead s → (s.number == n) ≡ false → HadSlip now
+      → HadSlip (with_slip_anew s now)
+  slip_waits s now is e here = slip_after s now
+      ∙ ap (λ b. cond (changes_in s) (cond b (flat_map lines_anew s.sides) (slip_lines_of n now))
+      (slip_lines_of n now)) e
+      ∙ (elim (changes_in s) as (λ b. cond b (slip_lines_of n now) (slip_lines_of n now) ≡ lines n)
+      [ true ↦ here | false ↦ here ])
+
+  pub slip_written : (ss : List SlipAnew) (now : Rows) → EachOf IsSlipRead ss
+      → list_any (λ (s : SlipAnew). s.number == n) ss ≡ true → slip_lines_of n now ≡ lines n
+      → slip_lines_of n (with_slips_anew ss now) ≡ flat_map change_lines (map change_anew cs)
+  slip_written ss now each some here =
+      got_by_all (λ (s : SlipAnew). s.number) IsSlipRead with_slip_anew HasSlip HadSlip n slip_kept slip_got
+      slip_waits with_slips_anew (λ _. refl) (λ _ _ _. refl) ss now each some here

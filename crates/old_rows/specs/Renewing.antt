@@ -1,0 +1,100 @@
+-- What is written to make rows of the second version of those of the first. Rules of our own.
+use Rattle.std.specs.Prelude.{ℕ, ◌≡◌, ◌⊎◌, Bool, false, List, [], ◌∷◌, Option, cond}
+use Rattle.std.specs.List.{list_any}
+use Rattle.gedcom_date.specs.declared.value.Span.{Span}
+use Rattle.stored_lines.specs.Line.{Label}
+use Rattle.records.specs.Stored.{stored}
+use Rattle.archive_state.specs.Content.{Content}
+use Rattle.date_spans.specs.Spans.{IsSpanOf, date_in}
+use Rattle.records_anew.specs.Anew.{anew}
+use Rattle.records_anew.specs.Old.{OldRecord, WasKeptAs}
+use Rattle.sqlite.specs.State.{State}
+use Rattle.sqlite.specs.Tree.{Trees}
+use Rattle.store_tables.specs.Calls.{Good}
+use Rattle.store_tables.specs.Rows.{
+  Rows,
+  with_changed_lines,
+  with_slip_lines,
+  with_span_table,
+  with_version,
+  without_slip_lines,
+}
+use Rattle.store_rows.specs.Meaning.{AllShallow, Means}
+use Rattle.store_rows.specs.Spans.{IsDated, KeepsSpans, with_span_if}
+
+-- a record as it is kept today, whether its lines are others than they were, and the span of its date
+pub record Anew : Type 0 where
+  pub lines : List (ℕ × Label)
+  pub has_changed : Bool
+  pub span : Option Span
+
+pub record RecordAnew : Type 0 where
+  pub number : ℕ
+  pub anew : Anew
+
+-- the old or the new record of a number in a slip
+pub record SideAnew : Type 0 where
+  pub is_new : Bool
+  pub number : ℕ
+  pub anew : Anew
+
+pub record SlipAnew : Type 0 where
+  pub number : ℕ
+  pub sides : List SideAnew
+
+-- all records and all slips
+pub record Renewal : Type 0 where
+  pub records : List RecordAnew
+  pub slips : List SlipAnew
+
+-- what a record of that time that was kept as these lines is today
+pub record IsAnewOf (lines : List (ℕ × Label)) (a : Anew) : Type 0 where
+  pub kept : (o : OldRecord) → WasKeptAs lines o → a.lines ≡ stored (anew o)
+  pub spanned : (o : OldRecord) → WasKeptAs lines o → IsSpanOf (date_in (anew o)) a.span
+  pub same : a.has_changed ≡ false → a.lines ≡ lines
+
+-- ---- what is written
+-- a record that stays keeps its lines; each has its span
+abbrev pub with_record_anew : RecordAnew → Rows → Rows
+with_record_anew r rows = with_span_if r.number r.anew.span
+    (cond r.anew.has_changed (with_changed_lines r.number r.anew.lines rows) rows)
+
+abbrev pub with_records_anew : List RecordAnew → Rows → Rows
+with_records_anew [] rows = rows
+with_records_anew (r ∷ rs) rows = with_records_anew rs (with_record_anew r rows)
+
+abbrev pub with_sides_anew : ℕ → List SideAnew → Rows → Rows
+with_sides_anew slip [] rows = rows
+with_sides_anew slip (s ∷ ss) rows = with_sides_anew slip ss
+    (with_slip_lines slip s.is_new s.number 0 s.anew.lines rows)
+
+-- a slip keeps its lines where all its records stay
+abbrev pub with_slip_anew : SlipAnew → Rows → Rows
+with_slip_anew s rows = cond (list_any (λ (side : SideAnew). side.anew.has_changed) s.sides)
+    (with_sides_anew s.number s.sides (without_slip_lines s.number rows)) rows
+
+abbrev pub with_slips_anew : List SlipAnew → Rows → Rows
+with_slips_anew [] rows = rows
+with_slips_anew (s ∷ ss) rows = with_slips_anew ss (with_slip_anew s rows)
+
+abbrev pub with_renewal : Renewal → Rows → Rows
+with_renewal r rows = with_slips_anew r.slips (with_records_anew r.records (with_version 2 (with_span_table rows)))
+
+-- ---- what is made by that
+-- rows of the second version that mean the content, with its spans; society and batches are those of before
+pub record IsRenewed (rows : Rows) (c : Content) (after : Rows) : Type 0 where
+  pub dated : IsDated after
+  pub means : Means after c
+  pub shallow : AllShallow c
+  pub spans : KeepsSpans after c
+  pub society : after.society ≡ rows.society
+  pub batches : after.batches ≡ rows.batches
+
+-- whatever a crash may leave is good, and has these rows, or those
+abbrev pub LeavesEither : State → Rows → Rows → Type 0
+LeavesEither s rows after = (t : Trees) → s.may_leave t → Good rows t ⊎ Good after t
+
+-- the same of these rows, or of such as are renewed
+abbrev pub LeavesRenewed : State → Rows → Content → Type 0
+LeavesRenewed s rows c = (t : Trees) → s.may_leave t → Good rows t
+    ⊎ ((after : Rows) × IsRenewed rows c after × Good after t)

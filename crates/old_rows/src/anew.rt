@@ -1,0 +1,84 @@
+//! What records, slips and all rows of before are today.
+
+use date_spans::Span;
+use std::marker::Model;
+use stored_lines::StoredLine;
+
+/// A record as it is kept today.
+#[derive(Drop)]
+pub struct Anew {
+    pub lines: Vec<StoredLine>,
+    /// Whether the lines are others than they were.
+    pub has_changed: bool,
+    /// The span of its date, where it has one.
+    pub span: Option<Span>,
+}
+
+impl Model for Anew {
+    ghost use Rattle.old_rows.specs.Renewing as renewing;
+
+    ghost Value = { renewing.Anew };
+
+    ghost view = { λ a. record { lines = a.lines.items; has_changed = a.has_changed; span = a.span } };
+}
+
+/// The record of a number.
+#[derive(Drop)]
+pub struct RecordAnew {
+    pub number: u32,
+    pub anew: Anew,
+}
+
+impl Model for RecordAnew {
+    ghost use Rattle.old_rows.specs.Renewing as renewing;
+
+    ghost Value = { renewing.RecordAnew };
+
+    ghost view = { λ a. record { number = a.number; anew = a.anew } };
+}
+
+/// The old or the new record of a number in a slip.
+#[derive(Drop)]
+pub struct SideAnew {
+    pub is_new: bool,
+    pub number: u32,
+    pub anew: Anew,
+}
+
+impl Model for SideAnew {
+    ghost use Rattle.old_rows.specs.Renewing as renewing;
+
+    ghost Value = { renewing.SideAnew };
+
+    ghost view = { λ a. record { is_new = a.is_new; number = a.number; anew = a.anew } };
+}
+
+/// The records of a slip, in order.
+#[derive(Drop)]
+pub struct SlipAnew {
+    pub number: u32,
+    pub sides: Vec<SideAnew>,
+}
+
+impl Model for SlipAnew {
+    ghost use Rattle.old_rows.specs.Renewing as renewing;
+
+    ghost Value = { renewing.SlipAnew };
+
+    ghost view = { λ a. record { number = a.number; sides = a.sides.items } };
+}
+
+/// All records and all slips of an archive.
+#[derive(Drop)]
+pub struct Renewal {
+    pub records: Vec<RecordAnew>,
+    pub slips: Vec<SlipAnew>,
+}
+
+impl Model for Renewal {
+    ghost use Rattle.old_rows.specs.Renewing as renewing;
+
+    ghost Value = { renewing.Renewal };
+
+    ghost view = { λ a. record { records = a.records.items; slips = a.slips.items } };
+}

@@ -1,0 +1,195 @@
+//! What is read anew, written as rows inside a transaction.
+
+ghost use Rattle.std.specs.Prelude.{◌≡◌, OnOk, cond};
+ghost use Rattle.std.specs.List.{list_any};
+ghost use Rattle.sqlite.specs.State.{HasCleanDisk, Survives};
+ghost use Rattle.sqlite.specs.Held.{state};
+ghost use Rattle.store_tables.specs.Calls.{Follows, FollowsDated, FollowsUndated};
+ghost use Rattle.store_tables.specs.Rows.{with_changed_lines, with_slip_lines};
+ghost use Rattle.store_rows.specs.Spans.{with_span_if};
+ghost use Rattle.old_rows.specs.Renewing.{
+  SideAnew,
+  with_record_anew,
+  with_records_anew,
+  with_renewal,
+  with_sides_anew,
+  with_slip_anew,
+  with_slips_anew,
+};
+
+use crate::anew::{Anew, RecordAnew, Renewal, SideAnew, SlipAnew};
+use date_spans::Span;
+use sqlite::{Alter, Error, Transaction};
+use store_tables::lines::{change_lines, insert_slip_lines};
+use store_tables::{rows, spans};
+
+/// Writes what is read anew in tables of the first version: the table of spans and the second version, each record
+/// that changes, the spans, and each slip of which a record changes. After an error the transaction is to be given up.
+pub fn write_renewal<S: Alter>(tx: &mut Transaction<'_, S>, renewal: &Renewal) -> Result<(), Error>
+    ensures same_reference { tx.new.conn.ghost_name ≡ tx.old.conn.ghost_name }
+    ensures ok { HasCleanDisk (state S.Store tx.new.conn.now)
+        → OnOk result (FollowsUndated (state S.Store tx.old.conn.now) (state S.Store tx.new.conn.now)
+        (with_renewal renewal.now)) }
+    ensures survives { Survives (state S.Store tx.old.conn.now) (state S.Store tx.new.conn.now) (λ _. ⊥) }
+{
+    spans::create_spans(tx)?;
+    spans::set_version(tx)?;
+    write_records(tx, &renewal.records)?;
+    write_slips(tx, &renewal.slips)
+}
+
+/// The lines of the records that change, and all spans.
+fn write_records<S: Alter>(tx: &mut Transaction<'_, S>, records: &[RecordAnew]) -> Result<(), Error>
+    ensures same_reference { tx.new.conn.ghost_name ≡ tx.old.conn.ghost_name }
+    ensures ok { HasCleanDisk (state S.Store tx.new.conn.now)
+        → OnOk result (FollowsDated (state S.Store tx.old.conn.now) (state S.Store tx.new.conn.now)
+        (with_records_anew records.now)) }
+    ensures survives { Survives (state S.Store tx.old.conn.now) (state S.Store tx.new.conn.now) (λ _. ⊥) }
+{
+    'records: for record in records {
+        write_record(tx, record)?;
+    }
+    Ok(())
+}
+
+/// The lines of a record, where they change, and its span.
+fn write_record<S: Alter>(tx: &mut Transaction<'_, S>, record: &RecordAnew) -> Result<(), Error>
+    ensures same_reference { tx.new.conn.ghost_name ≡ tx.old.conn.ghost_name }
+    ensures ok { HasCleanDisk (state S.Store tx.new.conn.now)
+        → OnOk result (FollowsDated (state S.Store tx.old.conn.now) (state S.Store tx.new.conn.now)
+        (with_record_anew «record».now)) }
+    ensures survives { Survives (state S.Store tx.old.conn.now) (state S.Store tx.new.conn.now) (λ _. ⊥) }
+{
+    write_anew(tx, record.number, &record.anew)
+}
+
+/// The same of a number.
+fn write_anew<S: Alter>(tx: &mut Transaction<'_, S>, number: u32, anew: &Anew) -> Result<(), Error>
+    ensures same_reference { tx.new.conn.ghost_name ≡ tx.old.conn.ghost_name }
+    ensures ok { HasCleanDisk (state S.Store tx.new.conn.now)
+        → OnOk result (FollowsDated (state S.Store tx.old.conn.now) (state S.Store tx.new.conn.now)
+        (with_record_anew (record { number = number; anew = anew.now }))) }
+    ensures survives { Survives (state S.Store tx.old.conn.now) (state S.Store tx.new.conn.now) (λ _. ⊥) }
+{
+    write_lines(tx, number, anew)?;
+    write_span(tx, number, anew.span)
+}
+
+/// The lines of a record, where they are others than they were.
+fn write_lines<S: Alter>(tx: &mut Transaction<'_, S>, number: u32, anew: &Anew) -> Result<(), Error>
+    ensures same_reference { tx.new.conn.ghost_name ≡ tx.old.conn.ghost_name }
+    ensures ok { HasCleanDisk (state S.Store tx.new.conn.now)
+        → OnOk result (Follows (state S.Store tx.old.conn.now) (state S.Store tx.new.conn.now)
+        (λ rows. cond anew.now.has_changed (with_changed_lines number anew.now.lines rows) rows)) }
+    ensures survives { Survives (state S.Store tx.old.conn.now) (state S.Store tx.new.conn.now) (λ _. ⊥) }
+{
+    if anew.has_changed {
+        change_lines(tx, number, &anew.lines)
+    } else {
+        Ok(())
+    }
+}
+
+/// The span of a record, where it has one.
+fn write_span<S: Alter>(
+    tx: &mut Transaction<'_, S>,
+    number: u32,
+    span: Option<Span>,
+) -> Result<(), Error>
+    ensures same_reference { tx.new.conn.ghost_name ≡ tx.old.conn.ghost_name }
+    ensures ok { HasCleanDisk (state S.Store tx.new.conn.now)
+        → OnOk result (FollowsDated (state S.Store tx.old.conn.now) (state S.Store tx.new.conn.now)
+        (with_span_if number span)) }
+    ensures survives { Survives (state S.Store tx.old.conn.now) (state S.Store tx.new.conn.now) (λ _. ⊥) }
+{
+    match span {
+        Some(span) => spans::insert_span(tx, number, span.lo, span.hi),
+        None => Ok(()),
+    }
+}
+
+/// The lines of the slips of which a record changes.
+fn write_slips<S: Alter>(tx: &mut Transaction<'_, S>, slips: &[SlipAnew]) -> Result<(), Error>
+    ensures same_reference { tx.new.conn.ghost_name ≡ tx.old.conn.ghost_name }
+    ensures ok { HasCleanDisk (state S.Store tx.new.conn.now)
+        → OnOk result (Follows (state S.Store tx.old.conn.now) (state S.Store tx.new.conn.now)
+        (with_slips_anew slips.now)) }
+    ensures survives { Survives (state S.Store tx.old.conn.now) (state S.Store tx.new.conn.now) (λ _. ⊥) }
+{
+    'slips: for slip in slips {
+        write_slip(tx, slip)?;
+    }
+    Ok(())
+}
+
+/// The lines of a slip in place of those that it had, where a record of it changes.
+fn write_slip<S: Alter>(tx: &mut Transaction<'_, S>, slip: &SlipAnew) -> Result<(), Error>
+    ensures same_reference { tx.new.conn.ghost_name ≡ tx.old.conn.ghost_name }
+    ensures ok { HasCleanDisk (state S.Store tx.new.conn.now)
+        → OnOk result (Follows (state S.Store tx.old.conn.now) (state S.Store tx.new.conn.now)
+        (with_slip_anew slip.now)) }
+    ensures survives { Survives (state S.Store tx.old.conn.now) (state S.Store tx.new.conn.now) (λ _. ⊥) }
+{
+    if !has_changed(&slip.sides) {
+        return Ok(());
+    }
+    rows::delete_slip_lines(tx, slip.number)?;
+    write_sides(tx, slip.number, &slip.sides)
+}
+
+/// Whether one of these records changes.
+fn has_changed(sides: &[SideAnew]) -> bool
+    ensures { result ≡ list_any (λ (s : SideAnew). s.anew.has_changed) sides.now }
+{
+    sides.iter().any(|side| side.anew.has_changed)
+}
+
+/// The lines of the records of a slip.
+fn write_sides<S: Alter>(
+    tx: &mut Transaction<'_, S>,
+    slip: u32,
+    sides: &[SideAnew],
+) -> Result<(), Error>
+    ensures same_reference { tx.new.conn.ghost_name ≡ tx.old.conn.ghost_name }
+    ensures ok { HasCleanDisk (state S.Store tx.new.conn.now)
+        → OnOk result (Follows (state S.Store tx.old.conn.now) (state S.Store tx.new.conn.now)
+        (with_sides_anew slip sides.now)) }
+    ensures survives { Survives (state S.Store tx.old.conn.now) (state S.Store tx.new.conn.now) (λ _. ⊥) }
+{
+    'sides: for side in sides {
+        write_side(tx, slip, side)?;
+    }
+    Ok(())
+}
+
+/// The lines of a record of a slip.
+fn write_side<S: Alter>(
+    tx: &mut Transaction<'_, S>,
+    slip: u32,
+    side: &SideAnew,
+) -> Result<(), Error>
+    ensures same_reference { tx.new.conn.ghost_name ≡ tx.old.conn.ghost_name }
+    ensures ok { HasCleanDisk (state S.Store tx.new.conn.now)
+        → OnOk result (Follows (state S.Store tx.old.conn.now) (state S.Store tx.new.conn.now)
+        (with_slip_lines slip side.now.is_new side.now.number 0 side.now.anew.lines)) }
+    ensures survives { Survives (state S.Store tx.old.conn.now) (state S.Store tx.new.conn.now) (λ _. ⊥) }
+{
+    write_side_lines(tx, slip, side.is_new, side.number, &side.anew)
+}
+
+/// The same of a side and a number.
+fn write_side_lines<S: Alter>(
+    tx: &mut Transaction<'_, S>,
+    slip: u32,
+    is_new: bool,
+    number: u32,
+    anew: &Anew,
+) -> Result<(), Error>
+    ensures same_reference { tx.new.conn.ghost_name ≡ tx.old.conn.ghost_name }
+    ensures ok { HasCleanDisk (state S.Store tx.new.conn.now)
+        → OnOk result (Follows (state S.Store tx.old.conn.now) (state S.Store tx.new.conn.now)
+        (with_slip_lines slip is_new number 0 anew.now.lines)) }
+    ensures survives { Survives (state S.Store tx.old.conn.now) (state S.Store tx.new.conn.now) (λ _. ⊥) }
+{
+    insert_slip_lines(tx, slip, is_new, number, &anew.lines)
+}

@@ -1,5 +1,0 @@
-use Rattle.staged_rows.proofs.Staged.{open_import}
-use Rattle.staged_rows.proofs.laws.an_open_import_is_in_no_view.Goals as goal
-
-pub returns : goal.returns
-returns c = open_import

@@ -1,0 +1,11 @@
+use Rattle.staged_rows.proofs.Alike.{seen_means, seen_spans, seen_then}
+use Rattle.staged_rows.proofs.laws.what_is_seen_means_the_same.Goals as goal
+
+pub returns-clause-means : goal.returns-clause-means
+returns-clause-means c = seen_means
+
+pub returns-clause-spans : goal.returns-clause-spans
+returns-clause-spans c = seen_spans
+
+pub returns-clause-then : goal.returns-clause-then
+returns-clause-then c = seen_then

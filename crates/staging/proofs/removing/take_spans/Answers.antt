@@ -1,0 +1,64 @@
+use Rattle.std.proofs.Common.{◌≡◌, ◌++◌, [], refl, sym, ap, ◌∙◌, append_assoc, rules}
+use Rattle.std.proofs.lemmas.List.{append-nil}
+use Rattle.sqlite.specs.Held.{state}
+use Rattle.store_tables.proofs.Queries.{only_committed}
+use Rattle.staging.proofs.Cleared.{nothing_done}
+use Rattle.staging.proofs.Spans.{all_gone, more_gone, none_gone, part_leaves, undated_leaves}
+use Rattle.staging.proofs.Thinned.{none_left}
+use Rattle.staging.proofs.removing.take_spans.Goals as goal
+
+pub spans-init : goal.spans-init
+spans-init g c = record {
+  ended = c.requires.autocommit;
+  taken = ([], refl, none_gone (state g.S.Store c.args.conn.now));
+}
+
+pub clear_spans-requires : goal.clear_spans-requires
+clear_spans-requires g c = record { autocommit = c.spans.invariant.ended }
+
+pub spans-preserved : goal.spans-preserved
+spans-preserved g c =
+    let did = c.in_ok-clear_spans.ensures in
+    let was = c.spans.invariant.taken in
+    record {
+      ended = c.clear_spans.ensures.ended;
+      taken = (
+        was.0 ++ c.split_at.result.0.now,
+        was.1 ∙ ap (λ r. was.0 ++ r) c.split_at.ensures.by_index.0
+            ∙ sym (append_assoc was.0 c.split_at.result.0.now c.split_at.result.1.now),
+        more_gone was.0 c.split_at.result.0.now (state g.S.Store c.args.conn.now) (state g.S.Store c.spans.conn)
+            (state g.S.Store c.clear_spans.new.conn) was.2 did.clean did.done,
+      );
+    }
+
+pub returns-in_err-clear_spans-clause-done : goal.returns-in_err-clear_spans-clause-done
+returns-in_err-clear_spans-clause-done g c clean = nothing_done _ c.from_residual.result c.from_residual.ensures.0
+
+pub returns-in_err-clear_spans-clause-crash : goal.returns-in_err-clear_spans-clause-crash
+returns-in_err-clear_spans-clause-crash g c =
+    let did = c.in_err-clear_spans.ensures in
+    let was = c.spans.invariant.taken in
+    part_leaves was.0 c.split_at.result.0.now (state g.S.Store c.args.conn.now) (state g.S.Store c.spans.conn)
+    (state g.S.Store c.clear_spans.new.conn) was.2 did.clean c.args.numbers.now c.split_at.result.1.now
+    (was.1 ∙ ap (λ r. was.0 ++ r) c.split_at.ensures.by_index.0) did.crash
+
+pub returns-in_err-clear_spans-clause-clean : goal.returns-in_err-clear_spans-clause-clean
+returns-in_err-clear_spans-clause-clean g c clean =
+    c.spans.invariant.taken.2.clean (c.in_err-clear_spans.ensures.clean clean)
+
+pub returns-clause-done : goal.returns-clause-done
+returns-clause-done g c =
+    let was = c.spans.invariant.taken in
+    let none : c.spans.rest.now ≡ [] = none_left c.spans.rest.now (search rules) in
+    all_gone c.args.numbers.now was.0 (state g.S.Store c.args.conn.now) (state g.S.Store c.spans.conn)
+    (was.1 ∙ ap (λ r. was.0 ++ r) none ∙ append-nil was.0) was.2
+
+pub returns-clause-crash : goal.returns-clause-crash
+returns-clause-crash g c clean rows was has aside =
+    let so_far = c.spans.invariant.taken in
+    let now = state g.S.Store c.spans.conn in
+    let none : c.spans.rest.now ≡ [] = none_left c.spans.rest.now (search rules) in
+    let settled = all_gone c.args.numbers.now so_far.0 (state g.S.Store c.args.conn.now) now
+    (so_far.1 ∙ ap (λ r. so_far.0 ++ r) none ∙ append-nil so_far.0) so_far.2 clean rows was has in
+    undated_leaves c.args.numbers.now now rows
+    (λ t may. only_committed now _ t settled (g.met.S.Store.settled c.spans.conn.store t settled.is_open may)) aside
