@@ -1,6 +1,6 @@
 -- How `entries` ends.
-use Rattle.std.proofs.Common.{◌≡◌, ◌≤◌, ℕ, Bool, true, false, List, refl, sym, subst, inl, inr, arith, Ok, Err}
-use Rattle.std.specs.Prelude.{Option, None, Result, IfErr, IfOk, OnOk, is_ok, if◌then◌else◌}
+use Rattle.std.proofs.Common.{◌≡◌, ◌≤◌, ℕ, Bool, true, false, List, sym, subst, inl, inr, arith, Ok, Err}
+use Rattle.std.specs.Prelude.{Option, Result, IfErr, IfOk, OnOk, is_ok, if◌then◌else◌}
 use Rattle.sqlite.specs.Held.{Held}
 use Rattle.sqlite_disk.specs.declared.Disk as disk
 use Rattle.sqlite_store.specs.declared.store.FileStore.{FileStore}

@@ -1,6 +1,6 @@
 -- How `import` ends.
-use Rattle.std.proofs.Common.{◌≡◌, ◌≤◌, ℕ, List, refl, sym, subst, inl, inr, arith, Ok, Err}
-use Rattle.std.specs.Prelude.{Option, None, Result, IfErr, IfOk}
+use Rattle.std.proofs.Common.{◌≡◌, ◌≤◌, ℕ, List, sym, subst, inl, inr, Ok, Err}
+use Rattle.std.specs.Prelude.{Option, IfErr, IfOk}
 use Rattle.sqlite.specs.Held.{Held}
 use Rattle.sqlite_disk.specs.declared.Disk as disk
 use Rattle.sqlite_store.specs.declared.store.FileStore.{FileStore}

@@ -1,5 +1,5 @@
 -- How the commands end that show an archive on a day.
-use Rattle.std.proofs.Common.{◌≡◌, ◌≤◌, ℕ, List, ap, sym, subst, arith, true, Ok, Err}
+use Rattle.std.proofs.Common.{◌≡◌, ℕ, List, ap, sym, subst, arith, true, Ok, Err}
 use Rattle.std.specs.Prelude.{ℤ, Option, None, Some, Result, IfErr, IfOk, IsSomeAnd, OnErr, OnOk, is_ok, if◌then◌else◌}
 use Rattle.std.specs.Io.KnownBytes.{Appends, Keeps}
 use Rattle.sqlite.specs.Held.{Held}

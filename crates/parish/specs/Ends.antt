@@ -9,7 +9,6 @@ use Rattle.std.specs.Prelude.{
   ℕ,
   List,
   Option,
-  None,
   Some,
   IfSome,
   Result,

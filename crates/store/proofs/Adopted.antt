@@ -44,7 +44,6 @@ use Rattle.store_tables.specs.Looking.{IsFailure, Looks}
 use Rattle.store_tables.specs.Rows.{BatchRow, Rows, batch_values}
 use Rattle.store_tables.proofs.Reopening.{sound_once}
 use Rattle.staged_rows.specs.Removing.{IsSeenAs}
-use Rattle.staged_rows.specs.Staging.{AreAllClosed}
 use Rattle.staging.specs.Clearing.{IsCleared, LeavesSeen}
 use Rattle.staging.specs.Opening.{LeavesOne}
 use Rattle.old_rows.specs.Meaning.{AreSeenAlike, MeansAnew, MeansOld}

@@ -9,7 +9,6 @@ use Rattle.std.proofs.Common.{
   false,
   List,
   [],
-  ◌∷◌,
   Option,
   None,
   Some,
@@ -26,16 +25,16 @@ use Rattle.sqlite.specs.Held.{Held, state}
 use Rattle.sqlite.specs.State.{HasCleanDisk, State}
 use Rattle.sqlite_trees.specs.declared.store.Store.{Ghosts}
 use Rattle.archive_state.specs.Content.{Content}
-use Rattle.archive_core.specs.Machine.{Done, Runs}
+use Rattle.archive_core.specs.Machine.{Done}
 use Rattle.archive_core.specs.declared.request.Request.{Request}
 use Rattle.staging.specs.Opened.{Import}
 use Rattle.store_tables.specs.Calls.{Settled}
 use Rattle.store_tables.specs.Rows.{Rows}
-use Rattle.store.specs.Archives.{HasArchive, LeavesArchive}
+use Rattle.store.specs.Archives.{LeavesArchive}
 use Rattle.store.specs.Calls.{Performs, Stays}
-use Rattle.store.specs.Histories.{AreLost, MayBeFound, Outcome, in_doubt}
+use Rattle.store.specs.Histories.{AreLost, Outcome, in_doubt}
 use Rattle.store.specs.Importing.{Has}
-use Rattle.store.specs.Lives.{GoesOn, IsCall, IsStill}
+use Rattle.store.specs.Lives.{IsCall}
 use Rattle.store.specs.Standing.{Standing, asked_by, heard, shuts, standing}
 use Rattle.store.proofs.Imports.{InNoView, has_the_archive}
 use Rattle.store.proofs.Running.{none_in_doubt}

@@ -3,7 +3,6 @@ use Rattle.std.proofs.Common.{
   ◌≡◌,
   inl,
   inr,
-  ℕ,
   Bool,
   true,
   false,

@@ -32,7 +32,6 @@ use Rattle.std.proofs.Common.{
 use Rattle.std.specs.Prelude.{◌↔◌, IfNone, IfSome, is_none, is_some}
 use Rattle.sqlite.specs.Held.{Held, state}
 use Rattle.sqlite.specs.State.{HasCleanDisk, State}
-use Rattle.sqlite.specs.Tree.{Trees}
 use Rattle.sqlite_trees.specs.declared.store.Store.{Ghosts}
 use Rattle.record_text.specs.declared.refusal.Refusal.{Refusal}
 use Rattle.record_text.specs.declared.refusal.RefusalKind.{RefusalKind}
@@ -40,18 +39,18 @@ use Rattle.record_text.specs.declared.refusal.RefusalKind.TheVariants.{NoImport,
 use Rattle.receipts.specs.declared.answer.Answer.{Answer}
 use Rattle.archive_state.specs.Applied.{applied}
 use Rattle.archive_state.specs.Content.{Content}
-use Rattle.archive_core.specs.Machine.{Does, Done, Runs}
+use Rattle.archive_core.specs.Machine.{Does}
 use Rattle.archive_core.specs.Steps.{refused_at}
 use Rattle.archive_core.specs.declared.request.Request.{Request}
 use Rattle.staging.specs.Opened.{Import}
 use Rattle.staged_rows.specs.Staging.{StagedRow}
 use Rattle.store_tables.specs.Calls.{LeavesOnly, Settled}
 use Rattle.store_tables.specs.Rows.{Rows}
-use Rattle.store.specs.Archives.{HasArchive, Keeps, LeavesArchive}
-use Rattle.store.specs.Calls.{Acknowledges, LeavesDoneOrNot, OnArchive, Performs}
-use Rattle.store.specs.Histories.{MayBeFound, has_broken, is_storage, loses}
+use Rattle.store.specs.Archives.{Keeps, LeavesArchive}
+use Rattle.store.specs.Calls.{LeavesDoneOrNot, OnArchive}
+use Rattle.store.specs.Histories.{has_broken, is_storage, loses}
 use Rattle.store.specs.Importing.{Has, HasAnswered, HasBegun, HasImport, HasPublished, StaysOn}
-use Rattle.store.specs.Lives.{GoesOn, IsCall}
+use Rattle.store.specs.Lives.{IsCall}
 use Rattle.store.specs.Standing.{Standing, asked_by, begun_as, begun_told, heard, published_by, standing}
 use Rattle.store.proofs.Called.{ready_call, staged_call, still_call}
 use Rattle.store.proofs.Committed.{may_be_before, may_be_done, ok_performs, refusal_performs, unless_failed}

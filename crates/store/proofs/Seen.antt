@@ -1,5 +1,5 @@
 -- An archive of which the same is seen.
-use Rattle.std.proofs.Common.{◌≡◌, ℕ, List, ◌∙◌}
+use Rattle.std.proofs.Common.{ℕ, List, ◌∙◌}
 use Rattle.archive_state.specs.Content.{Content}
 use Rattle.store_tables.specs.Rows.{Rows}
 use Rattle.staged_rows.specs.Removing.{IsSeenAs}

@@ -12,8 +12,6 @@ use Rattle.std.proofs.Common.{
   ◌∷◌,
   ◌++◌,
   Option,
-  None,
-  Some,
   append-nil,
   refl,
   sym,

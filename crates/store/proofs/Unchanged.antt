@@ -3,7 +3,6 @@ use Rattle.std.proofs.Common.{
   ◌≡◌,
   ◌≢◌,
   ℕ,
-  Bool,
   true,
   false,
   List,
@@ -12,7 +11,6 @@ use Rattle.std.proofs.Common.{
   map,
   filter,
   cond,
-  Option,
   None,
   Some,
   refl,
@@ -22,7 +20,7 @@ use Rattle.std.proofs.Common.{
   ◌<◌,
   arith,
 }
-use Rattle.std.specs.Prelude.{◌==◌, ◌||◌}
+use Rattle.std.specs.Prelude.{◌==◌}
 use Rattle.std.specs.List.{list_any}
 use Rattle.std.specs.FinMap.{get, insert, remove}
 use Rattle.std.proofs.lemmas.Bool.{or_parts, ne_eqb}

@@ -22,7 +22,7 @@ use Rattle.std.proofs.Common.{
   subst,
   true≢false,
 }
-use Rattle.std.specs.Prelude.{◌≢◌, Result, IfErr, OnOk}
+use Rattle.std.specs.Prelude.{◌≢◌, Result, OnOk}
 use Rattle.sqlite.specs.State.{HasCleanDisk, State}
 use Rattle.sqlite.specs.Tree.{Trees}
 use Rattle.record_text.specs.declared.refusal.Refusal.{Refusal}

@@ -1,22 +1,6 @@
 -- How an archive stands between two calls: it takes requests, an import is open on it, or it has to be opened again.
 -- Rules of our own.
-use Rattle.std.specs.Prelude.{
-  Bool,
-  ◌||◌,
-  true,
-  false,
-  is_some,
-  List,
-  [],
-  ◌∷◌,
-  cond,
-  Option,
-  None,
-  Some,
-  Result,
-  Ok,
-  Err,
-}
+use Rattle.std.specs.Prelude.{Bool, ◌||◌, false, is_some, List, [], ◌∷◌, cond, Option, None, Some, Result, Ok, Err}
 use Rattle.record_text.specs.declared.refusal.Refusal.{Refusal}
 use Rattle.record_text.specs.declared.refusal.RefusalKind.{RefusalKind}
 use Rattle.record_text.specs.declared.refusal.RefusalKind.TheVariants.{ImportOpen}

@@ -1,4 +1,3 @@
-use Rattle.staged_rows.specs.Removing.{AreAside}
 use Rattle.import_commits.proofs.Imports.{not_seen, still_open, still_aside}
 use Rattle.import_commits.proofs.laws.an_import_that_is_begun_can_be_taken_out.Goals as goal
 

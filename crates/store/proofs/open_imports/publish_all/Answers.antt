@@ -1,4 +1,3 @@
-use Rattle.std.proofs.Common.{refl, sym, ◌∙◌}
 use Rattle.sqlite.specs.Held.{state}
 use Rattle.archive_state.specs.Applied.{applied}
 use Rattle.store.proofs.Steps.{done_or_not_yet}

@@ -1,4 +1,4 @@
-use Rattle.std.proofs.Common.{◌≡◌, None, inl}
+use Rattle.std.proofs.Common.{None, inl}
 use Rattle.sqlite.specs.Held.{state}
 use Rattle.archive_core.specs.Machine.{import_of}
 use Rattle.store_tables.proofs.Queries.{only_committed}
