@@ -22,7 +22,7 @@ use record_text::RefusalKind;
 use records::{Record, lines_of};
 use sqlite::{Alter, Error, Transaction};
 use std::alloc::{AllocError, Global};
-use store_rows::{kind_word, write_kept};
+use store_rows::{Unwritten, kind_of, kind_word, write_kept};
 use store_tables::{batches, rows, spans};
 use stored_lines::StoredLine;
 
@@ -101,47 +101,6 @@ fn publish<S: Alter>(
     batches::close_batch(tx, batch)?;
     rows::set_next(tx, next)?;
     write_kept(tx, kept)
-}
-
-/// Why rows were not written.
-#[derive(Drop)]
-enum Unwritten {
-    /// Memory for the lines of a record was refused.
-    Memory,
-    /// The database answered an error.
-    Database,
-}
-
-impl From<AllocError> for Unwritten {
-    ghost use Rattle.std.specs.Prelude.{◌≡◌};
-    ghost use Rattle.staging.specs.declared.writing.Unwritten.TheVariants.{Memory};
-
-    ghost from_gives = { λ _ e. e ≡ Memory };
-
-    fn from(_error: AllocError) -> Unwritten {
-        Unwritten::Memory
-    }
-}
-
-impl From<Error> for Unwritten {
-    ghost use Rattle.std.specs.Prelude.{◌≡◌};
-    ghost use Rattle.staging.specs.declared.writing.Unwritten.TheVariants.{Database};
-
-    ghost from_gives = { λ _ e. e ≡ Database };
-
-    fn from(_error: Error) -> Unwritten {
-        Unwritten::Database
-    }
-}
-
-/// The refusal for it.
-fn kind_of(why: Unwritten) -> RefusalKind
-    ensures { (result ≡ OutOfMemory) ⊎ (result ≡ Storage) }
-{
-    match why {
-        Unwritten::Memory => RefusalKind::OutOfMemory,
-        Unwritten::Database => RefusalKind::Storage,
-    }
 }
 
 /// Writes the next 256 rows, or all that are left.

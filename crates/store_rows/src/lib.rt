@@ -12,4 +12,7 @@ mod state;
 mod writing;
 
 pub use reading::read_state;
-pub use writing::{kind_word, remove_lines, remove_rows, remove_spans, write_changes, write_kept};
+pub use writing::{
+    Unwritten, kind_of, kind_word, remove_lines, remove_rows, remove_spans, write_changes,
+    write_kept,
+};

@@ -15,6 +15,7 @@ ghost use Rattle.store_rows.specs.Meaning.{AllShallow};
 ghost use Rattle.store_rows.specs.Shallow.{AreShallowChanges};
 ghost use Rattle.store_rows.specs.Spans.{FollowsDrawn};
 ghost use Rattle.store_rows.specs.Writing.{with_changes, with_kept_written};
+ghost use Rattle.store_rows.specs.declared.writing.Unwritten.TheVariants as unwritten;
 
 use archive_state::{Changes, Kept};
 pub use record_rows::{kind_word, remove_lines, remove_rows};
@@ -44,14 +45,13 @@ pub fn write_changes<S: Alter>(
 {
     match write_dated(alloc, tx, changes) {
         Ok(()) => Ok(()),
-        Err(Unwritten::Memory) => Err(RefusalKind::OutOfMemory),
-        Err(Unwritten::Database) => Err(RefusalKind::Storage),
+        Err(why) => Err(kind_of(why)),
     }
 }
 
 /// Why rows were not written.
 #[derive(Drop)]
-enum Unwritten {
+pub enum Unwritten {
     /// Memory for the lines of a record was refused.
     Memory,
     /// The database answered an error.
@@ -77,6 +77,18 @@ impl From<Error> for Unwritten {
 
     fn from(_error: Error) -> Unwritten {
         Unwritten::Database
+    }
+}
+
+/// The refusal for it: 1 for memory, 80 for the database.
+pub fn kind_of(why: Unwritten) -> RefusalKind
+    ensures either { (result ≡ OutOfMemory) ⊎ (result ≡ Storage) }
+    ensures memory { why ≡ unwritten.Memory → result ≡ OutOfMemory }
+    ensures database { why ≡ unwritten.Database → result ≡ Storage }
+{
+    match why {
+        Unwritten::Memory => RefusalKind::OutOfMemory,
+        Unwritten::Database => RefusalKind::Storage,
     }
 }
 
