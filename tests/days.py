@@ -14,7 +14,7 @@ from imports import Imported
 ROWS = (
     "a,person,Ann /Lee/,F", "b,place,Kent,", "c,place,Ashby,2", 'd,place,"Mill\nLane",3',
     "e,event,1,BIRT,,3 MAR 1799,3", "f,event,1,DEAT,,AFT 1850,", "g,event,1,OCCU,weaver,(as a child),3",
-    "h,event,1,RESI,,,3", "i,source,Register,,,,", "j,entry,9,BURIAL,f. 3,1,1 MAY 1860,4,Ann of Ashby,deceased,Ann",
+    "h,event,1,RESI,,,3", "i,source,Register,,,,", "j,entry,9,BURIAL,f. 3,1,1 MAY 1860,4,Ann of Ashby,buried,Ann",
     "k,entry,9,BAPTISM,f. 3,2,,2,Joe of Kent,child,Joe", "l,entry,9,MARRIAGE,f. 4,1,BET 1840 AND 1845,,Ann,bride,Ann",
     "m,event,1,CENS,1841,ABT 1841,2", "n,event,1,BURI,,@#DFRENCH R@ 18 BRUM 8,",
 )

@@ -40,11 +40,7 @@ fn push_number(out: &mut String, number: u32) -> Result<(), AllocError>
 }
 
 /// Numbers with what is told of their records, one a line. Refused only for want of memory.
-pub(crate) fn told_text(
-    alloc: Global,
-    state: &State,
-    found: &[u32],
-) -> Result<String, RefusalKind>
+pub(crate) fn told_text(alloc: Global, state: &State, found: &[u32]) -> Result<String, RefusalKind>
     ensures refused { IfErr result (λ kind. kind ≡ OutOfMemory) }
     ensures text { IfOk result (λ s. string_bytes s ≡ flat_map (lines.told_line state.now.records) found.now) }
 {
@@ -68,12 +64,7 @@ fn push_lines(
     Ok(())
 }
 
-fn push_line(
-    alloc: Global,
-    out: &mut String,
-    state: &State,
-    number: u32,
-) -> Result<(), AllocError>
+fn push_line(alloc: Global, out: &mut String, state: &State, number: u32) -> Result<(), AllocError>
     ensures { OnOk result (string_bytes out.new ≡ string_bytes out.old ++ lines.told_line state.now.records number) }
 {
     write!(out, "{number}")?;
@@ -81,12 +72,7 @@ fn push_line(
     out.push_str("\n")
 }
 
-fn push_told(
-    alloc: Global,
-    out: &mut String,
-    state: &State,
-    number: u32,
-) -> Result<(), AllocError>
+fn push_told(alloc: Global, out: &mut String, state: &State, number: u32) -> Result<(), AllocError>
     ensures { OnOk result (string_bytes out.new ≡ string_bytes out.old
         ++ lines.told state.now.records (map.get state.now.records number)) }
 {

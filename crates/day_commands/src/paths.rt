@@ -27,12 +27,7 @@ pub(crate) fn push_place(
     }
 }
 
-fn push_path(
-    alloc: Global,
-    out: &mut String,
-    state: &State,
-    place: u32,
-) -> Result<(), AllocError>
+fn push_path(alloc: Global, out: &mut String, state: &State, place: u32) -> Result<(), AllocError>
     ensures { OnOk result (string_bytes out.new ≡ string_bytes out.old
         ++ lines.behind (path_in state.now.records place)) }
 {
