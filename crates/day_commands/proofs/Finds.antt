@@ -52,9 +52,8 @@ then_read old mid new P Q first more clean =
 module _ {A : Type 0} (bytes : A → List ℕ) (old mid : State) (first last : ℤ) (ns given : List ℕ) (same : given ≡ ns)
     (found : OnOpen old mid (λ society c. AreAll (IsBetween c.records first last) ns × HasArchive society c mid)) where
   handed_on : OnOpen old mid (λ society c. AreAll (IsBetween c.records first last) given × HasArchive society c mid)
-  handed_on = subst
-      (λ (x : List ℕ). OnOpen old mid (λ society c. AreAll (IsBetween c.records first last) x × HasArchive society c mid))
-      (sym same) found
+  handed_on = subst (λ (x : List ℕ). OnOpen old mid
+      (λ society c. AreAll (IsBetween c.records first last) x × HasArchive society c mid)) (sym same) found
 
   pub numbers_are : (r : Result A RefusalKind) → IfOk r (λ s. bytes s ≡ flat_map number_line given)
       → IfOk r (λ s. OnOpen old mid (λ _ c. OnFound false first last (λ text. bytes s ≡ text) c))

@@ -38,7 +38,8 @@ AreReversed kind first last before after = (kind ≡ DaysReversed) × (last <ℤ
 
 module _ {D : Type 0} {g : disk.Ghosts D} where
   -- a file was opened, and of the archive that it held all that is between the days was written
-  abbrev pub DaysTold : Image → Bool → ℤ → ℤ → Option (List ℕ) → Option (List ℕ) → Option (Held (FileStore D g)) → Type 0
+  abbrev pub DaysTold : Image → Bool → ℤ → ℤ → Option (List ℕ) → Option (List ℕ) → Option (Held (FileStore D g))
+      → Type 0
   DaysTold image words first last before after left = (first ≤ℤ last)
       × IsOnHeld image (λ _ c. AreWritten words first last before after c) left
 

@@ -27,8 +27,8 @@ returns-in-Ok-clause-untold g c =
     let after = g.W.Write.contents c.write_days-outcome.new.writer in
     let Failed = Rose (g.W.Device.failed c.args.output.now) (g.W.Device.failed c.write_days-outcome.new.writer) in
     in_days
-    (λ f l. IfErr c.write_days-outcome.result (λ kind. DaysUntold (image_at g.S.Start) kind c.args.words f l before after
-    Failed (Some c.into_connection.result)))
+    (λ f l. IfErr c.write_days-outcome.result
+    (λ kind. DaysUntold (image_at g.S.Start) kind c.args.words f l before after Failed (Some c.into_connection.result)))
     _ c.args.first _ c.args.last (to_z-of_z w32 c.args.first c.ranges.first)
     (to_z-of_z w32 c.args.last c.ranges.last)
     (untold (image_at g.S.Start) c.in-Ok.archive.conn c.write_days-outcome.new.archive.conn c.into_connection.result
