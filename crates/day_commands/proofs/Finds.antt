@@ -22,6 +22,16 @@ use Rattle.day_commands.specs.Lines.{found_text, number_line, told_line}
 pub in_days : (P : ℤ → ℤ → Type 0) (f first l last : ℤ) → f ≡ first → l ≡ last → P f l → P first last
 in_days P f first l last e d p = subst (λ (x : ℤ). P x last) e (subst (λ (y : ℤ). P f y) d p)
 
+-- ---- they are in order
+pub all_in_order : {A Q P : Type 0} (r : Result A RefusalKind) → Q → OnOk r P → OnOk r (Q × P)
+all_in_order (Ok a) order did = (order, did)
+all_in_order (Err kind) order did = tt
+
+pub part_in_order : {A Q : Type 0} {P : RefusalKind → Type 0} (r : Result A RefusalKind) (N : RefusalKind → Type 0)
+    → Q → IfErr r P → IfErr r (λ kind. N kind ⊎ (Q × P kind))
+part_in_order (Ok a) N order did = tt
+part_in_order (Err kind) N order did = inr (order, did)
+
 -- ---- want of memory
 pub want_stops : {A : Type 0} (r : Result A RefusalKind) → IfErr r (λ kind. kind ≡ OutOfMemory)
     → IfErr r (λ kind. is_stop kind ≡ true)
@@ -33,6 +43,12 @@ pub want_fails : {A : Type 0} (r : Result A RefusalKind) (old new : State) (P : 
     → IfErr r (λ kind. OnOpen old new (λ _ _. IsFailure kind))
 want_fails (Ok a) old new P is want = tt
 want_fails (Err kind) old new P is want = follows old new P (λ _ _. IsFailure kind) (λ _ _ _. inl want) is
+
+-- ---- what was read, as it is said of an archive
+pub found_as : {A : Type 0} {Is : List ℕ → Content → A → Type 0} (old new : State) (a : A)
+    → (HasCleanDisk new → Reads Is old (Ok a) new)
+    → OnOpen old new (λ society c. Is society c a × HasArchive society c new)
+found_as {A} {Is} old new a reads = read_as Is old new (λ society c. Is society c a) a (λ _ _ _ is. is) reads
 
 -- ---- two reads, one behind the other
 then_read : (old mid new : State) (P Q : List ℕ → Content → Type 0)

@@ -125,12 +125,12 @@ pub returns-in-Days-clause-does : goal.returns-in-Days-clause-does
 returns-in-Days-clause-does g c =
     let did = c.days.ensures in
     let ended = c.finished-in-Days.ensures in
-    let from : SFits w32 c.in-Days.first = search rules in
-    let to : SFits w32 c.in-Days.last = search rules in
+    let fits_first : SFits w32 c.in-Days.first = search rules in
+    let fits_last : SFits w32 c.in-Days.last = search rules in
     rw c.in-Days.is (
       days_ends (image_at g.S.Start) c.days.result.0 _ c.in-Days.first _ c.in-Days.last c.in-Days.words
           c.finished-in-Days.result.0 _ _ _ c.days.result.1 c.finished-in-Days.result.1
-          (to_z-of_z w32 c.in-Days.first from) (to_z-of_z w32 c.in-Days.last to) ended.left ended.status did.told
+          (to_z-of_z w32 c.in-Days.first fits_first) (to_z-of_z w32 c.in-Days.last fits_last) ended.left ended.status did.told
           did.untold did.unread,
       refl,
       ended.alone,
