@@ -41,7 +41,7 @@ fn push_path(alloc: Global, out: &mut String, state: &State, place: u32) -> Resu
 }
 
 /// The path of a place; none where it has none.
-#[tactic(auto, using(crate::proofs::Climbing::starts, crate::proofs::Climbing::lost_there, crate::proofs::Climbing::lost_above, crate::proofs::Climbing::ends_here, crate::proofs::Climbing::climbs))]
+#[tactic(auto, using(crate::proofs::Climbing::lost_there))]
 fn path_of(alloc: Global, state: &State, place: u32) -> Result<Option<String>, AllocError>
     ensures { IfOk result (λ found. option_map string_bytes found ≡ path_in state.now.records place) }
 {
