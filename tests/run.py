@@ -22,6 +22,7 @@ sys.dont_write_bytecode = True
 
 import archives  # noqa: E402
 import audits  # noqa: E402
+import days  # noqa: E402
 import devices  # noqa: E402
 import documents  # noqa: E402
 import earlier  # noqa: E402
@@ -59,6 +60,7 @@ PARTS = (
     sheet_commands,
     rooms,
     audits,
+    days,
     earlier,
     merges,
     exports,

@@ -2,5 +2,6 @@ mod Audited
 mod Ending
 mod Entered
 mod Imported
+mod Listed
 mod Showing
 mod Untaken

@@ -32,4 +32,5 @@ module _ {R W D : Type 0} {g : disk.Ghosts D} (reader : read.Ghosts R) (reads : 
   untaken (asked.Sheet file which number generations today) is did = absurd (none is.0)
   untaken (asked.Serve file port count today) is did = absurd (none is.0)
   untaken (asked.Audit file) is did = absurd (none is.0)
+  untaken (asked.Days file first last told_words) is did = absurd (none is.0)
   untaken (asked.Show text) is did = (did.0, did.1.0, did.1.1)

@@ -16,6 +16,7 @@ use Rattle.command_line.specs.declared.tasks.Asked.TheVariants.{
   Apply,
   Audit,
   Check,
+  Days,
   Entries,
   Export,
   ExportPublic,
@@ -28,6 +29,7 @@ use Rattle.command_line.specs.declared.tasks.Asked.TheVariants.{
 }
 use Rattle.command_line.specs.declared.tasks.SheetKind.{SheetKind}
 use Rattle.parish.specs.Auditing.{AuditEnds}
+use Rattle.parish.specs.Days.{DaysEnds}
 use Rattle.parish.specs.Ends.{ApplyEnds, CheckEnds, EntriesEnds, ExportEnds, ImportEnds, InitEnds, NormEnds}
 use Rattle.parish.specs.Shown.{PublicEnds, RoomEnds, SheetEnds}
 use Rattle.parish.specs.declared.visits.Visits.{Visits}
@@ -99,6 +101,13 @@ module _ {R W : Type 0} (reader : read.Ghosts R) (reads : device.Ghosts R) (writ
   Audits image status output written left =
       AuditEnds image status (writer.contents output) (writer.contents written) (HasWriteFailed output written) left
 
+  -- what is between two days, with words or without
+  abbrev pub ListsDays : {D : Type 0} {g : disk.Ghosts D} → Image → ℤ → ℤ → Bool → ℕ → W → W
+      → Option (Held (FileStore D g)) → Type 0
+  ListsDays image first last words status output written left =
+      DaysEnds image first last words status (writer.contents output) (writer.contents written)
+      (HasWriteFailed output written) left
+
   -- ---- each task
   module _ {D : Type 0} {g : disk.Ghosts D} (image : Image) (status : ℕ) (input rest : R) (output written : W)
       (quiet told : Option (List ℕ)) (left : Option (Held (FileStore D g))) (room : Option Visits) where
@@ -125,6 +134,8 @@ module _ {R W : Type 0} (reader : read.Ghosts R) (reads : device.Ghosts R) (writ
     Does (Serve file port count today) = RoomEnds image port count today status room left × (rest ≡ input)
         × (written ≡ output)
     Does (Audit file) = Audits image status output written left × (rest ≡ input) × (room ≡ None)
+    Does (Days file first last words) = ListsDays image first last words status output written left × (rest ≡ input)
+        × (room ≡ None)
     Does (Show text) = (rest ≡ input) × OpensNothing
 
     -- no memory was found to read the words, and nothing is done

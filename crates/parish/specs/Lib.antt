@@ -1,4 +1,5 @@
 pub mod Auditing
+pub mod Days
 pub mod Doing
 pub mod Ends
 pub mod Shown

@@ -35,6 +35,7 @@ use crate::visits::{Visits, opened, sheet_of};
 use archive_commands::{OpenFile, apply, entries, export, init};
 use audit_commands::audit;
 use command_line::{Asked, Refused, read_words};
+use day_commands::days;
 use gedcom_tree::{
     Device, TransferError, TreeFault, TreeKind, normalise, read_forest, write_bytes,
 };
@@ -132,6 +133,12 @@ fn work<S: Start, R: Read + Device, W: Write + Device, F: Write + Device>(
             today,
         } => opened(library(rt, file, today, start), port, count, faults),
         Asked::Audit { file } => audited(rt.alloc(), audit(rt, file, start), output, faults),
+        Asked::Days {
+            file,
+            first,
+            last,
+            words,
+        } => finished(days(rt, file, first, last, words, start, output), faults),
         Asked::Apply { file } => {
             let done = apply(rt, file, start, input, output, faults);
             finished(done, faults)

@@ -32,6 +32,7 @@ quiet (asked.ExportPublic file today) words of has no_apply no_import = refl
 quiet (asked.Sheet file which number generations today) words of has no_apply no_import = refl
 quiet (asked.Serve file port count today) words of has no_apply no_import = refl
 quiet (asked.Audit file) words of has no_apply no_import = refl
+quiet (asked.Days file first last told) words of has no_apply no_import = refl
 quiet (asked.Show text) words of has no_apply no_import = refl
 
 pub returns-in-Ok-clause-done : goal.returns-in-Ok-clause-done

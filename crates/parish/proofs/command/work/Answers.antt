@@ -6,6 +6,7 @@ use Rattle.parish.proofs.Audited.{audit_ends}
 use Rattle.parish.proofs.Ending.{apply_ends, export_ends, init_ends}
 use Rattle.parish.proofs.Entered.{entries_ends}
 use Rattle.parish.proofs.Imported.{import_ends}
+use Rattle.parish.proofs.Listed.{days_ends}
 use Rattle.parish.proofs.Showing.{public_ends, room_ends, sheet_ends}
 use Rattle.parish.proofs.command.work.Goals as goal
 
@@ -116,6 +117,21 @@ returns-in-Audit-clause-does g c =
     rw c.in-Audit.is (
       audit_ends (image_at g.S.Start) c.audit.result.0 c.audited.result.0 _ _ _ c.audit.result.1 c.audited.result.1
           ended.left ended.status did.audited did.refused ended.told ended.untold,
+      refl,
+      ended.alone,
+    )
+
+pub returns-in-Days-clause-does : goal.returns-in-Days-clause-does
+returns-in-Days-clause-does g c =
+    let did = c.days.ensures in
+    let ended = c.finished-in-Days.ensures in
+    let fits_first : SFits w32 c.in-Days.first = search rules in
+    let fits_last : SFits w32 c.in-Days.last = search rules in
+    rw c.in-Days.is (
+      days_ends (image_at g.S.Start) c.days.result.0 _ c.in-Days.first _ c.in-Days.last c.in-Days.words
+          c.finished-in-Days.result.0 _ _ _ c.days.result.1 c.finished-in-Days.result.1
+          (to_z-of_z w32 c.in-Days.first fits_first) (to_z-of_z w32 c.in-Days.last fits_last) ended.left ended.status did.told
+          did.untold did.unread,
       refl,
       ended.alone,
     )

@@ -1,0 +1,3 @@
+mod Climbing
+mod Finds
+mod OnFile

@@ -1,0 +1,121 @@
+//! What is between two days in the archive in a file, written.
+
+ghost use Rattle.std.specs.Prelude.{◌≡◌, ◌⊎◌, ◌≤ℤ◌, false, true, IfErr, OnErr, OnOk};
+ghost use Rattle.std.specs.Io.KnownBytes.{Appends, Keeps};
+ghost use Rattle.sqlite.specs.Held.{state};
+ghost use Rattle.sqlite_wal.specs.Files.{image_at};
+ghost use Rattle.archive_exports.specs.Reading.{OnOpen};
+ghost use Rattle.archive_view.specs.Looks.{is_failure};
+ghost use Rattle.devices.specs.Devices.{AppendsBeginning, Rose};
+ghost use Rattle.record_text.specs.declared.refusal.RefusalKind.TheVariants.{OutOfMemory, WriteFailed};
+ghost use Rattle.day_commands.specs.Ends.{AreCut, AreReversed, AreWritten, DaysTold, DaysUntold};
+
+use crate::finding::text_of;
+use archive_commands::{OpenFile, open};
+use devices::{Device, TransferError, write_bytes};
+use record_text::RefusalKind;
+use sqlite::{Alter, Start};
+use std::alloc::Global;
+use std::io::Write;
+use std::rt::HostRuntime;
+use store::Archive;
+
+/// `days`: the events and register entries of the archive in a file whose date may mean a day from the first to the
+/// last, counted from 1970-01-01, on the output, by number, one a line; with words what each is. And the connection
+/// over the file where one was opened. The archive is not changed.
+///
+/// 82: there is no file, or it has no archive. 83: a later program made it. 80: the file cannot be opened or is no
+/// database, or the database failed. 87: the first day is behind the last. 40: somebody else has spoilt what is stored.
+/// At these nothing is written. 95: the output failed. 1: memory was refused. At these a beginning of the text may have
+/// been written.
+pub fn days<S: Start, W: Write + Device>(
+    rt: &HostRuntime,
+    file: &str,
+    first: i32,
+    last: i32,
+    words: bool,
+    start: S,
+    output: &mut W,
+) -> (Result<(), RefusalKind>, Option<OpenFile<S>>)
+    ensures told { OnOk result.0
+        (DaysTold (image_at S.Start) words first last (W.contents output.old) (W.contents output.new) result.1) }
+    ensures untold { IfErr result.0 (λ kind. DaysUntold (image_at S.Start) kind words first last
+        (W.contents output.old) (W.contents output.new) (Rose (W.failed output.old) (W.failed output.new)) result.1) }
+    ensures unread { IfErr result.0
+        (λ kind. is_failure kind ≡ true → Keeps (W.contents output.old) (W.contents output.new)) }
+{
+    match open(rt, file, start) {
+        Ok(mut archive) => {
+            let outcome = write_days(rt.alloc(), &mut archive, first, last, words, output);
+            (outcome, Some(archive.into_connection()))
+        }
+        Err((kind, left)) => (Err(kind), left),
+    }
+}
+
+/// Writes what is between the days in an archive that is open.
+fn write_days<S: Alter, W: Write + Device>(
+    alloc: Global,
+    archive: &mut Archive<S>,
+    first: i32,
+    last: i32,
+    words: bool,
+    writer: &mut W,
+) -> Result<(), RefusalKind>
+    requires kept { archive.old.is_lost ≡ false }
+    ensures written { OnOk result ((first ≤ℤ last)
+        × OnOpen (state S.Store archive.old.conn) (state S.Store archive.new.conn)
+        (λ _ c. AreWritten words first last (W.contents writer.old) (W.contents writer.new) c)) }
+    ensures cut { IfErr result (λ kind.
+        (AreReversed kind first last (W.contents writer.old) (W.contents writer.new)
+        × (archive.new.conn ≡ archive.old.conn))
+        ⊎ ((first ≤ℤ last) × OnOpen (state S.Store archive.old.conn) (state S.Store archive.new.conn)
+        (λ _ c. AreCut kind words first last (W.contents writer.old) (W.contents writer.new) c))) }
+    ensures unread { IfErr result
+        (λ kind. is_failure kind ≡ true → Keeps (W.contents writer.old) (W.contents writer.new)) }
+    ensures writer { IfErr result (λ kind. kind ≡ WriteFailed → Rose (W.failed writer.old) (W.failed writer.new)) }
+{
+    if first > last {
+        return Err(RefusalKind::DaysReversed);
+    }
+    write_found(alloc, archive, first, last, words, writer)
+}
+
+/// The same, where the first day is not behind the last.
+fn write_found<S: Alter, W: Write + Device>(
+    alloc: Global,
+    archive: &mut Archive<S>,
+    first: i32,
+    last: i32,
+    words: bool,
+    writer: &mut W,
+) -> Result<(), RefusalKind>
+    requires kept { archive.old.is_lost ≡ false }
+    ensures written { OnOk result (OnOpen (state S.Store archive.old.conn) (state S.Store archive.new.conn)
+        (λ _ c. AreWritten words first last (W.contents writer.old) (W.contents writer.new) c)) }
+    ensures cut { IfErr result (λ kind. OnOpen (state S.Store archive.old.conn) (state S.Store archive.new.conn)
+        (λ _ c. AreCut kind words first last (W.contents writer.old) (W.contents writer.new) c)) }
+    ensures unread { IfErr result
+        (λ kind. is_failure kind ≡ true → Keeps (W.contents writer.old) (W.contents writer.new)) }
+    ensures writer { IfErr result (λ kind. kind ≡ WriteFailed → Rose (W.failed writer.old) (W.failed writer.new)) }
+{
+    match text_of(alloc, archive, first, last, words) {
+        Ok(text) => write_text(text.as_str(), writer),
+        Err(kind) => Err(kind),
+    }
+}
+
+/// Writes a text. 95: the writer failed. 1: memory was refused. Then a beginning is written.
+fn write_text<W: Write + Device>(text: &str, writer: &mut W) -> Result<(), RefusalKind>
+    ensures written { OnOk result (Appends (W.contents writer.old) (W.contents writer.new) text.now) }
+    ensures begun { OnErr result (AppendsBeginning (W.contents writer.old) (W.contents writer.new) text.now) }
+    ensures why { IfErr result (λ kind. (kind ≡ WriteFailed) ⊎ (kind ≡ OutOfMemory)) }
+    ensures writer { IfErr result (λ kind. kind ≡ WriteFailed → Rose (W.failed writer.old) (W.failed writer.new)) }
+{
+    let before = writer.failures();
+    match write_bytes(writer, before, text.as_bytes()) {
+        Ok(()) => Ok(()),
+        Err(TransferError::OutOfMemory) => Err(RefusalKind::OutOfMemory),
+        Err(TransferError::Failed) => Err(RefusalKind::WriteFailed),
+    }
+}
