@@ -22,7 +22,7 @@ def refused_as_no_archive(folder, tools, *calls):
         for call in calls:
             expect(call(at), refused(80))
     with folder(tools) as at:
-        at.made().other_database("UPDATE meta SET version = 2")
+        at.made().other_database("UPDATE meta SET version = 3")
         for call in calls:
             expect(call(at), refused(83))
 

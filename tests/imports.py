@@ -161,7 +161,7 @@ def other_files(tools):
             file.write(b"x" * 5_000)
         expect(at.import_(LEE), refused(80))
     with Imported(tools) as at:
-        expect(at.made().other_database("UPDATE meta SET version = 2").import_(LEE), refused(83))
+        expect(at.made().other_database("UPDATE meta SET version = 3").import_(LEE), refused(83))
 
 
 def no_number_left(tools):

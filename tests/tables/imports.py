@@ -82,8 +82,8 @@ def births(count: int) -> dict[int, tuple[Line, ...]]:
     return {FIRST + at: event(PERSON, "BIRT", dates[at % 3]) for at in range(count)}
 
 
-# Imports by the number of their rows: none, the fewest of a record, and about one, two and three stages. Of the last two
-# the spans begin within a stage and go on into the next one, and have a stage of their own.
+# Imports by the number of their rows: none, the fewest of a record, and about one, two and three stages. Of the last
+# two the spans begin within a stage and go on into the next one, and have a stage of their own.
 IMPORTS = {
     0: {},
     2: places(1),

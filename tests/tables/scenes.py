@@ -235,7 +235,8 @@ def spans() -> Scene:
     filling.put(75, (Line(0, "other"), Line(1, "date", "1700")))
     filling.write(80)
     expected = {at: days for first in (10, 40) for at, days in enumerate(DATED.values(), first)}
-    filling.see_spans({**expected, 73: (-98615, -98251)})
+    expected[73] = (-98615, -98251)
+    filling.see_spans(expected)
     filling.compare()
     # a date becomes another, a place alone, none, and is there again; a record is put as it was, is taken out, and
     # becomes another
@@ -252,8 +253,9 @@ def spans() -> Scene:
     filling.put(75, event(1, "BURI", "1 JAN 1970"))
     filling.write(80)
     expected |= {10: (None, -98616), 70: (-735233, -734869), 74: (-98615, None), 75: (0, 0)}
-    gone = (11, 12, 40, 14, 41, 15)
-    filling.see_spans({number: days for number, days in expected.items() if number not in gone} | {73: (-98615, -98251)})
+    for gone in (11, 12, 40, 14, 41, 15):
+        del expected[gone]
+    filling.see_spans(expected)
     filling.read()
     return filling.scene("spans of dates")
 
