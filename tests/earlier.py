@@ -11,16 +11,20 @@ from __future__ import annotations
 import functools
 import hashlib
 import os
+import random
 import shutil
 import sqlite3
+import time
+from collections.abc import Iterable
 
 from archives import TABLES as ALL_TABLES
 from archives import Folder, lines
 from calendars import anew as date_anew
 from calendars import span_of
 from harness import ROOT, Case, Tools, demand, expect, refused, run, written
+from imports import killed_after
 from table.making import between
-from undisturbed import Command
+from undisturbed import Command, bytes_of
 
 HERE = os.path.join(ROOT, "tests", "earlier")
 
@@ -469,20 +473,97 @@ def begun() -> dict[str, list]:
         return at.first_tables()
 
 
-def demand_whole(at: Folder) -> None:
-    """A stop has left the first version with all its records, or the second one with all that is anew."""
+def is_anew(at: Folder, before: dict[str, list]) -> bool:
+    """Whether a stop has left the second version, with all that is anew. Else it has left the first one, with all its
+    records, and of an import that was open some rows, or none."""
     if at.rows_of("SELECT version FROM meta") == [(2,)]:
-        demand(at.tables() == anew(begun()), "what a stop left is of the second version, and not all of it")
-        return
+        demand(at.tables() == anew(before), "what a stop left is of the second version, and not all of it")
+        return True
     there = {name: at.rows_of(f"SELECT * FROM {name}") for name in FIRST_TABLES}
-    demand(closed(there) == closed(begun()), "what a stop left is neither as it was nor anew")
+    demand(closed(there) == closed(before), "what a stop left is neither as it was nor anew")
     demand(not at.rows_of("SELECT * FROM sqlite_master WHERE name = 'span'"), "the first version has spans")
+    return False
 
 
 # Its opening, which tests/stops.py stops and tests/wants.py refuses memory.
 ANEW = Command(
-    "an archive of the first version", (), ("audit",), b"", (b"sound: 53 records\n",), 1, begin, demand_whole,
+    "an archive of the first version", (), ("audit",), b"", (b"sound: 53 records\n",), 1, begin,
+    lambda at: is_anew(at, begun()),
 )
+
+DATES = (
+    "3 MAR 1799", "ABT 1760", "BEF 1700", "BET 1 JAN 1790 AND 9 NOV 1799", "@#DFRENCH R@ 18 BRUM 8",
+    "BET @#DFRENCH R@ 1 VEND 8 AND @#DFRENCH R@ 5 COMP 14", "@#DFRENCH R@ COMP 3", "AFT @#DFRENCH R@ 8", "(unknown)",
+    "in harvest", "@#DJULIAN@ 11 FEB 1731/32", "@#DFRENCH R@ 6 COMP 4",
+)
+
+
+def of_a_file(at: Earlier, persons: int, rng: random.Random) -> Earlier:
+    """An archive of the first version with the persons of a file, each with a birth and a death, and with an import
+    that was left open. Two of three French Republican dates are spelt as the grammar of that time read none."""
+    given = between(*(
+        line for n in range(persons) for line in (
+            f"0 @I{n}@ INDI", f"1 NAME Ann /Lee {n}/", "1 BIRT", f"2 DATE {rng.choice(DATES)}",
+            f"2 PLAC Ashby {n % 50}", "1 DEAT", f"2 DATE {rng.choice(DATES)}",
+        )
+    ))
+    told = run(at.made().parish, ("import", at.file, "--token", "t"), given)
+    demand(told.status == 0, f"{told}")
+    return as_of_that_time(at, range(10_000_000, 10_000_000 + persons // 4))
+
+
+def as_of_that_time(at: Earlier, begun: Iterable[int]) -> Earlier:
+    """An archive of the second version becomes one of the first, with an import that is open, of places with these
+    numbers."""
+    conn = sqlite3.connect(at.file)
+    conn.execute("DROP TABLE span")
+    conn.execute("UPDATE meta SET version = 1")
+    french = "tag = 'date' AND text LIKE '%@#DFRENCH R@%' AND id %"
+    conn.execute(f"UPDATE line SET text = lower(text) WHERE {french} 3 = 0")
+    conn.execute(f"UPDATE line SET text = replace(text, ' ', '  ') WHERE {french} 3 = 1")
+    conn.execute("INSERT INTO batch SELECT max(no) + 1, 1 FROM batch")
+    for number in begun:
+        conn.execute("INSERT INTO record SELECT ?, 'place', max(no) FROM batch", (number,))
+        conn.execute("INSERT INTO line (no, pos, depth, tag, text) VALUES (?, 0, 0, 'place', 'Ross')", (number,))
+    conn.commit()
+    conn.close()
+    return at
+
+
+def seconds_of(at: Earlier) -> float:
+    """How long an opening takes."""
+    begun = time.perf_counter()
+    expect(at.apply(b""), written(b""))
+    return time.perf_counter() - begun
+
+
+def killed_in_an_opening(tools, kills=10, persons=300, seed=11):
+    """A program that is killed while it makes an archive anew leaves it as it was or anew, and the next one answers as
+    one that was not killed, and leaves what it does; so it is where the next one is killed too."""
+    rng = random.Random(seed)
+    counted = {"as it was": 0, "without a part of the open import": 0, "anew": 0, "with rows in the log": 0}
+    with Earlier(tools) as whole:
+        image, before = bytes_of(of_a_file(whole, persons, rng).file), whole.first_tables()
+        longest = seconds_of(whole)
+        is_made_anew(whole, before)
+        told, text = whole.audit(), whole.export()
+        demand((told.status, text.status) == (0, 0) and told.out.startswith(b"sound: "), f"{told}")
+    for _ in range(kills):
+        with Earlier(tools) as at:
+            with open(at.file, "wb") as file:
+                file.write(image)
+            for _ in range(rng.choice((1, 1, 2))):
+                word = rng.choice(("audit", "export", "apply"))
+                killed_after([*at.parish, word, at.file], b"", rng.random() * longest)
+                is_done, has_log = is_anew(at, before), bool(bytes_of(at.file + "-wal"))
+                is_whole = not is_done and at.rows_of("SELECT * FROM record") == before["record"]
+                state = "anew" if is_done else "as it was" if is_whole else "without a part of the open import"
+                counted[state] += 1
+                counted["with rows in the log"] += has_log and not is_done
+            expect(at.audit(), told)
+            demand(at.tables() == anew(before), "the tables differ")
+            expect(at.export(), text)
+    return counted
 
 
 TESTS = (
@@ -496,6 +577,7 @@ TESTS = (
     a_later_version,
     what_is_no_archive_of_the_first_version,
     a_span_refers_to_its_record,
+    killed_in_an_opening,
     days_of_a_new_archive,
 )
 

@@ -26,7 +26,7 @@ class Command:
     answers: tuple[bytes, ...] | None = None  # of each request; None: one, whatever it is
     apart: int = 1  # `./test` disturbs each so many-th call
     begin: Callable[[Folder], None] | None = None  # makes an archive that each opening changes, in place of the rows
-    demand_left: Callable[[Folder], None] | None = None  # looks at what a stop has left, before it is opened
+    demand_left: Callable[[Folder], object] | None = None  # looks at what a stop has left, before it is opened
 
     def run(self, at: Folder, **how) -> Outcome:
         return self.runs(at, self.given, **how)
