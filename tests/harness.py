@@ -47,6 +47,7 @@ REFUSALS = {
     80: "Storage",
     82: "NotAnArchive",
     83: "NewerSchema",
+    87: "DaysReversed",
     90: "BadRow",
     92: "FieldCount",
     93: "BadToken",
