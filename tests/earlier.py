@@ -23,6 +23,7 @@ from calendars import anew as date_anew
 from calendars import span_of
 from harness import ROOT, Case, Tools, demand, expect, refused, run, written
 from imports import killed_after
+from rooms import free_port
 from table.making import between
 from undisturbed import Command, bytes_of
 
@@ -134,25 +135,31 @@ class Earlier(Folder):
         return self.rows_of("SELECT version FROM meta")
 
 
-def by_record(rows, at: int, key) -> dict:
-    """Rows of lines by what `key` answers, each with its depth, tag, text and target from the column `at` on."""
+def grouped(rows, key) -> dict:
+    """Rows by what `key` answers of them, in the order of their keys."""
     found: dict = {}
     for row in rows:
-        found.setdefault(key(row), []).append((row, row[at : at + 4]))
-    return found
+        found.setdefault(key(row), []).append(row)
+    return dict(sorted(found.items()))
 
 
-def with_dates_anew(rows, at: int, key) -> list:
-    """The rows, the text of each date as it is written today."""
-    texts = {}
-    for kept in by_record(rows, at, key).values():
-        kind = kept[0][1][1]
-        # the first line below an event is its own tag, whatever word that is
-        first = {"event": 2, "entry": 1}.get(kind, len(kept))
-        for row, (depth, tag, text, _) in kept[first:]:
-            if (depth, tag) == (1, "date") and text is not None:
-                texts[row[0]] = date_anew(text)
-    return [(*row[: at + 2], texts.get(row[0], row[at + 2]), *row[at + 3 :]) for row in rows]
+def lines_anew(rows: list) -> list:
+    """The rows of a record, whose last columns are depth, tag, text and target, with its date as it is written now."""
+    # the first line below an event is its own tag, whatever word that is
+    first = {"event": 2, "entry": 1}.get(rows[0][-3], len(rows))
+    is_date = [at >= first and row[-4:-2] == (1, "date") and row[-2] is not None for at, row in enumerate(rows)]
+    return [(*row[:-2], date_anew(row[-2]), row[-1]) if found else row for found, row in zip(is_date, rows)]
+
+
+def with_dates_anew(rows: list, whole, record) -> list:
+    """The rows of `line` or of `slip_line`. What changes, a whole record or a whole slip, goes behind the others."""
+    for number, kept in grouped(rows, whole).items():
+        made = [row for lines in grouped(kept, record).values() for row in lines_anew(lines)]
+        if sorted(made) != kept:
+            rows = [row for row in rows if whole(row) != number]
+            last = rows[-1][0] if rows else 0
+            rows += [(last + at, *row[1:]) for at, row in enumerate(sorted(made), 1)]
+    return rows
 
 
 def anew(before: dict[str, list]) -> dict[str, list]:
@@ -166,15 +173,12 @@ def anew(before: dict[str, list]) -> dict[str, list]:
         "meta": [(one, 2, following, society) for one, _, following, society in before["meta"]],
         "batch": [row for row in before["batch"] if row[0] not in opened],
         "record": [row for row in before["record"] if row[0] not in gone],
-        "line": with_dates_anew(kept, 3, lambda row: row[1]),
-        "slip_line": with_dates_anew(before["slip_line"], 5, lambda row: row[1:4]),
+        "line": with_dates_anew(kept, lambda row: row[1], lambda row: row[1]),
+        "slip_line": with_dates_anew(before["slip_line"], lambda row: row[1], lambda row: (row[3], row[2])),
     }
-    spans = []
-    for number, found in sorted(by_record(after["line"], 3, lambda row: row[1]).items()):
-        span = span_of(found[0][1][1], [line for _, line in found])
-        if span is not None:
-            spans.append((number, *span))
-    return {**after, "span": spans}
+    lines_of = grouped(after["line"], lambda row: row[1])
+    spans = {number: span_of(rows[0][4], [row[3:] for row in rows]) for number, rows in lines_of.items()}
+    return {**after, "span": [(number, *span) for number, span in spans.items() if span is not None]}
 
 
 def is_made_anew(at: Earlier, before: dict[str, list]) -> None:
@@ -365,7 +369,7 @@ OPENING = {
     "export": ((), b""),
     "export --public": (("--public", *TODAY), b""),
     "sheet": (("person", "1", *TODAY), b""),
-    "serve": (("--port", "0", "--count", "0", *TODAY), b""),
+    "serve": (("--port", "{port}", "--count", "0", *TODAY), b""),
     "audit": ((), b""),
     "entries": (("--source", "1", "--token", "n"), b"BURIAL,f. 3,1,,,Ann,child,Ann\n"),
     "import": (("--token", "t2"), between("0 @I1@ INDI")),
@@ -377,9 +381,11 @@ def whoever_opens_it(tools):
     for name, (words, given) in OPENING.items():
         with Earlier(tools) as at:
             before = at.made_of(BIRTHS, 6, KEPT, (), BEGUN).first_tables()
+            words = [word.format(port=free_port()) for word in words]
             got = run(at.parish, (name.split()[0], at.file, *words), given)
-            wanted = {"entries": refused(51), "import": refused(52)}.get(name)
-            demand(got.status == 0 if wanted is None else got == wanted, f"{name}: {got}")
+            # a port that was free may be taken meanwhile
+            wanted = {"entries": refused(51), "import": refused(52), "serve": refused(94)}.get(name)
+            demand(got == wanted or (got.status == 0 and name not in ("entries", "import")), f"{name}: {got}")
             is_made_anew(at, before)
 
 
@@ -401,12 +407,11 @@ def what_is_no_archive_of_the_first_version(tools):
     spoilt = {
         "DROP TABLE slip_line": 82,
         "DROP TABLE receipt": 82,
-        "UPDATE line SET text = 'bef 1700' WHERE text = 'BEF 1700'": 40,
-        "UPDATE line SET text = NULL WHERE tag = 'BIRT'": 40,
-        "UPDATE slip_line SET text = '1 jan 1800' WHERE tag = 'date' AND side = 0": 40,
-        "UPDATE slip_line SET tag = 'dates' WHERE tag = 'date'": 40,
-        "UPDATE batch SET is_open = 1": 40,
-        "DELETE FROM batch": 40,
+        "UPDATE line SET text = 'bef 1700' WHERE text = 'BEF 1700'": 80,
+        "UPDATE line SET text = NULL WHERE tag = 'BIRT'": 80,
+        "UPDATE slip_line SET text = '1 jan 1800' WHERE tag = 'date' AND side = 0": 80,
+        "UPDATE slip_line SET tag = 'dates' WHERE tag = 'date'": 80,
+        "DELETE FROM batch": 80,
     }
     for statement, number in spoilt.items():
         with Earlier(tools) as at:
@@ -487,7 +492,7 @@ def is_anew(at: Folder, before: dict[str, list]) -> bool:
 
 # Its opening, which tests/stops.py stops and tests/wants.py refuses memory.
 ANEW = Command(
-    "an archive of the first version", (), ("audit",), b"", (b"sound: 53 records\n",), 1, begin,
+    "an archive of the first version", (), ("audit",), b"", (b"sound: 53 records\n",), 3, begin,
     lambda at: is_anew(at, begun()),
 )
 
