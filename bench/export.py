@@ -14,7 +14,11 @@ import subprocess
 import sys
 import tempfile
 
-from norm import FIRST, LAST, MONTHS, PARISH, SAID, one_run
+from norm import FIRST, LAST, MONTHS, PARISH, ROOT, SAID, one_run
+
+sys.path.append(str(ROOT / "tests"))
+
+from calendars import span_of  # noqa: E402
 
 LINE = "INSERT INTO line (no, pos, depth, tag, text, dst) VALUES (?, ?, ?, ?, ?, ?)"
 
@@ -65,6 +69,8 @@ def filled(file, persons):
             for kind, lines in person(rng, number):
                 conn.execute("INSERT INTO record (no, kind, batch) VALUES (?, ?, 0)", (number, kind))
                 conn.executemany(LINE, ((number, pos, *line) for pos, line in enumerate(lines)))
+                if (span := span_of(kind, lines)) is not None:
+                    conn.execute("INSERT INTO span VALUES (?, ?, ?)", (number, *span))
                 number += 1
         conn.execute("UPDATE meta SET next = ?", (number,))
     conn.close()

@@ -149,9 +149,14 @@ def lines_of(conn, number):
     ).fetchall()
 
 
+def span_of(conn, number):
+    """The row of `span` of a number, where it has one."""
+    return conn.execute("SELECT no, lo, hi FROM span WHERE no = ?1", (number,)).fetchone()
+
+
 def plan(file, rows):
-    """What parish writes for each row: its token, the numbers that it names, the records that it puts, the next number,
-    its receipt. Each row is one request on records that no other row changes, so the lines that are there at the end
+    """What parish writes for each row: the numbers that it names, the records that it puts with their spans, its
+    receipt. Each row is one request on records that no other row changes, so the lines that are there at the end
     are those that it wrote."""
     with tempfile.TemporaryDirectory() as folder:
         copy = copied(file, folder)
@@ -169,9 +174,8 @@ def plan(file, rows):
                 after.execute("SELECT no, kind, batch FROM record WHERE no = ?1", (number,)).fetchone()
                 for number in put
             ]
-            found.append(
-                (named, [(number, kind, lines_of(after, number)) for number, kind in zip(put, kinds)], receipt)
-            )
+            rows_of = [(kind, lines_of(after, number), span_of(after, number)) for number, kind in zip(put, kinds)]
+            found.append((named, [(number, *rest) for number, rest in zip(put, rows_of)], receipt))
         before.close()
         after.close()
     return found
@@ -201,7 +205,7 @@ def perform(conn, named, put, receipt):
         lines_of(conn, number)
     conn.execute("SELECT next FROM meta").fetchall()
     conn.execute("BEGIN")
-    for number, kind, lines in put:
+    for number, kind, lines, span in put:
         if kind is None:
             remove(conn, number)
             continue
@@ -210,6 +214,8 @@ def perform(conn, named, put, receipt):
         conn.execute("DELETE FROM line WHERE no = ?1", kind[:1])
         for line in lines:
             conn.execute(LINE, line)
+        if span and conn.execute("UPDATE span SET lo = ?2, hi = ?3 WHERE no = ?1", span).rowcount == 0:
+            conn.execute("INSERT INTO span (no, lo, hi) VALUES (?1, ?2, ?3)", span)
     if receipt[3]:
         conn.execute("UPDATE meta SET next = ?1", (receipt[2] + 1,))
     conn.execute("INSERT INTO receipt (token, digest, first, count) VALUES (?1, ?2, ?3, ?4)", receipt)
@@ -220,6 +226,7 @@ def remove(conn, number):
     """Takes a record out, where no line names it."""
     assert not conn.execute("SELECT no FROM line WHERE dst = ?1 AND no <> ?1", (number,)).fetchall()
     conn.execute("DELETE FROM line WHERE no = ?1", (number,))
+    conn.execute("DELETE FROM span WHERE no = ?1", (number,))
     conn.execute("DELETE FROM record WHERE no = ?1", (number,))
 
 

@@ -73,6 +73,7 @@ class Spoiling:
         found = self.one("SELECT no FROM record")
         if found:
             self.rows("DELETE FROM line WHERE no = ?", *found)
+            self.rows("DELETE FROM span WHERE no = ?", *found)
             self.rows("DELETE FROM record WHERE no = ?", *found)
 
     def moved(self):
@@ -82,6 +83,7 @@ class Spoiling:
         if found and not self.rows("SELECT no FROM record WHERE no = ?", number):
             self.rows("UPDATE record SET no = ? WHERE no = ?", number, *found)
             self.rows("UPDATE line SET no = ? WHERE no = ?", number, *found)
+            self.rows("UPDATE span SET no = ? WHERE no = ?", number, *found)
 
     def copied(self):
         """A record stands twice."""
@@ -94,6 +96,7 @@ class Spoiling:
                 " WHERE no = ? ORDER BY id",
                 free, found[0],
             )
+            self.rows("INSERT INTO span SELECT ?, lo, hi FROM span WHERE no = ?", free, found[0])
             self.rows("UPDATE meta SET next = ?", free + 1)
 
     def tag(self):

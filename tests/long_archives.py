@@ -2,6 +2,7 @@
 
     python3 tests/long_archives.py [--parish COMMAND] kills [ROWS [KILLS [SEED]]]
     python3 tests/long_archives.py [--parish COMMAND] killed-imports [PERSONS [KILLS [SEED]]]
+    python3 tests/long_archives.py [--parish COMMAND] killed-openings [PERSONS [KILLS [SEED]]]
     python3 tests/long_archives.py [--parish COMMAND] [--loaded] compare 'COMMAND' [ROWS [SEED]]
     python3 tests/long_archives.py [--parish COMMAND] [--loaded] exports 'COMMAND' [ARCHIVES [SEED]]
     python3 tests/long_archives.py [--parish COMMAND] [--loaded] imports 'COMMAND' [FILES [SEED]]
@@ -11,7 +12,9 @@ rows again: each answer has to be that of a run that was not stopped, and so hav
 file of PERSONS persons (20,000) to `import`, kills it KILLS times (200), each time in a new archive, kills the
 opening behind it, which takes out what is left, and gives the file again; it tells how often nothing of the file was
 there behind a whole opening, all of it, how often rows of it were left before, and how often the opening was killed
-while it took them out. `compare` gives ROWS rows (5,000), in archives of 200 rows each, to `apply` and to a second
+while it took them out. `killed-openings` kills KILLS times (20) the opening of an archive of the first version with
+PERSONS persons (20,000) and an import that was left open: what is left then has to be as it was or anew, and the next
+opening has to make it anew. `compare` gives ROWS rows (5,000), in archives of 200 rows each, to `apply` and to a second
 program, which takes the same words, then drawn batches to `entries`, and their rows one by one to `apply`, and
 compares what is told. `exports` gives the rows of ARCHIVES archives (500) to both, and compares what they export.
 `imports` gives FILES drawn files (2,000) to both, each into an archive of 20 rows, each tenth twice, and compares
@@ -36,6 +39,7 @@ import tempfile
 sys.dont_write_bytecode = True
 
 from archives import killed_and_run_again  # noqa: E402
+from earlier import killed_in_an_opening  # noqa: E402
 from harness import ROOT, Failed, Tools, difference, run  # noqa: E402
 from imports import killed_in_an_import  # noqa: E402
 from lineages import drawn as drawn_file  # noqa: E402
@@ -216,17 +220,25 @@ def stopped(command, rows, kills, seed):
     return 1, 0
 
 
-def stopped_imports(command, persons, kills, seed):
-    try:
-        counted = killed_in_an_import(Tools(command, None), kills, persons, seed)
-    except Failed as failed:
-        print(failed)
-        return 0, 1
-    print(", ".join(f"{count} {what}" for what, count in counted.items()))
-    return 1, 0
+def stopped_by(kill):
+    """A test that kills a program, counts what was left, and fails where that is wrong."""
+    def counted(command, persons, kills, seed):
+        try:
+            found = kill(Tools(command, None), kills, persons, seed)
+        except Failed as failed:
+            print(failed)
+            return 0, 1
+        print(", ".join(f"{count} {what}" for what, count in found.items()))
+        return 1, 0
+
+    return counted
 
 
-KILLED = {"kills": (stopped, (2_000, 20, 1)), "killed-imports": (stopped_imports, (20_000, 200, 1))}
+KILLED = {
+    "kills": (stopped, (2_000, 20, 1)),
+    "killed-imports": (stopped_by(killed_in_an_import), (20_000, 200, 1)),
+    "killed-openings": (stopped_by(killed_in_an_opening), (20_000, 20, 1)),
+}
 COMPARED = {"compare": (compared, 5_000), "exports": (exports_compared, 500), "imports": (imports_compared, 2_000)}
 
 

@@ -10,6 +10,8 @@ import sqlite3
 from collections.abc import Callable
 from typing import NamedTuple
 
+from calendars import span_of
+
 # What is in the archive: repository 1, places 2 and 3 (Ashby, Kent), source 4, persons 5, 6 and 7, family 8 of 6 and 7
 # with the child 5, events 9 and 14, citations 10 and 11, entries 12 and 13; of a file the note 15 and person 16.
 ROWS = (
@@ -56,11 +58,14 @@ class Tables:
         return self.conn.execute(text, (number,)).fetchall()
 
     def put(self, number: int, lines: list[Line]) -> None:
-        """The record of a number has these lines now."""
+        """The record of a number has these lines now, and the span of its date."""
         self.run("DELETE FROM line WHERE no = ?", number)
         for place, line in enumerate(lines):
             text = "INSERT INTO line (no, pos, depth, tag, text, dst) VALUES (?, ?, ?, ?, ?, ?)"
             self.run(text, number, place, *line)
+        self.run("DELETE FROM span WHERE no = ?", number)
+        if (span := span_of(lines[0][1], lines)) is not None:
+            self.run("INSERT INTO span VALUES (?, ?, ?)", number, *span)
 
     def changed(self, number: int, place: int, line: Line) -> None:
         """One line is another."""
@@ -135,6 +140,11 @@ def names(name, number, kind, place, spoilt, sound):
     """A number of a line that names no record of the kind, and one that does."""
     changes = change(number, place, spoilt), change(number, place, sound)
     return Pair(name, f"record {number}", f"which is no {kind}", *changes)
+
+
+def span(name, number, statement, sound):
+    """A span that is not that of the date of its record, and a date that goes with its span."""
+    return Pair(name, f"record {number}", "its span is not that of its date", run(statement), sound)
 
 
 def chain(depth: int, count: int) -> list[Line]:
@@ -247,6 +257,17 @@ PAIRS = (
     # numbers
     Pair("a number that is not below the next one", "", "not below the next one",
          run("UPDATE meta SET next = 20"), run("UPDATE meta SET next = 30")),
+    # spans
+    span("a last day that is a day off", 9, "UPDATE span SET hi = hi + 1 WHERE no = 9",
+         change(9, 2, (1, "date", "BET 1 JAN 1800 AND 2 JAN 1800", 3))),
+    span("a first day that is not there", 14, "UPDATE span SET lo = NULL WHERE no = 14",
+         change(14, 2, (1, "date", "TO 1 MAY 1799", None))),
+    span("the days of an entry in another calendar", 12, "UPDATE span SET lo = lo + 12, hi = hi + 12 WHERE no = 12",
+         change(12, 4, (1, "date", "@#DJULIAN@ 2 JAN 1860", 3))),
+    span("a date without a span", 9, "DELETE FROM span WHERE no = 9", change(9, 2, (1, "date", None, 3))),
+    span("a span without a date", 20, "INSERT INTO span VALUES (20, NULL, NULL)",
+         more(20, (1, "date", "in May", None))),
+    span("a span of a person", 5, "INSERT INTO span VALUES (5, 0, 0)", nothing),
     # slips
     Pair("a slip that is no merge", "slip 19", "the new records are not the merge of the old ones",
          slip(0, 17, (0, "person", None, None), (1, "name", "Tom /Lea/", None), (1, "sex", "M", None)),

@@ -15,6 +15,7 @@ import random
 from collections.abc import Iterator
 from dataclasses import dataclass, field
 
+from earlier import ANEW
 from failing import compiled, failing, noted_calls, noting
 from harness import Case, Failed, Tools, demand, expect, refused, tally
 from undisturbed import BATCH, ENDS, IMPORT, MADE, MERGE, PERSON, REMOVAL, ROWS, UNDO, Command, Undisturbed, tables_of
@@ -22,7 +23,7 @@ from undisturbed import BATCH, ENDS, IMPORT, MADE, MERGE, PERSON, REMOVAL, ROWS,
 LEAST = 5  # calls that a command makes on a file, at least
 MOST = 100_000  # and at most
 LOSSES = ("lost", "kept", "torn")  # what becomes of bytes that were not synced, when the power goes off
-COMMANDS = (IMPORT, ROWS, MADE, PERSON, MERGE, UNDO, REMOVAL, BATCH)
+COMMANDS = (IMPORT, ROWS, MADE, PERSON, MERGE, UNDO, REMOVAL, BATCH, ANEW)
 
 
 def is_stopped(whole: Undisturbed, library: str, end: str, passed: int) -> bool:

@@ -3,7 +3,7 @@
 from __future__ import annotations
 
 import os
-from collections.abc import Iterator
+from collections.abc import Callable, Iterator
 from dataclasses import dataclass
 
 from archives import Folder, lines
@@ -25,6 +25,8 @@ class Command:
     given: bytes = b""
     answers: tuple[bytes, ...] | None = None  # of each request; None: one, whatever it is
     apart: int = 1  # `./test` disturbs each so many-th call
+    begin: Callable[[Folder], None] | None = None  # makes an archive that each opening changes, in place of the rows
+    demand_left: Callable[[Folder], object] | None = None  # looks at what a stop has left, before it is opened
 
     def run(self, at: Folder, **how) -> Outcome:
         return self.runs(at, self.given, **how)
@@ -114,7 +116,9 @@ class Undisturbed:
         self.tools, self.command = tools, command
         self.answers: list[bytes] = []
         with Folder(tools) as at:
-            if command.rows is not None:
+            if command.begin:
+                command.begin(at)
+            elif command.rows is not None:
                 expect(at.init(SOCIETY), written(b""))
                 told = at.apply(lines(command.rows)).out
                 demand(told.count(b",ok,") == len(command.rows), f"a row was refused: {told!r}")
@@ -124,8 +128,9 @@ class Undisturbed:
         self.whole = written(b"".join(self.answers))
 
     def _beginnings(self, at: Folder) -> Iterator[dict[str, list] | None]:
-        """The tables after none of the requests, after the first, and so on; at the end the archive has them all."""
-        yield tables_of(at)
+        """The tables after none of the requests, after the first, and so on; at the end the archive has them all. An
+        archive that each opening changes is never found as it was: there the first is None."""
+        yield None if self.command.begin else tables_of(at)
         for number, given in enumerate(self.command.requests()):
             got = self.command.runs(at, given)
             wanted = got.out if self.command.answers is None else self.command.answers[number]
@@ -148,6 +153,8 @@ class Undisturbed:
 
     def demand_found(self, at: Folder, least: int, most: int) -> None:
         """An archive in which so many first requests are done, at least and at most, and no others."""
+        if self.command.demand_left:
+            self.command.demand_left(at)
         opened = run(at.parish, ("audit", at.file))
         got = tables_of(at)
         demand((got is None) == (opened == refused(82)), f"the archive is opened with {opened.err!r}")

@@ -11,6 +11,7 @@ from __future__ import annotations
 import os
 from collections.abc import Iterable, Iterator
 
+from earlier import ANEW
 from exports import ARCHIVES
 from harness import Case, Failed, Outcome, Tools, demand, expect, refused, tally, written
 from imports import LEE, LEE_TOLD
@@ -38,6 +39,7 @@ COMMANDS = (
     Command("an export", ARCHIVES["register entries, linked and not"][0], ("export",)),
     Command("a public export", COUPLE, ("export", "--public", "--today", TODAY)),
     SHEET,
+    ANEW,
 )
 
 

@@ -1,7 +1,8 @@
 """Runs date_lines on the tables beside this file: python3 tests/dates/run.py.
 
 One line a failed case, and last `N passed, M failed`; status 0 only if none failed. Each canonical text
-is also given again, and must be answered as it stands with the same days.
+is also given again, and must be answered as it stands with the same days. The slow reader of dates by which other tests
+expect days (tests/calendars.py) has to answer the same tables.
 """
 
 import pathlib
@@ -11,6 +12,11 @@ import sys
 import republican
 
 HERE = pathlib.Path(__file__).resolve().parent
+sys.dont_write_bytecode = True
+sys.path.append(str(HERE.parent))
+
+import calendars  # noqa: E402
+
 PROGRAM = HERE.parents[1] / "crates/date_lines/out/date_lines"
 
 
@@ -50,10 +56,18 @@ def long_cases():
     yield "a text whose spelling is too long", joined, f"{joined}\t-\t-"
 
 
+def read_slowly(text):
+    """The line that the slow reader answers."""
+    read = calendars.read(text)
+    return "\t".join([read.written, *("-" if day is None else str(day) for day in (read.first, read.last))])
+
+
 def main():
-    made = list(cases()) + list(long_cases())
-    got = answers([text for _, text, _ in made])
-    failed = abs(len(got) - len(made))
+    tables = list(cases()) + list(long_cases())
+    made = tables + [(f"{name}, read slowly", text, wanted) for name, text, wanted in tables]
+    got = answers([text for _, text, _ in tables])
+    failed = abs(len(got) - len(tables))
+    got += [read_slowly(text) for _, text, _ in tables]
     for (name, text, wanted), line in zip(made, got):
         if line != wanted:
             failed += 1

@@ -1,10 +1,11 @@
 """Imports that are staged: what the tables have at each stage, what is seen of it, and how it is published or taken out
-again. A stage writes 256 rows: first those of `record`, then the lines."""
+again. A stage writes 256 rows: first those of `record`, then the lines, then the spans."""
 
 from __future__ import annotations
 
+from plain import rows_of
 from rows import Line, given, kept
-from scenes import Filling, Scene, person
+from scenes import Filling, Scene, event, person
 from states import place
 
 STAGE = 256
@@ -34,9 +35,7 @@ class Importing(Filling):
         self.ask("open", batch, after)
         self.tables.open(batch)
         self.batch, self.after = batch, after
-        self.left = [(number, lines[0].tag) for number, lines in self.noted.items()]
-        for number, lines in self.noted.items():
-            self.left += [(number, at, line) for at, line in enumerate(lines)]
+        self.left = rows_of(self.noted)
         self.noted = {}
 
     def stage(self) -> None:
@@ -76,7 +75,15 @@ def places(count: int) -> dict[int, tuple[Line, ...]]:
     return {FIRST + at: place(f"Kent {at}") for at in range(count)}
 
 
-# Imports by the number of their rows: none, the fewest of a record, and about one, two and three stages.
+def births(count: int) -> dict[int, tuple[Line, ...]]:
+    """Events with a date, of which each has five rows, the last of them of `span`; of every third the first day is
+    open, of every third the last one."""
+    dates = ("3 MAR 1799", "BEF 1700", "AFT @#DFRENCH R@ 8")
+    return {FIRST + at: event(PERSON, "BIRT", dates[at % 3]) for at in range(count)}
+
+
+# Imports by the number of their rows: none, the fewest of a record, and about one, two and three stages. Of the last
+# two the spans begin within a stage and go on into the next one, and have a stage of their own.
 IMPORTS = {
     0: {},
     2: places(1),
@@ -86,6 +93,8 @@ IMPORTS = {
     512: places(256),
     600: places(300),
     701: {FIRST: (Line(0, "person"), *(Line(1, "name", f"Ann /Lee {at}/") for at in range(699)))},
+    260: births(52),
+    640: births(128),
 }
 
 
@@ -244,7 +253,7 @@ def short() -> Scene:
 def scenes():
     for rows in IMPORTS:
         yield published(rows)
-    for rows in (0, 2, 256, 257, 600, 701):
+    for rows in (0, 2, 256, 257, 600, 701, 260, 640):
         for stages in range(stages_of(rows) + 1):
             yield taken_out(rows, stages, "remove")
             yield taken_out(rows, stages, "clear")

@@ -3,6 +3,7 @@ which the program's own tables are compared, row by row and key by key."""
 
 from __future__ import annotations
 
+from calendars import span_of
 from rows import Line, written
 
 # what `query` is asked of each table, and the columns that it shows
@@ -12,6 +13,7 @@ QUERIES = {
     "receipt": "SELECT id, token, digest, first, count FROM receipt ORDER BY id",
     "slip": "SELECT no, keep, gone, undone FROM slip ORDER BY no",
     "slip_line": "SELECT id, slip, side, no, pos, depth, tag, text, dst FROM slip_line ORDER BY id",
+    "span": "SELECT no, lo, hi FROM span ORDER BY no",
     "batch": "SELECT no, is_open FROM batch ORDER BY no",
     "meta": "SELECT version, next, society FROM meta",
 }
@@ -34,16 +36,21 @@ class Tables:
         self.receipts: list[tuple[object, ...]] = []
         self.slips: dict[int, tuple[int, int, int]] = {}
         self.slip_lines: list[tuple[object, ...]] = []
+        self.spans: dict[int, tuple[int | None, int | None]] = {}
 
     def put(self, number: int, lines: tuple[Line, ...]) -> None:
         self.records[number] = (lines[0].tag, 0)
         self.lines = [row for row in self.lines if row[1] != number]
         for place, line in enumerate(lines):
             self.lines.append((following(self.lines), number, place, *fields(line)))
+        self.spans.pop(number, None)
+        if (span := span_of(lines[0].tag, lines)) is not None:
+            self.spans[number] = span
 
     def take(self, number: int) -> None:
         self.lines = [row for row in self.lines if row[1] != number]
         self.records.pop(number, None)
+        self.spans.pop(number, None)
 
     def keep(self, token: str, byte: int, first: int, count: int) -> None:
         self.receipts.append((following(self.receipts), token, bytes([byte]) * 32, first, count))
@@ -64,12 +71,14 @@ class Tables:
         self.batches[batch] = 1
 
     def stage(self, batch: int, staged: list[tuple[object, ...]]) -> None:
-        """Rows of an import that is open: of a number and its kind, or of a number, a place and a line."""
-        for number, *row in staged:
-            if len(row) == 1:
+        """Rows of an import that is open, of each its table, its number and the rest (`rows_of`)."""
+        for table, number, *row in staged:
+            if table == "record":
                 self.records[number] = (row[0], batch)
-            else:
+            elif table == "line":
                 self.lines.append((following(self.lines), number, row[0], *fields(row[1])))
+            else:
+                self.spans[number] = (row[0], row[1])
 
     def publish(self, batch: int, after: int) -> None:
         self.batches[batch] = 0
@@ -79,6 +88,7 @@ class Tables:
         gone = {number for number, (_, own) in self.records.items() if own == batch}
         self.lines = [row for row in self.lines if row[1] not in gone]
         self.records = {number: row for number, row in self.records.items() if number not in gone}
+        self.spans = {number: span for number, span in self.spans.items() if number not in gone}
         del self.batches[batch]
 
     def rows(self, table: str) -> list[tuple[object, ...]]:
@@ -88,12 +98,24 @@ class Tables:
             "receipt": self.receipts,
             "slip": [(number, *row) for number, row in sorted(self.slips.items())],
             "slip_line": self.slip_lines,
+            "span": [(number, *span) for number, span in sorted(self.spans.items())],
             "batch": sorted(self.batches.items()),
-            "meta": [(1, self.next, self.society)],
+            "meta": [(2, self.next, self.society)],
         }[table]
 
     def shown(self, table: str) -> str:
         return "".join("".join(value(part) + "\t" for part in row) + "\n" for row in self.rows(table))
+
+
+def rows_of(records: dict[int, tuple[Line, ...]]) -> list[tuple[object, ...]]:
+    """The rows of an import of these records, in the order in which they are written: of each its table, its number
+    and the rest."""
+    spans = {number: span_of(lines[0].tag, lines) for number, lines in records.items()}
+    return [
+        *(("record", number, lines[0].tag) for number, lines in records.items()),
+        *(("line", number, at, line) for number, lines in records.items() for at, line in enumerate(lines)),
+        *(("span", number, *span) for number, span in spans.items() if span is not None),
+    ]
 
 
 def following(rows: list[tuple[object, ...]]) -> int:

@@ -11,7 +11,7 @@ import sys
 
 sys.dont_write_bytecode = True
 HERE = pathlib.Path(__file__).resolve().parent
-sys.path.append(str(HERE.parent / "archive"))
+sys.path += [str(HERE.parent / "archive"), str(HERE.parent)]
 
 import imports  # noqa: E402
 import memory  # noqa: E402

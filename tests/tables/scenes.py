@@ -67,6 +67,11 @@ class Filling:
     def see(self, number: int, lines: tuple[Line, ...] | None) -> None:
         self.ask("state", "record", number, wanted=kept(lines) if lines else "none\n")
 
+    def see_spans(self, spans: dict[int, tuple[int | None, int | None]]) -> None:
+        rows = "".join("\t".join(["-" if part is None else str(part) for part in (number, *ends)]) + "\t\n"
+                       for number, ends in sorted(spans.items()))
+        self.ask("query", QUERIES["span"], wanted=rows)
+
     def compare(self) -> None:
         """All tables, row by row."""
         for table, query in QUERIES.items():
@@ -175,6 +180,84 @@ def slips() -> Scene:
     filling.ask("state", "slip", 4, wanted="keep 2\ngone 9\ndone\n" + gone)
     filling.ask("state", "slip", 5, wanted="none\n")
     return filling.scene("slips, done and undone")
+
+
+def event(owner: int, tag: str, date: str | None, place: int | None = None) -> tuple[Line, ...]:
+    where = () if date is None and place is None else (Line(1, "date", date, place),)
+    return (Line(0, "event", None, owner), Line(1, tag, ""), *where)
+
+
+def entry_of(source: int, item: int, date: str | None) -> tuple[Line, ...]:
+    lines = entry(source, "BURIAL", "f. 3", item)
+    return lines if date is None else (*lines[:4], Line(1, "date", date), *lines[4:])
+
+
+# Dates with their first and last days, from docs/FORMATS.md; a text that fits no form, a phrase and an empty text have
+# none.
+DATED = {
+    "15 APR 1699/00": (-98511, -98511),
+    "1731/32": (-87293, -86563),
+    "@#DJULIAN@ 2 SEP 1752": (-79367, -79367),
+    "@#DJULIAN@ 1 JAN 1": (-719164, -719164),
+    "44 B.C.": (-735233, -734869),
+    "ABT @#DJULIAN@ 1700": (-98605, -98240),
+    "BEF 1700": (None, -98616),
+    "AFT 31 DEC 1999": (10957, None),
+    "BET 1700 AND 1701": (-98615, -97886),
+    "FROM 1700": (-98615, None),
+    "TO 1700": (None, -98251),
+    "INT 1700 (about (or so))": (-98615, -98251),
+    "@#DFRENCH R@ 18 BRUM 8": (-62144, -62144),
+    "@#DFRENCH R@ COMP 3": (-63658, -63653),
+    "BET @#DFRENCH R@ 1 VEND 8 AND 1 JAN 1800": (-62191, -62091),
+    "(unknown)": (None, None),
+    "in harvest": (None, None),
+    "@#DFRENCH R@ 6 COMP 4": (None, None),
+    "": (None, None),
+}
+
+
+def spans() -> Scene:
+    """Each event and entry with a date has its days; no other record has any."""
+    filling = Filling()
+    filling.put(1, person("Ann /Lee/"))
+    filling.put(2, place("Kent"))
+    filling.put(3, (Line(0, "source", "Ashby register"),))
+    for at, date in enumerate(DATED):
+        filling.put(10 + at, event(1, "BIRT", date, 2 if at % 2 else None))
+        filling.put(40 + at, entry_of(3, at + 1, date))
+    # a place alone, neither of both, an event's own tag, an Other
+    filling.put(70, event(1, "BIRT", None, 2))
+    filling.put(71, event(1, "BIRT", None))
+    filling.put(72, event(1, "date", None))
+    filling.put(73, event(1, "date", "1700"))
+    filling.put(74, entry_of(3, 99, None))
+    filling.put(75, (Line(0, "other"), Line(1, "date", "1700")))
+    filling.write(80)
+    expected = {at: days for first in (10, 40) for at, days in enumerate(DATED.values(), first)}
+    expected[73] = (-98615, -98251)
+    filling.see_spans(expected)
+    filling.compare()
+    # a date becomes another, a place alone, none, and is there again; a record is put as it was, is taken out, and
+    # becomes another
+    filling.put(10, event(1, "BIRT", "BEF 1700"))
+    filling.put(11, event(1, "BIRT", None, 2))
+    filling.put(12, event(1, "BIRT", None))
+    filling.put(13, event(1, "BIRT", "@#DJULIAN@ 1 JAN 1"))
+    filling.put(70, event(1, "BIRT", "44 B.C.", 2))
+    filling.put(40, entry_of(3, 1, None))
+    filling.put(74, entry_of(3, 99, "FROM 1700"))
+    filling.take(14)
+    filling.take(41)
+    filling.put(15, person("Tom /Lee/"))
+    filling.put(75, event(1, "BURI", "1 JAN 1970"))
+    filling.write(80)
+    expected |= {10: (None, -98616), 70: (-735233, -734869), 74: (-98615, None), 75: (0, 0)}
+    for gone in (11, 12, 40, 14, 41, 15):
+        del expected[gone]
+    filling.see_spans(expected)
+    filling.read()
+    return filling.scene("spans of dates")
 
 
 def looked_for() -> Scene:
@@ -352,6 +435,7 @@ FOREIGN = (
 # what `version` answers of a store
 VERSIONS = (
     ("a new archive", (), MADE, ""),
+    ("the first version", ("UPDATE meta SET version = 1",), MADE, ""),
     ("a later version", ("UPDATE meta SET version = 3",), MADE, "83 NewerSchema\n"),
     ("the greatest version", ("UPDATE meta SET version = 9223372036854775807",), MADE, "83 NewerSchema\n"),
     ("version 0", ("UPDATE meta SET version = 0",), MADE, "82 NotAnArchive\n"),
@@ -397,6 +481,7 @@ def scenes():
         taken(),
         receipts(),
         slips(),
+        spans(),
         looked_for(),
         places_found(),
         entries_found(),
