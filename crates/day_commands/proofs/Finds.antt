@@ -23,14 +23,14 @@ pub in_days : (P : ℤ → ℤ → Type 0) (f first l last : ℤ) → f ≡ firs
 in_days P f first l last e d p = subst (λ (x : ℤ). P x last) e (subst (λ (y : ℤ). P f y) d p)
 
 -- ---- they are in order
-pub all_in_order : {A Q P : Type 0} (r : Result A RefusalKind) → Q → OnOk r P → OnOk r (Q × P)
-all_in_order (Ok a) order did = (order, did)
-all_in_order (Err kind) order did = tt
+pub all_in_order : {A Q : Type 0} (r : Result A RefusalKind) (P : Type 0) → Q → OnOk r P → OnOk r (Q × P)
+all_in_order (Ok a) P order did = (order, did)
+all_in_order (Err kind) P order did = tt
 
-pub part_in_order : {A Q : Type 0} {P : RefusalKind → Type 0} (r : Result A RefusalKind) (N : RefusalKind → Type 0)
-    → Q → IfErr r P → IfErr r (λ kind. N kind ⊎ (Q × P kind))
-part_in_order (Ok a) N order did = tt
-part_in_order (Err kind) N order did = inr (order, did)
+pub part_in_order : {A Q : Type 0} (r : Result A RefusalKind) (N P : RefusalKind → Type 0) → Q → IfErr r P
+    → IfErr r (λ kind. N kind ⊎ (Q × P kind))
+part_in_order (Ok a) N P order did = tt
+part_in_order (Err kind) N P order did = inr (order, did)
 
 -- ---- want of memory
 pub want_stops : {A : Type 0} (r : Result A RefusalKind) → IfErr r (λ kind. kind ≡ OutOfMemory)

@@ -1,5 +1,5 @@
 -- How `days` ends.
-use Rattle.std.proofs.Common.{◌≡◌, ◌≤◌, ℕ, List, sym, subst, arith, true, Ok, Err}
+use Rattle.std.proofs.Common.{◌≡◌, ℕ, List, sym, subst, arith, true, Ok, Err}
 use Rattle.std.specs.Prelude.{ℤ, Bool, Option, Result, IfErr, OnOk, is_ok, if◌then◌else◌}
 use Rattle.std.specs.Io.KnownBytes.{Keeps}
 use Rattle.sqlite.specs.Held.{Held}

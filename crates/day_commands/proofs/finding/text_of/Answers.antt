@@ -1,6 +1,6 @@
 use Rattle.std.proofs.Common.{◌≡◌, string_bytes, subst, sym, w32}
 use Rattle.std.proofs.lemmas.Int.{to_z-of_z}
-use Rattle.std.specs.Prelude.{Bool, IfOk}
+use Rattle.std.specs.Prelude.{Bool, false, true, IfOk}
 use Rattle.sqlite.specs.Held.{state}
 use Rattle.archive_exports.specs.Reading.{OnOpen}
 use Rattle.day_commands.specs.Ends.{OnFound}
@@ -16,7 +16,7 @@ returns-then-words-clause-found g c =
     (λ _ of. OnFound w c.args.first c.args.last (λ text. string_bytes s ≡ text) of)))
     (sym c.if-words.true)
     (in_days
-    (λ f l. IfOk c.told_of.result (λ s. OnOpen old new (λ _ of. OnFound _ f l (λ text. string_bytes s ≡ text) of)))
+    (λ f l. IfOk c.told_of.result (λ s. OnOpen old new (λ _ of. OnFound true f l (λ text. string_bytes s ≡ text) of)))
     _ c.args.first _ c.args.last (to_z-of_z w32 c.args.first c.ranges.first)
     (to_z-of_z w32 c.args.last c.ranges.last) c.told_of.ensures.found)
 
@@ -30,6 +30,6 @@ returns-else-words-clause-found g c =
     (sym c.if-words.false)
     (in_days
     (λ f l. IfOk c.numbers_of.result
-    (λ s. OnOpen old new (λ _ of. OnFound _ f l (λ text. string_bytes s ≡ text) of)))
+    (λ s. OnOpen old new (λ _ of. OnFound false f l (λ text. string_bytes s ≡ text) of)))
     _ c.args.first _ c.args.last (to_z-of_z w32 c.args.first c.ranges.first)
     (to_z-of_z w32 c.args.last c.ranges.last) c.numbers_of.ensures.found)

@@ -22,7 +22,8 @@ returns-clause-written g c =
     let before = g.W.Write.contents c.args.writer.now in
     let after = g.W.Write.contents c.write_found.new.writer in
     let order : c.args.first ≤ℤ c.args.last = omega (arith, ints, c.if-first-last.false) in
-    all_in_order c.write_found.result order
+    all_in_order c.write_found.result
+    (OnOpen old new (λ _ of. AreWritten c.args.words c.args.first c.args.last before after of)) order
     (in_days (λ f l. OnOk c.write_found.result (OnOpen old new (λ _ of. AreWritten c.args.words f l before after of)))
     _ c.args.first _ c.args.last (to_z-of_z w32 c.args.first c.ranges.first)
     (to_z-of_z w32 c.args.last c.ranges.last) c.write_found.ensures.written)
@@ -37,7 +38,7 @@ returns-clause-cut g c =
     part_in_order c.write_found.result
     (λ kind. AreReversed kind c.args.first c.args.last before after
     × (c.write_found.new.archive.conn ≡ c.args.archive.now.conn))
-    order
+    (λ kind. OnOpen old new (λ _ of. AreCut kind c.args.words c.args.first c.args.last before after of)) order
     (in_days
     (λ f l. IfErr c.write_found.result (λ kind. OnOpen old new (λ _ of. AreCut kind c.args.words f l before after of)))
     _ c.args.first _ c.args.last (to_z-of_z w32 c.args.first c.ranges.first)

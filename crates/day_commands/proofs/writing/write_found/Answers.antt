@@ -1,4 +1,4 @@
-use Rattle.std.proofs.Common.{◌≡◌, string_bytes, w32}
+use Rattle.std.proofs.Common.{string_bytes, w32}
 use Rattle.std.proofs.lemmas.Int.{to_z-of_z}
 use Rattle.std.specs.Prelude.{IfErr, OnOk}
 use Rattle.sqlite.specs.Held.{state}
@@ -19,7 +19,7 @@ returns-in-Ok-clause-written g c =
     _ c.args.first _ c.args.last (to_z-of_z w32 c.args.first c.ranges.first)
     (to_z-of_z w32 c.args.last c.ranges.last)
     (all_written old new c.args.words _ _ before after (string_bytes c.in-Ok.text) c.as_str.result.now
-    c.as_str.ensures.same c.in-Ok.ensures.found c.write_text.result c.write_text.ensures.written)
+    c.as_str.ensures.value c.in-Ok.ensures.found c.write_text.result c.write_text.ensures.written)
 
 pub returns-in-Ok-clause-cut : goal.returns-in-Ok-clause-cut
 returns-in-Ok-clause-cut g c =
@@ -33,7 +33,7 @@ returns-in-Ok-clause-cut g c =
     _ c.args.first _ c.args.last (to_z-of_z w32 c.args.first c.ranges.first)
     (to_z-of_z w32 c.args.last c.ranges.last)
     (part_written old new c.args.words _ _ before after (string_bytes c.in-Ok.text) c.as_str.result.now
-    c.as_str.ensures.same c.in-Ok.ensures.found c.write_text.result c.write_text.ensures.begun
+    c.as_str.ensures.value c.in-Ok.ensures.found c.write_text.result c.write_text.ensures.begun
     c.write_text.ensures.why)
 
 pub returns-in-Err-clause-cut : goal.returns-in-Err-clause-cut

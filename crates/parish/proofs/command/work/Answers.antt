@@ -130,8 +130,8 @@ returns-in-Days-clause-does g c =
     rw c.in-Days.is (
       days_ends (image_at g.S.Start) c.days.result.0 _ c.in-Days.first _ c.in-Days.last c.in-Days.words
           c.finished-in-Days.result.0 _ _ _ c.days.result.1 c.finished-in-Days.result.1
-          (to_z-of_z w32 c.in-Days.first fits_first) (to_z-of_z w32 c.in-Days.last fits_last) ended.left
-          ended.status did.told did.untold did.unread,
+          (to_z-of_z w32 c.in-Days.first fits_first) (to_z-of_z w32 c.in-Days.last fits_last) ended.left ended.status
+          did.told did.untold did.unread,
       refl,
       ended.alone,
     )
