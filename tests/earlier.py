@@ -28,6 +28,7 @@ from table.making import between
 from undisturbed import Command, bytes_of
 
 HERE = os.path.join(ROOT, "tests", "earlier")
+LONG = 600  # seconds that an opening of many persons may take
 
 # The first version's tables, as its program made them.
 TABLES = (
@@ -123,10 +124,10 @@ class Earlier(Folder):
         return sorted(self.rows_of("SELECT type, name, tbl_name, sql FROM sqlite_master"))
 
     def export(self):
-        return run(self.parish, ("export", self.file))
+        return run(self.parish, ("export", self.file), limit=LONG)
 
     def audit(self):
-        return run(self.parish, ("audit", self.file))
+        return run(self.parish, ("audit", self.file), limit=LONG)
 
     def days(self, first, last, *words):
         return run(self.parish, ("days", self.file, "--from", first, "--to", last, *words))
@@ -516,7 +517,7 @@ def of_a_file(at: Earlier, persons: int, rng: random.Random) -> Earlier:
             f"2 PLAC Ashby {n % 50}", "1 DEAT", f"2 DATE {rng.choice(DATES)}",
         )
     ))
-    told = run(at.made().parish, ("import", at.file, "--token", "t"), given)
+    told = run(at.made().parish, ("import", at.file, "--token", "t"), given, limit=LONG)
     demand(told.status == 0, f"{told}")
     return as_of_that_time(at, range(10_000_000, 10_000_000 + persons // 4))
 
@@ -542,7 +543,7 @@ def as_of_that_time(at: Earlier, begun: Iterable[int]) -> Earlier:
 def seconds_of(at: Earlier) -> float:
     """How long an opening takes."""
     begun = time.perf_counter()
-    expect(at.apply(b""), written(b""))
+    expect(at.apply(b"", limit=LONG), written(b""))
     return time.perf_counter() - begun
 
 
