@@ -28,6 +28,7 @@ from table.making import between
 from undisturbed import Command, bytes_of
 
 HERE = os.path.join(ROOT, "tests", "earlier")
+LONG = 600  # seconds that an opening of many persons may take
 
 # The first version's tables, as its program made them.
 TABLES = (
@@ -123,10 +124,10 @@ class Earlier(Folder):
         return sorted(self.rows_of("SELECT type, name, tbl_name, sql FROM sqlite_master"))
 
     def export(self):
-        return run(self.parish, ("export", self.file))
+        return run(self.parish, ("export", self.file), limit=LONG)
 
     def audit(self):
-        return run(self.parish, ("audit", self.file))
+        return run(self.parish, ("audit", self.file), limit=LONG)
 
     def days(self, first, last, *words):
         return run(self.parish, ("days", self.file, "--from", first, "--to", last, *words))
@@ -152,14 +153,18 @@ def lines_anew(rows: list) -> list:
 
 
 def with_dates_anew(rows: list, whole, record) -> list:
-    """The rows of `line` or of `slip_line`. What changes, a whole record or a whole slip, goes behind the others."""
+    """The rows of `line` or of `slip_line`. What changes, a whole record or a whole slip, goes behind the others, one
+    after the other: the key of a row is one more than the last that is there."""
+    changed = {}
     for number, kept in grouped(rows, whole).items():
-        made = [row for lines in grouped(kept, record).values() for row in lines_anew(lines)]
-        if sorted(made) != kept:
-            rows = [row for row in rows if whole(row) != number]
-            last = rows[-1][0] if rows else 0
-            rows += [(last + at, *row[1:]) for at, row in enumerate(sorted(made), 1)]
-    return rows
+        made = sorted(row for lines in grouped(kept, record).values() for row in lines_anew(lines))
+        if made != kept:
+            changed[number] = made
+    first = next(iter(changed), None)
+    last = max((row[0] for row in rows if whole(row) != first), default=0)
+    behind = [row for made in changed.values() for row in made]
+    stay = [row for row in rows if whole(row) not in changed]
+    return stay + [(last + at, *row[1:]) for at, row in enumerate(behind, 1)]
 
 
 def anew(before: dict[str, list]) -> dict[str, list]:
@@ -478,11 +483,11 @@ def begun() -> dict[str, list]:
         return at.first_tables()
 
 
-def is_anew(at: Folder, before: dict[str, list]) -> bool:
+def is_anew(at: Folder, before: dict[str, list], after: dict[str, list]) -> bool:
     """Whether a stop has left the second version, with all that is anew. Else it has left the first one, with all its
     records, and of an import that was open some rows, or none."""
     if at.rows_of("SELECT version FROM meta") == [(2,)]:
-        demand(at.tables() == anew(before), "what a stop left is of the second version, and not all of it")
+        demand(at.tables() == after, "what a stop left is of the second version, and not all of it")
         return True
     there = {name: at.rows_of(f"SELECT * FROM {name}") for name in FIRST_TABLES}
     demand(closed(there) == closed(before), "what a stop left is neither as it was nor anew")
@@ -493,7 +498,7 @@ def is_anew(at: Folder, before: dict[str, list]) -> bool:
 # Its opening, which tests/stops.py stops and tests/wants.py refuses memory.
 ANEW = Command(
     "an archive of the first version", (), ("audit",), b"", (b"sound: 53 records\n",), 3, begin,
-    lambda at: is_anew(at, begun()),
+    lambda at: is_anew(at, begun(), anew(begun())),
 )
 
 DATES = (
@@ -512,7 +517,7 @@ def of_a_file(at: Earlier, persons: int, rng: random.Random) -> Earlier:
             f"2 PLAC Ashby {n % 50}", "1 DEAT", f"2 DATE {rng.choice(DATES)}",
         )
     ))
-    told = run(at.made().parish, ("import", at.file, "--token", "t"), given)
+    told = run(at.made().parish, ("import", at.file, "--token", "t"), given, limit=LONG)
     demand(told.status == 0, f"{told}")
     return as_of_that_time(at, range(10_000_000, 10_000_000 + persons // 4))
 
@@ -538,7 +543,7 @@ def as_of_that_time(at: Earlier, begun: Iterable[int]) -> Earlier:
 def seconds_of(at: Earlier) -> float:
     """How long an opening takes."""
     begun = time.perf_counter()
-    expect(at.apply(b""), written(b""))
+    expect(at.apply(b"", limit=LONG), written(b""))
     return time.perf_counter() - begun
 
 
@@ -549,7 +554,7 @@ def killed_in_an_opening(tools, kills=10, persons=300, seed=11):
     counted = {"as it was": 0, "without a part of the open import": 0, "anew": 0, "with rows in the log": 0}
     with Earlier(tools) as whole:
         image, before = bytes_of(of_a_file(whole, persons, rng).file), whole.first_tables()
-        longest = seconds_of(whole)
+        longest, after = seconds_of(whole), anew(before)
         is_made_anew(whole, before)
         told, text = whole.audit(), whole.export()
         demand((told.status, text.status) == (0, 0) and told.out.startswith(b"sound: "), f"{told}")
@@ -560,13 +565,13 @@ def killed_in_an_opening(tools, kills=10, persons=300, seed=11):
             for _ in range(rng.choice((1, 1, 2))):
                 word = rng.choice(("audit", "export", "apply"))
                 killed_after([*at.parish, word, at.file], b"", rng.random() * longest)
-                is_done, has_log = is_anew(at, before), bool(bytes_of(at.file + "-wal"))
+                is_done, has_log = is_anew(at, before, after), bool(bytes_of(at.file + "-wal"))
                 is_whole = not is_done and at.rows_of("SELECT * FROM record") == before["record"]
                 state = "anew" if is_done else "as it was" if is_whole else "without a part of the open import"
                 counted[state] += 1
                 counted["with rows in the log"] += has_log and not is_done
             expect(at.audit(), told)
-            demand(at.tables() == anew(before), "the tables differ")
+            demand(at.tables() == after, "the tables differ")
             expect(at.export(), text)
     return counted
 
