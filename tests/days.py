@@ -94,7 +94,7 @@ def what_is_changed_and_removed(tools):
         answers = at.apply(b"p,amend,5,,4 MAR 1799,\nq,remove,6\nr,remove,14\n").out
         demand(answers.count(b",ok,") == 3, f"{answers!r}")
         expect(at.days("1799-03-03", "1799-03-03"), written(b""))
-        expect(at.days("1799-03-04", "1799-03-04", "--words"), written(b"5  BIRT  4 MAR 1799\n"))
+        expect(at.days("1799-03-04", "1799-03-04", "--words"), written(b"5  BIRT  4 MAR 1799  Ashby, Kent\n"))
         expect(at.days(), written(b"5\n10\n12\n13\n"))
 
 
