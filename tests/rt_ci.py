@@ -3,7 +3,7 @@
     python3 tests/rt_ci.py
 
 `rt ci` goes every way from a crate to those below it whenever it wants to know which they are, and that of some kits
-(rattle-kit-13b) also to know what they are made from: there are 3.2 million ways here, and to read the sources on each
+(rattle-kit-13b) also to know what they are made from: there are 5.1 million ways here, and to read the sources on each
 is about two hours of one processor. Both answers depend on crates.txt and the sources alone, so they are remembered
 here; the run fails where one of these files differs at its end from what it was at its beginning. All else, every
 proof, edit and run, is that of `rt ci`, with its status. An `rt` that is made otherwise is run as it is.

@@ -24,9 +24,10 @@ use Rattle.std.specs.FinMap.{find, keys, entries, get-entries}
 use Rattle.record_shapes.specs.Lists.{Ascends, EachOf}
 use Rattle.archive_state.specs.Content.{Content}
 use Rattle.archive_state.specs.Sound.{IsNumber, IsSound}
-use Rattle.archive_state.proofs.Each.{each_more}
-use Rattle.archive_state.proofs.Putting.{itself, one_number}
+use Rattle.archive_state.proofs.Putting.{one_number}
 use Rattle.audit.proofs.Keys.{keys_ascend}
+use Rattle.record_shapes.proofs.Each.{each_more}
+use Rattle.list_laws.proofs.Numbers.{itself}
 
 -- numbers that ascend between two bounds are no more than there is room for
 fewer : (low high : ℕ) (ns : List ℕ) → low < high → EachOf (λ n. low < n) ns → Ascends ns → EachOf (λ n. n < high) ns

@@ -1,7 +1,6 @@
 -- What is said of an archive in a file, from what `tables` says of one that is open.
-use Rattle.std.proofs.Common.{◌≡◌, ℕ, List, false, refl, sym, ap, subst, inr, Ok, Err}
-use Rattle.std.specs.Prelude.{Option, None, Some, Result, IfErr, OnOk}
-use Rattle.std.specs.Io.KnownBytes.{Keeps}
+use Rattle.std.proofs.Common.{◌≡◌, ℕ, List, false, sym, ap, subst, inr, Ok, Err}
+use Rattle.std.specs.Prelude.{Option, Some, Result, IfErr, OnOk}
 use Rattle.sqlite.specs.Files.{file_state, over_files}
 use Rattle.sqlite.specs.Held.{Held}
 use Rattle.sqlite_disk.specs.declared.Disk as disk
@@ -17,10 +16,6 @@ use Rattle.tables.specs.RowByRow.{AppliedInTurn, EndedInTurn}
 use Rattle.tables.proofs.InTurn.{all_told}
 use Rattle.archive_commands.specs.Applying.{Answered, PerformsOn, Unanswered}
 use Rattle.archive_commands.specs.Opening.{IsTakenUp}
-
-pub keeps : (old : Option (List ℕ)) → Keeps old old
-keeps None = tt
-keeps (Some bytes) = refl
 
 -- the connection of an archive that was taken up, after calls on it
 module _ {D : Type 0} {g : disk.Ghosts D} (image : Image) (old new : Archive (FileStore D g) over_files)

@@ -16,11 +16,12 @@ use Rattle.store.specs.Histories.{Outcome}
 use Rattle.store.specs.Shut.{is_shut}
 use Rattle.store.specs.declared.archive.Archive.{Archive}
 use Rattle.batch_reading.specs.Batches.{placeless}
-use Rattle.file_imports.specs.Importing.{Imports, ImportsAll, ImportsSilently, IsNoFile, import_request}
+use Rattle.file_imports.specs.Importing.{Imports, ImportsAll, ImportsSilently, IsNoFile}
 use Rattle.archive_commands.specs.Importing.{Imported, ImportedAll, Unimported}
 use Rattle.archive_commands.specs.Opening.{IsTakenUp}
 use Rattle.archive_commands.proofs.Answering.{performed_on}
 use Rattle.archive_commands.proofs.Entered.{nothing_done}
+use Rattle.archive_core.specs.Machine.{import_of}
 
 module _ {D : Type 0} {g : disk.Ghosts D} (image : Image) (token : List ℕ) (input : Option (List ℕ)) where
   -- what a word is refused with
@@ -38,7 +39,7 @@ module _ {D : Type 0} {g : disk.Ghosts D} (image : Image) (token : List ℕ) (in
       word = word;
       forest = h.forest;
       read = h.read;
-      performed = performed_on image old new conn kept taken same ((import_request token h.forest, o) ∷ []) h.done.0;
+      performed = performed_on image old new conn kept taken same ((import_of token h.forest, o) ∷ []) h.done.0;
     }
 
     pub all_imported : (r : Result (Answer × List ReportLine) Refusal)

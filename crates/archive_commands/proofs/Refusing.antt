@@ -12,10 +12,10 @@ use Rattle.record_text.specs.declared.refusal.RefusalKind.TheVariants.{BadText, 
 use Rattle.store.specs.Archives.{HasArchive}
 use Rattle.store.specs.Creating.{IsSociety, RefusesToCreate}
 use Rattle.store.specs.Histories.{is_storage}
-use Rattle.store.proofs.Opened.{opened_over}
+use Rattle.store.proofs.Opened.{opened_over, opened_blank}
 use Rattle.archive_commands.specs.Made.{IsUnmade, IsUnmadeIn, WasThere}
 use Rattle.archive_commands.specs.Opening.{WhereHeld}
-use Rattle.archive_commands.proofs.Opened.{opened_blank, was_blank}
+use Rattle.archive_commands.proofs.Opened.{was_blank}
 
 -- what a society's name is refused with, before a file is opened
 pub unnamed : (society : List ℕ) (kind : RefusalKind) → (kind ≡ OutOfMemory) ⊎ ((kind ≡ BadText) × ¬ IsSociety society)

@@ -12,9 +12,10 @@ use Rattle.gedcom_tree.specs.Forest.{Item}
 use Rattle.import_forest.specs.Report.{report}
 use Rattle.store.specs.Histories.{Outcome}
 use Rattle.interchange.specs.Results.{IsUnreported}
-use Rattle.file_imports.specs.Importing.{IsFileOf, IsNoFile, import_request}
+use Rattle.file_imports.specs.Importing.{IsFileOf, IsNoFile}
 use Rattle.archive_commands.specs.Applying.{IsPerformed}
 use Rattle.archive_commands.specs.Entering.{IsUnnamed, IsUntaken}
+use Rattle.archive_core.specs.Machine.{import_of}
 
 module _ {D : Type 0} {g : disk.Ghosts D} where
   -- the input is a file, and the request of its import, under a token, was performed on the archive that the opened
@@ -24,7 +25,7 @@ module _ {D : Type 0} {g : disk.Ghosts D} where
     pub word : IsToken token
     pub forest : List Item
     pub read : IsFileOf input forest
-    pub performed : IsPerformed image ((import_request token forest, outcome) ∷ []) left
+    pub performed : IsPerformed image ((import_of token forest, outcome) ∷ []) left
 
   -- it was accepted, and this is the report of the file
   abbrev pub ImportedAll : Image → List ℕ → Option (List ℕ) → Answer → List ReportLine → Option (Held (FileStore D g))

@@ -30,9 +30,9 @@ use Rattle.record_shapes.specs.Lists.{EachOf}
 use Rattle.archive_state.specs.declared.changes.Numbered.{Numbered}
 use Rattle.archive_state.specs.Applied.{with_puts, without}
 use Rattle.archive_core.specs.Room.{blank, with_blank, with_room}
-use Rattle.archive_state.proofs.Each.{each_more}
 use Rattle.archive_state.proofs.Putting.{put_cases, put_here, put_elsewhere}
 use Rattle.archive_core.proofs.Undo.{taken_out}
+use Rattle.record_shapes.proofs.Each.{each_more}
 
 -- a record is there
 abbrev pub IsThere : Records → ℕ → Type 0

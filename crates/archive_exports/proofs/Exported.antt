@@ -12,19 +12,18 @@ use Rattle.std.proofs.Common.{
   cond,
   List,
   length,
-  append-nil,
   refl,
   sym,
   ap,
   subst,
   true≢false,
 }
-use Rattle.std.specs.Prelude.{◌≢◌, Option, None, Some}
+use Rattle.std.specs.Prelude.{◌≢◌, Option}
 use Rattle.sqlite.specs.State.{HasCleanDisk, State}
 use Rattle.archive_state.specs.Content.{Content}
 use Rattle.archive_state.specs.Sound.{IsSound}
 use Rattle.archive_view.specs.Looks.{is_failure, is_stop}
-use Rattle.devices.specs.Devices.{AppendsBeginning, Rose}
+use Rattle.devices.specs.Devices.{Rose}
 use Rattle.gedcom_export.specs.Ends.{IsBegun, IsReason}
 use Rattle.record_text.specs.declared.refusal.RefusalKind.{RefusalKind}
 use Rattle.record_text.specs.declared.refusal.RefusalKind.TheVariants.{BadStored, Storage}
@@ -35,11 +34,9 @@ use Rattle.store.specs.Viewing.{Kept, Shows}
 use Rattle.store.proofs.Viewed.{kept_of}
 use Rattle.archive_exports.specs.Exporting.{IsPart, export_text}
 use Rattle.archive_exports.specs.Reading.{OnOpen}
+use Rattle.devices.proofs.Begun.{begins_none}
 
 -- ---- what was written
-begun_with_nothing : (old : Option (List ℕ)) (bytes : List ℕ) → AppendsBeginning old old bytes
-begun_with_nothing None bytes = (0, omega arith, tt)
-begun_with_nothing (Some known) bytes = (0, omega arith, sym (append-nil known))
 
 failure_is_reason : (size : ℕ) (kind : RefusalKind) → IsFailure kind → IsReason size kind
 failure_is_reason size kind (inl want) = inl (ap is_stop want)
@@ -66,7 +63,7 @@ nothing_written old new kind before fails clean =
             (
               record {
                 reason = failure_is_reason (length (export_text society c)) kind did.0;
-                written = begun_with_nothing before (export_text society c);
+                written = begins_none before (export_text society c);
               },
               failure_is_not_bad kind did.0,
             ),

@@ -1,3 +1,4 @@
 mod Exported
 pub mod Asked
 pub mod Named
+pub mod Stopped

@@ -8,6 +8,8 @@
 
 mod exporting;
 mod reading;
+mod texts;
 
 pub use exporting::write_archive;
 pub use reading::{read_refusal, society_of};
+pub use texts::write_text;

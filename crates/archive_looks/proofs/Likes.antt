@@ -33,11 +33,10 @@ use Rattle.std.proofs.lemmas.Bool.{and_parts}
 use Rattle.record_text.specs.declared.refusal.RefusalKind.{RefusalKind}
 use Rattle.record_text.specs.declared.refusal.RefusalKind.TheVariants.{DuplicateEntry}
 use Rattle.record_fields.specs.Bytes.{bytes_same, bytes_are}
-use Rattle.record_fields.specs.Words.{entry_kind_of, entry_kind_word}
+use Rattle.record_fields.specs.Words.{entry_kind_word}
 use Rattle.record_fields.specs.declared.entry_words.EntryKind.{EntryKind}
 use Rattle.record_fields.specs.declared.item.Item.{Item}
 use Rattle.record_fields.proofs.Items.{same_item}
-use Rattle.record_fields.proofs.Worded.{entry_kind_back}
 use Rattle.record_kinds.specs.Model as model
 use Rattle.record_kinds.specs.declared.record.Record.{Record}
 use Rattle.record_kinds.specs.declared.record.Record.TheVariants as kind
@@ -46,11 +45,9 @@ use Rattle.archive_state.specs.Entries.{HasKey, IsEntryAt}
 use Rattle.archive_state.specs.Paths.{IsLowest}
 use Rattle.archive_looks.specs.Checks.{need}
 use Rattle.archive_looks.specs.Entries.{entry_in, is_like, key_is_free}
-use Rattle.archive_state.proofs.Rising.{first_holds, rest_holds, not_found}
-
--- kinds are the same where their words are
-pub same_kind : (a b : EntryKind) → entry_kind_word a ≡ entry_kind_word b → a ≡ b
-same_kind a b e = let both : Some a ≡ Some b = sym (entry_kind_back a) ∙ ap entry_kind_of e ∙ entry_kind_back b in cc
+use Rattle.archive_state.proofs.Rising.{not_found}
+use Rattle.record_fields.proofs.WordTexts.{same_kind}
+use Rattle.list_laws.proofs.Booleans.{first_holds, rest_holds}
 
 module _ (f : Record → Bool) where
   -- a record that stands at a number passes, and so one of the list does
@@ -102,7 +99,7 @@ module _ (f : Record → Bool) where
       ] refl h
 
 module _ (source : ℕ) (k : EntryKind) (page : List ℕ) (item : Item) where
-  has_key : (e : model.Entry) → HasKey source k page item e → is_like source k page item (kind.Entry e) ≡ true
+  pub has_key : (e : model.Entry) → HasKey source k page item e → is_like source k page item (kind.Entry e) ≡ true
   has_key e (is, same, on, of) =
       ap (λ b. b && (bytes_eq (entry_kind_word e.kind) (entry_kind_word k) &&
       (bytes_eq e.page page && e.item.number == item.number))) (eq-eqb e.source source is)
@@ -111,7 +108,7 @@ module _ (source : ℕ) (k : EntryKind) (page : List ℕ) (item : Item) where
       ∙ ap (λ b. b && e.item.number == item.number) (bytes_same e.page page on)
       ∙ eq-eqb e.item.number item.number (ap (λ (x : Item). x.number) of)
 
-  key_of : (e : model.Entry) → is_like source k page item (kind.Entry e) ≡ true → HasKey source k page item e
+  pub key_of : (e : model.Entry) → is_like source k page item (kind.Entry e) ≡ true → HasKey source k page item e
   key_of e h =
       let rest = (and_parts (e.source == source)
       (bytes_eq (entry_kind_word e.kind) (entry_kind_word k) &&

@@ -18,7 +18,6 @@ use Rattle.std.proofs.Common.{
   ◌&&◌,
   nat_lt,
 }
-use Rattle.std.proofs.lemmas.Bool.Decides.{nat_tests}
 use Rattle.std.specs.Prelude.{Option, Some, None, Ok, Err}
 use Rattle.std.specs.FinMap.{get}
 use Rattle.record_text.specs.declared.refusal.RefusalKind.{RefusalKind}
@@ -27,25 +26,14 @@ use Rattle.record_kinds.specs.declared.record.Record.{Record}
 use Rattle.record_kinds.specs.declared.record.Record.TheVariants as kind
 use Rattle.archive_state.specs.Content.{Records}
 use Rattle.archive_looks.specs.Checks.{says_something, is_place_with, is_within_with, is_said, place_in}
-
-not_below : (q n : ℕ) → n ≤ q → nat_lt q n ≡ false
-not_below q n h = grind (arith, nat_tests)
-
-pub is_below : (q n : ℕ) → q < n → nat_lt q n ≡ true
-is_below q n h = grind (arith, nat_tests)
-
-below_is : (q n : ℕ) → nat_lt q n ≡ true → q < n
-below_is q n h = grind (arith, nat_tests)
-
-or_false : (b : Bool) → (b || false) ≡ b
-or_false true = refl
-or_false false = refl
+use Rattle.list_laws.proofs.Numbers.{is_less, not_less, below_is}
+use Rattle.list_laws.proofs.Booleans.{or_nothing}
 
 -- nothing stands above number 0
 none_above : (m : Records) (f : ℕ → model.Place → Bool) (n : ℕ) (parent : Option ℕ) → n ≤ 0
     → is_within_with m n f parent ≡ false
 none_above m f n None h = refl
-none_above m f n (Some q) h = let e : nat_lt q n ≡ false = not_below q n (omega arith) in
+none_above m f n (Some q) h = let e : nat_lt q n ≡ false = not_less q n (omega arith) in
     ap (λ b. b && is_place_with (f q) (get m q)) e
 
 -- places are looked at alike where f and g agree on them
@@ -74,10 +62,10 @@ alike m n f g (Some q) h =
 
 pub enough : (k j : ℕ) (m : Records) (n : ℕ) (p : model.Place) → n ≤ k → n ≤ j → is_said k m n p ≡ is_said j m n p
 enough zero zero m n p h i = refl
-enough zero (suc j) m n p h i = sym (or_false (says_something p.name)) ∙ ap (λ b. says_something p.name || b)
+enough zero (suc j) m n p h i = sym (or_nothing (says_something p.name)) ∙ ap (λ b. says_something p.name || b)
     (sym (none_above m (λ q r. is_said j m q r) n p.parent h))
 enough (suc k) zero m n p h i = ap (λ b. says_something p.name || b)
-    (none_above m (λ q r. is_said k m q r) n p.parent i) ∙ or_false (says_something p.name)
+    (none_above m (λ q r. is_said k m q r) n p.parent i) ∙ or_nothing (says_something p.name)
 enough (suc k) (suc j) m n p h i =
     ap (λ b. says_something p.name || b) (alike m n (λ q r. is_said k m q r) (λ q r. is_said j m q r) p.parent
     (λ q r less. enough k j m q r (omega arith) (omega arith)))
@@ -104,7 +92,7 @@ said_alone m n p e none = said_within n m n p false e (omega arith) (λ f h. ap 
 pub said_not_below : (m : Records) (n q : ℕ) (p : model.Place) → says_something p.name ≡ false → p.parent ≡ Some q
     → n ≤ q → is_said n m n p ≡ false
 said_not_below m n q p e is above = said_within n m n p false e (omega arith)
-    (λ f h. ap (is_within_with m n f) is ∙ ap (λ b. b && is_place_with (f q) (get m q)) (not_below q n above))
+    (λ f h. ap (is_within_with m n f) is ∙ ap (λ b. b && is_place_with (f q) (get m q)) (not_less q n above))
 
 -- what is found is a place, or is none
 is_place_found : (o : Option Record) (f : model.Place → Bool) (r : model.Place) → place_in o ≡ Ok r
@@ -136,11 +124,11 @@ no_place_found (Some (kind.Other p)) f k e = refl
 pub said_above : (m : Records) (n q : ℕ) (p r : model.Place) → says_something p.name ≡ false → p.parent ≡ Some q → q < n
     → place_in (get m q) ≡ Ok r → is_said n m n p ≡ is_said q m q r
 said_above m n q p r e is less at = said_within n m n p (is_said q m q r) e (omega arith) (λ f h.
-    ap (is_within_with m n f) is ∙ ap (λ b. b && is_place_with (f q) (get m q)) (is_below q n less)
+    ap (is_within_with m n f) is ∙ ap (λ b. b && is_place_with (f q) (get m q)) (is_less q n less)
     ∙ is_place_found (get m q) (f q) r at ∙ h q r less)
 
 pub said_of_none : (m : Records) (n q : ℕ) (p : model.Place) (k : RefusalKind) → says_something p.name ≡ false
     → p.parent ≡ Some q → q < n → place_in (get m q) ≡ Err k → is_said n m n p ≡ false
 said_of_none m n q p k e is less at = said_within n m n p false e (omega arith) (λ f h.
-    ap (is_within_with m n f) is ∙ ap (λ b. b && is_place_with (f q) (get m q)) (is_below q n less)
+    ap (is_within_with m n f) is ∙ ap (λ b. b && is_place_with (f q) (get m q)) (is_less q n less)
     ∙ no_place_found (get m q) (f q) k at)

@@ -35,7 +35,8 @@ use Rattle.record_shapes.specs.Paths.{joined, from_word, backwards, trimmed, par
 use Rattle.archive_state.specs.Paths.{IsPlaceAt, Climbs, HasPath}
 use Rattle.commands.specs.Rows.{and_then}
 use Rattle.archive_looks.specs.Checks.{says_something, is_said, place_in, need, said_place_at}
-use Rattle.archive_looks.proofs.Said.{is_below, said_here, said_alone, said_above}
+use Rattle.archive_looks.proofs.Said.{said_here, said_alone, said_above}
+use Rattle.list_laws.proofs.Numbers.{is_less}
 
 -- a byte that is no space
 abbrev is_dark : ℕ → Bool
@@ -63,7 +64,7 @@ dark_from_word (b ∷ bs) =
     ] refl
 
 some_suc : (k : ℕ) → nat_lt 0 (suc k) ≡ true
-some_suc k = is_below 0 (suc k) (omega arith)
+some_suc k = is_less 0 (suc k) (omega arith)
 
 some_append : (s t : List ℕ) → nat_lt 0 (length (s ++ t)) ≡ (nat_lt 0 (length s) || nat_lt 0 (length t))
 some_append [] t = refl

@@ -2,7 +2,6 @@
 
 ghost use Rattle.std.specs.Prelude.{◌≡◌, ◌++◌, ◌∷◌, [], IfErr, IfOk, List, Ok, false};
 ghost use Rattle.record_kinds.specs.Model as model;
-ghost use Rattle.record_shapes.specs.Roles.{is_role_of};
 ghost use Rattle.archive_view.specs.Looks.{Agrees, CountsFailures, is_failure, is_stop};
 ghost use Rattle.archive_view.specs.Views.{On};
 ghost use Rattle.archive_looks.specs.Checks.{passed, text_in as text_of_words};
@@ -11,6 +10,7 @@ ghost use Rattle.archive_looks.specs.Entries as entries;
 use crate::looks::{date_in, text_in, wrong_kind};
 use archive_view::View;
 use commands::{EntryRow, Field, GivenMention};
+use record_shapes::is_role_of;
 use records::{Entry, EntryKind, Item, Mention, Record, RefusalKind, Role, Text};
 use std::alloc::{AllocError, Global};
 
@@ -96,26 +96,6 @@ fn role_in(kind: EntryKind, word: &str) -> Result<Role, RefusalKind>
         Ok(role)
     } else {
         Err(RefusalKind::NotOfKind)
-    }
-}
-
-fn is_role_of(kind: EntryKind, role: Role) -> bool
-    ensures { result ≡ is_role_of kind role }
-{
-    match kind {
-        EntryKind::Baptism => match role {
-            Role::Child | Role::Father | Role::Mother | Role::Godparent => true,
-            _ => false,
-        },
-        EntryKind::Marriage => match role {
-            Role::Groom | Role::Bride | Role::FatherOfGroom | Role::FatherOfBride | Role::Witness =>
-                true,
-            _ => false,
-        },
-        EntryKind::Burial => match role {
-            Role::Buried | Role::Spouse | Role::Father | Role::Mother => true,
-            _ => false,
-        },
     }
 }
 

@@ -1,9 +1,6 @@
 //! The tag of an event, which its owner may have.
 
 ghost use Rattle.std.specs.Prelude.{◌≡◌, IfErr, false};
-ghost use Rattle.std.specs.List.{list_any};
-ghost use Rattle.std.specs.Str.{bytes_eq};
-ghost use Rattle.record_shapes.specs.Tags.{person_tags, family_tags};
 ghost use Rattle.archive_view.specs.Looks.{Agrees, CountsFailures, is_failure, is_stop};
 ghost use Rattle.archive_view.specs.Views.{On};
 ghost use Rattle.archive_looks.specs.Checks as checks;
@@ -11,21 +8,9 @@ ghost use Rattle.archive_looks.specs.Checks as checks;
 use crate::looks::{Owner, owner_at};
 use crate::places::check_place;
 use archive_view::View;
+use record_shapes::{is_family_tag, is_person_tag};
 use records::{RefusalKind, Tag};
 use std::alloc::Global;
-
-/// The tags of the events of persons: GEDCOM 5.5.1, chapter 2.
-const PERSON_TAGS: [&str; 37] = [
-    "BIRT", "CHR", "BAPM", "DEAT", "BURI", "CREM", "ADOP", "BARM", "BASM", "BLES", "CHRA", "CONF",
-    "FCOM", "ORDN", "NATU", "EMIG", "IMMI", "CENS", "PROB", "WILL", "GRAD", "RETI", "EVEN", "CAST",
-    "DSCR", "EDUC", "IDNO", "NATI", "NCHI", "NMR", "OCCU", "PROP", "RELI", "RESI", "SSN", "TITL",
-    "FACT",
-];
-
-/// The tags of the events of families: GEDCOM 5.5.1, chapter 2.
-const FAMILY_TAGS: [&str; 12] = [
-    "ANUL", "CENS", "DIV", "DIVF", "ENGA", "MARB", "MARC", "MARR", "MARL", "MARS", "RESI", "EVEN",
-];
 
 /// The text as the tag of an event, whose owner may have it, and whose place an event may have.
 pub fn tag_of<V: View>(
@@ -57,22 +42,4 @@ fn tag_in(alloc: Global, owner: Owner, word: &str) -> Result<Tag, RefusalKind>
         return Err(RefusalKind::NotOfKind);
     }
     Ok(Tag::of_word(alloc, word)?)
-}
-
-fn is_person_tag(word: &str) -> bool
-    ensures { result ≡ list_any (bytes_eq word.now) person_tags }
-{
-    is_one_of(word, &PERSON_TAGS)
-}
-
-fn is_family_tag(word: &str) -> bool
-    ensures { result ≡ list_any (bytes_eq word.now) family_tags }
-{
-    is_one_of(word, &FAMILY_TAGS)
-}
-
-fn is_one_of(word: &str, tags: &[&str]) -> bool
-    ensures { result ≡ list_any (λ tag. bytes_eq word.now tag.now) tags.now }
-{
-    tags.iter().any(|tag| word == *tag)
 }

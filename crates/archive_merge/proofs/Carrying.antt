@@ -1,25 +1,16 @@
 -- What holds of each carried line of a record, and of each child of a family, after a merge.
-use Rattle.std.proofs.Common.{◌≡◌, ℕ, List, [], ◌∷◌, ◌++◌, refl, sym, subst}
-use Rattle.std.specs.Prelude.{map, Option, Some, None, option_map, ◌==◌}
+use Rattle.std.proofs.Common.{ℕ, List, [], ◌∷◌, ◌++◌, sym, subst}
+use Rattle.std.specs.Prelude.{◌==◌}
 use Rattle.std.specs.List.{flat_map}
-use Rattle.std.proofs.lemmas.List.{map-append}
 use Rattle.std.proofs.lemmas.Grind.{flat_map-append}
-use Rattle.stored_lines.specs.Tree.{Tree, relabel}
+use Rattle.stored_lines.specs.Tree.{Tree}
 use Rattle.stored_lines.specs.Line.{Line, Lines}
 use Rattle.record_kinds.specs.Model as model
 use Rattle.record_kinds.specs.declared.record.Record.{Record}
 use Rattle.record_kinds.specs.declared.record.Record.TheVariants as kind
-use Rattle.record_links.specs.Carried.{carried, place_line_carried}
+use Rattle.record_links.specs.Carried.{carried}
 use Rattle.record_shapes.specs.Lists.{EachOf}
 use Rattle.archive_state.specs.Merging.{
-  line_with,
-  holding_with,
-  name_with,
-  partner_with,
-  child_with,
-  event_place_with,
-  participant_with,
-  record_with,
   once_in,
   once_child,
   child_of_all,
@@ -28,45 +19,8 @@ use Rattle.archive_state.specs.Merging.{
   joined_person,
   second_sex,
 }
-use Rattle.archive_state.proofs.Each.{each_both, each_front, each_back}
-use Rattle.archive_merge.proofs.Lists.{cat, flat_cat, each_flat, each_to_flat}
+use Rattle.record_shapes.proofs.Each.{each_of_flat, each_flat, each_both, each_front, each_back}
 use Rattle.archive_merge.proofs.Once.{chosen}
-
--- ---- each number changed
-module _ (f : ℕ → ℕ) where
-  abbrev pub moved_line : Tree Line → Tree Line
-  moved_line = relabel (line_with f)
-
-  place_carried : (o : Option model.EventPlace) → place_line_carried (option_map (event_place_with f) o)
-      ≡ map moved_line (place_line_carried o)
-  place_carried None = refl
-  place_carried (Some p) = refl
-
-  pub carried_moved : (r : Record) → carried (record_with f r) ≡ map moved_line (carried r)
-  carried_moved (kind.Place x) = refl
-  carried_moved (kind.Repo x) = refl
-  carried_moved (kind.Source x) = cat moved_line (flat_map (λ (h : model.Holding). h.carried) x.holdings) x.carried _ _
-      (flat_cat moved_line (holding_with f) (λ h. h.carried) (λ h. h.carried) (λ h. refl) x.holdings) refl
-  carried_moved (kind.Person x) = cat moved_line (flat_map (λ (n : model.Name). n.carried) x.names) x.carried _ _
-      (flat_cat moved_line (name_with f) (λ n. n.carried) (λ n. n.carried) (λ n. refl) x.names) refl
-  carried_moved (kind.Family x) =
-      cat moved_line (flat_map (λ (p : model.Partner). p.carried ++ p.carried_by_person) x.partners)
-      (flat_map (λ (c : model.Child). c.carried ++ c.carried_by_person) x.children ++ x.carried) _ _
-      (flat_cat moved_line (partner_with f) (λ p. p.carried ++ p.carried_by_person)
-      (λ p. p.carried ++ p.carried_by_person)
-      (λ p. sym (map-append moved_line p.carried p.carried_by_person)) x.partners)
-      (cat moved_line (flat_map (λ (c : model.Child). c.carried ++ c.carried_by_person) x.children) x.carried _ _
-      (flat_cat moved_line (child_with f) (λ c. c.carried ++ c.carried_by_person)
-      (λ c. c.carried ++ c.carried_by_person) (λ c. sym (map-append moved_line c.carried c.carried_by_person))
-      x.children) refl)
-  carried_moved (kind.Citation x) = refl
-  carried_moved (kind.Event x) =
-      cat moved_line (place_line_carried x.place)
-      (flat_map (λ (p : model.Participant). p.carried) x.participants ++ x.carried) _ _ (place_carried x.place)
-      (cat moved_line (flat_map (λ (p : model.Participant). p.carried) x.participants) x.carried _ _
-      (flat_cat moved_line (participant_with f) (λ p. p.carried) (λ p. p.carried) (λ p. refl) x.participants) refl)
-  carried_moved (kind.Entry x) = refl
-  carried_moved (kind.Other x) = refl
 
 -- ---- children joined
 module _ (Q : model.Child → Type 0) (into : (c d : model.Child) → Q c → Q d → Q (joined_child c d)) where
@@ -109,9 +63,9 @@ module _ (OfLine : Tree Line → Type 0) where
       each_both OfLine (flat_map of_partner x.partners) (flat_map of_child (once_child n x.children) ++ x.carried)
       (each_front OfLine (flat_map of_partner x.partners) (flat_map of_child x.children ++ x.carried) h)
       (each_both OfLine (flat_map of_child (once_child n x.children)) x.carried
-      (each_to_flat OfLine of_child (once_child n x.children)
+      (each_flat OfLine of_child (once_child n x.children)
       (children_into OfChild child_into n x.children
-      (each_flat OfLine of_child x.children (each_front OfLine (flat_map of_child x.children) x.carried rest))))
+      (each_of_flat OfLine of_child x.children (each_front OfLine (flat_map of_child x.children) x.carried rest))))
       (each_back OfLine (flat_map of_child x.children) x.carried rest))
 
   pub lines_once : (n : ℕ) (r : Record) → EachOf OfLine (carried r) → EachOf OfLine (carried (once_in n r))

@@ -58,10 +58,10 @@ use Rattle.archive_merge.specs.Merges.{
 use Rattle.archive_state.specs.Applied.{with_puts}
 use Rattle.archive_merge.proofs.Merged.{at_gone, at_keep, at_other, which}
 use Rattle.archive_merge.proofs.Picking.{key, entries_rise, filter_rises, pick, pick_none, pick_passed, pick_failed}
-use Rattle.archive_state.proofs.Putting.{one_number, itself}
-use Rattle.archive_merge.proofs.Once.{number_itself}
+use Rattle.archive_state.proofs.Putting.{one_number}
 use Rattle.archive_merge.proofs.Comparing.{IsNow}
 use Rattle.archive_merge.proofs.PutBack.{undone_over}
+use Rattle.list_laws.proofs.Numbers.{itself, same_self}
 
 -- ---- puts of changes
 abbrev number : Change → ℕ
@@ -183,7 +183,7 @@ module _ (keep gone : ℕ) (m : Records) where
   first_no false b e = refl
 
   pub no_gone : (n : ℕ) (r : Record) → is_changed keep gone m n r ≡ false → n ≡ gone → ⊥
-  no_gone n r t same = let no_test : true ≡ false = sym (number_itself gone) ∙ ap (λ k. k == gone) (sym same)
+  no_gone n r t same = let no_test : true ≡ false = sym (same_self gone) ∙ ap (λ k. k == gone) (sym same)
       ∙ first_no (n == gone) _ t in absurd cc
 
   pub made_left : (n : ℕ) (r : Record) → get m n ≡ Some r → is_changed keep gone m n r ≡ false

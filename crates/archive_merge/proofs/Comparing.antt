@@ -20,7 +20,8 @@ use Rattle.archive_merge.specs.Comparing.{
   is_same_record,
   is_now,
 }
-use Rattle.archive_merge.proofs.Once.{number_itself}
+use Rattle.list_laws.proofs.Booleans.{true_not_false}
+use Rattle.list_laws.proofs.Numbers.{same_self}
 
 text_is : (s t : Option (List ℕ)) → is_same_text s t ≡ true → s ≡ t
 text_is None None e = refl
@@ -71,7 +72,7 @@ text_same (Some t) = bytes_same t t refl
 
 target_same : (t : Option ℕ) → is_same_target t t ≡ true
 target_same None = refl
-target_same (Some t) = number_itself t
+target_same (Some t) = same_self t
 
 label_same : (a : Label) → is_same_label a a ≡ true
 label_same a = and_from (bytes_eq a.tag a.tag) _ (bytes_same a.tag a.tag refl)
@@ -79,7 +80,7 @@ label_same a = and_from (bytes_eq a.tag a.tag) _ (bytes_same a.tag a.tag refl)
 
 lines_same : (ls : List (ℕ × Label)) → are_same_lines ls ls ≡ true
 lines_same [] = refl
-lines_same (a ∷ ls) = and_from (a.0 == a.0) _ (number_itself a.0)
+lines_same (a ∷ ls) = and_from (a.0 == a.0) _ (same_self a.0)
     (and_from (is_same_label a.1 a.1) _ (label_same a.1) (lines_same ls))
 
 pub record_same : (r : Option Record) → is_same_record r r ≡ true
@@ -92,8 +93,6 @@ is_now_new m (c ∷ cs) h = and_from (is_same_record (get m c.number) c.new) _
     (ap (is_same_record (get m c.number)) (sym h.0) ∙ record_same (get m c.number)) (is_now_new m cs h.1)
 
 -- ---- by a test of lines
-true_false : true ≡ false → ⊥
-true_false e = absurd cc
 
 yes_is : (b : Bool) (ls ms : List (ℕ × Label)) → (IsTrue b → ls ≡ ms) → b ≡ true → b ≡ are_same_lines ls ms
 yes_is b ls ms h e = e ∙ sym (ap (are_same_lines ls) (sym (h e)) ∙ lines_same ls)
@@ -104,7 +103,7 @@ same_by_test b ls ms r s e f h =
     elim b as (λ x. b ≡ x → b ≡ are_same_lines ls ms) [
       | true ↦ λ q. yes_is b ls ms h.0 q
       | false ↦ λ q. q ∙ elim (are_same_lines ls ms) as (λ y. are_same_lines ls ms ≡ y → false ≡ y) [
-        | true ↦ λ w. let there : b ≡ true = h.1 (lines_are ls ms w) in absurd (true_false (sym there ∙ q))
+        | true ↦ λ w. let there : b ≡ true = h.1 (lines_are ls ms w) in absurd (true_not_false (sym there ∙ q))
         | false ↦ λ w. refl
       ] refl
     ] refl

@@ -4,7 +4,6 @@ use Rattle.std.proofs.Common.{
   ℕ,
   ◌+◌,
   ◌<◌,
-  ◌⊎◌,
   inl,
   inr,
   List,
@@ -29,10 +28,9 @@ use Rattle.std.proofs.Common.{
 use Rattle.std.specs.Prelude.{Some, map, not, ◌||◌, ◌&&◌, ◌==◌}
 use Rattle.std.specs.List.{list_any, filter, flat_map}
 use Rattle.std.specs.FinMap.{get, entries}
-use Rattle.std.proofs.lemmas.List.{take_more, append-nil}
+use Rattle.std.proofs.lemmas.List.{take_more}
 use Rattle.std.proofs.lemmas.List.Folds.{list_any-append}
 use Rattle.std.proofs.lemmas.Bool.{and_parts, or_right, or_left, or_cases}
-use Rattle.std.proofs.lemmas.Grind.{flat_map-append}
 use Rattle.record_kinds.specs.Model as model
 use Rattle.record_kinds.specs.declared.record.Record.{Record}
 use Rattle.record_kinds.specs.declared.record.Record.TheVariants as kind
@@ -47,23 +45,9 @@ use Rattle.archive_merge.specs.Looks.{clashes_in, clashes_among, change_of, chan
 use Rattle.archive_merge.specs.Merges.{is_clash, change_at, merge_changes, changed_numbers, is_changed}
 use Rattle.archive_merge.proofs.Merge.{entries_there}
 use Rattle.archive_merge.proofs.Numbers.{numbers_found}
+use Rattle.list_laws.proofs.Booleans.{and_never}
 
 -- ---- tests of one number after the other
-one_more : (P : ℕ → Bool) (ns : List ℕ) (i n : ℕ) → i < length ns → n ≡ get_or ns i n
-    → list_any P (take (i + 1) ns) ≡ (list_any P (take i ns) || (P n || false))
-one_more P ns i n h e = ap (list_any P) (take_more ns i n h) ∙ list_any-append P (take i ns) (get_or ns i n ∷ [])
-    ∙ ap (λ k. list_any P (take i ns) || (P k || false)) (sym e)
-
-neither : (a b : Bool) → a ≡ false → b ≡ false → (a || (b || false)) ≡ false
-neither a b e f = ap (λ x. x || (b || false)) e ∙ ap (λ x. x || false) f
-
-pub none_more : (P : ℕ → Bool) (ns : List ℕ) (i n : ℕ) → i < length ns → n ≡ get_or ns i n
-    → list_any P (take i ns) ≡ false → P n ≡ false → list_any P (take (i + 1) ns) ≡ false
-none_more P ns i n h e was is = one_more P ns i n h e ∙ neither (list_any P (take i ns)) (P n) was is
-
-either : (a : Bool) → (a || true) ≡ true
-either true = refl
-either false = refl
 
 module _ {A : Type 0} where
   any_front : (P : A → Bool) (xs ys : List A) → list_any P xs ≡ true → list_any P (xs ++ ys) ≡ true
@@ -176,14 +160,6 @@ changes_found keep gone c k g at_k at_g =
     (filtered keep gone c.records (λ (d : ℕ × Record). get c.records d.0 ≡ Some d.1)
     (λ e. is_changed keep gone c.records e.0 e.1) (entries c.records) (entries_there c.records))
 
--- the changes of one number more
-pub one_change_more : (f : ℕ → List Change) (ns : List ℕ) (i n : ℕ) (cs ds : List Change) → i < length ns
-    → n ≡ get_or ns i n → cs ≡ flat_map f (take i ns) → ds ≡ cs ++ f n → ds ≡ flat_map f (take (i + 1) ns)
-one_change_more f ns i n cs ds h e was more =
-    more ∙ ap (λ l. l ++ f n) was ∙ ap (λ l. flat_map f (take i ns) ++ l) (sym (append-nil (f n)))
-    ∙ ap (λ k. flat_map f (take i ns) ++ (f k ++ [])) e
-    ∙ sym (ap (flat_map f) (take_more ns i n h) ∙ flat_map-append f (take i ns) (get_or ns i n ∷ []))
-
 -- ---- families that are looked at
 pub clash_found : (keep gone : ℕ) (c : Content) (ns : List ℕ) (b : Bool) → ns ≡ referrers c gone
     → b ≡ clashes_among keep gone c.records ns → b ≡ is_clash keep gone c.records
@@ -193,10 +169,6 @@ clash_found keep gone c ns b e f = f ∙ ap (clashes_among keep gone c.records) 
 grouped : (a b c : Bool) → (a && (b && c)) ≡ ((a && b) && c)
 grouped true b c = refl
 grouped false b c = refl
-
-nothing : (a : Bool) → (a && false) ≡ false
-nothing true = refl
-nothing false = refl
 
 module _ (m : Records) where
   now_more : (cs ds : List Change) → is_now m (cs ++ ds) ≡ (is_now m cs && is_now m ds)
@@ -217,4 +189,4 @@ module _ (m : Records) where
   one_changed (d ∷ cs) zero c h e is = ap (λ b. b && is_now m cs)
       (ap (λ (x : Change). is_same_record (get m x.number) x.new) (sym e) ∙ is)
   one_changed (d ∷ cs) (suc i) c h e is = ap (λ b. is_same_record (get m d.number) d.new && b)
-      (one_changed cs i c (omega arith) e is) ∙ nothing (is_same_record (get m d.number) d.new)
+      (one_changed cs i c (omega arith) e is) ∙ and_never (is_same_record (get m d.number) d.new)

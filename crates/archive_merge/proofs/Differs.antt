@@ -47,9 +47,8 @@ use Rattle.archive_state.specs.Merging.{
 }
 use Rattle.record_shapes.specs.Lists.{EachOf}
 use Rattle.archive_merge.specs.Merges.{is_empty, adds_nothing, is_changed}
-use Rattle.archive_state.proofs.Each.{each_all}
-use Rattle.archive_merge.proofs.Lists.{each_to_map}
-use Rattle.archive_merge.proofs.Renaming.{moved, links_moved}
+use Rattle.record_shapes.proofs.Each.{each_mapped, each_all}
+use Rattle.renumbered_records.proofs.Links.{moved, links_moved}
 use Rattle.archive_merge.proofs.Once.{join_links, once_into, number_other}
 use Rattle.archive_merge.proofs.Merged.{which, renamed_gone, renamed_other, at_gone, at_keep, at_other}
 
@@ -75,7 +74,7 @@ module _ (keep gone : ℕ) (apart : keep ≡ gone → ⊥) where
 
   others_with : (r : Record) → EachOf (IsOther gone) (links (record_with f r))
   others_with r = subst (EachOf (IsOther gone)) (sym (links_moved f r))
-      (each_to_map (IsOther gone) (moved f) (links r) (each_all (λ l. IsOther gone (moved f l)) other_moved (links r)))
+      (each_mapped (IsOther gone) (moved f) (links r) (each_all (λ l. IsOther gone (moved f l)) other_moved (links r)))
 
   record_free : (r : Record) → is_among gone (links (merged_record keep gone r)) ≡ false
   record_free r = not_among gone (links (merged_record keep gone r))

@@ -22,7 +22,7 @@ use Rattle.archive_merge.specs.Merges.{change_at, is_changed, merge_changes, put
 use Rattle.archive_merge.proofs.Comparing.{IsNow, record_same}
 use Rattle.archive_merge.proofs.Changing.{changes_rise, each_found}
 use Rattle.archive_merge.proofs.Differs.{changed_differs}
-use Rattle.archive_merge.proofs.Lists.{each_to_flat, each_to_map}
+use Rattle.record_shapes.proofs.Each.{each_flat, each_mapped}
 use Rattle.archive_merge.proofs.Merge.{entries_there}
 use Rattle.archive_merge.proofs.Merged.{at_gone}
 use Rattle.archive_merge.proofs.Once.{number_other}
@@ -113,8 +113,8 @@ module _ (c : Content) (keep gone : ℕ) (k g : model.Person) (at_k : get c.reco
   all_differ : EachOf (λ (p : Numbered). get m p.number ≢ Some p.«record»)
       (flat_map put_new (merge_changes keep gone m))
   all_differ =
-      each_to_flat (λ (p : Numbered). get m p.number ≢ Some p.«record») put_new (merge_changes keep gone m)
-      (each_to_map (λ (x : Change). EachOf (λ (p : Numbered). get m p.number ≢ Some p.«record») (put_new x))
+      each_flat (λ (p : Numbered). get m p.number ≢ Some p.«record») put_new (merge_changes keep gone m)
+      (each_mapped (λ (x : Change). EachOf (λ (p : Numbered). get m p.number ≢ Some p.«record») (put_new x))
       (change_at keep gone m) (filter (λ e. is_changed keep gone m e.0 e.1) (entries m))
       (each_found keep gone m (λ e. EachOf (λ (p : Numbered). get m p.number ≢ Some p.«record»)
       (put_new (change_at keep gone m e))) change_differs (entries m) (entries_there m)))
@@ -167,7 +167,7 @@ undo_is_exact c n s changes there fresh now e =
       puts = λ sound. old_rise s.changes (sound.slips n s there).ascending;
       removals = tt;
       apart = tt;
-      new = λ _. each_to_flat (λ (p : Numbered). get c.records p.number ≢ Some p.«record») put_old s.changes
+      new = λ _. each_flat (λ (p : Numbered). get c.records p.number ≢ Some p.«record») put_old s.changes
           (old_differ c.records s.changes now);
       there = tt;
       slip = λ _. ap (option_map (λ (x : Slip). x.is_undone)) there ∙ ap Some fresh;

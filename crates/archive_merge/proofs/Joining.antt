@@ -6,7 +6,6 @@ use Rattle.std.proofs.Common.{
   ◌<◌,
   ◌≤◌,
   List,
-  ◌∷◌,
   ◌++◌,
   true,
   false,
@@ -87,14 +86,13 @@ use Rattle.archive_state.specs.Sound.{
   place_of,
 }
 use Rattle.archive_state.proofs.Changing.{cases_of}
-use Rattle.archive_state.proofs.Each.{each_more, each_front, each_back}
 use Rattle.archive_state.proofs.Keeping.{IsAlike, KeepsRules, nothing_at_zero, stands_as}
 use Rattle.archive_state.proofs.Knowing.{AgreeAt, untaken_same, entry_same}
 use Rattle.archive_state.proofs.Known.{path_known, path_same}
 use Rattle.archive_merge.proofs.Alike.{persons_alike, alike_merged}
-use Rattle.archive_merge.proofs.EntryShapes.{no_entry_with}
+use Rattle.renumbered_records.proofs.Entries.{no_entry_with}
 use Rattle.archive_merge.proofs.Keys.{WasEntry}
-use Rattle.archive_merge.proofs.Lists.{each_to_map}
+use Rattle.record_shapes.proofs.Each.{each_mapped, each_more, each_front, each_back}
 use Rattle.archive_merge.proofs.Members.{merged_once}
 use Rattle.archive_merge.proofs.Merged.{
   renamed_gone,
@@ -108,11 +106,13 @@ use Rattle.archive_merge.proofs.Merged.{
 }
 use Rattle.archive_merge.proofs.Once.{join_links, once_into}
 use Rattle.archive_merge.proofs.PathsKept.{no_person_path, either_none, no_place_person, no_source_person}
-use Rattle.archive_merge.proofs.Renaming.{moved, links_moved}
-use Rattle.archive_merge.proofs.Rooms.{room_with, room_once, room_joined}
-use Rattle.archive_merge.proofs.Tags.{of_records_with, of_records_once, of_records_joined}
-use Rattle.archive_merge.proofs.Texts.{texts_with, texts_once, texts_joined}
-use Rattle.archive_merge.proofs.Untaken.{through, untaken_with, untaken_joined, untaken_any}
+use Rattle.renumbered_records.proofs.Links.{moved, links_moved}
+use Rattle.renumbered_records.proofs.Texts.{room_with, of_records_with, texts_with}
+use Rattle.archive_merge.proofs.Rooms.{room_once, room_joined}
+use Rattle.archive_merge.proofs.Tags.{of_records_once, of_records_joined}
+use Rattle.archive_merge.proofs.Texts.{texts_once, texts_joined}
+use Rattle.renumbered_records.proofs.Untaken.{through, untaken_with}
+use Rattle.archive_merge.proofs.Untaken.{untaken_joined, untaken_any}
 
 module _ (c : Content) (next keep gone : ℕ) (k g : model.Person) (sound : IsSound c) (later : c.next ≤ next)
     (at_k : get c.records keep ≡ Some (kind.Person k)) (at_g : get c.records gone ≡ Some (kind.Person g))
@@ -190,7 +190,7 @@ module _ (c : Content) (next keep gone : ℕ) (k g : model.Person) (sound : IsSo
 
   with_named : (n : ℕ) (r : Record) → get m n ≡ Some r → EachOf (Stands after) (links (record_with f r))
   with_named n r at = subst (EachOf (Stands after)) (sym (links_moved f r))
-      (each_to_map (Stands after) (moved f) (links r)
+      (each_mapped (Stands after) (moved f) (links r)
       (each_more (Stands m) (λ l. Stands after (moved f l)) stands_moved (links r) (sound.named n r at)))
 
   -- every link stands
@@ -269,7 +269,7 @@ module _ (c : Content) (next keep gone : ℕ) (k g : model.Person) (sound : IsSo
   mentions_with : (r : Record) → HasSoundMentions r → HasSoundMentions (merged_record keep gone r)
   mentions_with (kind.Entry e) h = (
     subst (λ n. (1 ≤ n) × (n ≤ 100)) (sym (length-map e.mentions (mention_with f))) h.0,
-    each_to_map (λ (x : model.Mention). is_role_of e.kind x.role ≡ true) (mention_with f) e.mentions h.1,
+    each_mapped (λ (x : model.Mention). is_role_of e.kind x.role ≡ true) (mention_with f) e.mentions h.1,
   )
   mentions_with (kind.Place p) h = tt
   mentions_with (kind.Repo p) h = tt

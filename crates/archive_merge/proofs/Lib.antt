@@ -1,6 +1,4 @@
-mod Lists
 pub mod Alike
-mod Renaming
 mod Once
 mod Merged
 mod Same
@@ -17,7 +15,6 @@ mod Keys
 mod PathsKept
 mod Part
 mod Untaken
-mod EntryShapes
 mod Joining
 mod Merge
 mod Undoing

@@ -40,8 +40,9 @@ use Rattle.archive_state.specs.Merging.{
 }
 use Rattle.record_shapes.specs.Lists.{IsOnce}
 use Rattle.record_shapes.specs.Members.{members}
-use Rattle.archive_merge.proofs.Once.{number_itself, number_other}
+use Rattle.archive_merge.proofs.Once.{number_other}
 use Rattle.archive_merge.proofs.Merged.{which, renamed_gone, renamed_other}
+use Rattle.list_laws.proofs.Numbers.{same_self}
 
 zero_more : (x : ℕ) → 0 + x ≡ x
 zero_more x = omega arith
@@ -96,7 +97,7 @@ unfolding count one_if
 counted_once [] h = tt
 counted_once (x ∷ xs) h = (
   let here : one_if (x == x) + count x xs ≤ 1 = h x in
-      let one : one_if (x == x) ≡ 1 = ap one_if (number_itself x) in
+      let one : one_if (x == x) ≡ 1 = ap one_if (same_self x) in
       let none : count x xs ≡ 0 = omega arith in
       no_count x xs none,
   counted_once xs (λ n. let more : one_if (x == n) + count n xs ≤ 1 = h n in omega arith),
@@ -130,9 +131,9 @@ module _ (keep gone : ℕ) (apart : keep ≡ gone → ⊥) where
   one_keep x = elim (which keep gone x) as (λ _. one_if (f x == keep) ≡ one_if (x == keep) + one_if (x == gone)) [
     | inl e ↦
         let a : one_if (f x == keep) ≡ 1 = ap (λ y. one_if (y == keep)) (ap f e ∙ renamed_gone keep gone)
-        ∙ ap one_if (number_itself keep) in
+        ∙ ap one_if (same_self keep) in
         let b : one_if (x == keep) ≡ 0 = ap one_if (number_other x keep (λ q. apart (sym q ∙ e))) in
-        let d : one_if (x == gone) ≡ 1 = ap (λ y. one_if (y == gone)) e ∙ ap one_if (number_itself gone) in omega arith
+        let d : one_if (x == gone) ≡ 1 = ap (λ y. one_if (y == gone)) e ∙ ap one_if (same_self gone) in omega arith
     | inr other ↦
         let no : x ≡ gone → ⊥ = elim other as (λ _. x ≡ gone → ⊥) [ inl e ↦ e.0 | inr e ↦ e.0 ] in
         let a : one_if (f x == keep) ≡ one_if (x == keep) = ap (λ y. one_if (y == keep))
@@ -234,8 +235,6 @@ once_one k (c ∷ cs) = elim (c.person == k) as (λ b. (c.person == k) ≡ b
     ] refl
 
 -- ---- families
-partner : model.Partner → ℕ
-partner p = p.person
 
 persons_of : (f : ℕ → ℕ) (cs : List model.Child) → map person (map (child_with f) cs) ≡ map f (map person cs)
 persons_of f [] = refl

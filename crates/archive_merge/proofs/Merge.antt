@@ -80,13 +80,11 @@ use Rattle.archive_merge.specs.Merges.{
   slip_of,
   with_merge,
 }
-use Rattle.archive_merge.proofs.Lists.{each_to_map, each_to_flat, each_mapped}
-use Rattle.archive_state.proofs.Each.{each_more, each_both, each_zip}
+use Rattle.record_shapes.proofs.Each.{each_mapped, each_flat, each_under, each_more, each_both, each_zip}
 use Rattle.archive_merge.proofs.Merged.{at_gone, at_keep, at_other, which, alike_before}
-use Rattle.archive_merge.proofs.Once.{number_itself}
 use Rattle.archive_merge.proofs.Same.{all_fixed, record_same, once_in_same}
 use Rattle.archive_merge.proofs.Picking.{key, entries_rise}
-use Rattle.archive_state.proofs.Putting.{one_number, itself, put_cases, put_elsewhere}
+use Rattle.archive_state.proofs.Putting.{one_number, put_cases, put_elsewhere}
 use Rattle.archive_merge.proofs.Changing.{
   changes_rise,
   old_none,
@@ -98,13 +96,21 @@ use Rattle.archive_merge.proofs.Changing.{
   no_gone,
   each_found,
 }
-use Rattle.archive_state.proofs.Keeping.{slip_later, keeps_sound, number_later}
+use Rattle.archive_state.proofs.Keeping.{
+  slip_later,
+  keeps_sound,
+  number_later,
+  KeepsRules,
+  if_there,
+  person_alike,
+  stayed_at,
+}
 use Rattle.archive_state.specs.Slips.{Slip}
-use Rattle.archive_state.proofs.Keeping.{KeepsRules, keeps_sound, slip_later, if_there, person_alike, stayed_at}
 use Rattle.archive_merge.proofs.Joining.{merge_keeps, merge_path, was_entry}
 use Rattle.archive_merge.proofs.Keys.{WasEntry, keys_still}
 use Rattle.archive_merge.proofs.Part.{part_untaken, part_shape, part_room}
 use Rattle.archive_merge.proofs.PathsKept.{path_within}
+use Rattle.list_laws.proofs.Numbers.{same_self, itself}
 
 -- ---- a person who adds nothing
 null_list : {A : Type 0} (xs : List A) → is_empty xs ≡ true → xs ≡ []
@@ -155,7 +161,7 @@ module _ {X : Type 0} where
   all_found (e ∷ es) h = (
     ap (λ b. cond b (Some e.1) (find nat_cmp e.0 es)) (itself e.0),
     each_zip (λ d. e.0 < d.0) (λ d. find nat_cmp d.0 es ≡ Some d.1) (λ d. find nat_cmp d.0 (e ∷ es) ≡ Some d.1)
-        (entry_past e es) es (each_mapped (λ j. e.0 < j) key es h.0) (all_found es h.1),
+        (entry_past e es) es (each_under (λ j. e.0 < j) key es h.0) (all_found es h.1),
   )
 
   pub entries_there : (m : FinMap nat_cmp X) → EachOf (λ (d : ℕ × X). get m d.0 ≡ Some d.1) (entries m)
@@ -197,7 +203,7 @@ module _ (c : Content) (keep gone : ℕ) (k g : model.Person) (sound : IsSound c
       let b : (keep == keep && not (adds_nothing (get m gone))) ≡ false =
       (or_parts (keep == keep && not (adds_nothing (get m gone))) _ a).0 in
       let d : not (adds_nothing (get m gone)) ≡ false = ap (λ x. x && not (adds_nothing (get m gone)))
-      (sym (number_itself keep)) ∙ b in
+      (sym (same_self keep)) ∙ b in
       nothing_added g (ap adds_nothing (sym at_g) ∙ not-false (adds_nothing (get m gone)) d)
 
   not_named : (n : ℕ) (r : Record) → is_changed keep gone m n r ≡ false → is_among gone (links r) ≡ false
@@ -266,7 +272,7 @@ module _ (c : Content) (keep gone : ℕ) (k g : model.Person) (sound : IsSound c
 
   gone_changes : (r : Record) → is_changed keep gone m gone r ≡ true
   gone_changes r = ap (λ b. b || ((gone == keep && not (adds_nothing (get m gone))) || is_among gone (links r)))
-      (number_itself gone)
+      (same_self gone)
 
   old_gone : get o gone ≡ Some (kind.Person g)
   old_gone = old_there keep gone m gone (kind.Person g) at_g (gone_changes (kind.Person g))
@@ -353,7 +359,7 @@ module _ (c : Content) (keep gone : ℕ) (k g : model.Person) (sound : IsSound c
 
   names_of_new : (n : ℕ) (x : Option Record) → get after n ≡ x → EachOf (IsNumber (c.next + 1)) (new_names x)
   names_of_new n None e = tt
-  names_of_new n (Some r) e = each_to_map (IsNumber (c.next + 1)) (λ (l : Link). l.0) (links r)
+  names_of_new n (Some r) e = each_mapped (IsNumber (c.next + 1)) (λ (l : Link). l.0) (links r)
       (each_more (Stands after) (λ l. IsNumber (c.next + 1) l.0) new_number (links r) (keeps_after n r e).named)
 
   numbers_of : (n : ℕ) (r : Record) → get m n ≡ Some r → is_changed keep gone m n r ≡ true
@@ -361,7 +367,7 @@ module _ (c : Content) (keep gone : ℕ) (k g : model.Person) (sound : IsSound c
   numbers_of n r at t = (
     number_later c.next (c.next + 1) later n (sound.rules.numbered n r at),
     each_both (IsNumber (c.next + 1)) (names r) (new_names (merged keep gone (get m) n))
-        (each_to_map (IsNumber (c.next + 1)) (λ (l : Link). l.0) (links r)
+        (each_mapped (IsNumber (c.next + 1)) (λ (l : Link). l.0) (links r)
         (each_more (Stands m) (λ l. IsNumber (c.next + 1) l.0) a_number (links r) (sound.named n r at)))
         (names_of_new n (merged keep gone (get m) n) (made_merged n)),
   )
@@ -369,7 +375,7 @@ module _ (c : Content) (keep gone : ℕ) (k g : model.Person) (sound : IsSound c
   abbrev each_change : (Q : Change → Type 0)
       → ((n : ℕ) (r : Record) → get m n ≡ Some r → is_changed keep gone m n r ≡ true → Q (change_at keep gone m (n, r)))
       → EachOf Q (merge_changes keep gone m)
-  each_change Q h = each_to_map Q (change_at keep gone m) (filter (λ e. is_changed keep gone m e.0 e.1) (entries m))
+  each_change Q h = each_mapped Q (change_at keep gone m) (filter (λ e. is_changed keep gone m e.0 e.1) (entries m))
       (each_found keep gone m (λ e. Q (change_at keep gone m e)) h (entries m) (entries_there m))
 
   kept_old : MatchOption (get o keep) ((r : Record) → get o gone ≡ Some r → IsEmptyPerson r) IsPerson
@@ -394,7 +400,7 @@ module _ (c : Content) (keep gone : ℕ) (k g : model.Person) (sound : IsSound c
             number_later c.next (c.next + 1) later keep (sound.rules.numbered keep (kind.Person k) at_k),
             (
               number_later c.next (c.next + 1) later gone (sound.rules.numbered gone (kind.Person g) at_g),
-              each_to_flat (IsNumber (c.next + 1)) change_names (merge_changes keep gone m)
+              each_flat (IsNumber (c.next + 1)) change_names (merge_changes keep gone m)
                   (each_change (λ x. EachOf (IsNumber (c.next + 1)) (change_names x)) numbers_of),
             ),
           ),

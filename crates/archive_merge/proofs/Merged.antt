@@ -8,10 +8,11 @@ use Rattle.record_kinds.specs.declared.record.Record.TheVariants as kind
 use Rattle.archive_state.specs.Merging.{merged, merged_record, merged_person, joined_person, person_with, renamed}
 use Rattle.archive_state.proofs.Keeping.{IsAlike, alike_itself}
 use Rattle.archive_merge.proofs.Alike.{persons_alike, alike_merged}
-use Rattle.archive_merge.proofs.Once.{number_itself, number_other}
+use Rattle.archive_merge.proofs.Once.{number_other}
+use Rattle.list_laws.proofs.Numbers.{same_self}
 
 pub renamed_gone : (keep gone : ℕ) → renamed keep gone gone ≡ keep
-renamed_gone keep gone = ap (λ b. if b then keep else gone) (number_itself gone)
+renamed_gone keep gone = ap (λ b. if b then keep else gone) (same_self gone)
 
 pub renamed_other : (keep gone n : ℕ) → (n ≡ gone → ⊥) → renamed keep gone n ≡ n
 renamed_other keep gone n h = ap (λ b. if b then keep else n) (number_other n gone h)
@@ -23,12 +24,12 @@ module _ (keep gone : ℕ) (before : ℕ → Option Record) where
 
   pub at_gone : merged keep gone before gone ≡ None
   unfolding by
-  at_gone = ap (λ x. by x (gone == keep) gone) (number_itself gone)
+  at_gone = ap (λ x. by x (gone == keep) gone) (same_self gone)
 
   pub at_keep : (keep ≡ gone → ⊥) → merged keep gone before keep ≡ merged_person keep gone (before keep) (before gone)
   unfolding by
   at_keep apart = ap (λ x. by x (keep == keep) keep) (number_other keep gone apart) ∙ ap (λ y. by false y keep)
-      (number_itself keep)
+      (same_self keep)
 
   pub at_other : (n : ℕ) → (n ≡ gone → ⊥) → (n ≡ keep → ⊥) → merged keep gone before n ≡ option_map
       (merged_record keep gone) (before n)

@@ -28,26 +28,15 @@ use Rattle.std.proofs.lemmas.List.{drop_all}
 use Rattle.std.proofs.lemmas.Bool.Decides.{nat_tests}
 use Rattle.archive_merge.specs.Merges.{with_number}
 use Rattle.archive_merge.specs.Rest.{rest_of}
+use Rattle.list_laws.proofs.Numbers.{is_same, is_apart, not_less, is_less}
 
 one_step : (is_in : Bool) (i n d : ℕ) (s : List ℕ) → i < length s → rest_of is_in n (drop i s)
     ≡ rest_of is_in n (get_or s i d ∷ drop (i + 1) s)
 one_step is_in i n d s h = ap (rest_of is_in n)
     (drop-cons s i d h ∙ ap (λ k. get_or s i d ∷ drop k s) (sym (add-one i)))
 
-is_same : (n k : ℕ) → n ≡ k → (n == k) ≡ true
-is_same n k h = grind (arith, nat_tests)
-
-is_apart : (n k : ℕ) → n < k → (n == k) ≡ false
-is_apart n k h = grind (arith, nat_tests)
-
 is_above : (n k : ℕ) → k < n → (n == k) ≡ false
 is_above n k h = grind (arith, nat_tests)
-
-is_less : (n k : ℕ) → n < k → nat_lt n k ≡ true
-is_less n k h = grind (arith, nat_tests)
-
-not_less : (n k : ℕ) → k ≤ n → nat_lt n k ≡ false
-not_less n k h = grind (arith, nat_tests)
 
 abbrev branch : Bool → Bool → ℕ → ℕ → List ℕ → List ℕ
 branch a b n k ks = if a then k ∷ ks else (if b then n ∷ (k ∷ ks) else k ∷ with_number n ks)

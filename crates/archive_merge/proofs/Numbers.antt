@@ -13,10 +13,11 @@ use Rattle.archive_state.specs.declared.slip.Change.{Change}
 use Rattle.archive_merge.specs.Merges.{with_number, is_changed, adds_nothing, merge_changes, change_at, changed_numbers}
 use Rattle.std.proofs.lemmas.Bool.Decides.{nat_tests}
 use Rattle.std.proofs.lemmas.Bool.{lt-ltb}
-use Rattle.archive_state.proofs.Each.{each_all}
 use Rattle.archive_merge.proofs.Picking.{key, entries_rise}
 use Rattle.archive_state.proofs.Putting.{one_number}
-use Rattle.archive_merge.proofs.Once.{number_itself, number_other}
+use Rattle.archive_merge.proofs.Once.{number_other}
+use Rattle.record_shapes.proofs.Each.{each_all}
+use Rattle.list_laws.proofs.Numbers.{same_self}
 
 not_less : (a b : ℕ) → b < a → nat_lt a b ≡ false
 not_less a b h = grind (arith, nat_tests)
@@ -79,7 +80,7 @@ module _ {X : Type 0} where
             (sym same) a.0 in
             let rest : filter (λ e. (e.0 == n) || p e) es ≡ filter p es = same_found (λ e. (e.0 == n) || p e) p es
             (below_test n p es below) in
-            let here : (e.0 == n) ≡ true = ap (λ k. e.0 == k) same ∙ number_itself e.0 in
+            let here : (e.0 == n) ≡ true = ap (λ k. e.0 == k) same ∙ same_self e.0 in
             ap (λ b. map key (cond (b || p e) (e ∷ filter (λ e. (e.0 == n) || p e) es)
             (filter (λ e. (e.0 == n) || p e) es))) here
             ∙ ap (λ l. e.0 ∷ map key l) rest
@@ -87,7 +88,7 @@ module _ {X : Type 0} where
             (map key (cond b (e ∷ filter p es) (filter p es)))) [
               | true ↦ sym (ap (λ b. if b then e.0 ∷ map key (filter p es)
                   else (if nat_lt n e.0 then n ∷ (e.0 ∷ map key (filter p es)) else e.0 ∷ with_number n
-                  (map key (filter p es)))) (ap (λ k. k == e.0) same ∙ number_itself e.0))
+                  (map key (filter p es)))) (ap (λ k. k == e.0) same ∙ same_self e.0))
               | false ↦ ap (λ k. k ∷ map key (filter p es)) (sym same) ∙ sym (below_first n p es below)
             ]
         | false ↦ λ x y.

@@ -1,5 +1,5 @@
 -- The links of two persons that become one, and of a family whose two children become one.
-use Rattle.std.proofs.Common.{◌≡◌, ℕ, List, [], ◌∷◌, ◌++◌, Bool, true, false, refl, sym, subst, ◌∙◌, arith}
+use Rattle.std.proofs.Common.{◌≡◌, ℕ, List, [], ◌∷◌, ◌++◌, Bool, true, false, refl, sym, subst, ◌∙◌}
 use Rattle.std.specs.Prelude.{Option, Some, None, ◌==◌, if◌then◌else◌}
 use Rattle.std.specs.List.{flat_map}
 use Rattle.std.proofs.lemmas.Bool.{eqb-true}
@@ -30,11 +30,7 @@ use Rattle.archive_state.specs.Merging.{
   second_sex,
 }
 use Rattle.record_shapes.specs.Lists.{EachOf}
-use Rattle.archive_state.proofs.Each.{each_both, each_front, each_back}
-use Rattle.archive_merge.proofs.Lists.{each_flat, each_to_flat}
-
-pub number_itself : (a : ℕ) → (a == a) ≡ true
-number_itself a = grind (arith)
+use Rattle.record_shapes.proofs.Each.{each_of_flat, each_flat, each_both, each_front, each_back}
 
 pub number_other : (a b : ℕ) → (a ≡ b → ⊥) → (a == b) ≡ false
 number_other a b h = elim (a == b) as (λ x. (a == b) ≡ x → (a == b) ≡ false) [
@@ -194,9 +190,9 @@ module _ (P : Link → Type 0) where
       (flat_map child_links (once_child n x.children) ++ carried_links x.carried)
       (each_front P (flat_map partner_links x.partners) (flat_map child_links x.children ++ carried_links x.carried) h)
       (each_both P (flat_map child_links (once_child n x.children)) (carried_links x.carried)
-      (each_to_flat P child_links (once_child n x.children)
+      (each_flat P child_links (once_child n x.children)
       (children_into n x.children
-      (each_flat P child_links x.children
+      (each_of_flat P child_links x.children
       (each_front P (flat_map child_links x.children) (carried_links x.carried) rest))))
       (each_back P (flat_map child_links x.children) (carried_links x.carried) rest))
 
@@ -210,9 +206,9 @@ module _ (P : Link → Type 0) where
       (each_front P (flat_map partner_links x.partners)
       (flat_map child_links (once_child n x.children) ++ carried_links x.carried) h)
       (each_both P (flat_map child_links x.children) (carried_links x.carried)
-      (each_to_flat P child_links x.children
+      (each_flat P child_links x.children
       (children_out n x.children
-      (each_flat P child_links (once_child n x.children)
+      (each_of_flat P child_links (once_child n x.children)
       (each_front P (flat_map child_links (once_child n x.children)) (carried_links x.carried) rest))))
       (each_back P (flat_map child_links (once_child n x.children)) (carried_links x.carried) rest))
 

@@ -9,7 +9,8 @@ use Rattle.std.specs.Cmp.{ranked}
 use Rattle.std.specs.declared.cmp.Ordering.TheVariants.{Less}
 use Rattle.record_shapes.specs.Lists.{EachOf, Ascends}
 use Rattle.archive_state.proofs.Putting.{one_number}
-use Rattle.archive_state.proofs.Rising.{first_holds, rest_holds, less_is}
+use Rattle.archive_state.proofs.Rising.{less_is}
+use Rattle.list_laws.proofs.Booleans.{first_holds, rest_holds}
 
 module _ {X : Type 0} where
   abbrev pub key : ℕ × X → ℕ

@@ -35,7 +35,9 @@ use Rattle.archive_merge.proofs.Comparing.{now_is}
 use Rattle.archive_merge.proofs.Deciding.{changes_found}
 use Rattle.archive_merge.proofs.Exactness.{merge_is_exact, undo_is_exact}
 use Rattle.archive_merge.proofs.Once.{number_other}
-use Rattle.archive_merge.proofs.Stepping.{a_person, a_slip, needed, passed, the_next}
+use Rattle.archive_merge.proofs.Stepping.{a_slip, the_next}
+use Rattle.archive_looks.proofs.Found.{person_found, needed}
+use Rattle.commands.proofs.Chains.{both_answered}
 
 -- the changes of a merge, put together from what was found
 abbrev merge_of : ℕ → ℕ → ℕ → List Change → Changes
@@ -97,8 +99,8 @@ module _ (c : Content) (keep gone n : ℕ) (k g : model.Person) (at_k : person_a
       → made ≡ made_changes keep gone c n
 
   made_is : (made : Changes) → IsMade made → made ≡ made_changes keep gone c n
-  made_is made h = h (kind.Person k) (kind.Person g) (a_person (get c.records keep) k at_k)
-      (a_person (get c.records gone) g at_g) adds
+  made_is made h = h (kind.Person k) (kind.Person g) (person_found (get c.records keep) k at_k)
+      (person_found (get c.records gone) g at_g) adds
 
   next_is : c.next ≡ n
   next_is = (the_next c n room).0
@@ -119,8 +121,8 @@ module _ (c : Content) (keep gone n : ℕ) (k g : model.Person) (at_k : person_a
       → b ≡ adds_nothing (Some y) → made ≡ made_changes keep gone c n) → IfOk r (IsExact c)
   merge_exact (Ok made) h =
       subst (IsExact c) (sym (made_is made h ∙ ap (made_changes keep gone c) (sym next_is)))
-      (merge_is_exact c keep gone k g (a_person (get c.records keep) k at_k)
-      (a_person (get c.records gone) g at_g) apart)
+      (merge_is_exact c keep gone k g (person_found (get c.records keep) k at_k)
+      (person_found (get c.records gone) g at_g) apart)
   merge_exact (Err e) h = tt
 
 -- ---- an undoing
@@ -151,7 +153,7 @@ pub undo_exact : (c : Content) (n next : ℕ) (s kept : Slip) (check : Result (U
 undo_exact c n next s kept check changes found agrees is_ok is now e =
     let there : get c.slips n ≡ Some s = a_slip (get c.slips n) (get c.records n) s found in
     let may : may_undo c.records s ≡ Ok tt = agreed check (may_undo c.records s) tt is_ok agrees in
-    let first = passed (need (not s.is_undone) AlreadyUndone)
+    let first = both_answered (need (not s.is_undone) AlreadyUndone)
     (λ _. need (is_now c.records s.changes) ChangedSince) tt may in
     undo_is_exact c n s changes there
     (not-true s.is_undone (needed (not s.is_undone) AlreadyUndone first.0 first.1))

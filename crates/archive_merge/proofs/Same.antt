@@ -52,7 +52,7 @@ use Rattle.archive_state.specs.Merging.{
 }
 use Rattle.record_shapes.specs.Lists.{EachOf, IsOnce}
 use Rattle.archive_state.specs.Sound.{HasMembersOnce}
-use Rattle.archive_state.proofs.Each.{each_front, each_back}
+use Rattle.record_shapes.proofs.Each.{once_behind, each_front, each_back}
 
 module _ (f : ℕ → ℕ) where
   abbrev pub Fixed : Link → Type 0
@@ -219,13 +219,9 @@ once_same n (c ∷ cs) h =
       | false ↦ λ e. ap (λ l. c ∷ l) (once_same n cs h.1)
     ] refl
 
-once_back : (xs ys : List ℕ) → IsOnce (xs ++ ys) → IsOnce ys
-once_back [] ys h = h
-once_back (x ∷ xs) ys h = once_back xs ys h.1
-
 pub once_in_same : (n : ℕ) (r : Record) → HasMembersOnce r → once_in n r ≡ r
 once_in_same n (kind.Family x) h = ap (λ l. kind.Family (record x { children = l }))
-    (once_same n x.children (once_back (map (λ (p : model.Partner). p.person) x.partners) (map person x.children) h))
+    (once_same n x.children (once_behind (map (λ (p : model.Partner). p.person) x.partners) (map person x.children) h))
 once_in_same n (kind.Place x) h = refl
 once_in_same n (kind.Repo x) h = refl
 once_in_same n (kind.Source x) h = refl

@@ -1,5 +1,5 @@
 -- What accepted merges and undoings leave.
-use Rattle.std.proofs.Common.{◌≡◌, ℕ, ◌+◌, Bool, true, false, refl, sym, ap, ◌∙◌, ◌≤◌, subst, arith}
+use Rattle.std.proofs.Common.{◌≡◌, ℕ, ◌+◌, true, false, refl, sym, ap, ◌∙◌, ◌≤◌, subst, arith}
 use Rattle.std.specs.Prelude.{Option, Some, None, not, ◌==◌, nat_le, Result, Ok, Err, if◌then◌else◌}
 use Rattle.std.proofs.lemmas.Bool.Decides.{nat_tests}
 use Rattle.std.specs.List.{filter}
@@ -23,7 +23,7 @@ use Rattle.archive_state.specs.declared.slip.Change.{Change}
 use Rattle.archive_state.specs.Merging.{merged}
 use Rattle.archive_state.specs.Sound.{IsSound}
 use Rattle.commands.specs.Rows.{and_then}
-use Rattle.archive_looks.specs.Checks.{need, person_in, person_at, next_free}
+use Rattle.archive_looks.specs.Checks.{need, person_at, next_free}
 use Rattle.archive_merge.specs.Steps.{slip_in, slip_at, RowStep, merge_step, undo_step}
 use Rattle.archive_merge.specs.Comparing.{is_now}
 use Rattle.archive_merge.specs.Merges.{
@@ -36,37 +36,17 @@ use Rattle.archive_merge.specs.Merges.{
   with_merge,
   with_undo,
 }
-use Rattle.archive_merge.proofs.Lists.{each_to_map}
+use Rattle.record_shapes.proofs.Each.{each_mapped}
 use Rattle.archive_state.proofs.Putting.{put_here}
 use Rattle.archive_merge.proofs.Changing.{undone_merge, made_there, each_found}
 use Rattle.archive_merge.proofs.Merge.{entries_there, no_clashes, made_merged, merge_sound}
 use Rattle.archive_merge.proofs.Undo.{undo_sound}
 use Rattle.archive_merge.proofs.Comparing.{IsNow, now_is, is_now_new}
-
--- what stands behind a check that passed
-pub passed : {A B : Type 0} (x : Result A RefusalKind) (f : A → Result B RefusalKind) (b : B) → and_then x f ≡ Ok b
-    → (a : A) × (x ≡ Ok a) × (f a ≡ Ok b)
-passed (Ok a) f b e = (a, refl, e)
-passed (Err k) f b e = absurd cc
-
-pub needed : (t : Bool) (k : RefusalKind) (u : Unit {0}) → need t k ≡ Ok u → t ≡ true
-needed true k u e = refl
-needed false k u e = absurd cc
+use Rattle.archive_looks.proofs.Found.{person_found, needed}
+use Rattle.commands.proofs.Chains.{both_answered}
 
 within : (n : ℕ) → nat_le n 4_294_967_295 ≡ true → n ≤ 4294967295
 within n e = grind (arith, nat_tests)
-
-pub a_person : (o : Option Record) (p : model.Person) → person_in o ≡ Ok p → o ≡ Some (kind.Person p)
-a_person None p e = absurd cc
-a_person (Some (kind.Person q)) p e = let same : q ≡ p = cc in ap (λ x. Some (kind.Person x)) same
-a_person (Some (kind.Place q)) p e = absurd cc
-a_person (Some (kind.Repo q)) p e = absurd cc
-a_person (Some (kind.Source q)) p e = absurd cc
-a_person (Some (kind.Family q)) p e = absurd cc
-a_person (Some (kind.Citation q)) p e = absurd cc
-a_person (Some (kind.Event q)) p e = absurd cc
-a_person (Some (kind.Entry q)) p e = absurd cc
-a_person (Some (kind.Other q)) p e = absurd cc
 
 pub a_slip : (o : Option Slip) (r : Option Record) (s : Slip) → slip_in o r ≡ Ok s → o ≡ Some s
 a_slip (Some t) r s e = let same : t ≡ s = cc in ap Some same
@@ -103,11 +83,11 @@ merged_by c after keep gone a e =
     (need (not (is_clash keep gone c.records)) MergeWithinFamily) rest4 in
     let rest2 : model.Person → RowStep = λ _. and_then (need (not (keep == gone)) SamePerson) rest3 in
     let rest1 : model.Person → RowStep = λ _. and_then (person_at c gone) rest2 in
-    let h1 = passed (person_at c keep) rest1 (after, a) e in
-    let h2 = passed (person_at c gone) rest2 (after, a) h1.2 in
-    let h3 = passed (need (not (keep == gone)) SamePerson) rest3 (after, a) h2.2 in
-    let h4 = passed (need (not (is_clash keep gone c.records)) MergeWithinFamily) rest4 (after, a) h3.2 in
-    let h5 = passed (next_free c) rest5 (after, a) h4.2 in
+    let h1 = both_answered (person_at c keep) rest1 (after, a) e in
+    let h2 = both_answered (person_at c gone) rest2 (after, a) h1.2 in
+    let h3 = both_answered (need (not (keep == gone)) SamePerson) rest3 (after, a) h2.2 in
+    let h4 = both_answered (need (not (is_clash keep gone c.records)) MergeWithinFamily) rest4 (after, a) h3.2 in
+    let h5 = both_answered (next_free c) rest5 (after, a) h4.2 in
     let room = the_next c h5.0 h5.1 in
     let next : c.next ≡ h5.0 = room.0 in
     let both : ◌≡◌ {A = Content × Answer} (with_merge keep gone c (h5.0 + 1), record { first = h5.0; count = 1 })
@@ -115,8 +95,8 @@ merged_by c after keep gone a e =
     record {
       k = h1.0;
       g = h2.0;
-      at_k = a_person (get c.records keep) h1.0 h1.1;
-      at_g = a_person (get c.records gone) h2.0 h2.1;
+      at_k = person_found (get c.records keep) h1.0 h1.1;
+      at_g = person_found (get c.records gone) h2.0 h2.1;
       apart = eqb-false keep gone (not-true (keep == gone) (needed (not (keep == gone)) SamePerson h3.0 h3.1));
       free = not-true (is_clash keep gone c.records)
           (needed (not (is_clash keep gone c.records)) MergeWithinFamily h4.0 h4.1);
@@ -154,9 +134,9 @@ undone_by c after n a e =
     let rest2 : Slip → Unit {0} → RowStep = λ s _. and_then
     (need (is_now c.records s.changes) ChangedSince) (rest3 s) in
     let rest1 : Slip → RowStep = λ s. and_then (need (not s.is_undone) AlreadyUndone) (rest2 s) in
-    let h1 = passed (slip_at c n) rest1 (after, a) e in
-    let h2 = passed (need (not h1.0.is_undone) AlreadyUndone) (rest2 h1.0) (after, a) h1.2 in
-    let h3 = passed (need (is_now c.records h1.0.changes) ChangedSince) (rest3 h1.0) (after, a) h2.2 in
+    let h1 = both_answered (slip_at c n) rest1 (after, a) e in
+    let h2 = both_answered (need (not h1.0.is_undone) AlreadyUndone) (rest2 h1.0) (after, a) h1.2 in
+    let h3 = both_answered (need (is_now c.records h1.0.changes) ChangedSince) (rest3 h1.0) (after, a) h2.2 in
     let both : ◌≡◌ {A = Content × Answer} (with_undo n h1.0 c, record { first = 0; count = 0 }) (after, a) =
     let q = h3.2 in cc in
     record {
@@ -175,9 +155,9 @@ undone_answer c after n a e =
     let rest2 : Slip → Unit {0} → RowStep = λ s _. and_then
     (need (is_now c.records s.changes) ChangedSince) (rest3 s) in
     let rest1 : Slip → RowStep = λ s. and_then (need (not s.is_undone) AlreadyUndone) (rest2 s) in
-    let h1 = passed (slip_at c n) rest1 (after, a) e in
-    let h2 = passed (need (not h1.0.is_undone) AlreadyUndone) (rest2 h1.0) (after, a) h1.2 in
-    let h3 = passed (need (is_now c.records h1.0.changes) ChangedSince) (rest3 h1.0) (after, a) h2.2 in
+    let h1 = both_answered (slip_at c n) rest1 (after, a) e in
+    let h2 = both_answered (need (not h1.0.is_undone) AlreadyUndone) (rest2 h1.0) (after, a) h1.2 in
+    let h3 = both_answered (need (is_now c.records h1.0.changes) ChangedSince) (rest3 h1.0) (after, a) h2.2 in
     let both : ◌≡◌ {A = Content × Answer} (with_undo n h1.0 c, record { first = 0; count = 0 }) (after, a) =
     let q = h3.2 in cc in
     (sym (ap (λ (x : Content × Answer). x.1.first) both), sym (ap (λ (x : Content × Answer). x.1.count) both))
@@ -190,7 +170,7 @@ undone_sound c after n a sound e = let h : Undone c n after = undone_by c after 
 now_merged : (keep gone : ℕ) (m : Records) → IsNow (merged_records keep gone m) (merge_changes keep gone m)
 now_merged keep gone m =
     let Q : Change → Type 0 = λ x. get (merged_records keep gone m) x.number ≡ x.new in
-    each_to_map Q (change_at keep gone m) (filter (λ e. is_changed keep gone m e.0 e.1) (entries m))
+    each_mapped Q (change_at keep gone m) (filter (λ e. is_changed keep gone m e.0 e.1) (entries m))
     (each_found keep gone m (λ e. Q (change_at keep gone m e)) (λ n r at t. made_there keep gone m n r at t)
     (entries m) (entries_there m))
 

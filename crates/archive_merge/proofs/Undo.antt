@@ -29,7 +29,7 @@ use Rattle.archive_merge.proofs.Undoing.{
   undo_path,
   was_entry,
 }
-use Rattle.archive_merge.proofs.Untaken.{through}
+use Rattle.renumbered_records.proofs.Untaken.{through}
 
 module _ (c : Content) (n : ℕ) (s : Slip) (sound : IsSound c) (at : get c.slips n ≡ Some s)
     (now : IsNow c.records s.changes) where

@@ -110,15 +110,14 @@ use Rattle.archive_state.specs.Sound.{
   place_of,
 }
 use Rattle.archive_state.proofs.Changing.{cases_of}
-use Rattle.archive_state.proofs.Each.{each_more, each_all, each_front, each_back}
 use Rattle.archive_state.proofs.Keeping.{IsAlike, alike_itself, StaysAlike, Stays, KeepsRules, stands_as, there_is}
 use Rattle.archive_state.proofs.Knowing.{AgreeAt, untaken_same, entry_same}
 use Rattle.archive_state.proofs.Known.{path_known, path_same}
 use Rattle.archive_merge.specs.Merges.{over}
 use Rattle.archive_merge.proofs.Alike.{alike_back, persons_alike}
-use Rattle.archive_merge.proofs.EntryShapes.{no_entry_back}
+use Rattle.renumbered_records.proofs.Entries.{no_entry_back}
 use Rattle.archive_merge.proofs.Keys.{WasEntry}
-use Rattle.archive_merge.proofs.Lists.{each_mapped}
+use Rattle.record_shapes.proofs.Each.{each_under, each_more, each_all, each_front, each_back}
 use Rattle.archive_merge.proofs.Merged.{
   renamed_gone,
   renamed_other,
@@ -131,8 +130,8 @@ use Rattle.archive_merge.proofs.Merged.{
 }
 use Rattle.archive_merge.proofs.Once.{joined_links, once_out}
 use Rattle.archive_merge.proofs.PathsKept.{no_person_path, either_none, no_place_person, no_source_person}
-use Rattle.archive_merge.proofs.Renaming.{moved, links_moved}
-use Rattle.archive_merge.proofs.Untaken.{through, by_tree, person_by, untaken_back}
+use Rattle.renumbered_records.proofs.Links.{moved, links_moved}
+use Rattle.renumbered_records.proofs.Untaken.{through, by_tree, person_by, untaken_back}
 use Rattle.archive_merge.proofs.Part.{off}
 
 -- a person, as a record
@@ -289,7 +288,7 @@ module _ (next number : ℕ) (s : Slip) (slip : IsSoundSlip next number s) where
     Named l = Stands m (moved f l)
 
     from_new : (r : Record) → EachOf (Stands m) (links (record_with f r)) → EachOf Named (links r)
-    from_new r h = each_mapped (Stands m) (moved f) (links r) (subst (EachOf (Stands m)) (links_moved f r) h)
+    from_new r h = each_under (Stands m) (moved f) (links r) (subst (EachOf (Stands m)) (links_moved f r) h)
 
     -- ---- the two persons, as one
     module _ (k : model.Person) (at_k : get o s.keep ≡ Some (kind.Person k)) where

@@ -38,8 +38,8 @@ use Rattle.archive_state.proofs.Putting.{put_cases, put_elsewhere}
 use Rattle.archive_merge.proofs.Comparing.{IsNow}
 use Rattle.archive_merge.proofs.Changing.{made_none}
 use Rattle.archive_merge.proofs.Merge.{entries_there}
-use Rattle.archive_merge.proofs.Once.{number_itself}
 use Rattle.archive_merge.proofs.Stepping.{Merged, merged_by, Undone, undone_by}
+use Rattle.list_laws.proofs.Numbers.{same_self}
 
 abbrev takes : ℕ → Change → Bool
 takes n x = x.number == n && is_none x.new
@@ -84,7 +84,7 @@ merge_keeps_used c after keep gone n a e (below, none, undone) =
 
 taken_at : (n : ℕ) (c : Change) → c.number ≡ n → c.new ≡ None → takes n c ≡ true
 taken_at n c at new = ap (λ k. k == n && is_none c.new) at ∙ ap (λ o. n == n && is_none o) new
-    ∙ ap (λ b. b && true) (number_itself n)
+    ∙ ap (λ b. b && true) (same_self n)
 
 -- what is put back leaves a number alone that has no record now, where its record was not taken away
 left_alone : (m : Records) (n : ℕ) (cs : List Change) (x : Records) → get m n ≡ None → IsNow m cs

@@ -23,7 +23,7 @@ use Rattle.std.proofs.Common.{
   arith,
 }
 use Rattle.std.specs.Prelude.{Option, Some, None, option_map, ◌==◌, if◌then◌else◌}
-use Rattle.std.specs.FinMap.{get, insert, remove, get-remove}
+use Rattle.std.specs.FinMap.{get, remove, get-remove}
 use Rattle.std.specs.Ordering.{nat_cmp, eq_by_cmp}
 use Rattle.std.specs.Cmp.{nat_cmp_total}
 use Rattle.std.proofs.lemmas.Bool.{or_parts, eqb-false}
@@ -34,15 +34,12 @@ use Rattle.record_links.specs.Links.{Link, a_place, links, field_links, carried_
 use Rattle.record_shapes.specs.Fields.{path_below}
 use Rattle.record_shapes.specs.Lists.{EachOf}
 use Rattle.record_shapes.specs.Paths.{IsWithinLimits}
-use Rattle.archive_state.specs.Applied.{with_puts}
 use Rattle.archive_state.specs.Content.{Content, Records}
-use Rattle.archive_state.specs.declared.changes.Numbered.{Numbered}
 use Rattle.archive_state.specs.Entries.{IsEntryAt}
 use Rattle.archive_state.specs.Known.{path_under, path_with, path_by, path_of}
 use Rattle.archive_state.specs.Paths.{HasPath}
 use Rattle.archive_state.specs.Sound.{EachIn, Stands, IsPerson, IsSound}
 use Rattle.archive_state.proofs.Climbing.{stands_there}
-use Rattle.archive_state.proofs.Each.{each_more, each_zip, each_front}
 use Rattle.archive_state.proofs.Keeping.{
   alike_itself,
   StaysAlike,
@@ -57,7 +54,9 @@ use Rattle.archive_state.proofs.Keeping.{
   stayed_at,
 }
 use Rattle.archive_state.proofs.Known.{path_known}
-use Rattle.archive_state.proofs.Putting.{one_number, itself, put_elsewhere}
+use Rattle.archive_state.proofs.Putting.{one_number}
+use Rattle.record_shapes.proofs.Each.{each_more, each_zip, each_front}
+use Rattle.list_laws.proofs.Numbers.{itself}
 
 -- ---- paths in a part of the records
 -- all records of the part are there, and what they name is in the part
@@ -178,13 +177,6 @@ more_keeps c after sound grows =
           ]);
       free = λ n s e. ap (λ x. get x s.gone) grows.slips ∙ sound.free n s (ap (λ x. get x n) (sym grows.slips) ∙ e);
     })
-
--- what stood there still stands there when records are put at numbers that had none
-elsewhere : (puts : List Numbered) (m : Records) (n : ℕ) → EachOf (λ (p : Numbered). n ≡ p.number → ⊥) puts
-    → get (with_puts m puts) n ≡ get m n
-elsewhere [] m n other = refl
-elsewhere (p ∷ puts) m n other = elsewhere puts (insert m p.number p.«record») n other.1
-    ∙ put_elsewhere m p.number p.«record» n other.0
 
 -- ---- a record less
 -- what is there without a number, was there

@@ -29,13 +29,11 @@ use Rattle.record_kinds.specs.declared.record.Record.TheVariants as kind
 use Rattle.archive_state.specs.Content.{Records}
 use Rattle.record_shapes.specs.Paths.{joined}
 use Rattle.archive_state.specs.Paths.{IsPlaceAt, Climbs, HasPath}
+use Rattle.list_laws.proofs.Booleans.{never}
 
 no_length : (xs : List ℕ) → length xs ≡ 0 → xs ≡ []
 no_length [] e = refl
 no_length (x ∷ xs) e = absurd (omega arith)
-
-pub same_false : IsTrue false → ⊥
-same_false t = cc
 
 -- one place has one record
 one_place : (m : Records) (n : ℕ) (p q : model.Place) → IsPlaceAt m n p → IsPlaceAt m n q → p ≡ q
@@ -87,7 +85,7 @@ no_place m n path none_at ((name ∷ (above ∷ names)), (q, found, named, up), 
 -- ---- whether it has the path, case by case
 pub none_iff : (m : Records) (n : ℕ) (path : List ℕ) → ((p : model.Place) → ¬ (IsPlaceAt m n p))
     → IsTrue false ↔ HasPath m n path
-none_iff m n path none_at = (λ t. absurd (same_false t), λ h. absurd (no_place m n path none_at h))
+none_iff m n path none_at = (λ t. absurd (never t), λ h. absurd (no_place m n path none_at h))
 
 -- a path begins with the place's name
 front : (m : Records) (n : ℕ) (name : List ℕ) (parent : Option ℕ) (path : List ℕ) → Goes m n name parent path
@@ -98,7 +96,7 @@ front m n name (Some q) path (less, (rest, e, h)) = (codes ", " ++ rest, e)
 pub other_name_iff : (m : Records) (n : ℕ) (p : model.Place) (path : List ℕ) → IsPlaceAt m n p
     → ((rest : List ℕ) → path ≢ p.name ++ rest) → IsTrue false ↔ HasPath m n path
 other_name_iff m n p path at apart = (
-  λ t. absurd (same_false t),
+  λ t. absurd (never t),
   λ h. let f = front m n p.name p.parent path (path_goes m n p path at h) in
       absurd (apart f.0 f.1),
 )
@@ -114,7 +112,7 @@ alone_iff m n p path rest b at e none empty = (
 pub above_iff : (m : Records) (n q : ℕ) (p : model.Place) (path : List ℕ) → IsPlaceAt m n p → p.parent ≡ Some q → n ≤ q
     → IsTrue false ↔ HasPath m n path
 above_iff m n q p path at is above = (
-  λ t. absurd (same_false t),
+  λ t. absurd (never t),
   λ h. let g : Goes m n p.name (Some q) path = rw is at (path_goes m n p path at h) in
       let less : q < n = g.0 in
       absurd (omega arith),
@@ -124,7 +122,7 @@ pub other_end_iff : (m : Records) (n q : ℕ) (p : model.Place) (path rest : Lis
     → path ≡ p.name ++ rest → p.parent ≡ Some q → ((above : List ℕ) → rest ≢ codes ", " ++ above)
     → IsTrue false ↔ HasPath m n path
 other_end_iff m n q p path rest at e is apart = (
-  λ t. absurd (same_false t),
+  λ t. absurd (never t),
   λ h. let g : Goes m n p.name (Some q) path = rw is at (path_goes m n p path at h) in
       absurd (apart g.1.0 (append_cancel_left p.name rest (codes ", " ++ g.1.0) (sym e ∙ g.1.1))),
 )

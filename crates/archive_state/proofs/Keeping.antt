@@ -80,9 +80,9 @@ use Rattle.archive_state.specs.Sound.{
   change_names,
   old_records,
 }
-use Rattle.archive_state.proofs.Each.{each_more, each_zip, each_front, each_back}
 use Rattle.archive_state.proofs.Known.{path_known}
 use Rattle.archive_state.proofs.Knowing.{AgreeAt, untaken_same, entry_same}
+use Rattle.record_shapes.proofs.Each.{each_more, each_zip, each_front, each_back}
 
 -- ---- what stays
 -- a record of the kind of another: it is wanted where the other is, has events of the same tags, is written with the

@@ -57,7 +57,7 @@ use Rattle.record_shapes.specs.Untaken.{
   event_leaves,
   HasUntaken,
 }
-use Rattle.archive_state.proofs.Each.{each_front, each_back}
+use Rattle.record_shapes.proofs.Each.{each_front, each_back}
 
 -- both know the same tag and the same path of a number
 pub record AgreeAt (a b : Known) (n : ℕ) : Type 0 where

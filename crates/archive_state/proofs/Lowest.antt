@@ -11,7 +11,8 @@ use Rattle.record_kinds.specs.declared.record.Record.{Record}
 use Rattle.archive_state.specs.Content.{Records}
 use Rattle.archive_state.specs.Paths.{IsLowest}
 use Rattle.archive_state.proofs.Entries.{sorted_of}
-use Rattle.archive_state.proofs.Rising.{first_holds, rest_holds, less_is, not_found}
+use Rattle.archive_state.proofs.Rising.{less_is, not_found}
+use Rattle.list_laws.proofs.Booleans.{first_holds, rest_holds}
 
 -- what is below one that is below all is below all
 below_below : {X : Type 0} (k x : ℕ) (es : List (ℕ × X)) → nat_cmp k x ≡ Less → T (below_all nat_cmp x es)

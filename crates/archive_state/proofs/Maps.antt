@@ -1,7 +1,6 @@
 -- A `BTreeMap` under numbers, seen as the finite map of its entries.
 use Rattle.std.proofs.Common.{Bool, true, false, ◌≡◌, ℕ, List, [], ◌∷◌, cond, refl, sym, ap, ◌∙◌}
-use Rattle.std.specs.Prelude.{Option, Some, None, Result, Ok, Err}
-use Rattle.std.specs.Result.{OnErr}
+use Rattle.std.specs.Prelude.{Option, Some, None}
 use Rattle.std.specs.Ordering.{nat_cmp, eq_by_cmp, is_eq, match_ordering}
 use Rattle.std.specs.declared.cmp.Ordering.{Ordering}
 use Rattle.std.specs.declared.cmp.Ordering.TheVariants.{Less, Equal, Greater}
@@ -67,11 +66,6 @@ module _ {Z : Type 0} where
   pub get_text : (es : List (String Z × Receipt)) (q : List ℕ) → get (receipts_of es) q ≡ lookup
       (is_at (λ k. slice_cmp nat_cmp q (string_bytes k))) es
   get_text es q = get-from_entries nat_list_cmp_total (map (λ e. (string_bytes e.0, e.1)) es) q ∙ find_text es q
-
--- what holds, holds where there is an error
-pub on_err : {A E P : Type 0} (r : Result A E) → P → OnErr r P
-on_err (Ok a) p = tt
-on_err (Err e) p = p
 
 text_antisymmetric : IsAntisymmetric (slice_cmp nat_cmp)
 text_antisymmetric = slice_cmp-IsAntisymmetric nat_cmp-IsAntisymmetric

@@ -12,9 +12,6 @@ use Rattle.std.proofs.Common.{
   length,
   map,
   true,
-  false,
-  ◌==◌,
-  cond,
   refl,
   sym,
   ap,
@@ -23,43 +20,13 @@ use Rattle.std.proofs.Common.{
   arith,
 }
 use Rattle.std.specs.Prelude.{codes}
-use Rattle.std.specs.List.{onto_first}
 use Rattle.std.proofs.lemmas.Bool.Decides.{nat_tests}
 use Rattle.std.proofs.lemmas.List.{length-append, map-append, append_assoc}
 use Rattle.record_shapes.specs.Paths.{joined, trimmed, parts, normal, IsWithinLimits, is_within_limits}
 use Rattle.record_shapes.specs.Fields.{path_below}
+use Rattle.record_shapes.proofs.PathTexts.{parts_both, parts_behind_space, parts_some}
 
 -- ---- what is cut at commas
-pub parts_some : (xs : List ℕ) → (y : List ℕ) × (ys : List (List ℕ)) × (parts xs ≡ y ∷ ys)
-parts_some [] = ([], [], refl)
-parts_some (x ∷ xs) = elim (x == 44) as (λ b. (y : List ℕ) × (ys : List (List ℕ))
-    × (cond b ([] ∷ parts xs) (onto_first x (parts xs)) ≡ y ∷ ys)) [
-      | true ↦ ([], parts xs, refl)
-      | false ↦ let s = parts_some xs in (x ∷ s.0, s.1, ap (onto_first x) s.2)
-    ]
-
-pub onto_both : (x : ℕ) (xs ys : List (List ℕ)) (y : List ℕ) (more : List (List ℕ)) → xs ≡ y ∷ more
-    → onto_first x (xs ++ ys) ≡ onto_first x xs ++ ys
-onto_both x xs ys y more e = ap (λ l. onto_first x (l ++ ys)) e ∙ sym (ap (λ l. onto_first x l ++ ys) e)
-
-pub parts_both : (xs ys : List ℕ) → parts (xs ++ (44 ∷ ys)) ≡ parts xs ++ parts ys
-parts_both [] ys = refl
-parts_both (x ∷ xs) ys =
-    let s = parts_some xs in
-    ap (λ l. cond (x == 44) ([] ∷ l) (onto_first x l)) (parts_both xs ys)
-    ∙ elim (x == 44) as (λ b. cond b ([] ∷ (parts xs ++ parts ys)) (onto_first x (parts xs ++ parts ys))
-    ≡ cond b ([] ∷ parts xs) (onto_first x (parts xs)) ++ parts ys) [
-      | true ↦ refl
-      | false ↦ onto_both x (parts xs) (parts ys) s.0 s.1 s.2
-    ]
-
--- a space in front is none of a part
-pub spaced : (ys : List (List ℕ)) (y : List ℕ) (more : List (List ℕ)) → ys ≡ y ∷ more
-    → map trimmed (onto_first 32 ys) ≡ map trimmed ys
-spaced ys y more e = ap (λ l. map trimmed (onto_first 32 l)) e ∙ sym (ap (map trimmed) e)
-
-parts_behind_space : (ys : List ℕ) → map trimmed (parts (32 ∷ ys)) ≡ map trimmed (parts ys)
-parts_behind_space ys = let s = parts_some ys in spaced (parts ys) s.0 s.1 s.2
 
 -- ---- joined again
 joined_more : (x : List ℕ) (xs : List (List ℕ)) (y : List ℕ) (ys : List (List ℕ))

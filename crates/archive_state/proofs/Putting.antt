@@ -3,17 +3,11 @@ use Rattle.std.proofs.Common.{◌≡◌, ◌⊎◌, ℕ, Bool, true, false, refl
 use Rattle.std.specs.Prelude.{Option, Some}
 use Rattle.std.specs.FinMap.{FinMap, get, insert, get-insert, nat_cmp-IsAntisymmetric}
 use Rattle.std.specs.Ordering.{nat_cmp, eq_by_cmp}
-use Rattle.std.specs.Cmp.{nat_cmp_total, eq_by_cmp_equiv, Equal-is}
+use Rattle.std.specs.Cmp.{nat_cmp_total, Equal-is}
+use Rattle.list_laws.proofs.Numbers.{itself, other_key}
 
 pub one_number : (a b : ℕ) → eq_by_cmp nat_cmp a b ≡ true → a ≡ b
 one_number a b e = nat_cmp-IsAntisymmetric a b ((Equal-is (nat_cmp a b)).0 e)
-
-pub itself : (n : ℕ) → eq_by_cmp nat_cmp n n ≡ true
-itself n = (eq_by_cmp_equiv nat_cmp_total).refl n
-
-not_one : (n k : ℕ) → eq_by_cmp nat_cmp n k ≡ false → n ≡ k → ⊥
-not_one n k e same = let both : true ≡ false = sym (itself k) ∙ (ap (λ x. eq_by_cmp nat_cmp x k) (sym same) ∙ e) in
-    absurd cc
 
 module _ {X : Type 0} where
   found : (m : FinMap nat_cmp X) (k : ℕ) (v : X) (n : ℕ) (b : Bool) → eq_by_cmp nat_cmp n k ≡ b
@@ -27,7 +21,7 @@ module _ {X : Type 0} where
       elim (eq_by_cmp nat_cmp n k) as (λ b. eq_by_cmp nat_cmp n k ≡ b → ((n ≡ k) × (Some v ≡ o))
       ⊎ ((n ≡ k → ⊥) × (get m n ≡ o))) [
         | true ↦ λ q. inl (one_number n k q, sym (found m k v n true q) ∙ e)
-        | false ↦ λ q. inr (not_one n k q, sym (found m k v n false q) ∙ e)
+        | false ↦ λ q. inr (other_key n k q, sym (found m k v n false q) ∙ e)
       ] refl
 
   pub put_here : (m : FinMap nat_cmp X) (n : ℕ) (v : X) → get (insert m n v) n ≡ Some v

@@ -80,7 +80,7 @@ use Rattle.archive_state.specs.Sound.{IsSound, Stands}
 use Rattle.archive_state.proofs.Climbing.{goes_path}
 use Rattle.archive_state.proofs.Known.{path_known}
 use Rattle.archive_state.proofs.PathTexts.{normal_below, limits_are, limits_of_name}
-use Rattle.archive_state.proofs.Each.{each_front, each_back, each_both, each_more}
+use Rattle.record_shapes.proofs.Each.{each_front, each_back, each_both, each_more}
 
 -- ---- what a link names has the tag of its kind
 source_tag : (o : Option Record) → option_map (is_wanted a_source) o ≡ Some true

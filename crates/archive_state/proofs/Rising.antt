@@ -1,19 +1,12 @@
 -- Maps with numbers for keys, as lists of entries that rise: what is below the first is none of them.
-use Rattle.std.proofs.Common.{◌≡◌, ℕ, List, [], ◌∷◌, refl, ap, ◌∙◌, cond, Bool, true, false}
-use Rattle.std.specs.Prelude.{Some, None, T, ◌&&◌}
+use Rattle.std.proofs.Common.{◌≡◌, ℕ, List, [], ◌∷◌, refl, ap, ◌∙◌, cond}
+use Rattle.std.specs.Prelude.{Some, None, T}
 use Rattle.std.specs.Ordering.{nat_cmp, is_lt, is_eq}
 use Rattle.std.specs.declared.cmp.Ordering.{Ordering}
 use Rattle.std.specs.declared.cmp.Ordering.TheVariants.{Less, Equal, Greater}
 use Rattle.std.specs.FinMap.{find}
 use Rattle.std.specs.FinMap.Entries.{below_all}
-
-pub first_holds : (a b : Bool) → T (a && b) → T a
-first_holds true b p = tt
-first_holds false b p = absurd p
-
-pub rest_holds : (a b : Bool) → T (a && b) → T b
-rest_holds true b p = p
-rest_holds false b p = absurd p
+use Rattle.list_laws.proofs.Booleans.{first_holds, rest_holds}
 
 pub less_is : (o : Ordering) → T (is_lt o) → o ≡ Less
 less_is Less p = refl

@@ -47,7 +47,6 @@ use Rattle.archive_state.specs.Content.{Content}
 use Rattle.archive_state.specs.Entries.{IsEntryAt}
 use Rattle.archive_state.specs.Sound.{HasSaidPlace, HasSoundMentions, IsSound, Stands}
 use Rattle.archive_state.specs.Texts.{own_texts, date_texts, mention_texts}
-use Rattle.archive_state.proofs.Each.{each_both, each_front, each_back}
 use Rattle.archive_state.proofs.Keeping.{IsAlike}
 use Rattle.archive_view.specs.Looks.{Agrees, is_stop}
 use Rattle.commands.specs.Rows.{and_then}
@@ -67,6 +66,7 @@ use Rattle.archive_steps.proofs.Same.{put_same}
 use Rattle.archive_steps.proofs.Worded.{maybe_date, text_found}
 use Rattle.archive_merge.proofs.Alike.{entries_alike}
 use Rattle.commands.proofs.Chains.{both_answered}
+use Rattle.record_shapes.proofs.Each.{each_both, each_front, each_back}
 
 -- an entry at a number
 pub entry_fits : (c : Content) (n : ℕ) (e : model.Entry)

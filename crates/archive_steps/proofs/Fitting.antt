@@ -94,10 +94,13 @@ use Rattle.archive_steps.specs.Steps.{
 }
 use Rattle.archive_looks.specs.declared.looks.Owner.{Owner}
 use Rattle.archive_looks.specs.declared.looks.Owner.TheVariants as owner
-use Rattle.archive_state.proofs.Each.{each_both, each_front, each_back}
 use Rattle.archive_state.proofs.Keeping.{IsAlike}
 use Rattle.archive_steps.proofs.Keeping.{IsFit}
 use Rattle.archive_merge.proofs.Alike.{events_alike, families_alike, persons_alike}
+use Rattle.list_laws.proofs.Numbers.{other_way}
+use Rattle.list_laws.proofs.Lists.{any_mapped}
+use Rattle.record_shapes.proofs.Each.{more_leave, each_both, each_front, each_back}
+use Rattle.record_shapes.proofs.Limits.{none_within}
 
 -- ---- lists
 -- one more that gives nothing
@@ -116,10 +119,6 @@ each_push P f xs x ys h k =
 
 map_one : {X Y : Type 0} (f : X → Y) (xs : List X) (x : X) → map f xs ++ (f x ∷ []) ≡ map f (xs ++ (x ∷ []))
 map_one f xs x = sym (map_push f xs x)
-
-any_of : {X Y : Type 0} (p : Y → Bool) (f : X → Y) (xs : List X) → list_any p (map f xs) ≡ list_any (λ x. p (f x)) xs
-any_of p f [] = refl
-any_of p f (x ∷ xs) = ap (λ b. p (f x) || b) (any_of p f xs)
 
 -- ---- what stands at a number
 -- a sound archive has nothing at its next number
@@ -150,17 +149,6 @@ pub anew : (c : Content) (new : Record) → IsSound c → (old : Record) → get
 anew c new sound old e = absurd (none_at_next c sound old e)
 
 -- ---- carried lines
--- what a field leaves, it leaves where the record has more
-untaken_more : (field : Tree Line → Field) (some more : Field → Bool) → ((x : Field) → some x ≡ true → more x ≡ true)
-    → (ts : Lines) → AreUntaken field some ts → AreUntaken field more ts
-untaken_more field some more h [] u = refl
-untaken_more field some more h (t ∷ ts) u =
-    let both : (some (field t) ≡ true) × (list_all (λ v. some (field v)) ts ≡ true) = and_parts (some (field t))
-    (list_all (λ v. some (field v)) ts) u in
-    λ i. h (field t) both.0 i && untaken_more field some more h ts both.1 i
-
-pub none_within : (n : ℕ) → AreWithin n []
-none_within n = omega arith
 
 -- ---- texts
 -- those of a record in the place of one with the same carried lines
@@ -223,7 +211,7 @@ person_over c n p q sound at linked carry written own sex names =
     (subst (λ l. EachOf IsOfRecords (flat_map tags l)) (sym carry) (sound.rules.tags n (kind.Person p) at))
     (still_written c n (kind.Person p) (kind.Person q) sound at carry written)
     (subst (λ (l : Lines). AreUntaken field (person_leaves q) l) (sym own)
-    (untaken_more field (person_leaves p) (person_leaves q) more p.carried
+    (more_leave field (person_leaves p) (person_leaves q) more p.carried
     (sound.rules.untaken n (kind.Person p) at)))
     (names, subst (λ (l : Lines). AreWithin 98 l) (sym own) (sound.rules.levels n (kind.Person p) at).1)
   where
@@ -284,9 +272,6 @@ PersonAt c (Some n) = Stands c.records (n, a_person)
 abbrev family_of : Option ℕ → Option ℕ → model.Family
 family_of husband wife = record { partners = plain_partners husband wife; children = []; carried = [] }
 
-equal_back : (a b : ℕ) (x : Bool) → (a == b) ≡ x → (b == a) ≡ x
-equal_back a b x e = grind (arith)
-
 partners_stand : (c : Content) (husband wife : Option ℕ) → PersonAt c husband → PersonAt c wife
     → EachOf (Stands c.records) (links (kind.Family (family_of husband wife)))
 partners_stand c None None h w = tt
@@ -298,7 +283,7 @@ partners_once : (husband wife : Option ℕ) → is_same husband wife ≡ false �
 partners_once None None e = tt
 partners_once (Some a) None e = (refl, tt)
 partners_once None (Some b) e = (refl, tt)
-partners_once (Some a) (Some b) e = (ap (λ x. x || false) (equal_back a b false e), (refl, tt))
+partners_once (Some a) (Some b) e = (ap (λ x. x || false) (other_way a b false e), (refl, tt))
 
 partners_carry : (husband wife : Option ℕ) → carried (kind.Family (family_of husband wife)) ≡ []
 partners_carry None None = refl
@@ -330,7 +315,7 @@ once_more : (ns : List ℕ) (n : ℕ) → IsOnce ns → list_any (λ m. m == n) 
 once_more [] n h e = (refl, tt)
 once_more (m ∷ ns) n h e = (
   list_any-append (λ k. k == m) ns (n ∷ []) ∙ ap (λ b. b || ((n == m) || false)) h.0 ∙ ap (λ b. b || false)
-      (equal_back m n false (or_parts (m == n) (list_any (λ k. k == n) ns) e).0),
+      (other_way m n false (or_parts (m == n) (list_any (λ k. k == n) ns) e).0),
   once_more ns n h.1 (or_parts (m == n) (list_any (λ k. k == n) ns) e).1,
 )
 
@@ -346,8 +331,8 @@ no_member f n e =
     list_any-append (λ m. m == n) (map (λ (p : model.Partner). p.person) f.partners)
     (map (λ (c : model.Child). c.person) f.children)
     ∙ ap (λ b. b || list_any (λ m. m == n) (map (λ (c : model.Child). c.person) f.children))
-    (any_of (λ m. m == n) (λ (p : model.Partner). p.person) f.partners)
-    ∙ ap (λ b. is_partner n f || b) (any_of (λ m. m == n) (λ (c : model.Child). c.person) f.children)
+    (any_mapped (λ m. m == n) (λ (p : model.Partner). p.person) f.partners)
+    ∙ ap (λ b. is_partner n f || b) (any_mapped (λ m. m == n) (λ (c : model.Child). c.person) f.children)
     ∙ e
 
 pub add_child_fits : (c : Content) (n : ℕ) (f : model.Family) (person : ℕ) → IsSound c
@@ -546,7 +531,7 @@ event_over c n e f sound at owner tag named carry written place own date put too
     (sound.rules.events n (kind.Event e) at))) (
       took,
       subst (λ (l : Lines). AreUntaken field (event_leaves f) l) (sym own)
-          (untaken_more field (event_leaves e) (event_leaves f) more e.carried
+          (more_leave field (event_leaves e) (event_leaves f) more e.carried
           (sound.rules.untaken n (kind.Event e) at).1),
     )
     (placed_room, took_room, subst (λ (l : Lines). AreWithin 97 l) (sym own) (sound.rules.levels n (kind.Event e) at).2)

@@ -33,7 +33,6 @@ use Rattle.archive_state.specs.Sound.{
   IsPerson,
   IsSound,
 }
-use Rattle.archive_state.proofs.Each.{each_all}
 use Rattle.archive_state.proofs.Keeping.{
   IsAlike,
   alike_itself,
@@ -54,6 +53,7 @@ use Rattle.archive_state.proofs.Changing.{cases_of}
 use Rattle.archive_state.specs.Slips.{Slip}
 use Rattle.archive_state.proofs.Known.{path_known, path_same}
 use Rattle.archive_state.proofs.Putting.{put_cases, put_elsewhere}
+use Rattle.record_shapes.proofs.Each.{each_all}
 
 -- ---- a record that may be put at a number
 pub record IsFit (c : Content) (n : ℕ) (r : Record) : Type 0 where

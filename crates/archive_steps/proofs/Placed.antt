@@ -1,7 +1,6 @@
 -- A sound archive with a new place is sound.
 use Rattle.std.proofs.Common.{◌≡◌, ℕ, ◌+◌, ◌<◌, ◌≤◌, List, [], true, refl, sym, ap, ◌∙◌, inl, inr, subst, arith}
 use Rattle.std.specs.Prelude.{Option, Some, None, option_map, IfSome, if◌then◌else◌}
-use Rattle.std.proofs.lemmas.Bool.Decides.{nat_tests}
 use Rattle.std.specs.FinMap.{get, insert}
 use Rattle.std.proofs.lemmas.Bool.{lt-ltb}
 use Rattle.record_text.specs.Text.{IsText}
@@ -11,30 +10,27 @@ use Rattle.record_kinds.specs.declared.record.Record.TheVariants as kind
 use Rattle.record_links.specs.Links.{a_place, field_links, is_wanted}
 use Rattle.record_shapes.specs.Fields.{path_below}
 use Rattle.record_shapes.specs.Lists.{EachOf}
-use Rattle.record_shapes.specs.Paths.{IsNormal, IsWithinLimits, is_within_limits}
+use Rattle.record_shapes.specs.Paths.{IsNormal, IsWithinLimits}
 use Rattle.archive_state.specs.Content.{Content, Records}
 use Rattle.archive_state.specs.Known.{path_under, path_with, path_of}
 use Rattle.archive_state.specs.Paths.{HasPath}
 use Rattle.archive_state.specs.Sound.{Stands, IsSound}
 use Rattle.archive_state.proofs.Changing.{more_keeps, path_within}
-use Rattle.archive_state.proofs.Each.{each_both}
 use Rattle.archive_state.proofs.Climbing.{stands_there}
 use Rattle.archive_state.proofs.Keeping.{KeepsRules, stands_as}
 use Rattle.archive_state.proofs.Known.{path_known}
 use Rattle.archive_state.proofs.Putting.{put_cases, put_elsewhere, put_here}
 use Rattle.place_paths.specs.Fits.{new_path, is_fit}
-use Rattle.place_paths.proofs.Within.{path_there}
 use Rattle.archive_steps.specs.Steps.{place_within}
-use Rattle.archive_steps.proofs.Fitting.{none_at_next, none_within}
+use Rattle.archive_steps.proofs.Fitting.{none_at_next}
+use Rattle.record_shapes.proofs.Limits.{limits_are, none_within}
+use Rattle.record_shapes.proofs.Each.{each_both}
+use Rattle.archive_state.proofs.PathsAlike.{path_there}
 
 -- the place stands there, where a number is given
 abbrev pub PlacedAt : Content → Option ℕ → Type 0
 PlacedAt c None = Unit {0}
 PlacedAt c (Some n) = Stands c.records (n, a_place)
-
-limits_are : (path : List ℕ) → is_within_limits path ≡ true → IsWithinLimits path
-unfolding is_within_limits
-limits_are path e = grind (arith, nat_tests)
 
 fit_is_within : (o : Option (List ℕ)) (path : List ℕ) → o ≡ Some path → is_fit o ≡ true → IsWithinLimits path
 fit_is_within None path e f = absurd cc

@@ -19,14 +19,15 @@ use Rattle.archive_state.specs.Known.{known_of, known_before}
 use Rattle.archive_state.specs.Sound.{IsOfRecords, Stands, IsSound}
 use Rattle.archive_state.specs.Texts.{own_texts, carried_texts}
 use Rattle.archive_state.specs.Texts as texts
-use Rattle.archive_state.proofs.Each.{each_both}
 use Rattle.commands.specs.Rows.{and_then}
 use Rattle.archive_looks.specs.Checks.{need, text_in, or_no_text, maybe_text_in}
 use Rattle.archive_steps.specs.Steps.{plain_repo, plain_source, plain_citation, lacks_repo, given_source}
-use Rattle.archive_steps.proofs.Fitting.{fresh_at_next, anew, none_within}
+use Rattle.archive_steps.proofs.Fitting.{fresh_at_next, anew}
 use Rattle.archive_steps.proofs.Keeping.{IsFit}
 use Rattle.archive_steps.proofs.Worded.{text_found}
 use Rattle.commands.proofs.Chains.{both_answered}
+use Rattle.record_shapes.proofs.Each.{each_both}
+use Rattle.record_shapes.proofs.Limits.{none_within}
 
 -- the repository stands there, where a number is given
 abbrev pub RepoAt : Content → Option ℕ → Type 0

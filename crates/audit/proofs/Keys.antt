@@ -8,7 +8,6 @@ use Rattle.std.proofs.Common.{
   List,
   [],
   ◌∷◌,
-  Bool,
   true,
   false,
   refl,
@@ -28,11 +27,8 @@ use Rattle.std.specs.Cmp.{ranked}
 use Rattle.std.specs.FinMap.Entries.{below_all}
 use Rattle.std.specs.FinMap.{FinMap, find, is_sorted, get, keys, entries, entries_sorted, get-entries}
 use Rattle.record_shapes.specs.Lists.{Ascends, EachOf}
-use Rattle.archive_state.proofs.Rising.{first_holds, rest_holds, less_is}
-
-or_right : (a b : Bool) → b ≡ true → (a || b) ≡ true
-or_right true b e = refl
-or_right false b e = e
+use Rattle.archive_state.proofs.Rising.{less_is}
+use Rattle.list_laws.proofs.Booleans.{or_right, first_holds, rest_holds}
 
 -- what holds of each of a list holds of one that is among them
 pub each_among : (P : ℕ → Type 0) (ns : List ℕ) (n : ℕ) → EachOf P ns → list_any (λ k. k == n) ns ≡ true → P n

@@ -29,20 +29,7 @@ use Rattle.std.specs.List.{list_any}
 use Rattle.std.specs.Str.{IsUtf8}
 use Rattle.std.proofs.lemmas.Bool.Decides.{nat_tests}
 use Rattle.std.proofs.Common.{ap, sym, ◌∙◌, subst, inl, inr, arith}
-use Rattle.gedcom_date.specs.Form.{
-  Form,
-  OnDate,
-  NearDate,
-  BeforeDate,
-  AfterDate,
-  BetweenDates,
-  SinceDate,
-  UntilDate,
-  FromToDates,
-  InterpretedDate,
-  PhraseAlone,
-  VerbatimText,
-}
+use Rattle.gedcom_date.specs.Form.{Form, VerbatimText}
 use Rattle.gedcom_date.specs.Grammar.{Says, Fits, FitsNone, IsOfForm, IsPhrased}
 use Rattle.gedcom_date.specs.Spelling.{spelling}
 use Rattle.gedcom_date.specs.View.{view}
@@ -50,7 +37,6 @@ use Rattle.gedcom_date.specs.Words.{words}
 use Rattle.gedcom_date.specs.declared.value.DateValue.{DateValue}
 use Rattle.gedcom_date.specs.Reading.{word_form}
 use Rattle.gedcom_date.proofs.Fitting.{word_only, either}
-use Rattle.gedcom_date.proofs.Again.{IsRead, form_back}
 use Rattle.gedcom_date.proofs.Deciding.{some_value}
 use Rattle.record_text.specs.Text.{IsText}
 use Rattle.record_fields.specs.Dated.{one_said, written_by, spelt, date_from, date_of, date_text}
@@ -61,6 +47,7 @@ use Rattle.commands.specs.Fields.{text_of, is_text}
 use Rattle.record_fields.proofs.Dated.{date_back}
 use Rattle.commands.specs.Given.{GivenDate, IsGiven, Gives}
 use Rattle.commands.specs.Dated.{given_of}
+use Rattle.gedcom_date.proofs.SaidAgain.{says_again}
 
 -- ---- no words fit no form
 no-words : words [] ≡ []
@@ -101,39 +88,10 @@ unspelt : spelling (VerbatimText []) ≡ []
 unfolding spelling
 unspelt = refl
 
--- what has a form is no kept text
-is-read : (text : List ℕ) (f : Form) → IsOfForm text f → IsRead f
-unfolding IsOfForm
-is-read text (VerbatimText t) h = h
-is-read text (OnDate d) h = tt
-is-read text (NearDate how d) h = tt
-is-read text (BeforeDate d) h = tt
-is-read text (AfterDate d) h = tt
-is-read text (BetweenDates d e) h = tt
-is-read text (SinceDate d) h = tt
-is-read text (UntilDate d) h = tt
-is-read text (FromToDates d e) h = tt
-is-read text (InterpretedDate d phrase) h = tt
-is-read text (PhraseAlone phrase) h = tt
-
-kept-as : (text : List ℕ) → text ≡ spelling (VerbatimText text)
-unfolding spelling
-kept-as text = refl
-
--- what is written of a form that words have is read as the same form
-said-again : (text : List ℕ) (f : Form) → Fits text f ⊎ ((f ≡ VerbatimText text) × FitsNone text) → Says (spelling f) f
-said-again text f (inl h) = inl (form_back f (is-read text f h.0) h.1, h.1)
-said-again text f (inr h) =
-    let kept : Says text f = inr h in
-    subst (λ (t : List ℕ). Says t f) (kept-as text ∙ ap spelling (sym h.0)) kept
-
-again : (text : List ℕ) (f : Form) → Says text f → Says (spelling f) f
-again text f h = said-again text f h
-
 -- only no words are spelt as nothing
 empty-said : (text : List ℕ) (f : Form) → Says text f → spelling f ≡ [] → text ≡ []
 empty-said text f h e =
-    let kept : f ≡ VerbatimText [] = nothing-said f (subst (λ (t : List ℕ). Says t f) e (again text f h)) in
+    let kept : f ≡ VerbatimText [] = nothing-said f (subst (λ (t : List ℕ). Says t f) e (says_again text f h)) in
     sym (kept-text text [] (subst (λ (g : Form). Says text g) kept h))
 
 some-words : (text : List ℕ) (f : Form) → Says text f → spelling f ≢ [] → text ≢ []
@@ -202,7 +160,7 @@ date-said spelling false e written = rw e refl
 
 spelt-written : (words : List ℕ) → IsWritten (spelt words)
 spelt-written words = let said = some_value words in
-    written_by (spelling said.0) said.0 (again words said.0 said.1) refl
+    written_by (spelling said.0) said.0 (says_again words said.0 said.1) refl
 
 spelt-some : (words : List ℕ) → words ≢ [] → spelt words ≢ []
 spelt-some words some e = let said = some_value words in some (empty-said words said.0 said.1 e)

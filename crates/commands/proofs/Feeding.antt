@@ -12,13 +12,6 @@ pub record Feeds (old new : Sha256) (rest whole : List ℕ) : Type 0 where
   pub parts : front ++ rest ≡ whole
   pub holds : (m : List ℕ) → Holds256 old m → Holds256 new (m ++ front)
 
-pub feeds_none : (s : Sha256) (whole : List ℕ) → Feeds s s whole whole
-feeds_none s whole = record {
-  front = [];
-  parts = refl;
-  holds = λ m h. subst (Holds256 s) (sym (append-nil m)) h;
-}
-
 pub feeds_more : (s t u : Sha256) (rest more left whole : List ℕ) → Feeds s t rest whole → rest ≡ more ++ left
     → ((m : List ℕ) → Holds256 t m → Holds256 u (m ++ more)) → Feeds s u left whole
 feeds_more s t u rest more left whole f e h = record {

@@ -9,8 +9,6 @@ use Rattle.std.specs.Prelude.{
   ◌&&◌,
   nat_le,
   List,
-  [],
-  ◌∷◌,
   length,
   Bool,
   true,
@@ -24,14 +22,13 @@ use Rattle.std.specs.Prelude.{
 use Rattle.std.specs.Result.{OkIff}
 use Rattle.std.specs.Char.{is_ascii_digit}
 use Rattle.std.specs.List.{list_all}
-use Rattle.std.specs.Str.{all_ascii_digits}
 use Rattle.std.specs.Str.Parse.{digits_value, ParsesUnsigned}
 use Rattle.std.proofs.Common.{ap, sym, ◌∙◌, arith, subst}
 use Rattle.std.proofs.lemmas.Bool.Decides.{nat_tests}
 use Rattle.std.proofs.lemmas.Fmt.{decimal_is_IsNumeral, length-decimal-le, digits_decimal, digits_value-decimal}
-use Rattle.std.proofs.lemmas.Str.Parse.{IsNumeralModel, tells_all_ascii_digits, numerals_by_value, parse_digits}
 use Rattle.record_text.specs.declared.refusal.RefusalKind.TheVariants.{BadRow}
 use Rattle.commands.specs.Rows.{is_number, number_in}
+use Rattle.list_laws.proofs.Numbers.{all_digits, parsed, are_numerals}
 
 -- ---- how a field is judged
 number-ok : (field : List ℕ) → is_number field ≡ true → Ok (digits_value 10 field) ≡ number_in field
@@ -65,18 +62,6 @@ pub number_undigit : (field : List ℕ) → list_all is_ascii_digit field ≡ fa
 number_undigit field h = number-bad field (rw h refl)
 
 -- ---- what the library parses of digits
-all-digits : (field : List ℕ) → all_ascii_digits field ≡ list_all is_ascii_digit field
-all-digits [] = refl
-all-digits (c ∷ cs) = ap (λ b. is_ascii_digit c && b) (all-digits cs)
-
-own : IsNumeralModel (λ ds. all_ascii_digits ds ≡ true) (digits_value 10)
-own = numerals_by_value (λ ds. all_ascii_digits ds ≡ true) tells_all_ascii_digits
-
--- where the digits are not too many, they are parsed as their value
-parsed : {E : Type 0} (field : List ℕ) (r : Result ℕ E) → ParsesUnsigned 32 10 field r
-    → list_all is_ascii_digit field ≡ true
-    → OkIff r ((0 < length field) × (digits_value 10 field < 2 ^ 32)) (digits_value 10 field)
-parsed field r h digits = parse_digits own 32 field r h (all-digits field ∙ digits)
 
 pub number_parsed : {E : Type 0} (field : List ℕ) (r : Result ℕ E) (n : ℕ) → ParsesUnsigned 32 10 field r
     → list_all is_ascii_digit field ≡ true
@@ -109,14 +94,15 @@ number_unparsed field r e h digits is =
 
 -- ---- what the decimal of a number is read as
 pub decimal_digits : (n : ℕ) → n ≤ 4294967295 → list_all is_ascii_digit (decimal n) ≡ true
-decimal_digits n h = let small : n < 2 ^ 64 = omega arith in sym (all-digits (decimal n)) ∙ digits_decimal own n small
+decimal_digits n h = let small : n < 2 ^ 64 = omega arith in
+    sym (all_digits (decimal n)) ∙ digits_decimal are_numerals n small
 
 pub number_back : (n : ℕ) → 1 ≤ n → n ≤ 4294967295 → number_in (decimal n) ≡ Ok n
 number_back n l h =
     let small : n < 2 ^ 64 = omega arith in
     let field : List ℕ = decimal n in
     let digits : list_all is_ascii_digit (decimal n) ≡ true = decimal_digits n h in
-    let value : digits_value 10 (decimal n) ≡ n = digits_value-decimal own n small in
+    let value : digits_value 10 (decimal n) ≡ n = digits_value-decimal are_numerals n small in
     let short : length (decimal n) ≤ 10 = length-decimal-le 10 n (omega arith) (omega arith) small in
     let some : 1 ≤ length (decimal n) = (decimal_is_IsNumeral n small).0.0 in
     sym (number-ok (decimal n) (inside (list_all is_ascii_digit (decimal n)) (length (decimal n))

@@ -1,6 +1,6 @@
 -- Spans that meet days: each date has one span, and its own days are met.
 use Rattle.std.proofs.Common.{◌≡◌, refl, sym, ap, subst, inl, inr, arith}
-use Rattle.std.specs.Prelude.{Option, Some, None, IfSome, IsSome, ℤ, ◌≤ℤ◌, ◌<ℤ◌}
+use Rattle.std.specs.Prelude.{Option, Some, None, IfSome, IsSome, ℤ, ◌≤ℤ◌}
 use Rattle.std.proofs.lemmas.Int.{ints}
 use Rattle.calendar_days.specs.Bounds.{IsLeast, IsGreatest}
 use Rattle.gedcom_date.specs.Form.{Form}
@@ -11,16 +11,11 @@ use Rattle.record_fields.specs.Dated.{one_said}
 use Rattle.record_fields.specs.declared.date.Date.{Date}
 use Rattle.date_spans.specs.Meeting.{HasEnd, Meets}
 use Rattle.date_spans.specs.Spans.{IsSpan}
+use Rattle.list_laws.proofs.Numbers.{through, not_both}
 
 -- ---- orders of days
 both_ways : (a b : ℤ) → a ≤ℤ b → b ≤ℤ a → a ≡ b
 both_ways a b p q = omega (arith, ints)
-
-not_both : (a b : ℤ) → a <ℤ b → b ≤ℤ a → ⊥
-not_both a b p q = omega (arith, ints)
-
-through : (a b c : ℤ) → a ≤ℤ b → b ≤ℤ c → a ≤ℤ c
-through a b c p q = omega (arith, ints)
 
 at_itself : (a : ℤ) → a ≤ℤ a
 at_itself a = omega (arith, ints)

@@ -6,7 +6,6 @@ use Rattle.std.proofs.Common.{
   ◌+◌,
   ◌<◌,
   List,
-  [],
   length,
   take,
   get_or,
@@ -33,13 +32,15 @@ use Rattle.gedcom_date.specs.declared.value.Span.{Span}
 use Rattle.record_fields.specs.declared.date.Date.{Date}
 use Rattle.record_kinds.specs.declared.record.Record.{Record}
 use Rattle.archive_state.specs.Content.{Records}
-use Rattle.archive_state.proofs.Putting.{itself, one_number, put_elsewhere, put_here}
+use Rattle.archive_state.proofs.Putting.{one_number, put_elsewhere, put_here}
 use Rattle.date_spans.specs.Between.{IsBetween}
 use Rattle.date_spans.specs.Gathered.{Adds, AreSpansOf, Looks, date_if}
 use Rattle.date_spans.specs.Meeting.{Meets}
 use Rattle.date_spans.specs.Spans.{AreSpans, IsSpanOf, date_at, date_in}
 use Rattle.date_spans.proofs.DaysMet.{one_span, wider}
 use Rattle.date_spans.proofs.Keys.{key_of}
+use Rattle.list_laws.proofs.Numbers.{other_key}
+use Rattle.list_laws.proofs.Booleans.{or_always, or_nothing}
 
 -- ---- one span each
 pub one_at_most : (date : Option Date) (a b : Option Span) → IsSpanOf date a → IsSpanOf date b → a ≡ b
@@ -87,23 +88,9 @@ none_of : (o : Option Span) → IsSpanOf None o → o ≡ None
 none_of None h = refl
 none_of (Some s) h = absurd h
 
-of_none : (date : Option Date) (look : Looks) (n : ℕ) → look n ≡ None → IsSpanOf (date_if false date) (look n)
-of_none date look n e = subst (λ (o : Option Span). IsSpanOf None o) (sym e) tt
-
-pub no_spans : (m : Records) (look : Looks) → ((n : ℕ) → look n ≡ None) → AreSpansOf [] m look
-no_spans m look e = λ n. of_none (date_at (get m n)) look n (e n)
-
 lacking : (b : Bool) (d : Option Date) → d ≡ None → date_if b d ≡ None
 lacking true d e = e
 lacking false d e = refl
-
-or_true : (b : Bool) → (b || true) ≡ true
-or_true true = refl
-or_true false = refl
-
-or_false : (b : Bool) → (b || false) ≡ b
-or_false true = refl
-or_false false = refl
 
 module _ (m : Records) (before after : Looks) (k : ℕ) where
   unchanged : (date : Option Date) (n : ℕ) → Adds before after k date → (n ≡ k → ⊥) → after n ≡ before n
@@ -127,12 +114,12 @@ module _ (m : Records) (before after : Looks) (k : ℕ) where
       → IsSpanOf (date_if (was || b) (date_at (get m n))) (after n)
   more_at date was n true q adds here h =
       let same : k ≡ n = eqb-true k n q in
-      subst (λ (b : Bool). IsSpanOf (date_if b (date_at (get m n))) (after n)) (sym (or_true was))
+      subst (λ (b : Bool). IsSpanOf (date_if b (date_at (get m n))) (after n)) (sym (or_always was))
       (subst (λ x. IsSpanOf (date_at (get m x)) (after x)) same (put_there date was adds here
       (subst (λ x. IsSpanOf (date_if was (date_at (get m x))) (before x)) (sym same) h)))
   more_at date was n false q adds here h =
       let other : n ≡ k → ⊥ = λ same. let wrong : true ≡ false = sym (eq-eqb k n (sym same)) ∙ q in absurd cc in
-      subst (λ (b : Bool). IsSpanOf (date_if b (date_at (get m n))) (after n)) (sym (or_false was))
+      subst (λ (b : Bool). IsSpanOf (date_if b (date_at (get m n))) (after n)) (sym (or_nothing was))
       (subst (λ (o : Option Span). IsSpanOf (date_if was (date_at (get m n))) o) (sym (unchanged date n adds other)) h)
 
 pub more_spans : (m : Records) (before after : Looks) (ns : List ℕ) (i d : ℕ) → i < length ns
@@ -177,10 +164,6 @@ put_spans m k r look after h is kept = λ n. elim (n == k) as (λ b. (n == k) �
           other_number m k r n (after n) other
           (subst (λ (o : Option Span). IsSpanOf (date_at (get m n)) o) (sym (kept n other)) (h n))
     ] refl
-
-other_key : (n k : ℕ) → eq_by_cmp nat_cmp n k ≡ false → n ≡ k → ⊥
-other_key n k e same =
-    let both : true ≡ false = sym (itself k) ∙ (ap (λ x. eq_by_cmp nat_cmp x k) (sym same) ∙ e) in absurd cc
 
 taken : (m : Records) (k n : ℕ) (b : Bool) → eq_by_cmp nat_cmp n k ≡ b → get (remove m k) n ≡ cond b None (get m n)
 taken m k n b e = get-remove nat_cmp_total m k n ∙ ap (λ x. cond x None (get m n)) e

@@ -8,9 +8,11 @@ use Rattle.std.specs.Ordering.{nat_cmp, eq_by_cmp, is_lt}
 use Rattle.std.specs.Cmp.{ranked}
 use Rattle.std.specs.declared.cmp.Ordering.TheVariants.{Less}
 use Rattle.record_shapes.specs.Lists.{EachOf, Ascends}
-use Rattle.archive_state.proofs.Putting.{itself, one_number}
-use Rattle.archive_state.proofs.Rising.{first_holds, rest_holds, less_is}
+use Rattle.archive_state.proofs.Putting.{one_number}
+use Rattle.archive_state.proofs.Rising.{less_is}
 use Rattle.date_spans.specs.Between.{IsAmong}
+use Rattle.list_laws.proofs.Numbers.{itself}
+use Rattle.list_laws.proofs.Booleans.{first_holds, rest_holds}
 
 -- the two tests of a number agree
 one_test : (n k : ℕ) (a b : Bool) → (n == k) ≡ a → eq_by_cmp nat_cmp k n ≡ b → a ≡ b

@@ -13,8 +13,6 @@ use Rattle.std.proofs.Common.{
   length,
   take,
   get_or,
-  Bool,
-  true,
   false,
   refl,
   sym,
@@ -32,6 +30,7 @@ use Rattle.std.proofs.lemmas.List.Folds.{list_any-append}
 use Rattle.record_shapes.specs.Lists.{EachOf, Ascends}
 use Rattle.date_spans.specs.Between.{IsAmong, AreAll}
 use Rattle.date_spans.specs.Gathered.{Takes}
+use Rattle.list_laws.proofs.Booleans.{or_true_either}
 
 -- found are those of ns of which P holds
 pub record IsPicked (P : ℕ → Type 0) (ns found : List ℕ) : Type 0 where
@@ -39,30 +38,21 @@ pub record IsPicked (P : ℕ → Type 0) (ns found : List ℕ) : Type 0 where
   pub among : (n : ℕ) → IsAmong n found ↔ (IsAmong n ns × P n)
 
 -- ---- what is among numbers and one more
-either : (a b : Bool) → ((a || b) ≡ true) ↔ ((a ≡ true) ⊎ (b ≡ true))
-either true b = (λ e. inl refl, λ o. refl)
-either false b = (
-  λ e. inr e,
-  λ o. elim o as (λ _. b ≡ true) [
-    | inl e ↦ absurd cc
-    | inr e ↦ e
-  ],
-)
 
 one_is : (n k : ℕ) → IsAmong n (k ∷ []) ↔ (k ≡ n)
 one_is n k = (
-  λ e. elim ((either (k == n) false).0 e) as (λ _. k ≡ n) [
+  λ e. elim ((or_true_either (k == n) false).0 e) as (λ _. k ≡ n) [
     | inl same ↦ eqb-true k n same
     | inr other ↦ absurd cc
   ],
-  λ same. (either (k == n) false).1 (inl (eq-eqb k n same)),
+  λ same. (or_true_either (k == n) false).1 (inl (eq-eqb k n same)),
 )
 
 among_more : (n k : ℕ) (ns : List ℕ) → IsAmong n (ns ++ k ∷ []) ↔ (IsAmong n ns ⊎ (k ≡ n))
 among_more n k ns =
     let apart : list_any (λ m. m == n) (ns ++ k ∷ []) ≡ (list_any (λ m. m == n) ns || list_any (λ m. m == n) (k ∷ [])) =
     list_any-append (λ m. m == n) ns (k ∷ []) in
-    let by = either (list_any (λ m. m == n) ns) (list_any (λ m. m == n) (k ∷ [])) in (
+    let by = or_true_either (list_any (λ m. m == n) ns) (list_any (λ m. m == n) (k ∷ [])) in (
       λ e. elim (by.0 (sym apart ∙ e)) as (λ _. IsAmong n ns ⊎ (k ≡ n)) [
         | inl i ↦ inl i
         | inr i ↦ inr ((one_is n k).0 i)
@@ -96,16 +86,17 @@ ascends_joined (n ∷ ns) k h below = (
 )
 
 pub among_cases : (n k : ℕ) (ks : List ℕ) → IsAmong n (k ∷ ks) → (k ≡ n) ⊎ IsAmong n ks
-among_cases n k ks i = elim ((either (k == n) (list_any (λ m. m == n) ks)).0 i) as (λ _. (k ≡ n) ⊎ IsAmong n ks) [
-  | inl same ↦ inl (eqb-true k n same)
-  | inr more ↦ inr more
-]
+among_cases n k ks i =
+    elim ((or_true_either (k == n) (list_any (λ m. m == n) ks)).0 i) as (λ _. (k ≡ n) ⊎ IsAmong n ks) [
+      | inl same ↦ inl (eqb-true k n same)
+      | inr more ↦ inr more
+    ]
 
 pub first_among : (k : ℕ) (ks : List ℕ) → IsAmong k (k ∷ ks)
-first_among k ks = (either (k == k) (list_any (λ m. m == k) ks)).1 (inl (eq-eqb k k refl))
+first_among k ks = (or_true_either (k == k) (list_any (λ m. m == k) ks)).1 (inl (eq-eqb k k refl))
 
 pub rest_among : (n k : ℕ) (ks : List ℕ) → IsAmong n ks → IsAmong n (k ∷ ks)
-rest_among n k ks i = (either (k == n) (list_any (λ m. m == n) ks)).1 (inr i)
+rest_among n k ks i = (or_true_either (k == n) (list_any (λ m. m == n) ks)).1 (inr i)
 
 pub each_known : (P : ℕ → Type 0) (ns : List ℕ) (n : ℕ) → EachOf P ns → IsAmong n ns → P n
 each_known P [] n h i = absurd cc

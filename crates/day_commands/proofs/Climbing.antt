@@ -1,28 +1,6 @@
 -- The path of a place, name by name.
-use Rattle.std.proofs.Common.{
-  ◌≡◌,
-  ℕ,
-  zero,
-  suc,
-  ◌+◌,
-  ◌≤◌,
-  ◌<◌,
-  List,
-  [],
-  ◌++◌,
-  true,
-  false,
-  refl,
-  sym,
-  ap,
-  ◌∙◌,
-  arith,
-  append_assoc,
-  lt-ltb,
-  ltb-true,
-  le-ltb,
-}
-use Rattle.std.specs.Prelude.{Option, Some, None, option_map, codes, nat_lt, if◌then◌else◌}
+use Rattle.std.proofs.Common.{◌≡◌, ℕ, ◌+◌, ◌≤◌, ◌<◌, List, ◌++◌, refl, sym, ap, ◌∙◌, arith, lt-ltb, le-ltb}
+use Rattle.std.specs.Prelude.{Option, Some, None, option_map, codes, if◌then◌else◌}
 use Rattle.std.specs.FinMap.{get}
 use Rattle.record_kinds.specs.Model as model
 use Rattle.record_kinds.specs.declared.record.Record.{Record}
@@ -31,6 +9,9 @@ use Rattle.record_shapes.specs.Fields.{path_below}
 use Rattle.archive_state.specs.Content.{Records}
 use Rattle.archive_state.specs.Known.{path_by, path_of, path_under, path_with}
 use Rattle.day_commands.specs.Places.{place_in}
+use Rattle.archive_state.proofs.PathsAlike.{under_alike, enough}
+use Rattle.record_shapes.proofs.Climbed.{goes_on, lost, so_far, ends}
+use Rattle.list_laws.proofs.Numbers.{one_more}
 
 abbrev Way : Type 0
 Way = ℕ → Option (List ℕ)
@@ -53,16 +34,6 @@ is_by_place n f (Some (kind.Event p)) = refl
 is_by_place n f (Some (kind.Entry p)) = refl
 is_by_place n f (Some (kind.Other p)) = refl
 
-under_alike : (n : ℕ) (f g : Way) (name : List ℕ) (parent : Option ℕ) → ((q : ℕ) → q < n → f q ≡ g q)
-    → path_under n f name parent ≡ path_under n g name parent
-under_alike n f g name None h = refl
-under_alike n f g name (Some q) h =
-    elim (nat_lt q n) as (λ b. nat_lt q n ≡ b → (if b then option_map (path_below name) (f q) else None)
-    ≡ (if b then option_map (path_below name) (g q) else None)) [
-      | true ↦ λ e. ap (option_map (path_below name)) (h q (ltb-true q n e))
-      | false ↦ λ e. refl
-    ] refl
-
 by_alike : (n : ℕ) (f g : Way) (o : Option model.Place) → ((q : ℕ) → q < n → f q ≡ g q)
     → by_place n f o ≡ by_place n g o
 unfolding by_place
@@ -72,15 +43,6 @@ by_alike n f g (Some p) h = under_alike n f g p.name p.parent h
 with_alike : (n : ℕ) (f g : Way) (o : Option Record) → ((q : ℕ) → q < n → f q ≡ g q)
     → path_with n f o ≡ path_with n g o
 with_alike n f g o h = is_by_place n f o ∙ by_alike n f g (place_in o) h ∙ sym (is_by_place n g o)
-
-enough : (k j : ℕ) (m : Records) (n : ℕ) → n < k → n < j → path_by k m n ≡ path_by j m n
-enough zero j m n h i = absurd (omega arith)
-enough (suc k) zero m n h i = absurd (omega arith)
-enough (suc k) (suc j) m n h i = with_alike n (path_by k m) (path_by j m) (get m n)
-    (λ q less. enough k j m q (omega arith) (omega arith))
-
-one_more : (n : ℕ) → n + 1 ≡ suc n
-one_more n = omega arith
 
 path_there : (m : Records) (n : ℕ) → path_of m n ≡ by_place n (path_of m) (place_in (get m n))
 unfolding path_of
@@ -116,31 +78,6 @@ above m n p q e is less =
     ∙ ap (λ b. if b then option_map (path_below p.name) (path_of m q) else None) (lt-ltb q n less)
 
 -- ---- what is put together so far, and what is above
-pub so_far : List ℕ → Option (List ℕ) → Option (List ℕ)
-so_far front rest = option_map (λ path. front ++ path) rest
-
-bare : (o : Option (List ℕ)) → so_far [] o ≡ o
-unfolding so_far
-bare None = refl
-bare (Some path) = refl
-
-pub starts : (front : List ℕ) (o : Option (List ℕ)) → front ≡ [] → so_far front o ≡ o
-starts front o e = ap (λ f. so_far f o) e ∙ bare o
-
-goes_on : (front name : List ℕ) (o : Option (List ℕ)) → so_far front (option_map (path_below name) o)
-    ≡ so_far ((front ++ name) ++ codes ", ") o
-unfolding so_far
-goes_on front name None = refl
-goes_on front name (Some path) =
-    ap Some (sym (append_assoc front name (codes ", " ++ path)) ∙ sym (append_assoc (front ++ name) (codes ", ") path))
-
-ends : (front : List ℕ) (o : Option (List ℕ)) (name : List ℕ) → o ≡ Some name → so_far front o ≡ Some (front ++ name)
-unfolding so_far
-ends front o name e = ap (option_map (λ path. front ++ path)) e
-
-lost : (front : List ℕ) (o : Option (List ℕ)) → o ≡ None → so_far front o ≡ None
-unfolding so_far
-lost front o e = ap (option_map (λ path. front ++ path)) e
 
 -- there is no place
 pub lost_there : (m : Records) (n : ℕ) (front : List ℕ) → place_in (get m n) ≡ None → so_far front (path_of m n) ≡ None

@@ -1,11 +1,10 @@
 -- What is said of an archive that is open, from what was read of it and written.
-use Rattle.std.proofs.Common.{◌≡◌, ◌∙◌, ◌⊎◌, inl, inr, ℕ, ℤ, Bool, true, false, List, Ok, Err, refl, sym, ap, subst}
-use Rattle.std.specs.Prelude.{Option, None, Some, Result, IfErr, IfOk, OnErr, OnOk}
-use Rattle.std.specs.Io.KnownBytes.{Appends, Keeps}
+use Rattle.std.proofs.Common.{◌≡◌, ◌∙◌, ◌⊎◌, inl, inr, ℕ, ℤ, Bool, true, false, List, Ok, Err, sym, subst}
+use Rattle.std.specs.Prelude.{Option, Result, IfErr, IfOk, OnErr, OnOk}
+use Rattle.std.specs.Io.KnownBytes.{Appends}
 use Rattle.std.specs.List.{flat_map}
 use Rattle.sqlite.specs.State.{HasCleanDisk, State}
 use Rattle.archive_state.specs.Content.{Content}
-use Rattle.archive_view.specs.Looks.{is_stop}
 use Rattle.date_spans.specs.Between.{AreAll, IsBetween}
 use Rattle.devices.specs.Devices.{AppendsBeginning}
 use Rattle.record_text.specs.declared.refusal.RefusalKind.{RefusalKind}
@@ -17,6 +16,7 @@ use Rattle.archive_exports.specs.Reading.{OnOpen}
 use Rattle.archive_exports.proofs.Asked.{follows, read_as}
 use Rattle.day_commands.specs.Ends.{AreCut, AreWritten, OnFound}
 use Rattle.day_commands.specs.Lines.{found_text, number_line, told_line}
+use Rattle.list_laws.proofs.Outcomes.{keeps}
 
 -- ---- the days as they were handed on, and as they are
 pub in_days : (P : ℤ → ℤ → Type 0) (f first l last : ℤ) → f ≡ first → l ≡ last → P f l → P first last
@@ -33,16 +33,6 @@ part_in_order (Ok a) N P order did = tt
 part_in_order (Err kind) N P order did = inr (order, did)
 
 -- ---- want of memory
-pub want_stops : {A : Type 0} (r : Result A RefusalKind) → IfErr r (λ kind. kind ≡ OutOfMemory)
-    → IfErr r (λ kind. is_stop kind ≡ true)
-want_stops (Ok a) want = tt
-want_stops (Err kind) want = ap is_stop want
-
-pub want_fails : {A : Type 0} (r : Result A RefusalKind) (old new : State) (P : List ℕ → Content → Type 0)
-    → OnOpen old new P → IfErr r (λ kind. kind ≡ OutOfMemory)
-    → IfErr r (λ kind. OnOpen old new (λ _ _. IsFailure kind))
-want_fails (Ok a) old new P is want = tt
-want_fails (Err kind) old new P is want = follows old new P (λ _ _. IsFailure kind) (λ _ _ _. inl want) is
 
 -- ---- what was read, as it is said of an archive
 pub found_as : {A : Type 0} {Is : List ℕ → Content → A → Type 0} (old new : State) (a : A)
@@ -112,9 +102,6 @@ module _ (old new : State) (held : Content)
   told_of_held bytes ns (Err kind) e = tt
 
 -- ---- what was written of it
-pub keeps : (old : Option (List ℕ)) → Keeps old old
-keeps None = tt
-keeps (Some bytes) = refl
 
 module _ {A : Type 0} (old new : State) (words : Bool) (first last : ℤ) (before after : Option (List ℕ))
     (bytes given : List ℕ) (same : given ≡ bytes)

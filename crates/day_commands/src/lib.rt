@@ -9,7 +9,6 @@
 mod finding;
 mod lines;
 mod paths;
-mod printing;
 mod writing;
 
 pub use writing::days;

@@ -8,10 +8,10 @@ ghost use Rattle.record_text.specs.declared.refusal.RefusalKind.TheVariants.{Out
 ghost use Rattle.day_commands.specs.Lines as lines;
 
 use crate::paths::push_place;
-use crate::printing::push_dated;
 use archive_state::State;
 use record_kinds::{Entry, Event, EventPlace, Record};
 use record_text::RefusalKind;
+use sheet_lines::push_dated;
 use std::alloc::{AllocError, Global};
 
 /// Numbers, one a line. Refused only for want of memory.
@@ -94,7 +94,7 @@ fn push_event(
 {
     out.push_str("  ")?;
     out.push_str(event.tag.as_str())?;
-    push_dated(out, &event.date)?;
+    push_dated(out, "  ", event.date.as_ref())?;
     push_place(alloc, out, state, place_number(&event.place))
 }
 
@@ -119,6 +119,6 @@ fn push_entry(
 {
     out.push_str("  ")?;
     out.push_str(entry.kind.as_str())?;
-    push_dated(out, &entry.date)?;
+    push_dated(out, "  ", entry.date.as_ref())?;
     push_place(alloc, out, state, entry.place)
 }

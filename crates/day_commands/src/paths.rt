@@ -6,9 +6,9 @@ ghost use Rattle.archive_state.specs.Known.{path_of as path_in};
 ghost use Rattle.day_commands.specs.Lines as lines;
 ghost use Rattle.day_commands.specs.Places.{place_in};
 
-use crate::printing::push_printed;
 use archive_state::State;
 use record_kinds::{Place, Record};
+use sheet_lines::push_printed;
 use std::alloc::{AllocError, Global};
 
 /// Appends the path of a place behind two spaces, where one is named and has a path.

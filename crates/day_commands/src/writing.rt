@@ -1,18 +1,19 @@
 //! What is between two days in the archive in a file, written.
 
-ghost use Rattle.std.specs.Prelude.{◌≡◌, ◌⊎◌, ◌≤ℤ◌, false, true, IfErr, OnErr, OnOk};
-ghost use Rattle.std.specs.Io.KnownBytes.{Appends, Keeps};
+ghost use Rattle.std.specs.Prelude.{◌≡◌, ◌⊎◌, ◌≤ℤ◌, false, true, IfErr, OnOk};
+ghost use Rattle.std.specs.Io.KnownBytes.{Keeps};
 ghost use Rattle.sqlite.specs.Held.{state};
 ghost use Rattle.sqlite_wal.specs.Files.{image_at};
 ghost use Rattle.archive_exports.specs.Reading.{OnOpen};
 ghost use Rattle.archive_view.specs.Looks.{is_failure};
-ghost use Rattle.devices.specs.Devices.{AppendsBeginning, Rose};
-ghost use Rattle.record_text.specs.declared.refusal.RefusalKind.TheVariants.{OutOfMemory, WriteFailed};
+ghost use Rattle.devices.specs.Devices.{Rose};
+ghost use Rattle.record_text.specs.declared.refusal.RefusalKind.TheVariants.{WriteFailed};
 ghost use Rattle.day_commands.specs.Ends.{AreCut, AreReversed, AreWritten, DaysTold, DaysUntold};
 
 use crate::finding::text_of;
 use archive_commands::{OpenFile, open};
-use devices::{Device, TransferError, write_bytes};
+use archive_exports::write_text;
+use devices::Device;
 use record_text::RefusalKind;
 use sqlite::{Alter, Start};
 use std::alloc::Global;
@@ -102,20 +103,5 @@ fn write_found<S: Alter, W: Write + Device>(
     match text_of(alloc, archive, first, last, words) {
         Ok(text) => write_text(text.as_str(), writer),
         Err(kind) => Err(kind),
-    }
-}
-
-/// Writes a text. 95: the writer failed. 1: memory was refused. Then a beginning is written.
-fn write_text<W: Write + Device>(text: &str, writer: &mut W) -> Result<(), RefusalKind>
-    ensures written { OnOk result (Appends (W.contents writer.old) (W.contents writer.new) text.now) }
-    ensures begun { OnErr result (AppendsBeginning (W.contents writer.old) (W.contents writer.new) text.now) }
-    ensures why { IfErr result (λ kind. (kind ≡ WriteFailed) ⊎ (kind ≡ OutOfMemory)) }
-    ensures writer { IfErr result (λ kind. kind ≡ WriteFailed → Rose (W.failed writer.old) (W.failed writer.new)) }
-{
-    let before = writer.failures();
-    match write_bytes(writer, before, text.as_bytes()) {
-        Ok(()) => Ok(()),
-        Err(TransferError::OutOfMemory) => Err(RefusalKind::OutOfMemory),
-        Err(TransferError::Failed) => Err(RefusalKind::WriteFailed),
     }
 }

@@ -33,11 +33,8 @@ use Rattle.std.specs.Prelude.{◌≢◌, zero, suc, Option, Some, None, Result, 
 use Rattle.std.proofs.lemmas.Bool.Decides.{nat_tests}
 use Rattle.std.specs.FinMap.{get, insert, entries}
 use Rattle.std.specs.List.{list_any}
-use Rattle.std.proofs.lemmas.Bool.{and_parts}
 use Rattle.record_text.specs.declared.refusal.RefusalKind.{RefusalKind}
 use Rattle.record_text.specs.declared.refusal.RefusalKind.TheVariants.{BadText, DuplicateEntry, NoSuch, WrongKind}
-use Rattle.record_fields.proofs.Items.{same_item}
-use Rattle.record_fields.specs.Bytes.{bytes_are, bytes_same}
 use Rattle.record_fields.specs.Words.{entry_kind_word}
 use Rattle.record_fields.specs.declared.entry_words.EntryKind.{EntryKind}
 use Rattle.record_fields.specs.declared.item.Item.{Item}
@@ -51,7 +48,7 @@ use Rattle.archive_state.specs.Content.{Content, Records}
 use Rattle.archive_state.specs.Entries.{HasKey, IsEntryAt}
 use Rattle.archive_state.specs.declared.changes.Numbered.{Numbered}
 use Rattle.commands.specs.Rows.{and_then}
-use Rattle.archive_looks.proofs.Likes.{key_free, none_there, same_kind}
+use Rattle.archive_looks.proofs.Likes.{has_key, key_free, key_of, none_there}
 use Rattle.archive_looks.specs.Checks.{
   demanded_at,
   demanded_in,
@@ -67,6 +64,7 @@ use Rattle.archive_looks.specs.Entries.{is_like, key_is_free}
 use Rattle.archive_looks.specs.declared.kinds.Demand.TheVariants as demand
 use Rattle.entry_batches.specs.Batches.{is_drawn, is_like_row, key_is_new, place_behind, with_made}
 use Rattle.entry_batches.proofs.Keyed.{any_behind}
+use Rattle.list_laws.proofs.Lists.{more_behind}
 
 -- ---- numbers that follow each other
 abbrev pub IsFrom : ℕ → List Numbered → Type 0
@@ -132,37 +130,6 @@ pub puts_behind : (m : Records) (ps : List Numbered) (p : Numbered) → with_put
     ≡ insert (with_puts m ps) p.number p.«record»
 puts_behind m [] p = refl
 puts_behind m (q ∷ ps) p = puts_behind (insert m q.number q.«record») ps p
-
--- ---- the test for a key is that for its parts
-module _ (source : ℕ) (k : EntryKind) (page : List ℕ) (item : Item) where
-  has_key : (e : model.Entry) → HasKey source k page item e → is_like source k page item (kind.Entry e) ≡ true
-  has_key e (is, same, on, of) =
-      ap (λ b. b && (bytes_eq (entry_kind_word e.kind) (entry_kind_word k) &&
-      (bytes_eq e.page page && e.item.number == item.number))) (eq-eqb e.source source is)
-      ∙ ap (λ b. b && (bytes_eq e.page page && e.item.number == item.number))
-      (bytes_same (entry_kind_word e.kind) (entry_kind_word k) (ap entry_kind_word same))
-      ∙ ap (λ b. b && e.item.number == item.number) (bytes_same e.page page on)
-      ∙ eq-eqb e.item.number item.number (ap (λ (x : Item). x.number) of)
-
-  key_of : (e : model.Entry) → is_like source k page item (kind.Entry e) ≡ true → HasKey source k page item e
-  key_of e h =
-      let rest = (and_parts (e.source == source)
-      (bytes_eq (entry_kind_word e.kind) (entry_kind_word k) &&
-      (bytes_eq e.page page && e.item.number == item.number)) h).1 in
-      let last = (and_parts (bytes_eq (entry_kind_word e.kind) (entry_kind_word k))
-      (bytes_eq e.page page && e.item.number == item.number) rest).1 in (
-        eqb-true e.source source
-            (and_parts (e.source == source)
-            (bytes_eq (entry_kind_word e.kind) (entry_kind_word k) &&
-            (bytes_eq e.page page && e.item.number == item.number)) h).0,
-        same_kind e.kind k (bytes_are (entry_kind_word e.kind) (entry_kind_word k)
-            (and_parts (bytes_eq (entry_kind_word e.kind) (entry_kind_word k))
-            (bytes_eq e.page page && e.item.number == item.number) rest).0),
-        bytes_are e.page page (and_parts (bytes_eq e.page page) (e.item.number == item.number) last).0,
-        same_item e.item item
-            (eqb-true e.item.number item.number
-            (and_parts (bytes_eq e.page page) (e.item.number == item.number) last).1),
-      )
 
 -- ---- a record in place of none
 module _ (m : Records) (n : ℕ) (e : model.Entry) (free : get m n ≡ None) where
@@ -322,14 +289,6 @@ both_needed (Ok u) true b = refl
 both_needed (Ok u) false b = refl
 both_needed (Err k) a b = refl
 
-pub one_more : {A : Type 0} (xs : List A) (x : A) → length (xs ++ (x ∷ [])) ≡ length xs + 1
-one_more [] x = refl
-one_more (y ∷ xs) x = let more : length (xs ++ (x ∷ [])) ≡ length xs + 1 = one_more xs x in
-    ap suc more ∙ moved (length xs)
-  where
-    moved : (n : ℕ) → suc (n + 1) ≡ suc n + 1
-    moved n = omega arith
-
 abbrev pub put_of : Content → List Numbered → model.Entry → Numbered
 put_of c made e = record { number = c.next + length made; «record» = kind.Entry e }
 
@@ -350,7 +309,7 @@ module _ (c : Content) (source : ℕ) (made : List Numbered) (e : model.Entry) (
   more_later : (n : ℕ) → c.next + length (made ++ (put_of c made e ∷ [])) ≤ n
       → get (with_puts c.records (made ++ (put_of c made e ∷ []))) n ≡ None
   more_later n less =
-      let count : length (made ++ (put_of c made e ∷ [])) ≡ length made + 1 = one_more made (put_of c made e) in
+      let count : length (made ++ (put_of c made e ∷ [])) ≡ length made + 1 = more_behind made (put_of c made e) in
       ap (λ (m : Records). get m n) records_are ∙ put_elsewhere before number (kind.Entry e) n
       (λ here. omega (arith, here, count, less)) ∙ is.later n (omega (arith, count, less))
 
@@ -411,7 +370,7 @@ module _ (c : Content) (source : ℕ) (made : List Numbered) (e : model.Entry) (
   behind_one = record {
     later = more_later;
     places = λ n. ap (λ (m : Records). look_at m n) records_are ∙ more_places n ∙ ap (λ k. place_behind c k n)
-        (sym (one_more made (put_of c made e)));
+        (sym (more_behind made (put_of c made e)));
     keys = λ f. ap (λ (m : Records). key_is_free m source f.kind f.page f.item) records_are ∙ more_keys f;
     sourced = ap (λ (m : Records). demanded_in demand.Source (get m source)) records_are ∙ more_sourced;
   }

@@ -79,13 +79,14 @@ use Rattle.entry_batches.proofs.Behind.{
   behind_one,
   none_before,
   one_behind,
-  one_more,
   put_of,
   puts_behind,
   taken,
   untouched,
 }
 use Rattle.commands.proofs.Chains.{both_answered}
+use Rattle.archive_state.proofs.Later.{none_later}
+use Rattle.list_laws.proofs.Lists.{more_behind}
 
 -- ---- the entry of a row is of the source
 given_source : (source : ℕ) (row : EntryRow) (e : model.Entry) → entry_of source row ≡ Ok e → e.source ≡ source
@@ -262,7 +263,7 @@ made_more : (c : Content) (made : List Numbered) (e : model.Entry)
     } ≡ with_made c (made ++ (put_of c made e ∷ []))
 made_more c made e =
     let count : c.next + length made + 1 ≡ c.next + length (made ++ (put_of c made e ∷ [])) = omega
-    (arith, one_more made (put_of c made e)) in
+    (arith, more_behind made (put_of c made e)) in
     ap (λ (m : Records). record c { records = m; next = c.next + length made + 1 })
     (sym (puts_behind c.records made (put_of c made e)))
     ∙ ap (λ n. record c { records = with_puts c.records (made ++ (put_of c made e ∷ [])); next = n }) count
@@ -307,7 +308,7 @@ one_numbered : (c : Content) (source : ℕ) (made : List Numbered) (rows : List 
     → commands_from c source made rows e (Ok n) ≡ rows_from c source made rows e (Ok n)
 one_numbered c source made rows e n here again =
     let count : length made + 1 + 1 ≡ length (made ++ (put_of c made e ∷ [])) + 1 = ap (λ k. k + 1)
-    (sym (one_more made (put_of c made e))) in
+    (sym (more_behind made (put_of c made e))) in
     ap (λ k. one_by_one source (length made + 1 + 1)
     (record (with_made c made) { records = insert (with_puts c.records made) k (kind.Entry e); next = k + 1 }) rows)
     (sym here)
@@ -352,7 +353,7 @@ Counted c made count all = IsFrom c.next all × (length all ≡ length made + co
 count_more : (c : Content) (made all : List Numbered) (e : model.Entry) (count : ℕ)
     → Counted c (made ++ (put_of c made e ∷ [])) count all → Counted c made (suc count) all
 count_more c made all e count h =
-    let more : length (made ++ (put_of c made e ∷ [])) ≡ length made + 1 = one_more made (put_of c made e) in
+    let more : length (made ++ (put_of c made e ∷ [])) ≡ length made + 1 = more_behind made (put_of c made e) in
     let total : length all ≡ length (made ++ (put_of c made e ∷ [])) + count = h.1 in
     (h.0, omega (arith, more, total))
 
@@ -386,13 +387,6 @@ demanded_is c source u e = by (get c.records source) refl
     by : (o : Option Record) → get c.records source ≡ o → (r : Record) × (get c.records source ≡ Some r)
     by (Some r) q = (r, q)
     by None q = let wrong = sym (ap (demanded_in demand.Source) q) ∙ e in absurd cc
-
-none_later : (c : Content) → IsSound c → (n : ℕ) → c.next ≤ n → get c.records n ≡ None
-none_later c sound n less = by (get c.records n) refl
-  where
-    by : (o : Option Record) → get c.records n ≡ o → o ≡ None
-    by None q = refl
-    by (Some r) q = let number = sound.rules.numbered n r q in absurd (omega (arith, number.1, less))
 
 at_two : (c : Content) (source : ℕ) → IsSound c → (r : Record) → get c.records source ≡ Some r → 2 ≤ c.next
 at_two c source sound r e = let number = sound.rules.numbered source r e in omega (arith, number.0, number.1)

@@ -19,21 +19,18 @@ use Rattle.std.proofs.Common.{
   ◌∙◌,
   eqb-true,
   eq-eqb,
-  cond,
   append_assoc,
 }
 use Rattle.std.specs.Prelude.{Ok, Err, Some, decimal, bytes_eq}
 use Rattle.std.specs.BTreeSet.{BTreeSet, contains_text}
 use Rattle.std.specs.List.{list_any}
 use Rattle.std.specs.declared.string.String.{String}
-use Rattle.std.proofs.lemmas.Bool.{and_parts, or_parts, and_from}
+use Rattle.std.proofs.lemmas.Bool.{and_parts, and_from}
 use Rattle.record_text.specs.declared.refusal.RefusalKind.TheVariants.{DuplicateEntry}
 use Rattle.record_fields.specs.Bytes.{bytes_are, bytes_same}
 use Rattle.record_fields.specs.Words.{entry_kind_word}
-use Rattle.record_fields.specs.declared.entry_words.EntryKind.{EntryKind}
-use Rattle.record_fields.specs.declared.entry_words.EntryKind.TheVariants.{Baptism, Marriage, Burial}
 use Rattle.record_fields.specs.declared.item.Item.{Item}
-use Rattle.record_fields.proofs.Items.{decimal_is_plain, item_back}
+use Rattle.record_fields.proofs.Items.{item_back}
 use Rattle.record_fields.specs.Items.{item_of}
 use Rattle.record_kinds.specs.Model as model
 use Rattle.record_kinds.specs.declared.record.Record.{Record}
@@ -42,38 +39,13 @@ use Rattle.archive_state.specs.declared.changes.Numbered.{Numbered}
 use Rattle.archive_looks.specs.Checks.{need}
 use Rattle.entry_batches.specs.Batches.{is_like_row, key_is_new}
 use Rattle.entry_batches.specs.Keys.{IsKeyed, has_words, key_words}
+use Rattle.list_laws.proofs.Bytes.{parted}
+use Rattle.record_fields.proofs.WordTexts.{item_plain, kind_plain}
+use Rattle.list_laws.proofs.Booleans.{one_test}
 
 -- ---- what stands before the first zero, and behind it
-head_same : (a b : ℕ) (xs ys : List ℕ) → a ∷ xs ≡ b ∷ ys → a ≡ b
-head_same a b xs ys e = cc
-
-tail_same : (a b : ℕ) (xs ys : List ℕ) → a ∷ xs ≡ b ∷ ys → xs ≡ ys
-tail_same a b xs ys e = cc
-
-no_zero : (x : ℕ) → (x == 0) ≡ false → x ≡ 0 → ⊥
-no_zero x e same = let both : true ≡ false = sym (eq-eqb x 0 same) ∙ e in absurd cc
-
-parted : (a b p q : List ℕ) → list_any (λ x. x == 0) a ≡ false → list_any (λ x. x == 0) b ≡ false
-    → a ++ 0 ∷ p ≡ b ++ 0 ∷ q → (a ≡ b) × (p ≡ q)
-parted [] [] p q ha hb e = (refl, tail_same 0 0 p q e)
-parted [] (y ∷ b) p q ha hb e =
-    absurd (no_zero y (or_parts (y == 0) (list_any (λ x. x == 0) b) hb).0 (sym (head_same 0 y p (b ++ 0 ∷ q) e)))
-parted (x ∷ a) [] p q ha hb e =
-    absurd (no_zero x (or_parts (x == 0) (list_any (λ z. z == 0) a) ha).0 (head_same x 0 (a ++ 0 ∷ p) q e))
-parted (x ∷ a) (y ∷ b) p q ha hb e =
-    let more = parted a b p q (or_parts (x == 0) (list_any (λ z. z == 0) a) ha).1
-    (or_parts (y == 0) (list_any (λ z. z == 0) b) hb).1 (tail_same x y (a ++ 0 ∷ p) (b ++ 0 ∷ q) e) in
-    let first : x ≡ y = head_same x y (a ++ 0 ∷ p) (b ++ 0 ∷ q) e in
-    (ap (λ z. z ∷ a) first ∙ ap (λ l. y ∷ l) more.0, more.1)
 
 -- ---- no zero is in a kind and in an item
-kind_plain : (k : EntryKind) → list_any (λ x. x == 0) (entry_kind_word k) ≡ false
-kind_plain Baptism = refl
-kind_plain Marriage = refl
-kind_plain Burial = refl
-
-item_plain : (i : Item) → list_any (λ x. x == 0) (decimal i.number) ≡ false
-item_plain i = (decimal_is_plain i.number (decimal i.number) refl i.in_range).no_nul
 
 same_number : (i j : Item) → decimal i.number ≡ decimal j.number → i.number ≡ j.number
 same_number i j e =
@@ -81,10 +53,6 @@ same_number i j e =
     let same : i ≡ j = cc in ap (λ (x : Item). x.number) same
 
 -- ---- the test on texts is the test on entries
-one_test : (a b : Bool) → (a ≡ true → b ≡ true) → (b ≡ true → a ≡ true) → a ≡ b
-one_test true b f g = sym (f refl)
-one_test false true f g = g refl
-one_test false false f g = refl
 
 like_words : (e f : model.Entry) → bytes_eq (key_words e) (key_words f) ≡ true → is_like_row e (kind.Entry f) ≡ true
 like_words e f h =
@@ -150,20 +118,6 @@ any_behind f (q ∷ made) p = ap (λ b. f q || b) (any_behind f made p) ∙ or_a
     or_assoc : (a b c : Bool) → (a || (b || c)) ≡ ((a || b) || c)
     or_assoc true b c = refl
     or_assoc false b c = refl
-
--- a key is added: put so as a set tells it, and as a list does
-pub added : (x w : List ℕ) (new old : Bool) → new ≡ cond (bytes_eq w x) true old → new ≡ (old || bytes_eq x w)
-added x w new old e = e ∙ by (bytes_eq w x) (bytes_eq x w) old
-    (one_test (bytes_eq w x) (bytes_eq x w) (λ h. bytes_same x w (sym (bytes_are w x h)))
-    (λ h. bytes_same w x (sym (bytes_are x w h))))
-  where
-    by : (a b o : Bool) → a ≡ b → cond a true o ≡ (o || b)
-    by true true true e = refl
-    by true true false e = refl
-    by false false true e = refl
-    by false false false e = refl
-    by true false o e = absurd cc
-    by false true o e = absurd cc
 
 -- ---- what a look for the key of an entry has found
 pub is_taken : (e : model.Entry) (made : List Numbered) (words : List ℕ) (b : Bool) → words ≡ key_words e

@@ -1,26 +1,6 @@
 -- Rows one after the other over a view, and refusals at their places.
-use Rattle.std.proofs.Common.{
-  ◌≡◌,
-  ℕ,
-  ◌+◌,
-  ◌<◌,
-  List,
-  [],
-  ◌∷◌,
-  drop,
-  get_or,
-  length,
-  Bool,
-  true,
-  false,
-  refl,
-  sym,
-  ap,
-  ◌∙◌,
-  subst,
-}
+use Rattle.std.proofs.Common.{◌≡◌, ℕ, ◌+◌, List, [], ◌∷◌, drop, length, Bool, true, false, refl, sym, ap, ◌∙◌, subst}
 use Rattle.std.specs.Prelude.{Some, None, Result, Ok, Err, IfErr, if◌then◌else◌}
-use Rattle.std.proofs.lemmas.List.{drop_more}
 use Rattle.record_text.specs.declared.refusal.Refusal.{Refusal}
 use Rattle.record_text.specs.declared.refusal.RefusalKind.{RefusalKind}
 use Rattle.record_kinds.specs.Model as model
@@ -95,11 +75,6 @@ pub row_refused : (c : Content) (source : ℕ) (rows : List EntryRow) (row : Ent
     → with_row c source made row ≡ Err k → with_rows c source [] rows ≡ Err k
 row_refused c source rows row made i k here way e =
     way ∙ ap (with_rows c source made) here ∙ ap (λ r. onward r (λ x. with_rows c source x (drop (i + 1) rows))) e
-
--- the row that the turn looks at, and what is left behind it
-pub item_here : {A : Type 0} (xs : List A) (i : ℕ) (x : A) → i < length xs → x ≡ get_or xs i x
-    → drop i xs ≡ x ∷ drop (i + 1) xs
-item_here xs i x low is = drop_more xs i x low ∙ ap (λ y. y ∷ drop (i + 1) xs) (sym is)
 
 -- a refusal ends it
 pub refused_right : (c : Content) (source : ℕ) (rows : List EntryRow) (row : EntryRow) (made : List Numbered) (i : ℕ)

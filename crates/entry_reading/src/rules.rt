@@ -3,12 +3,12 @@
 ghost use Rattle.std.specs.Prelude.{◌≡◌, option_map};
 ghost use Rattle.std.specs.List.{list_all};
 ghost use Rattle.record_shapes.specs.Entries as entries;
-ghost use Rattle.record_shapes.specs.Roles as roles;
 ghost use Rattle.entry_reading.specs.Guess.{fits};
 
 use field_rows::{Known, Named, has_part};
-use record_fields::{EntryKind, Role};
+use record_fields::EntryKind;
 use record_kinds::{Entry, Link, Mention};
+use record_shapes::is_role_of;
 
 /// The most mentions that an entry has.
 const MOST_MENTIONS: usize = 100;
@@ -61,26 +61,6 @@ fn is_fit<K: Known>(known: &K, kind: EntryKind, mention: &Mention) -> bool
     ensures { result ≡ fits (K.known known.now) kind mention.now }
 {
     is_role_of(kind, mention.role) && names_person(known, &mention.link)
-}
-
-/// Whether a role is of a kind of entry.
-fn is_role_of(kind: EntryKind, role: Role) -> bool
-    ensures { result ≡ roles.is_role_of kind role }
-{
-    match kind {
-        EntryKind::Baptism => matches!(
-            role,
-            Role::Child | Role::Father | Role::Mother | Role::Godparent
-        ),
-        EntryKind::Marriage => matches!(
-            role,
-            Role::Groom | Role::Bride | Role::FatherOfGroom | Role::FatherOfBride | Role::Witness
-        ),
-        EntryKind::Burial => matches!(
-            role,
-            Role::Buried | Role::Spouse | Role::Father | Role::Mother
-        ),
-    }
 }
 
 /// Whether a link, where there is one, names a person.

@@ -56,11 +56,9 @@ use Rattle.record_shapes.specs.Shapes.{
 use Rattle.archive_state.specs.Content.{Content, Records}
 use Rattle.archive_state.specs.Sound.{IsSound}
 use Rattle.archive_state.specs.Texts.{date_texts, mention_texts, there, value_texts}
-use Rattle.archive_state.proofs.Each.{each_both, each_front, each_more}
 use Rattle.export_forest.specs.Around.{around, child_sides, partner_sides}
 use Rattle.export_forest.specs.Order.{Numbered}
 use Rattle.exchange_orders.proofs.Entries.{entries_stand, Stands}
-use Rattle.exchange_orders.proofs.Listed.{each_flat, each_parts, true_not_false}
 use Rattle.exchange_orders.proofs.Nodes.{lines_of, owns}
 use Rattle.exchange_orders.proofs.Ordered.{StandsAt0}
 use Rattle.exchange_forests.proofs.Fitting.{
@@ -103,6 +101,8 @@ use Rattle.exchange_forests.proofs.Parts.{
   partners_sides,
   sides_fit,
 }
+use Rattle.record_shapes.proofs.Each.{each_both, each_front, each_more, each_flat, each_parts}
+use Rattle.list_laws.proofs.Booleans.{true_not_false}
 
 module _ (c : Content) (is : IsSound c) where
   abbrev m : Records

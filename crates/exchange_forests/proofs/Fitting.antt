@@ -39,9 +39,8 @@ use Rattle.record_shapes.specs.Lists.{EachOf}
 use Rattle.record_shapes.specs.Shapes.{line, loc_line, loc_lines, pointer_line, text_line, text_lines}
 use Rattle.archive_state.specs.Sound.{IsOfRecords}
 use Rattle.archive_state.specs.Texts.{forest_texts, line_texts, there, value_texts}
-use Rattle.archive_state.proofs.Each.{each_back, each_front, each_more, each_zip}
-use Rattle.file_roots.proofs.Greatest.{and_both}
-use Rattle.exchange_orders.proofs.Listed.{each_parts, true_not_false}
+use Rattle.record_shapes.proofs.Each.{each_of_flat, each_more, each_zip, each_parts}
+use Rattle.list_laws.proofs.Booleans.{both_true, true_not_false}
 
 -- ---- tags that are told
 abbrev pub is_good_tag : List ℕ → Bool
@@ -53,12 +52,12 @@ unequal a b h e = true_not_false (sym (h) ∙ ap not (bytes_same a b e))
 
 pub good_tag : (tag : List ℕ) → is_good_tag tag ≡ true → IsOfRecords tag
 good_tag tag h =
-    let x = and_both (nat_lt 0 (length tag) && nat_le (length tag) 31)
+    let x = both_true (nat_lt 0 (length tag) && nat_le (length tag) 31)
     (list_all is_word tag && (not (bytes_eq tag (codes "CONC")) && not (bytes_eq tag (codes "CONT")))) h in
-    let y = and_both (nat_lt 0 (length tag)) (nat_le (length tag) 31) x.0 in
-    let z = and_both (list_all is_word tag) (not (bytes_eq tag (codes "CONC")) && not (bytes_eq tag (codes "CONT")))
+    let y = both_true (nat_lt 0 (length tag)) (nat_le (length tag) 31) x.0 in
+    let z = both_true (list_all is_word tag) (not (bytes_eq tag (codes "CONC")) && not (bytes_eq tag (codes "CONT")))
     x.1 in
-    let w = and_both (not (bytes_eq tag (codes "CONC"))) (not (bytes_eq tag (codes "CONT"))) z.1 in (
+    let w = both_true (not (bytes_eq tag (codes "CONC"))) (not (bytes_eq tag (codes "CONT"))) z.1 in (
       record { some = grind (arith, nat_tests); short = grind (arith, nat_tests); words = z.0 },
       unequal tag (codes "CONC") w.0,
       unequal tag (codes "CONT") w.1,
@@ -150,12 +149,6 @@ mutual
       let b : EachOf IsText (line_texts t) × EachOf IsText (forest_texts ts) =
       each_parts IsText (line_texts t) (forest_texts ts) g in
       (good_tree t a.0 b.0, good_forest ts a.1 b.1)
-
-pub each_of_flat : {A B : Type 0} (P : B → Type 0) (g : A → List B) (xs : List A) → EachOf P (flat_map g xs)
-    → EachOf (λ x. EachOf P (g x)) xs
-each_of_flat P g [] h = tt
-each_of_flat P g (x ∷ xs) h =
-    (each_front P (g x) (flat_map g xs) h, each_of_flat P g xs (each_back P (g x) (flat_map g xs) h))
 
 pub good_lines : (ts : Lines) → EachOf IsOfRecords (flat_map tags ts) → EachOf IsText (flat_map line_texts ts)
     → EachOf IsGood ts

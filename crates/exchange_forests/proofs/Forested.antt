@@ -30,7 +30,6 @@ use Rattle.stored_lines.specs.Line.{Line}
 use Rattle.stored_lines.specs.Levels.{forest_levels}
 use Rattle.record_kinds.specs.declared.record.Record.TheVariants as kind
 use Rattle.record_links.specs.Links.{Link, carried_links, forest_links, value_links}
-use Rattle.archive_state.proofs.Each.{each_front}
 use Rattle.record_text.specs.Text.{IsText}
 use Rattle.record_shapes.specs.Lists.{EachOf, IsOnce}
 use Rattle.archive_state.specs.Content.{Content, Records}
@@ -57,7 +56,6 @@ use Rattle.export_forest.specs.Names.{name_of}
 use Rattle.export_forest.specs.Order.{Numbered, household}
 use Rattle.exchange_orders.proofs.Entries.{keys}
 use Rattle.exchange_orders.proofs.Found.{names_tell}
-use Rattle.exchange_orders.proofs.Listed.{has, or_false, true_not_false}
 use Rattle.exchange_orders.proofs.Nodes.{lines_of}
 use Rattle.exchange_orders.proofs.Ordered.{order, order_once, order_stands, StandsAt0}
 use Rattle.exchange_orders.proofs.Owning as owning
@@ -81,6 +79,8 @@ use Rattle.exchange_forests.proofs.Noded.{
 }
 use Rattle.exchange_forests.proofs.Plain.{is_plain, plain_text}
 use Rattle.exchange_forests.proofs.Walked.{forest_rises, items, items_append, out_of_header}
+use Rattle.record_shapes.proofs.Each.{each_front, has}
+use Rattle.list_laws.proofs.Booleans.{neither, true_not_false}
 
 module _ (c : Content) (is : IsSound c) where
   abbrev m : Records
@@ -163,7 +163,7 @@ module _ (c : Content) (is : IsSound c) where
       → list_any (λ e. bytes_eq (name_of m k) (name_of m e.0)) xs ≡ false
   not_named k [] l h n = refl
   not_named k (e ∷ xs) l h n =
-      let both : ((e.0 == k) ≡ false) × (has k (keys xs) ≡ false) = or_false (e.0 == k) (has k (keys xs)) n in
+      let both : ((e.0 == k) ≡ false) × (has k (keys xs) ≡ false) = neither (e.0 == k) (has k (keys xs)) n in
       λ i. (tell k e l (low e h.0) ∙ both.0) i || not_named k xs l h.1 both.1 i
 
   distinct_node : (own : List ℕ) (t : Tree Line) (rest : List Item) → list_any (is_called own) rest ≡ false

@@ -52,7 +52,6 @@ use Rattle.record_shapes.specs.Lists.{EachOf}
 use Rattle.archive_state.specs.Content.{Content, Records}
 use Rattle.archive_state.specs.Sound.{IsNumber, IsOfRecords, IsSound}
 use Rattle.archive_state.specs.Sound as sound
-use Rattle.archive_state.proofs.Each.{each_both}
 use Rattle.gedcom_line.specs.Reading.{is_continuation}
 use Rattle.gedcom_line.specs.Spelling.{IsXref, is_inner, is_textual}
 use Rattle.gedcom_line.specs.Value.{Text}
@@ -61,19 +60,20 @@ use Rattle.gedcom_tree.specs.Forest.{Item}
 use Rattle.gedcom_tree.specs.Text.{EachNode, IsNodeOf, IsNodeValue, are_distinct, is_called, is_tag}
 use Rattle.record_nodes.specs.Nodes.{Mark, item_at, mark_of, named_value}
 use Rattle.export_forest.specs.Names.{letter_at, name_of, name_with}
-use Rattle.exchange_orders.proofs.Listed.{each_parts, or_false, true_not_false}
 use Rattle.exchange_orders.proofs.Found.{there}
 use Rattle.exchange_forests.proofs.Fitting.{AreGood, IsGoodValue}
 use Rattle.exchange_forests.proofs.Plain.{decimal_digits, decimal_short, digits_are, is_plain, plain_text}
 use Rattle.exchange_forests.proofs.Walked.{items, items_append}
+use Rattle.record_shapes.proofs.Each.{each_both, each_parts}
+use Rattle.list_laws.proofs.Booleans.{neither, true_not_false}
 
 -- ---- texts and tags
 textual : (t : List ℕ) → list_any (λ b. b == 0) t ≡ false → list_any (λ b. b == 13) t ≡ false
     → list_all is_textual t ≡ true
 textual [] h g = refl
 textual (b ∷ bs) h g =
-    let x = or_false (b == 0) (list_any (λ b. b == 0) bs) h in
-    let y = or_false (b == 13) (list_any (λ b. b == 13) bs) g in
+    let x = neither (b == 0) (list_any (λ b. b == 0) bs) h in
+    let y = neither (b == 13) (list_any (λ b. b == 13) bs) g in
     λ i. (not (x.0 i) && not (y.0 i)) && textual bs x.1 y.1 i
 
 pub text_value : (t : List ℕ) → IsText t → IsNodeValue (Text t)
@@ -120,10 +120,6 @@ inner_digit b h = grind (arith, nat_tests, h)
 
 no_at_digit : (b : ℕ) → is_ascii_digit b ≡ true → not (is_at b) ≡ true
 no_at_digit b h = grind (arith, nat_tests, h)
-
--- of a letter and a number
-abbrev is_letter : ℕ → Bool
-is_letter c = is_word c && (not (is_at c) && (is_plain c && is_inner c))
 
 is_short : (k : ℕ) → k ≤ 1048576 → nat_le k 1048576 ≡ true
 is_short k h = grind (arith, nat_tests)

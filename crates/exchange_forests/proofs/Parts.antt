@@ -41,8 +41,6 @@ use Rattle.record_shapes.specs.Shapes.{
   text_lines,
 }
 use Rattle.archive_state.specs.Texts.{mention_texts, reason_texts, there}
-use Rattle.archive_state.proofs.Each.{each_back, each_both, each_front}
-use Rattle.exchange_orders.proofs.Listed.{each_parts}
 use Rattle.exchange_forests.proofs.Fitting.{
   AllFit,
   Fits,
@@ -57,6 +55,7 @@ use Rattle.exchange_forests.proofs.Fitting.{
   is_good_tag,
 }
 use Rattle.exchange_forests.proofs.Plain.{role_text}
+use Rattle.record_shapes.proofs.Each.{each_back, each_both, each_front, each_parts}
 
 pub holdings_fit : (hs : List model.Holding) → EachOf IsText (flat_map (λ (h : model.Holding). there h.call_number) hs)
     → EachOf IsGood (flat_map (λ (h : model.Holding). h.carried) hs)

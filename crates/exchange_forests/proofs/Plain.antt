@@ -33,27 +33,23 @@ use Rattle.std.specs.List.{list_all, list_any}
 use Rattle.std.specs.Option.{unwrap_or}
 use Rattle.std.specs.Char.{is_ascii_digit}
 use Rattle.std.specs.FinMap.{get}
-use Rattle.std.specs.Str.{IsAscii, IsUtf8, all_ascii_digits}
-use Rattle.std.specs.Str.Parse.{digits_value}
-use Rattle.std.proofs.Common.{ap, sym, subst, ◌∙◌, arith}
+use Rattle.std.specs.Str.{IsAscii, IsUtf8}
+use Rattle.std.proofs.Common.{sym, subst, ◌∙◌, arith}
 use Rattle.std.proofs.lemmas.Bool.Decides.{nat_tests}
 use Rattle.std.proofs.lemmas.Fmt.{digits_decimal, length-decimal-le}
 use Rattle.std.proofs.lemmas.List.Folds.{list_any-append}
 use Rattle.std.proofs.lemmas.Str.{IsUtf8-append, IsUtf8-from_ascii}
 use Rattle.std.proofs.lemmas.Str.Ascii.{IsAscii-nil, IsAscii-cons}
-use Rattle.std.proofs.lemmas.Str.Parse.{IsNumeralModel, numerals_by_value, tells_all_ascii_digits}
 use Rattle.record_kinds.specs.Model as model
 use Rattle.record_kinds.specs.declared.record.Record.{Record}
 use Rattle.record_kinds.specs.declared.record.Record.TheVariants as kind
 use Rattle.record_fields.specs.declared.words.Quality.{Quality}
 use Rattle.record_fields.specs.declared.words.Quality.TheVariants as quality
-use Rattle.record_fields.specs.declared.words.Sex.{Sex}
-use Rattle.record_fields.specs.declared.words.Sex.TheVariants as sex
 use Rattle.record_fields.specs.declared.entry_words.EntryKind.{EntryKind}
 use Rattle.record_fields.specs.declared.entry_words.EntryKind.TheVariants as entry_kind
 use Rattle.record_fields.specs.declared.entry_words.Role.{Role}
 use Rattle.record_fields.specs.declared.entry_words.Role.TheVariants as role
-use Rattle.record_fields.specs.Words.{entry_kind_word, quality_word, role_word, sex_word}
+use Rattle.record_fields.specs.Words.{entry_kind_word, quality_word, role_word}
 use Rattle.record_text.specs.Text.{IsText}
 use Rattle.archive_state.specs.Content.{Content, Records}
 use Rattle.archive_state.specs.Known.{path_of}
@@ -61,8 +57,9 @@ use Rattle.archive_state.specs.Paths.{HasPath}
 use Rattle.archive_state.specs.Sound.{IsSound}
 use Rattle.archive_state.proofs.Climbing.{Goes, no_place, path_goes}
 use Rattle.archive_state.proofs.Known.{path_known}
-use Rattle.file_roots.proofs.Greatest.{and_both}
 use Rattle.export_forest.specs.Around.{around}
+use Rattle.list_laws.proofs.Booleans.{not_true, both_true}
+use Rattle.list_laws.proofs.Numbers.{are_numerals, all_digits}
 
 -- ---- ASCII without U+0000 and CR
 abbrev pub is_plain : ℕ → Bool
@@ -73,16 +70,12 @@ record ArePlain (t : List ℕ) : Type 0 where
   pub no_nul : list_any (λ b. b == 0) t ≡ false
   pub no_cr : list_any (λ b. b == 13) t ≡ false
 
-not_true : (x : Bool) → not x ≡ true → x ≡ false
-not_true true e = absurd cc
-not_true false e = refl
-
 are_plain : (t : List ℕ) → list_all is_plain t ≡ true → ArePlain t
 are_plain [] h = record { ascii = IsAscii-nil; no_nul = refl; no_cr = refl }
 are_plain (b ∷ bs) h =
-    let x = and_both (is_plain b) (list_all is_plain bs) h in
-    let y = and_both (nat_lt b 128) (not (b == 0) && not (b == 13)) x.0 in
-    let z = and_both (not (b == 0)) (not (b == 13)) y.1 in
+    let x = both_true (is_plain b) (list_all is_plain bs) h in
+    let y = both_true (nat_lt b 128) (not (b == 0) && not (b == 13)) x.0 in
+    let z = both_true (not (b == 0)) (not (b == 13)) y.1 in
     let low : b < 128 = grind (arith, nat_tests) in
     let rest = are_plain bs x.1 in
     record {
@@ -95,11 +88,6 @@ pub plain_text : (t : List ℕ) → list_all is_plain t ≡ true → nat_le (len
 plain_text t h s =
     let p = are_plain t h in
     record { utf8 = IsUtf8-from_ascii t p.ascii; no_nul = p.no_nul; no_cr = p.no_cr; short = grind (arith, nat_tests) }
-
-pub sex_text : (s : Sex) → IsText (sex_word s)
-sex_text sex.Male = plain_text (codes "M") refl refl
-sex_text sex.Female = plain_text (codes "F") refl refl
-sex_text sex.Unknown = plain_text (codes "U") refl refl
 
 pub quality_text : (q : Quality) → IsText (quality_word q)
 quality_text quality.Unreliable = plain_text (codes "0") refl refl
@@ -129,16 +117,10 @@ role_text r = by r
     by role.Spouse = plain_text (role_word role.Spouse) refl refl
 
 -- ---- decimals
-same_digits : (t : List ℕ) → all_ascii_digits t ≡ list_all is_ascii_digit t
-same_digits [] = refl
-same_digits (b ∷ bs) = ap (λ x. is_ascii_digit b && x) (same_digits bs)
-
-numerals : IsNumeralModel (λ ds. all_ascii_digits ds ≡ true) (digits_value 10)
-numerals = numerals_by_value (λ ds. all_ascii_digits ds ≡ true) tells_all_ascii_digits
 
 pub decimal_digits : (n : ℕ) → n ≤ 4294967296 → list_all is_ascii_digit (decimal n) ≡ true
 decimal_digits n h = let small : n < 2 ^ 64 = omega arith in
-    sym (same_digits (decimal n)) ∙ digits_decimal numerals n small
+    sym (all_digits (decimal n)) ∙ digits_decimal are_numerals n small
 
 pub decimal_short : (n : ℕ) → n ≤ 4294967296 → length (decimal n) ≤ 10
 decimal_short n h = let few : n < 10 ^ 10 = omega arith in let small : n < 2 ^ 64 = omega arith in
@@ -147,7 +129,7 @@ decimal_short n h = let few : n < 10 ^ 10 = omega arith in let small : n < 2 ^ 6
 pub digits_are : (p : ℕ → Bool) → ((b : ℕ) → is_ascii_digit b ≡ true → p b ≡ true) → (t : List ℕ)
     → list_all is_ascii_digit t ≡ true → list_all p t ≡ true
 digits_are p f [] h = refl
-digits_are p f (b ∷ bs) h = let x = and_both (is_ascii_digit b) (list_all is_ascii_digit bs) h in
+digits_are p f (b ∷ bs) h = let x = both_true (is_ascii_digit b) (list_all is_ascii_digit bs) h in
     λ i. f b x.0 i && digits_are p f bs x.1 i
 
 plain_digit : (b : ℕ) → is_ascii_digit b ≡ true → is_plain b ≡ true

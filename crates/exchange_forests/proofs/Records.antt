@@ -51,16 +51,13 @@ use Rattle.archive_state.specs.Content.{Content, Records}
 use Rattle.archive_state.specs.Owned.{IsCitationOf, IsEventOf}
 use Rattle.archive_state.specs.Sound.{IsOfRecords, IsSound, own_tags}
 use Rattle.archive_state.specs.Texts.{carried_texts, date_texts, own_texts}
-use Rattle.archive_state.proofs.Each.{each_back, each_both, each_front, each_more}
 use Rattle.export_forest.specs.Around.{around}
-use Rattle.exchange_orders.proofs.Listed.{each_parts}
 use Rattle.exchange_orders.proofs.Nodes.{owns}
 use Rattle.exchange_reading.proofs.Readable.{owned_are}
 use Rattle.exchange_forests.proofs.Fitting.{
   AllFit,
   Fits,
   IsGood,
-  each_of_flat,
   fits_line,
   fits_loc,
   fits_pointer,
@@ -70,7 +67,9 @@ use Rattle.exchange_forests.proofs.Fitting.{
   good_lines,
   good_tag,
 }
-use Rattle.exchange_forests.proofs.Plain.{path_text, quality_text, sex_text}
+use Rattle.exchange_forests.proofs.Plain.{path_text, quality_text}
+use Rattle.record_shapes.proofs.Each.{each_back, each_both, each_front, each_more, each_parts, each_of_flat}
+use Rattle.record_fields.proofs.WordTexts.{sex_text}
 
 module _ (c : Content) (is : IsSound c) where
   abbrev m : Records

@@ -33,14 +33,16 @@ use Rattle.archive_state.specs.Applied.{with_puts}
 use Rattle.archive_state.specs.Content.{Records}
 use Rattle.archive_state.specs.Merging.{record_with}
 use Rattle.archive_state.specs.declared.changes.Numbered as put
-use Rattle.archive_state.proofs.Each.{each_both, each_more}
 use Rattle.export_forest.specs.Order.{Numbered, citations_of, household, households, is_citation_of, is_event_of}
 use Rattle.exchange_orders.specs.Positions.{new_number, numbers_in, position_of}
 use Rattle.exchange_orders.proofs.Entries.{entries_stand, Stands, ties}
-use Rattle.exchange_orders.proofs.Listed.{each_filter, has, or_false, same_self, true_not_false}
+use Rattle.exchange_orders.proofs.Listed.{each_filter}
 use Rattle.exchange_orders.proofs.Ordered.{order, order_stands, StandsAt0}
 use Rattle.exchange_orders.proofs.Positions.{same_position}
 use Rattle.exchange_laws.specs.Same.{IsCarriedBy}
+use Rattle.record_shapes.proofs.Each.{each_both, each_more, has}
+use Rattle.list_laws.proofs.Booleans.{neither, true_not_false}
+use Rattle.list_laws.proofs.Numbers.{same_self}
 
 -- ---- records put into a map
 abbrev pub numbers_of : List put.Numbered → List ℕ
@@ -54,7 +56,7 @@ look_none : (k : ℕ) (es : List put.Numbered) → has k (numbers_of es) ≡ fal
 look_none k [] h = refl
 look_none k (e ∷ es) h =
     let both : ((e.number == k) ≡ false) × (has k (numbers_of es) ≡ false) =
-    or_false (e.number == k) (has k (numbers_of es)) h in
+    neither (e.number == k) (has k (numbers_of es)) h in
     ap (λ b. cond b (Some e.«record») (look k es)) both.0 ∙ look_none k es both.1
 
 abbrev or_in : Option Record → Option Record → Option Record
@@ -159,7 +161,7 @@ module _ (m : Records) where
     none_new : (n : ℕ) (ks : List ℕ) → has n numbers ≡ true → has n ks ≡ false → has (f n) (map f ks) ≡ false
     none_new n [] h g = refl
     none_new n (k ∷ ks) h g =
-        let both : ((k == n) ≡ false) × (has n ks ≡ false) = or_false (k == n) (has n ks) g in
+        let both : ((k == n) ≡ false) × (has n ks ≡ false) = neither (k == n) (has n ks) g in
         elim (eqb (f k) (f n)) as (λ b. eqb (f k) (f n) ≡ b → (b || has (f n) (map f ks)) ≡ false) [
           | true ↦ λ i. let same : k ≡ n = one_number n k h (eqb-true (f k) (f n) i) in
               absurd (true_not_false (sym (ap (λ q. q == n) same ∙ same_self n) ∙ both.0))

@@ -25,7 +25,8 @@ use Rattle.record_shapes.specs.Lists.{IsOnce}
 use Rattle.import_forest.specs.Numbers.{Drawing, Drawn, Places, begun, draw, draw_all, drawn_more, of_file, root_drawn}
 use Rattle.export_forest.specs.Order.{Numbered}
 use Rattle.exchange_orders.specs.Positions.{numbers_in, position_of}
-use Rattle.exchange_orders.proofs.Listed.{has, or_false}
+use Rattle.record_shapes.proofs.Each.{has}
+use Rattle.list_laws.proofs.Booleans.{neither}
 
 -- numbers drawn for trees of drafts, the first of which stands at position k
 abbrev pub draw_trees : Places → ℕ → Drawing → List (Tree Draft) → Drawing
@@ -222,7 +223,7 @@ module _ (g : Record → Record) where
       → Counts g (λ j. (next + 1) + position_of j all) n ks → Counts g (λ j. next + position_of j (k ∷ all)) n ks
   positions_shift next n k all [] h c = tt
   positions_shift next n k all (j ∷ ks) h c =
-      let both : ((j == k) ≡ false) × (has k ks ≡ false) = or_false (j == k) (has k ks) h in
+      let both : ((j == k) ≡ false) × (has k ks ≡ false) = neither (j == k) (has k ks) h in
       let e : position_of j (k ∷ all) ≡ position_of j all + 1 = position_other j k all both.0 in
       let d : (next + 1) + position_of j all ≡ n = c.0 in (
         (let x : next + position_of j (k ∷ all) ≡ n = omega arith in x),

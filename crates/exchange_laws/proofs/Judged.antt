@@ -19,7 +19,7 @@ use Rattle.std.specs.Prelude.{
   None,
   refl,
 }
-use Rattle.std.specs.List.{filter, list_any}
+use Rattle.std.specs.List.{list_any}
 use Rattle.std.proofs.Common.{ap, sym, subst, ◌∙◌}
 use Rattle.stored_lines.specs.Tree.{Tree, label}
 use Rattle.stored_lines.specs.Line.{Line, Lines}
@@ -33,7 +33,10 @@ use Rattle.file_roots.specs.Lines.{Lined, unlined}
 use Rattle.import_forest.specs.Report.{is_partner, is_sided, judge_member, judge_side, judged, names_member, said_on}
 use Rattle.import_forest.specs.Positions.{known}
 use Rattle.import_forest.specs.Sides.{names_family}
-use Rattle.exchange_orders.proofs.Listed.{has, or_false, other_way}
+use Rattle.exchange_orders.proofs.Listed.{other_way}
+use Rattle.list_laws.proofs.Lists.{any_kept}
+use Rattle.record_shapes.proofs.Each.{has}
+use Rattle.list_laws.proofs.Booleans.{neither}
 
 abbrev pub NoneJudged : (Lines → Tree Line → Option ReportWord) → Lines → Lines → Type 0
 NoneJudged judge before [] = Unit {0}
@@ -44,15 +47,6 @@ pub none_judged : (judge : Lines → Tree Line → Option ReportWord) (before : 
 none_judged judge before [] h = refl
 none_judged judge before (t ∷ ts) h = (λ i. said_on (label t).0 (h.0 i) ++ judged judge (unlined t ∷ before) ts)
     ∙ none_judged judge (unlined t ∷ before) ts h.1
-
-any_of : {A : Type 0} (p q : A → Bool) (xs : List A) → list_any (λ x. p x && q x) xs ≡ list_any q (filter p xs)
-any_of p q [] = refl
-any_of p q (x ∷ xs) =
-    elim (p x) as (λ b. ((b && q x) || list_any (λ y. p y && q y) xs)
-    ≡ list_any q (cond b (x ∷ filter p xs) (filter p xs))) [
-      | true ↦ ap (λ b. q x || b) (any_of p q xs)
-      | false ↦ any_of p q xs
-    ]
 
 -- ---- lines of families
 module _ (k : Known) where
@@ -71,14 +65,14 @@ module _ (k : Known) where
       by : (b : Bool) → cond (b && list_any (names_member k (number_of t)) before) (Some word.Doubled) None ≡ None
       by false = refl
       by true = ap (λ b. cond b (Some word.Doubled) None)
-          (any_of (λ u. is_same (family_field k u) a_member) (λ u. number_of u == number_of t) before ∙ h)
+          (any_kept (λ u. is_same (family_field k u) a_member) (λ u. number_of u == number_of t) before ∙ h)
 
   fresh_more : (t : Tree Line) (before : Lines) (ns : List ℕ) → is_same (family_field k t) a_member ≡ true
       → has (number_of t) ns ≡ false → Fresh before ns → Fresh (t ∷ before) ns
   fresh_more t before [] m n f = tt
   fresh_more t before (j ∷ ns) m n f =
       let both : ((j == number_of t) ≡ false) × (has (number_of t) ns ≡ false) =
-      or_false (j == number_of t) (has (number_of t) ns) n in
+      neither (j == number_of t) (has (number_of t) ns) n in
       let us = all_of (family_field k) a_member before in (
         ap (λ b. list_any (λ u. number_of u == j) (cond b (t ∷ us) us)) m
             ∙ (λ i. other_way j (number_of t) both.0 i || f.0 i),
@@ -146,7 +140,7 @@ module _ (rs : Lines) (person : ℕ) where
           (Some word.OneSided)) None ≡ None
       by false = refl
       by true = (λ i. cond (s i)
-          (cond ((any_of (λ u. is_same (person_field (known rs) u) a_side) (named_by t) before ∙ n) i)
+          (cond ((any_kept (λ u. is_same (person_field (known rs) u) a_side) (named_by t) before ∙ n) i)
           (Some word.Doubled) None) (Some word.OneSided))
 
   no_side : (before : Lines) (t : Tree Line) → is_same (person_field (known rs) t) a_side ≡ false

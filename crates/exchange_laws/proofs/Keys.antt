@@ -46,19 +46,20 @@ use Rattle.archive_state.specs.Content.{Content, Records}
 use Rattle.archive_state.specs.Merging.{entry_with, record_with}
 use Rattle.archive_state.specs.Sound.{IsSound}
 use Rattle.archive_state.specs.Sound as sound
-use Rattle.archive_state.proofs.Each.{each_more}
 use Rattle.import_forest.specs.Made.{has_key_of, same_key, second}
 use Rattle.import_forest.specs.Sides.{draft_at, drafts_from}
-use Rattle.file_roots.proofs.Greatest.{and_both}
 use Rattle.export_forest.specs.Order.{Numbered, household, households}
 use Rattle.exchange_orders.specs.Positions.{nodes_by_position}
 use Rattle.exchange_orders.proofs.Entries.{keys, Stands}
-use Rattle.exchange_orders.proofs.Listed.{has, or_false, other_way, same_self, true_not_false}
+use Rattle.exchange_orders.proofs.Listed.{other_way}
 use Rattle.exchange_orders.proofs.Nodes.{pos}
 use Rattle.exchange_orders.proofs.Ordered.{order, order_once, order_stands, StandsAt0}
 use Rattle.exchange_reading.specs.Drafts.{without_owner}
 use Rattle.exchange_reading.specs.Laws.{DraftsComeBack}
 use Rattle.exchange_reading.proofs.Seen.{positions_apart}
+use Rattle.record_shapes.proofs.Each.{each_more, has}
+use Rattle.list_laws.proofs.Booleans.{both_true, neither, true_not_false}
+use Rattle.list_laws.proofs.Numbers.{same_self}
 
 -- ---- words and items tell kinds and items apart
 kinds_same : (a b : EntryKind) → bytes_eq (entry_kind_word a) (entry_kind_word b) ≡ true → a ≡ b
@@ -102,10 +103,10 @@ module _ (c : Content) (is : IsSound c) where
   entries_apart n k e g he hg h =
       let items_are = e.item.number == g.item.number in
       let pages_are = bytes_eq e.page g.page && items_are in
-      let a = and_both (pos m e.source == pos m g.source)
+      let a = both_true (pos m e.source == pos m g.source)
       (bytes_eq (entry_kind_word e.kind) (entry_kind_word g.kind) && pages_are) h in
-      let b = and_both (bytes_eq (entry_kind_word e.kind) (entry_kind_word g.kind)) pages_are a.1 in
-      let d = and_both (bytes_eq e.page g.page) items_are b.1 in
+      let b = both_true (bytes_eq (entry_kind_word e.kind) (entry_kind_word g.kind)) pages_are a.1 in
+      let d = both_true (bytes_eq e.page g.page) items_are b.1 in
       is.rules.keys n k e he (
         g,
         hg,
@@ -155,7 +156,7 @@ module _ (c : Content) (is : IsSound c) where
   fresh_more x done [] n h = tt
   fresh_more x done (y ∷ rest) n h =
       let both : ((y.0 == x.0) ≡ false) × (has x.0 (keys rest) ≡ false) =
-      or_false (y.0 == x.0) (has x.0 (keys rest)) n in
+      neither (y.0 == x.0) (has x.0 (keys rest)) n in
       ((other_way y.0 x.0 both.0, h.0), fresh_more x done rest both.1 h.1)
 
   no_second : (k : ℕ) (done rest : List Numbered) → EachOf (Stands m) done → EachOf (Stands m) rest → IsOnce (keys rest)

@@ -33,7 +33,6 @@ use Rattle.record_shapes.specs.Lists.{EachOf, IsOnce}
 use Rattle.archive_state.specs.Changes.{Batch}
 use Rattle.archive_state.specs.Content.{Content, Records, nothing}
 use Rattle.archive_state.specs.Sound.{IsNumber, IsSound}
-use Rattle.archive_state.proofs.Each.{each_more}
 use Rattle.file_roots.specs.Nodes.{FileNode}
 use Rattle.file_roots.specs.Roots.{candidates, kept}
 use Rattle.file_roots.specs.Lines.{roots}
@@ -53,18 +52,20 @@ use Rattle.export_forest.specs.Order.{Numbered, households}
 use Rattle.exchange_orders.specs.Positions.{nodes_by_position, numbers_in}
 use Rattle.exchange_orders.proofs.Found.{nodes_found}
 use Rattle.exchange_orders.proofs.Households.{have_all}
-use Rattle.exchange_orders.proofs.Listed.{each_over, has, or_false, other_way, true_not_false}
+use Rattle.exchange_orders.proofs.Listed.{other_way}
 use Rattle.exchange_reading.specs.Laws.{DraftsComeBack}
 use Rattle.exchange_laws.specs.Laws.{ImportHasAll}
 use Rattle.exchange_laws.proofs.Carried.{Here, carried_by, here, in_lines, numbers_are}
 use Rattle.exchange_laws.proofs.Keys.{none_second}
 use Rattle.exchange_laws.proofs.Results.{drawn, drawn_is, new_record, results_are}
+use Rattle.record_shapes.proofs.Each.{each_more, each_mapped, has}
+use Rattle.list_laws.proofs.Booleans.{neither, true_not_false}
 
 -- ---- numbers that are apart
 apart_from : (k : ℕ) (ks : List ℕ) → has k ks ≡ false → AllByRecursion (λ j. eqb k j ≡ false) ks
 apart_from k [] h = tt
 apart_from k (j ∷ ks) h =
-    let both : ((j == k) ≡ false) × (has k ks ≡ false) = or_false (j == k) (has k ks) h in
+    let both : ((j == k) ≡ false) × (has k ks ≡ false) = neither (j == k) (has k ks) h in
     (other_way j k both.0, apart_from k ks both.1)
 
 distinct : (ks : List ℕ) → IsOnce ks → IsDistinct eqb ks
@@ -95,7 +96,7 @@ module _ (c : Content) (is : IsSound c) where
 
   numbers_fit : EachOf (IsNumber c.next) numbers
   numbers_fit = subst (EachOf (IsNumber c.next)) (numbers_are m)
-      (each_over (IsNumber c.next) (λ (p : ℕ × Numbered). p.1.0) (in_lines m)
+      (each_mapped (IsNumber c.next) (λ (p : ℕ × Numbered). p.1.0) (in_lines m)
       (each_more (Here m) (λ p. IsNumber c.next p.1.0)
       (λ (p : ℕ × Numbered) (h : Here m p). is.rules.numbered p.1.0 p.1.1 h) (in_lines m) (here m)))
 

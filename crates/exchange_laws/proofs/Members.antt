@@ -41,12 +41,10 @@ use Rattle.archive_state.specs.Content.{Content, Records}
 use Rattle.archive_state.specs.Known.{known_of}
 use Rattle.archive_state.specs.Merging.{line_with, lines_with}
 use Rattle.archive_state.specs.Sound.{IsSound}
-use Rattle.archive_state.proofs.Each.{each_back, each_both, each_front, each_more}
 use Rattle.import_forest.specs.Positions.{known}
-use Rattle.file_roots.proofs.Greatest.{and_both}
 use Rattle.export_forest.specs.Around.{around}
 use Rattle.exchange_orders.specs.Positions.{nodes_by_position}
-use Rattle.exchange_orders.proofs.Listed.{filter_all, has, or_false, same_self, true_not_false}
+use Rattle.exchange_orders.proofs.Listed.{filter_all}
 use Rattle.exchange_orders.proofs.Nodes.{node_tree, owns, pos}
 use Rattle.exchange_orders.proofs.Renamed.{list_relabelled}
 use Rattle.exchange_reading.proofs.Alike.{all_alike, family_alike}
@@ -54,13 +52,16 @@ use Rattle.exchange_reading.proofs.Inverse.{persons_apart}
 use Rattle.exchange_reading.proofs.Readable.{ReadsSound, filter_none, shaped}
 use Rattle.exchange_reading.proofs.Seen.{tags_back}
 use Rattle.exchange_laws.proofs.Judged.{numbers}
+use Rattle.record_shapes.proofs.Each.{each_back, each_both, each_front, each_more, has}
+use Rattle.list_laws.proofs.Booleans.{both_true, neither, true_not_false}
+use Rattle.list_laws.proofs.Numbers.{same_self}
 
 -- ---- numbers mapped
 pub none_mapped : (f : ℕ → ℕ) (n : ℕ) (ks : List ℕ) → ((i : ℕ) → f i ≡ f n → i ≡ n) → has n ks ≡ false
     → has (f n) (map f ks) ≡ false
 none_mapped f n [] apart h = refl
 none_mapped f n (k ∷ ks) apart h =
-    let both : ((k == n) ≡ false) × (has n ks ≡ false) = or_false (k == n) (has n ks) h in
+    let both : ((k == n) ≡ false) × (has n ks ≡ false) = neither (k == n) (has n ks) h in
     elim (eqb (f k) (f n)) as (λ b. eqb (f k) (f n) ≡ b → (b || has (f n) (map f ks)) ≡ false) [
       | true ↦ λ i. absurd
           (true_not_false (sym (ap (λ q. q == n) (apart k (eqb-true (f k) (f n) i)) ∙ same_self n) ∙ both.0))
@@ -108,7 +109,7 @@ leaves_no _ h = absurd (true_not_false (sym h))
 carried_no : (k : Known) (ts : Lines) → AreUntaken (family_field k) (λ x. family_leaves x) ts → EachOf (NamesNone k) ts
 carried_no k [] h = tt
 carried_no k (t ∷ ts) h =
-    let both = and_both (family_leaves (family_field k t)) (list_all (λ u. family_leaves (family_field k u)) ts) h in
+    let both = both_true (family_leaves (family_field k t)) (list_all (λ u. family_leaves (family_field k u)) ts) h in
     (leaves_no (family_field k t) both.0, carried_no k ts both.1)
 
 events_no : (k : Known) (a : Around) (ts : List (Tree Record)) → EachOf (NamesNone k) (events_below a ts)

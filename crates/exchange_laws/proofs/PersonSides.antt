@@ -39,7 +39,6 @@ use Rattle.archive_state.specs.Content.{Content, Records}
 use Rattle.archive_state.specs.Merging.{partner_with}
 use Rattle.archive_state.specs.Owned.{IsSideIn}
 use Rattle.archive_state.specs.Sound.{IsSound}
-use Rattle.archive_state.proofs.Each.{each_all, each_more}
 use Rattle.import_forest.specs.Positions.{known}
 use Rattle.import_forest.specs.Report.{is_partner, is_sided}
 use Rattle.export_forest.specs.Around.{child_sides, partner_sides}
@@ -47,16 +46,7 @@ use Rattle.export_forest.specs.Order.{Numbered}
 use Rattle.exchange_orders.specs.Laws.{side_with}
 use Rattle.exchange_orders.specs.Positions.{nodes_by_position}
 use Rattle.exchange_orders.proofs.Entries.{entries_once, entries_stand, keys, Stands}
-use Rattle.exchange_orders.proofs.Listed.{
-  each_flat,
-  each_over,
-  has,
-  has_neither,
-  once_append,
-  once_not_front,
-  or_false,
-  other_way,
-}
+use Rattle.exchange_orders.proofs.Listed.{has_neither, once_append, once_not_front, other_way}
 use Rattle.exchange_orders.proofs.Nodes.{node_tree, pos}
 use Rattle.exchange_reading.proofs.Drafts.{Laws, family_read}
 use Rattle.exchange_reading.proofs.Readable.{around_is, filter_none}
@@ -64,6 +54,8 @@ use Rattle.exchange_reading.proofs.Seen.{at_node, if_level_0, positions_apart}
 use Rattle.exchange_reading.proofs.SideLists.{child_sides_of, has_map, is_wanted_side, once_parts, partner_sides_of}
 use Rattle.exchange_laws.proofs.Judged.{AreSided}
 use Rattle.exchange_laws.proofs.Members.{none_mapped, once_mapped}
+use Rattle.record_shapes.proofs.Each.{each_all, each_more, each_flat, each_mapped, has}
+use Rattle.list_laws.proofs.Booleans.{neither}
 
 abbrev pub families : List Side → List ℕ
 families ss = map (λ (s : Side). s.family) ss
@@ -83,7 +75,7 @@ module _ (rs : Lines) (person : ℕ) (tag : List ℕ) (is : bytes_eq tag tag ≡
   fresh_more s before [] h f = tt
   fresh_more s before (x ∷ ss) h f =
       let both : ((x.family == s.family) ≡ false) × (has s.family (families ss) ≡ false) =
-      or_false (x.family == s.family) (has s.family (families ss)) h in
+      neither (x.family == s.family) (has s.family (families ss)) h in
       ((λ i. (is i && other_way x.family s.family both.0 i) || f.0 i), fresh_more s before ss both.1 f.1)
 
   pub sided_in_front : (before : Lines) (ss : List Side) → P before → EachOf Right ss → IsOnce (families ss)
@@ -97,7 +89,7 @@ module _ {A : Type 0} (key : A → ℕ) (k : ℕ) where
   others : (xs : List A) → has k (map key xs) ≡ false → EachOf (λ x. (key x == k) ≡ false) xs
   others [] h = tt
   others (x ∷ xs) h = let both : ((key x == k) ≡ false) × (has k (map key xs) ≡ false) =
-      or_false (key x == k) (has k (map key xs)) h in (both.0, others xs both.1)
+      neither (key x == k) (has k (map key xs)) h in (both.0, others xs both.1)
 
   -- of those of a key there is one at the most, where none is there twice
   pub one_at_most : (j : ℕ) (xs : List A) → IsOnce (map key xs)
@@ -134,7 +126,7 @@ module _ (g : Numbered → List Side) (of_family : (e : Numbered) → EachOf (λ
   no_families : (n : ℕ) (es : List Numbered) → has n (keys es) ≡ false → has n (families (flat_map g es)) ≡ false
   no_families n [] h = refl
   no_families n (e ∷ es) h =
-      let both : ((e.0 == n) ≡ false) × (has n (keys es) ≡ false) = or_false (e.0 == n) (has n (keys es)) h in
+      let both : ((e.0 == n) ≡ false) × (has n (keys es) ≡ false) = neither (e.0 == n) (has n (keys es)) h in
       ap (has n) (map-append (λ (s : Side). s.family) (g e) (flat_map g es))
       ∙ has_neither n (families (g e)) (families (flat_map g es)) (no_family n e.0 (g e) (of_family e) both.0)
       (no_families n es both.1)
@@ -255,7 +247,7 @@ module _ (c : Content) (is : IsSound c) (laws : Laws) where
     moved_once ss h o = subst IsOnce (map-map (pos m) (λ (s : Side). s.family) ss
         ∙ sym (map-map (λ (s : Side). s.family) (side_with (pos m)) ss))
         (once_mapped (pos m) (families ss)
-        (each_over (λ k. (i : ℕ) → pos m i ≡ pos m k → i ≡ k) (λ (s : Side). s.family) ss
+        (each_mapped (λ k. (i : ℕ) → pos m i ≡ pos m k → i ≡ k) (λ (s : Side). s.family) ss
         (each_more (IsSideIn m) (λ s. (i : ℕ) → pos m i ≡ pos m s.family → i ≡ s.family)
         (λ (s : Side) (w : IsSideIn m s). positions_apart m s.family (kind.Family w.0) w.1 refl) ss h)) o)
 
@@ -303,14 +295,14 @@ module _ (c : Content) (is : IsSound c) (laws : Laws) where
         (append-nil (map (side_line (codes "FAMS")) (map (side_with (pos m)) ps)))
         (sided_in_front rs (pos m n) (codes "FAMS") refl (λ before. Unit {0}) (λ before s h. tt) [] (λ before h. tt)
         before (map (side_with (pos m)) ps) tt
-        (each_over (λ (s : Side). is_sided (is_partner rs (pos m n) s.family) (side_line (codes "FAMS") s) ≡ true)
+        (each_mapped (λ (s : Side). is_sided (is_partner rs (pos m n) s.family) (side_line (codes "FAMS") s) ≡ true)
         (side_with (pos m)) ps
         (each_flat RightPartner (partner_sides n) (entries m)
         (each_more (Stands m) (λ e. EachOf RightPartner (partner_sides n e)) partner_right (entries m)
         (entries_stand m))))
         partners_once (all_fresh before h (map (side_with (pos m)) ps))))
         [] (map (side_with (pos m)) cs) tt
-        (each_over (λ (s : Side). is_sided (is_partner rs (pos m n) s.family) (side_line (codes "FAMC") s) ≡ true)
+        (each_mapped (λ (s : Side). is_sided (is_partner rs (pos m n) s.family) (side_line (codes "FAMC") s) ≡ true)
         (side_with (pos m)) cs
         (each_flat RightChild (child_sides n) (entries m)
         (each_more (Stands m) (λ e. EachOf RightChild (child_sides n e)) child_right (entries m)

@@ -33,7 +33,6 @@ use Rattle.record_shapes.specs.Lists.{EachOf}
 use Rattle.record_shapes.specs.Picking.{all_of}
 use Rattle.archive_state.specs.Content.{Content, Records}
 use Rattle.archive_state.specs.Sound.{IsSound}
-use Rattle.archive_state.proofs.Each.{each_more}
 use Rattle.gedcom_tree.specs.Forest.{Item}
 use Rattle.gedcom_tree.specs.Text.{IsSame}
 use Rattle.file_roots.specs.Kinds.{is_other, kind_named}
@@ -56,7 +55,6 @@ use Rattle.export_forest.specs.Forest.{exported}
 use Rattle.export_forest.specs.Order.{Numbered}
 use Rattle.exchange_orders.specs.Positions.{nodes_by_position}
 use Rattle.exchange_orders.proofs.Found.{other_kind, roots_are}
-use Rattle.exchange_orders.proofs.Listed.{each_over, each_under, true_not_false}
 use Rattle.exchange_orders.proofs.Nodes.{node_tree, nodes_are, pos}
 use Rattle.exchange_orders.proofs.Ordered.{order, order_stands, StandsAt0}
 use Rattle.exchange_orders.proofs.Renamed.{list_relabelled}
@@ -69,6 +67,8 @@ use Rattle.exchange_laws.proofs.Judged.{AreSided, NoneJudged, family_judged, non
 use Rattle.exchange_laws.proofs.Members.{members_once}
 use Rattle.exchange_laws.proofs.PersonSides.{person_sided}
 use Rattle.exchange_laws.proofs.Unreported.{no_lines_said, no_roots_said}
+use Rattle.record_shapes.proofs.Each.{each_more, each_mapped, each_under}
+use Rattle.list_laws.proofs.Booleans.{true_not_false}
 
 -- ---- lists, each element with its position
 abbrev EachFrom : {A : Type 0} → (ℕ → A → Type 0) → ℕ → List A → Type 0
@@ -153,7 +153,7 @@ module _ (c : Content) (is : IsSound c) (laws : Laws) where
 
   families_fine : EachOf (FineFamily rs) rs
   families_fine = subst (EachOf (FineFamily rs)) (sym (nodes_are m))
-      (each_over (FineFamily rs) (node_tree m) (order m)
+      (each_mapped (FineFamily rs) (node_tree m) (order m)
       (each_more (StandsAt0 m) (λ e. FineFamily rs (node_tree m e)) fine_family (order m) (order_stands m)))
 
   sides_of : (k : ℕ) (x : model.Person) → get m k ≡ Some (kind.Person x)

@@ -37,7 +37,7 @@ use Rattle.exchange_orders.specs.Positions.{new_number, nodes_by_position, numbe
 use Rattle.exchange_orders.proofs.Entries.{entries_stand, keys, Stands}
 use Rattle.exchange_orders.proofs.Found.{wanted_has}
 use Rattle.exchange_orders.proofs.Households.{have_all}
-use Rattle.exchange_orders.proofs.Listed.{each_filter, has, true_not_false}
+use Rattle.exchange_orders.proofs.Listed.{each_filter}
 use Rattle.exchange_orders.proofs.Nodes.{pos, positions_are}
 use Rattle.exchange_orders.proofs.Ordered.{order, order_stands, StandsAt0}
 use Rattle.exchange_reading.specs.Drafts.{without_owner}
@@ -45,6 +45,8 @@ use Rattle.exchange_reading.specs.Laws.{DraftsComeBack}
 use Rattle.exchange_reading.proofs.Placed.{at_all}
 use Rattle.exchange_laws.proofs.Drawing.{all_drawn_by, draw_trees, drawn_by, draws_in_order}
 use Rattle.exchange_laws.proofs.Twice.{OwnedBy, record_twice}
+use Rattle.record_shapes.proofs.Each.{has}
+use Rattle.list_laws.proofs.Booleans.{true_not_false}
 
 -- ---- along a tree
 module _ (w : Places) (d : Drawing) (h : ℕ → ℕ) (g : Record → Record) where

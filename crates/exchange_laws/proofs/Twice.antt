@@ -49,8 +49,8 @@ use Rattle.archive_state.specs.Merging.{
 use Rattle.archive_state.specs.Sound as sound
 use Rattle.import_forest.specs.Numbers.{owned_by}
 use Rattle.exchange_orders.proofs.Linked.{stands_0, place_0, repo_0, source_0, person_0}
-use Rattle.exchange_orders.proofs.Listed.{each_parts}
 use Rattle.exchange_reading.specs.Drafts.{without_owner}
+use Rattle.record_shapes.proofs.Each.{each_parts}
 
 -- ---- numbers changed twice
 module _ (m : Records) (a b c : ℕ → ℕ) (ab : (n : ℕ) → sound.Stands m (n, at_level_0) → a (b n) ≡ c n) where

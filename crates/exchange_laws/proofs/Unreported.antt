@@ -29,7 +29,6 @@ use Rattle.record_shapes.specs.Lists.{EachOf}
 use Rattle.archive_state.specs.Content.{Content, Records}
 use Rattle.archive_state.specs.Sound.{IsSound}
 use Rattle.archive_state.specs.Sound as sound
-use Rattle.archive_state.proofs.Each.{each_more, each_zip}
 use Rattle.gedcom_tree.specs.Forest.{Item}
 use Rattle.gedcom_tree.specs.Text.{IsSame}
 use Rattle.file_roots.specs.Kinds.{is_other, kind_named}
@@ -43,12 +42,13 @@ use Rattle.export_forest.specs.Forest.{exported}
 use Rattle.export_forest.specs.Names.{name_of}
 use Rattle.export_forest.specs.Order.{Numbered}
 use Rattle.exchange_orders.proofs.Found.{N, candidates_are, each_kept, kept_are, ns, other_kind, place_is}
-use Rattle.exchange_orders.proofs.Listed.{each_over, each_parts, each_under, true_not_false}
 use Rattle.exchange_orders.proofs.Nodes.{lines_of}
 use Rattle.exchange_orders.proofs.Ordered.{order, order_stands, StandsAt0}
 use Rattle.exchange_orders.proofs.Owning.{node_fine}
 use Rattle.exchange_orders.proofs.Regrown.{clear, cleared, filed, in_file, kept_same, position_clear}
 use Rattle.exchange_reading.proofs.Inverse.{flat_none}
+use Rattle.record_shapes.proofs.Each.{each_more, each_zip, each_mapped, each_parts, each_under}
+use Rattle.list_laws.proofs.Booleans.{true_not_false}
 
 -- ---- the numbers of lines are not looked at
 none_either : (a b : Bool) (r q : ReportLine) → cond a [] (cond b [] (r ∷ [])) ≡ []
@@ -137,7 +137,7 @@ module _ (c : Content) (is : IsSound c) where
         (candidates f)
         (each_under (λ t. dropped (label t) ≡ []) cleared (candidates f)
         (subst (EachOf (λ t. dropped (label t) ≡ [])) (sym (candidates_are c is society f e))
-        (each_over (λ t. dropped (label t) ≡ []) (N c is) (order m)
+        (each_mapped (λ t. dropped (label t) ≡ []) (N c is) (order m)
         (each_more (StandsAt0 m) (λ x. dropped (label (N c is x)) ≡ []) no_value (order m) (order_stands m)))))
 
     pub no_roots_said : said_of_roots (candidates f) ≡ []
@@ -158,7 +158,7 @@ module _ (c : Content) (is : IsSound c) where
         (λ i name. position_clear name 0 ks i) h)) ks
         (each_under (λ t. AllNamed (place_in (map cleared ks)) (children t)) cleared ks
         (subst (λ us. EachOf (λ t. AllNamed (place_in us) (children t)) us) (sym (kept_are c is society f e))
-        (each_over (λ t. AllNamed (place_in (ns c is)) (children t)) (N c is) (order m)
+        (each_mapped (λ t. AllNamed (place_in (ns c is)) (children t)) (N c is) (order m)
         (each_more (StandsAt0 m) (λ x. AllNamed (place_in (ns c is)) (children (N c is x)))
         (λ x st. node_named (name_of m x.0) (lines_of m x) (node_fine c is x st)) (order m) (order_stands m)))))
 

@@ -30,9 +30,11 @@ use Rattle.std.proofs.Common.{ap, sym, ◌∙◌, arith}
 use Rattle.std.proofs.lemmas.Bool.{eqb-true}
 use Rattle.std.proofs.lemmas.Bool.Decides.{nat_tests}
 use Rattle.record_shapes.specs.Lists.{EachOf, IsOnce, Ascends}
-use Rattle.archive_state.proofs.Each.{each_more}
-use Rattle.archive_state.proofs.Rising.{first_holds, rest_holds, less_is}
-use Rattle.exchange_orders.proofs.Listed.{has, once_ascending, or_false, other_way, same_self, true_not_false}
+use Rattle.archive_state.proofs.Rising.{less_is}
+use Rattle.exchange_orders.proofs.Listed.{other_way}
+use Rattle.record_shapes.proofs.Each.{each_more, has, once_ascending}
+use Rattle.list_laws.proofs.Booleans.{first_holds, rest_holds, neither, true_not_false}
+use Rattle.list_laws.proofs.Numbers.{same_self}
 
 pub ties : (n k : ℕ) → is_eq (nat_cmp n k) ≡ (k == n)
 ties n k = by (k == n) refl
@@ -107,7 +109,7 @@ module _ {X : Type 0} where
       → EachOf (λ f. look f.0 (e ∷ es) ≡ Some f.1) fs
   look_behind e es [] n h = tt
   look_behind e es (f ∷ fs) n h =
-      let both : ((f.0 == e.0) ≡ false) × (has e.0 (keys fs) ≡ false) = or_false (f.0 == e.0) (has e.0 (keys fs)) n in
+      let both : ((f.0 == e.0) ≡ false) × (has e.0 (keys fs) ≡ false) = neither (f.0 == e.0) (has e.0 (keys fs)) n in
       (ap (λ b. cond b (Some e.1) (look f.0 es)) (other_way f.0 e.0 both.0) ∙ h.0, look_behind e es fs both.1 h.1)
 
   look_own : (es : List (ℕ × X)) → IsOnce (keys es) → EachOf (λ e. look e.0 es ≡ Some e.1) es

@@ -54,7 +54,6 @@ use Rattle.archive_state.specs.Content.{Content, Records}
 use Rattle.archive_state.specs.Merging.{value_with, line_with}
 use Rattle.archive_state.specs.Sound.{IsSound, IsNumber}
 use Rattle.archive_state.specs.Sound as sound
-use Rattle.archive_state.proofs.Each.{each_front, each_more}
 use Rattle.gedcom_tree.specs.Forest.{Item}
 use Rattle.gedcom_tree.specs.Text.{IsSame}
 use Rattle.file_roots.specs.Kinds.{is_other, kind_named}
@@ -89,16 +88,7 @@ use Rattle.export_forest.specs.Names.{letter_at, name_of, name_with}
 use Rattle.export_forest.specs.Order.{Numbered, household, households, rank}
 use Rattle.exchange_orders.specs.Positions.{nodes_by_position, position_of}
 use Rattle.exchange_orders.specs.Laws.{NodesAreFound}
-use Rattle.exchange_orders.proofs.Listed.{
-  each_over,
-  each_parts,
-  filter_all,
-  has,
-  map_each,
-  or_right,
-  same_self,
-  true_not_false,
-}
+use Rattle.exchange_orders.proofs.Listed.{filter_all, map_each}
 use Rattle.exchange_orders.proofs.Entries.{keys}
 use Rattle.exchange_orders.proofs.Ordered.{order, order_has, order_stands, StandsAt0}
 use Rattle.exchange_orders.proofs.Nodes.{lines_of, node_tree, nodes_are, pos, positions_are}
@@ -110,9 +100,12 @@ use Rattle.exchange_orders.proofs.Regrown.{
   in_file,
   kept_clear,
   nodes_again,
-  plain,
   roots_clear,
 }
+use Rattle.record_shapes.proofs.Each.{each_front, each_more, each_mapped, each_parts, has}
+use Rattle.list_laws.proofs.Booleans.{or_right, true_not_false}
+use Rattle.list_laws.proofs.Numbers.{same_self}
+use Rattle.file_roots.proofs.Lined.{bare}
 
 -- ---- names tell numbers apart
 behind_letter : (o : Option Record) (n : ℕ) → drop 2 (name_with (letter_at o) n) ≡ decimal n ++ codes "@"
@@ -235,13 +228,13 @@ module _ (c : Content) (is : IsSound c) where
 
   -- ---- lines
   by_value : (tag : List ℕ) (v : Value) → EachOf S (value_links v) → (a b : Forest Lined) (x y : Forest Line)
-      → relabel_all plain a ≡ x → relabel_all plain b ≡ y
-      → relabel_all plain (put (in_file (mark_of (name_of m) None (record { tag = tag; value = v })))
+      → relabel_all bare a ≡ x → relabel_all bare b ≡ y
+      → relabel_all bare (put (in_file (mark_of (name_of m) None (record { tag = tag; value = v })))
       (resolve (place_in ns) (named_value (name_of m) v)) a b)
       ≡ more (node (record { tag = tag; value = value_with (pos m) v }) x) y
   by_value tag (value.Text t) h a b x y e g = λ i. more (node (record { tag = tag; value = value.Text t }) (e i)) (g i)
   by_value tag (value.Ref n) h a b x y e g =
-      ap (λ o. relabel_all plain
+      ap (λ o. relabel_all bare
       (put (in_file (mark_of (name_of m) None (record { tag = tag; value = value.Ref n }))) (option_map value.Ref o)
       a b)) (place_is n h.0)
       ∙ (λ i. more (node (record { tag = tag; value = value.Ref (pos m n) }) (e i)) (g i))
@@ -250,7 +243,7 @@ module _ (c : Content) (is : IsSound c) where
   written f = resolved (place_in ns) (relabel_all in_file (relabel_all (mark_of (name_of m) None) f))
 
   lines_back : (f : Forest Line) → EachOf S (forest_links f)
-      → relabel_all plain (written f) ≡ relabel_all (line_with (pos m)) f
+      → relabel_all bare (written f) ≡ relabel_all (line_with (pos m)) f
   lines_back none h = refl
   lines_back (more (node l f) ts) h =
       let both : EachOf S (line_links (node l f)) × EachOf S (forest_links ts) =
@@ -346,7 +339,7 @@ module _ (c : Content) (is : IsSound c) where
 
   pub each_kept : EachOf (λ t. is_kept ns t ≡ true) ns
   unfolding is_kept
-  each_kept = each_over (λ t. leads ns (length ns) t ≡ true) N (order m) (all_lead (length ns))
+  each_kept = each_mapped (λ t. leads ns (length ns) t ≡ true) N (order m) (all_lead (length ns))
 
   all_kept : kept ns ≡ ns
   all_kept = filter_all (is_kept ns) ns each_kept
@@ -379,7 +372,7 @@ module _ (c : Content) (is : IsSound c) where
       (nodes_again f (header society ++ map (node_of m) (households m)) e)
       ∙ ap (filter (λ t. not (is_society t))) (map-map filed (node_of m) (households m)
       ∙ map-map (λ t. filed (node_of m t)) (household (entries m)) (order m))
-      ∙ filter_all (λ t. not (is_society t)) ns (each_over (λ t. not (is_society t) ≡ true) N (order m)
+      ∙ filter_all (λ t. not (is_society t)) ns (each_mapped (λ t. not (is_society t) ≡ true) N (order m)
       (each_more (StandsAt0 m) (λ e. not (is_society (N e)) ≡ true) (λ e h. no_society e h) (order m) (order_stands m)))
 
   -- what is kept of a file with the forest of the export, but for the numbers of lines

@@ -33,12 +33,10 @@ use Rattle.record_shapes.specs.Lists.{EachOf, IsOnce, Ascends}
 use Rattle.archive_state.specs.Content.{Content, Records}
 use Rattle.archive_state.specs.Sound.{IsSound}
 use Rattle.archive_state.specs.Sound as sound
-use Rattle.archive_state.proofs.Each.{each_both, each_more}
 use Rattle.export_forest.specs.Order.{Numbered, rank, is_event_of, is_citation_of, citations_of, household, households}
 use Rattle.exchange_orders.specs.Positions.{numbers_in}
 use Rattle.exchange_orders.specs.Laws.{HouseholdsHaveAll}
 use Rattle.exchange_orders.proofs.Listed.{
-  has,
   has_first,
   has_left,
   has_right,
@@ -46,17 +44,14 @@ use Rattle.exchange_orders.proofs.Listed.{
   has_none_of,
   apart_by,
   each_filter,
-  each_flat,
-  each_over,
   once_append,
-  once_ascending,
   once_flat,
-  or_right,
-  same_self,
-  true_not_false,
 }
 use Rattle.exchange_orders.proofs.Entries.{keys, Stands, entries_stand, some_have, some_rise}
 use Rattle.exchange_orders.proofs.Ordered.{order, order_has, order_once, order_stands, StandsAt0}
+use Rattle.record_shapes.proofs.Each.{each_both, each_more, has, each_flat, each_mapped, once_ascending}
+use Rattle.list_laws.proofs.Booleans.{or_right, true_not_false}
+use Rattle.list_laws.proofs.Numbers.{same_self}
 
 -- ---- the numbers of a household
 module _ (es : List Numbered) where
@@ -138,7 +133,7 @@ module _ (m : Records) where
   event_of k n _ g h = absurd (true_not_false (sym h))
 
   cited_are : (k : ℕ) → EachOf (IsCitationOf k) (cited es k)
-  cited_are k = each_over (IsCitationOf k) (λ (e : Numbered). e.0)
+  cited_are k = each_mapped (IsCitationOf k) (λ (e : Numbered). e.0)
       (filter (λ (e : Numbered). is_citation_of k e.1) es)
       (each_more (λ (e : Numbered). Stands m e × (is_citation_of k e.1 ≡ true)) (λ e. IsCitationOf k e.0)
       (λ (e : Numbered) (h : Stands m e × (is_citation_of k e.1 ≡ true)). citation_of k e.0 e.1 h.0 h.1)
@@ -146,7 +141,7 @@ module _ (m : Records) where
       (each_filter (Stands m) (λ (e : Numbered). is_citation_of k e.1) es (entries_stand m)))
 
   events_are : (k : ℕ) → EachOf (IsEventOf k) (events es k)
-  events_are k = each_over (IsEventOf k) (λ (e : Numbered). e.0) (filter (λ (e : Numbered). is_event_of k e.1) es)
+  events_are k = each_mapped (IsEventOf k) (λ (e : Numbered). e.0) (filter (λ (e : Numbered). is_event_of k e.1) es)
       (each_more (λ (e : Numbered). Stands m e × (is_event_of k e.1 ≡ true)) (λ e. IsEventOf k e.0)
       (λ (e : Numbered) (h : Stands m e × (is_event_of k e.1 ≡ true)). event_of k e.0 e.1 h.0 h.1)
       (filter (λ (e : Numbered). is_event_of k e.1) es)
@@ -269,7 +264,7 @@ module _ (m : Records) where
 
   pub all_once : IsOnce all_numbers
   all_once = once_flat root_0 (with_owned es) (keys (order m)) (order_once m)
-      (each_over (λ k. IsOnce (with_owned es k) × EachOf (λ i. root_0 i ≡ k) (with_owned es k))
+      (each_mapped (λ k. IsOnce (with_owned es k) × EachOf (λ i. root_0 i ≡ k) (with_owned es k))
       (λ (e : Numbered). e.0)
       (order m)
       (each_more (StandsAt0 m) (λ e. IsOnce (with_owned es e.0) × EachOf (λ i. root_0 i ≡ e.0) (with_owned es e.0))

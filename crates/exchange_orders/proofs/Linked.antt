@@ -69,8 +69,7 @@ use Rattle.record_shapes.specs.Shapes.{
 use Rattle.record_shapes.specs.Lists.{EachOf}
 use Rattle.archive_state.specs.Content.{Records}
 use Rattle.archive_state.specs.Sound as sound
-use Rattle.archive_state.proofs.Each.{each_both}
-use Rattle.exchange_orders.proofs.Listed.{each_parts}
+use Rattle.record_shapes.proofs.Each.{each_both, each_parts}
 
 pub forest_flat : (ts : List (Tree Line)) → forest_links (forest_of ts) ≡ carried_links ts
 forest_flat [] = refl

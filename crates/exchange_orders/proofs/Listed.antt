@@ -1,34 +1,19 @@
 -- Numbers that stand on lists, and numbers that stand there once.
-use Rattle.std.specs.Prelude.{ℕ, ◌≡◌, ◌<◌, ◌==◌, ◌||◌, Bool, true, false, cond, List, [], ◌∷◌, ◌++◌, map, refl}
-use Rattle.std.specs.List.{filter, list_any, flat_map}
+use Rattle.std.specs.Prelude.{ℕ, ◌≡◌, ◌==◌, ◌||◌, Bool, true, false, cond, List, [], ◌∷◌, ◌++◌, map, refl}
+use Rattle.std.specs.List.{filter, flat_map}
 use Rattle.std.proofs.Common.{ap, sym, ◌∙◌, arith, eqb}
 use Rattle.std.proofs.lemmas.Bool.{eqb-true}
 use Rattle.std.proofs.lemmas.Bool.Decides.{nat_tests}
 use Rattle.std.proofs.lemmas.List.Folds.{list_any-append}
-use Rattle.record_shapes.specs.Lists.{EachOf, IsOnce, Ascends}
-use Rattle.archive_state.proofs.Each.{each_back, each_both, each_front}
+use Rattle.record_shapes.specs.Lists.{EachOf, IsOnce}
+use Rattle.list_laws.proofs.Booleans.{true_not_false, neither, or_left, or_right}
+use Rattle.list_laws.proofs.Numbers.{same_self}
+use Rattle.record_shapes.proofs.Each.{has}
 
 -- ---- tests
-pub same_self : (n : ℕ) → (n == n) ≡ true
-same_self n = grind (arith, nat_tests)
 
 pub other_way : (n k : ℕ) → (n == k) ≡ false → (k == n) ≡ false
 other_way n k h = grind (arith, nat_tests)
-
-pub true_not_false : true ≡ false → ⊥
-true_not_false e = cc
-
-pub or_false : (a b : Bool) → (a || b) ≡ false → (a ≡ false) × (b ≡ false)
-or_false false b e = (refl, e)
-or_false true b e = absurd cc
-
-pub or_left : (a b : Bool) → a ≡ true → (a || b) ≡ true
-or_left true b e = refl
-or_left false b e = absurd cc
-
-pub or_right : (a b : Bool) → b ≡ true → (a || b) ≡ true
-or_right true b e = refl
-or_right false b e = e
 
 -- ---- each of a list
 pub each_filter : {A : Type 0} (P : A → Type 0) (q : A → Bool) (xs : List A) → EachOf P xs
@@ -39,24 +24,6 @@ each_filter P q (x ∷ xs) h =
       | true ↦ λ e. ((h.0, e), each_filter P q xs h.1)
       | false ↦ λ e. each_filter P q xs h.1
     ] refl
-
-pub each_under : {A B : Type 0} (P : B → Type 0) (f : A → B) (xs : List A) → EachOf P (map f xs)
-    → EachOf (λ x. P (f x)) xs
-each_under P f [] h = tt
-each_under P f (x ∷ xs) h = (h.0, each_under P f xs h.1)
-
-pub each_over : {A B : Type 0} (P : B → Type 0) (f : A → B) (xs : List A) → EachOf (λ x. P (f x)) xs
-    → EachOf P (map f xs)
-each_over P f [] h = tt
-each_over P f (x ∷ xs) h = (h.0, each_over P f xs h.1)
-
-pub each_flat : {A B : Type 0} (P : B → Type 0) (g : A → List B) (xs : List A) → EachOf (λ x. EachOf P (g x)) xs
-    → EachOf P (flat_map g xs)
-each_flat P g [] h = tt
-each_flat P g (x ∷ xs) h = each_both P (g x) (flat_map g xs) h.0 (each_flat P g xs h.1)
-
-pub each_parts : {A : Type 0} (P : A → Type 0) (xs ys : List A) → EachOf P (xs ++ ys) → EachOf P xs × EachOf P ys
-each_parts P xs ys h = (each_front P xs ys h, each_back P xs ys h)
 
 -- ---- lists filtered
 pub filter_under : {A B : Type 0} (g : A → B) (p : B → Bool) (q : A → Bool) (xs : List A) → ((x : A) → p (g x) ≡ q x)
@@ -79,8 +46,6 @@ map_each f g [] h = refl
 map_each f g (x ∷ xs) h = λ i. h.0 i ∷ map_each f g xs h.1 i
 
 -- ---- a number stands on a list
-abbrev pub has : ℕ → List ℕ → Bool
-has k ks = list_any (λ m. m == k) ks
 
 pub has_first : (n : ℕ) (ks : List ℕ) → has n (n ∷ ks) ≡ true
 has_first n ks = ap (λ b. b || has n ks) (same_self n)
@@ -118,24 +83,10 @@ apart_by d [] js h g = tt
 apart_by d (k ∷ ks) js h g = (has_none_of d k js g h.0, apart_by d ks js h.1 g)
 
 -- ---- none stands twice
-above_none : (n : ℕ) (ks : List ℕ) → EachOf (λ k. n < k) ks → has n ks ≡ false
-above_none n [] h = refl
-above_none n (k ∷ ks) h =
-    let less : n < k = h.0 in
-    let here : (k == n) ≡ false = grind (arith, nat_tests) in
-    λ i. here i || above_none n ks h.1 i
-
-pub once_ascending : (ks : List ℕ) → Ascends ks → IsOnce ks
-once_ascending [] h = tt
-once_ascending (k ∷ ks) h = (above_none k ks h.0, once_ascending ks h.1)
 
 pub once_append : (a b : List ℕ) → IsOnce a → IsOnce b → EachOf (λ k. has k b ≡ false) a → IsOnce (a ++ b)
 once_append [] b h g d = g
 once_append (k ∷ a) b h g d = (has_neither k a b h.0 d.0, once_append a b h.1 g d.1)
-
-pub once_behind : (a b : List ℕ) → IsOnce (a ++ b) → IsOnce b
-once_behind [] b h = h
-once_behind (k ∷ a) b h = once_behind a b h.1
 
 -- of such a list, what stands behind does not stand in front
 pub once_not_front : (k : ℕ) (a b : List ℕ) → IsOnce (a ++ b) → has k b ≡ true → has k a ≡ false
@@ -164,7 +115,7 @@ module _ (root : ℕ → ℕ) (own : ℕ → List ℕ) where
   on_others : (k n : ℕ) (xs : List ℕ) → root k ≡ n → has n xs ≡ false → Belong xs → has k (flat_map own xs) ≡ false
   on_others k n [] r h b = refl
   on_others k n (x ∷ xs) r h b =
-      let both : ((x == n) ≡ false) × (has n xs ≡ false) = or_false (x == n) (has n xs) h in
+      let both : ((x == n) ≡ false) × (has n xs ≡ false) = neither (x == n) (has n xs) h in
       has_neither k (own x) (flat_map own xs)
       (on_own k x (own x) b.0.1 (λ e. true_not_false (sym (same_self n) ∙ ap (λ m. m == n) (sym r ∙ e) ∙ both.0)))
       (on_others k n xs r both.1 b.1)

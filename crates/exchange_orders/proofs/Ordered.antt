@@ -9,22 +9,14 @@ use Rattle.record_kinds.specs.declared.record.Record.{Record}
 use Rattle.record_kinds.specs.declared.record.Record.TheVariants as kind
 use Rattle.record_shapes.specs.Lists.{EachOf, IsOnce}
 use Rattle.archive_state.specs.Content.{Records}
-use Rattle.archive_state.proofs.Each.{each_more}
 use Rattle.export_forest.specs.Order.{Numbered, rank, of_rank, in_order}
-use Rattle.exchange_orders.proofs.Listed.{
-  has,
-  has_flat,
-  each_filter,
-  each_flat,
-  each_over,
-  once_ascending,
-  once_flat,
-  same_self,
-  true_not_false,
-}
+use Rattle.exchange_orders.proofs.Listed.{has_flat, each_filter, once_flat}
 use Rattle.exchange_orders.proofs.Positions.{before_ascending, before_of_one, StandsBefore}
 use Rattle.exchange_orders.specs.Positions.{position_of}
 use Rattle.exchange_orders.proofs.Entries.{keys, Stands, entries_stand, some_have, some_rise}
+use Rattle.record_shapes.proofs.Each.{each_more, has, each_flat, each_mapped, once_ascending}
+use Rattle.list_laws.proofs.Numbers.{same_self}
+use Rattle.list_laws.proofs.Booleans.{true_not_false}
 
 abbrev pub ranks : List ℕ
 ranks = 1 ∷ 2 ∷ 3 ∷ 4 ∷ 5 ∷ 6 ∷ 7 ∷ []
@@ -86,7 +78,7 @@ module _ (m : Records) where
   belongs : (k : ℕ) → IsOnce (ranked k) × EachOf (λ n. rank_in (get m n) ≡ k) (ranked k)
   belongs k = (
     once_ascending (ranked k) (some_rise m (λ (e : Numbered). rank e.1 == k)),
-    each_over (λ n. rank_in (get m n) ≡ k) (λ (e : Numbered). e.0) (of_rank (entries m) k)
+    each_mapped (λ n. rank_in (get m n) ≡ k) (λ (e : Numbered). e.0) (of_rank (entries m) k)
         (each_more (λ e. Stands m e × ((rank e.1 == k) ≡ true)) (λ e. rank_in (get m e.0) ≡ k)
         (λ e g. ap rank_in g.0 ∙ eqb-true (rank e.1) k g.1) (of_rank (entries m) k)
         (each_filter (Stands m) (λ (e : Numbered). rank e.1 == k) (entries m) (entries_stand m))),

@@ -12,7 +12,7 @@ use Rattle.archive_state.specs.Content.{Records}
 use Rattle.export_forest.specs.Order.{Numbered, rank, households}
 use Rattle.exchange_orders.specs.Positions.{numbers_in, position_of}
 use Rattle.exchange_orders.specs.Laws.{AreOrdered, OrdersAreKept}
-use Rattle.exchange_orders.proofs.Listed.{has, has_first, has_flat, has_left, has_right}
+use Rattle.exchange_orders.proofs.Listed.{has_first, has_flat, has_left, has_right}
 use Rattle.exchange_orders.proofs.Positions.{
   before_ascending,
   before_behind,
@@ -47,6 +47,7 @@ use Rattle.exchange_orders.proofs.Households.{
   with_owned,
   HasOwners,
 }
+use Rattle.record_shapes.proofs.Each.{has}
 
 -- behind and in front of other numbers
 behind_front : (n k : ℕ) (a b : List ℕ) → StandsBefore n k a → StandsBefore n k (a ++ b)

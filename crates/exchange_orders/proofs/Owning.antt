@@ -32,10 +32,9 @@ use Rattle.record_shapes.specs.Shapes.{
 use Rattle.archive_state.specs.Content.{Content, Records}
 use Rattle.archive_state.specs.Sound.{IsSound}
 use Rattle.archive_state.specs.Sound as sound
-use Rattle.archive_state.proofs.Each.{each_front, each_back, each_more}
 use Rattle.export_forest.specs.Around.{around, child_sides, partner_sides}
 use Rattle.export_forest.specs.Order.{Numbered, is_event_of, is_citation_of, citations_of}
-use Rattle.exchange_orders.proofs.Listed.{each_filter, each_flat, each_parts, true_not_false}
+use Rattle.exchange_orders.proofs.Listed.{each_filter}
 use Rattle.exchange_orders.proofs.Entries.{Stands, entries_stand}
 use Rattle.exchange_orders.proofs.Ordered.{StandsAt0}
 use Rattle.exchange_orders.proofs.Nodes.{lines_of, owns}
@@ -52,6 +51,8 @@ use Rattle.exchange_orders.proofs.Linked.{
   fine_source,
   forest_flat,
 }
+use Rattle.record_shapes.proofs.Each.{each_front, each_back, each_more, each_flat, each_parts}
+use Rattle.list_laws.proofs.Booleans.{true_not_false}
 
 abbrev side_of_child : ℕ → model.Child → Side
 side_of_child k c = record { family = k; carried = c.carried_by_person }

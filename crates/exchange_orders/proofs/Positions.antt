@@ -26,7 +26,9 @@ use Rattle.std.proofs.lemmas.Bool.{eqb-true}
 use Rattle.std.proofs.lemmas.Bool.Decides.{nat_tests}
 use Rattle.record_shapes.specs.Lists.{EachOf, IsOnce, Ascends}
 use Rattle.exchange_orders.specs.Positions.{position_of}
-use Rattle.exchange_orders.proofs.Listed.{has, has_flat, or_false, once_behind, once_not_front, true_not_false}
+use Rattle.exchange_orders.proofs.Listed.{has_flat, once_not_front}
+use Rattle.record_shapes.proofs.Each.{has, once_behind}
+use Rattle.list_laws.proofs.Booleans.{neither, true_not_false}
 
 -- ---- what stands at a position
 pub get_next : {A : Type 0} (k : ℕ) (a : A) (xs : List A) → slice_get (a ∷ xs) (k + 1) ≡ slice_get xs k
@@ -72,7 +74,7 @@ position_low n (k ∷ a) h =
 pub position_behind : (n : ℕ) (a b : List ℕ) → has n a ≡ false → position_of n (a ++ b) ≡ length a + position_of n b
 position_behind n [] b h = let e : position_of n b ≡ 0 + position_of n b = omega arith in e
 position_behind n (k ∷ a) b h =
-    let both : ((k == n) ≡ false) × (has n a ≡ false) = or_false (k == n) (has n a) h in
+    let both : ((k == n) ≡ false) × (has n a ≡ false) = neither (k == n) (has n a) h in
     let rest : position_of n (a ++ b) ≡ length a + position_of n b = position_behind n a b both.1 in
     ap (λ c. cond c 0 (position_of n (a ++ b) + 1)) both.0
     ∙ (let e : position_of n (a ++ b) + 1 ≡ length (k ∷ a) + position_of n b = omega arith in e)

@@ -29,7 +29,6 @@ use Rattle.std.proofs.lemmas.List.{length-map}
 use Rattle.std.proofs.lemmas.Simd.{map-map}
 use Rattle.stored_lines.specs.Tree.{Tree, Forest, node, none, more, forest_of, label, relabel, relabel_all, flat_all}
 use Rattle.stored_lines.specs.Growing.{fronts, backs, graft, grown}
-use Rattle.stored_lines.specs.Line.{Line}
 use Rattle.stored_lines.specs.declared.carried.Value.{Value}
 use Rattle.stored_lines.proofs.Relabel.{relabel_children}
 use Rattle.gedcom_tree.specs.Forest.{Item}
@@ -61,6 +60,7 @@ use Rattle.file_roots.specs.Lines.{
 use Rattle.file_roots.proofs.Trees.{grown-list}
 use Rattle.record_nodes.specs.Nodes.{Mark, item_at, items_at}
 use Rattle.exchange_orders.proofs.Listed.{filter_under}
+use Rattle.file_roots.proofs.Lined.{bare}
 
 -- ---- labels changed on the way
 module _ {A B : Type 0} (h : A → B) where
@@ -188,17 +188,14 @@ pub position_clear : (name : List ℕ) (k : ℕ) (ns : List FileNode)
 position_clear name k [] = refl
 position_clear name k (t ∷ ns) = λ i. cond (called_clear name t i) (Some k) (position_clear name (k + 1) ns i)
 
-abbrev pub plain : Lined → Line
-plain l = l.1
-
-put_plain : (x : FileLine) (o : Option Value) (a b c d : Forest Lined) → relabel_all plain a ≡ relabel_all plain b
-    → relabel_all plain c ≡ relabel_all plain d
-    → relabel_all plain (put (clear x) o a c) ≡ relabel_all plain (put x o b d)
+put_plain : (x : FileLine) (o : Option Value) (a b c d : Forest Lined) → relabel_all bare a ≡ relabel_all bare b
+    → relabel_all bare c ≡ relabel_all bare d
+    → relabel_all bare (put (clear x) o a c) ≡ relabel_all bare (put x o b d)
 put_plain x None a b c d e g = g
 put_plain x (Some v) a b c d e g = λ i. more (node (record { tag = x.tag; value = v }) (e i)) (g i)
 
 resolved_clear : (place : List ℕ → Option ℕ) (f : Forest FileLine)
-    → relabel_all plain (resolved place (relabel_all clear f)) ≡ relabel_all plain (resolved place f)
+    → relabel_all bare (resolved place (relabel_all clear f)) ≡ relabel_all bare (resolved place f)
 resolved_clear place none = refl
 resolved_clear place (more (node x f) ts) =
     put_plain x (resolve place x.value) (resolved place (relabel_all clear f)) (resolved place f)

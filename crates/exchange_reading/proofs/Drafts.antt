@@ -23,13 +23,12 @@ use Rattle.archive_state.specs.Known.{known_before, known_of, path_of}
 use Rattle.archive_state.specs.Merging.{family_with, other_with, record_with}
 use Rattle.archive_state.specs.Sound.{IsSound}
 use Rattle.archive_state.specs.Sound as sound
-use Rattle.archive_state.proofs.Each.{each_back}
 use Rattle.import_forest.specs.Positions.{known, known_by, paths}
 use Rattle.import_forest.specs.Sides.{draft_at, drafts_from, root_with_sides, with_sides}
 use Rattle.export_forest.specs.Around.{around}
 use Rattle.export_forest.specs.Order.{Numbered, citations_of, events_of, household, households, rank}
 use Rattle.exchange_orders.specs.Positions.{nodes_by_position, position_of}
-use Rattle.exchange_orders.proofs.Listed.{has_first, once_not_front, true_not_false}
+use Rattle.exchange_orders.proofs.Listed.{has_first, once_not_front}
 use Rattle.exchange_orders.proofs.Positions.{position_behind}
 use Rattle.exchange_orders.proofs.Entries.{keys, Stands}
 use Rattle.exchange_orders.proofs.Ordered.{order, order_once, order_stands, StandsAt0}
@@ -54,6 +53,8 @@ use Rattle.exchange_reading.proofs.Relabelled.{IsBelow, below_same, relabel_all_
 use Rattle.exchange_reading.proofs.Reshaped.{reshaped}
 use Rattle.exchange_reading.proofs.Seen.{tags_back}
 use Rattle.exchange_reading.proofs.Sides.{family_back}
+use Rattle.record_shapes.proofs.Each.{each_back}
+use Rattle.list_laws.proofs.Booleans.{true_not_false}
 
 -- what the laws of the crates below say
 pub record Laws : Type 0 where

@@ -43,13 +43,11 @@ use Rattle.archive_state.specs.Known.{known_of, path_of}
 use Rattle.archive_state.specs.Known as archive
 use Rattle.archive_state.specs.Sound.{IsNumber, IsSound}
 use Rattle.archive_state.specs.Sound as sound
-use Rattle.archive_state.proofs.Each.{each_back, each_front, each_more}
 use Rattle.import_forest.specs.Positions.{known, tag_at}
 use Rattle.export_forest.specs.Around.{around, child_sides, partner_sides}
 use Rattle.export_forest.specs.Order.{Numbered}
 use Rattle.exchange_orders.specs.Laws.{IsAroundWith, side_with}
 use Rattle.exchange_orders.specs.Positions.{nodes_by_position}
-use Rattle.exchange_orders.proofs.Listed.{has, true_not_false}
 use Rattle.exchange_orders.proofs.Positions.{number_at}
 use Rattle.exchange_orders.proofs.Entries.{entries_stand, keys, Stands}
 use Rattle.exchange_orders.proofs.Ordered.{order, order_has, order_once}
@@ -60,6 +58,8 @@ use Rattle.exchange_reading.proofs.Placed.{IsNoPlace, path_of_none}
 use Rattle.exchange_reading.proofs.Readable.{ReadsSound, filter_none}
 use Rattle.exchange_reading.proofs.Seen.{position_back, positions_apart, tags_back}
 use Rattle.exchange_reading.proofs.Persons.{PersonAt, children_stand, partners_stand}
+use Rattle.record_shapes.proofs.Each.{each_back, each_front, each_more, has}
+use Rattle.list_laws.proofs.Booleans.{true_not_false}
 
 pub flat_none : {A B : Type 0} (g : A → List B) (xs : List A) → EachOf (λ x. g x ≡ []) xs → flat_map g xs ≡ []
 flat_none g [] h = refl

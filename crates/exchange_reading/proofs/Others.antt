@@ -22,7 +22,6 @@ use Rattle.std.specs.Prelude.{
 use Rattle.std.specs.List.{list_all}
 use Rattle.std.specs.Option.{unwrap_or}
 use Rattle.std.proofs.Common.{ap, sym, ◌∙◌}
-use Rattle.std.proofs.lemmas.Bool.{eqb-true}
 use Rattle.stored_lines.specs.Tree.{Tree, Forest, node, none, more, forest_of, list_of, relabel, relabel_all}
 use Rattle.stored_lines.specs.Line.{Line, Lines}
 use Rattle.stored_lines.specs.declared.carried.Value.{Value}
@@ -58,33 +57,29 @@ use Rattle.record_shapes.proofs.Entries.{entry_back}
 use Rattle.archive_state.specs.Content.{Records}
 use Rattle.archive_state.specs.Merging.{value_with, line_with, lines_with, entry_with, other_with}
 use Rattle.archive_state.specs.Sound as sound
-use Rattle.file_roots.proofs.Greatest.{and_both}
 use Rattle.exchange_orders.specs.Laws.{IsAroundWith}
-use Rattle.exchange_orders.proofs.Listed.{each_parts, true_not_false}
 use Rattle.exchange_orders.proofs.Renamed as renamed
 use Rattle.exchange_reading.proofs.Reshaped.{is_entry_alike}
+use Rattle.record_shapes.proofs.EntryLines.{value_is}
+use Rattle.list_laws.proofs.Booleans.{both_true, true_not_false}
+use Rattle.record_shapes.proofs.Each.{each_parts}
 
 -- ---- lines that are found the same are the same
-same_values : (v w : Value) → same_value v w ≡ true → v ≡ w
-same_values (value.Text t) (value.Text u) h = ap value.Text (bytes_are t u h)
-same_values (value.Ref n) (value.Ref m) h = ap value.Ref (eqb-true n m h)
-same_values (value.Text t) (value.Ref m) h = absurd (true_not_false (sym h))
-same_values (value.Ref n) (value.Text u) h = absurd (true_not_false (sym h))
 
 mutual
   same_trees : (t u : Tree Line) → same_tree t u ≡ true → t ≡ u
   same_trees (node l f) (node k g) h =
       let a : (bytes_eq l.tag k.tag ≡ true) × ((same_value l.value k.value && same_forest f g) ≡ true) =
-      and_both (bytes_eq l.tag k.tag) (same_value l.value k.value && same_forest f g) h in
+      both_true (bytes_eq l.tag k.tag) (same_value l.value k.value && same_forest f g) h in
       let b : (same_value l.value k.value ≡ true) × (same_forest f g ≡ true) =
-      and_both (same_value l.value k.value) (same_forest f g) a.1 in
-      λ i. node (record { tag = bytes_are l.tag k.tag a.0 i; value = same_values l.value k.value b.0 i })
+      both_true (same_value l.value k.value) (same_forest f g) a.1 in
+      λ i. node (record { tag = bytes_are l.tag k.tag a.0 i; value = value_is l.value k.value b.0 i })
       (same_forests f g b.1 i)
 
   same_forests : (f g : Forest Line) → same_forest f g ≡ true → f ≡ g
   same_forests none none h = refl
   same_forests (more t f) (more u g) h =
-      let a : (same_tree t u ≡ true) × (same_forest f g ≡ true) = and_both (same_tree t u) (same_forest f g) h in
+      let a : (same_tree t u ≡ true) × (same_forest f g ≡ true) = both_true (same_tree t u) (same_forest f g) h in
       λ i. more (same_trees t u a.0 i) (same_forests f g a.1 i)
   same_forests none (more u g) h = absurd (true_not_false (sym h))
   same_forests (more t f) none h = absurd (true_not_false (sym h))
@@ -153,9 +148,9 @@ module _ (m : Records) (f g : ℕ → ℕ) (back : (n : ℕ) → sound.Stands m 
         && (nat_le (length e.mentions) 100
         && list_all (λ (x : model.Mention). is_role_of e.kind x.role && names_person k x.link) e.mentions) in
         let a : (bytes_eq (k.tag e.source) (codes "SOUR") ≡ true)
-        × ((is_said k e.place && rest) ≡ true) = and_both (bytes_eq (k.tag e.source) (codes "SOUR"))
+        × ((is_said k e.place && rest) ≡ true) = both_true (bytes_eq (k.tag e.source) (codes "SOUR"))
         (is_said k e.place && rest) h in
-        by (k.path n) (ap (is_said k) (sym p) ∙ (and_both (is_said k e.place) rest a.1).0)
+        by (k.path n) (ap (is_said k) (sym p) ∙ (both_true (is_said k e.place) rest a.1).0)
       where
         by : (o : Option (List ℕ)) → is_said_path o ≡ true → o ≡ Some (unwrap_or o [])
         by None z = absurd (true_not_false (sym z))
@@ -168,11 +163,11 @@ module _ (m : Records) (f g : ℕ → ℕ) (back : (n : ℕ) → sound.Stands m 
         let e = entry_on w (lines_with f ts) in
         let a : (is_some (entry_kind_of w) ≡ true)
         × ((same_forest (forest_of (lines_with f ts)) (forest_of (entry_lines (around j) e)) && is_entry j e)
-        ≡ true) = and_both (is_some (entry_kind_of w))
+        ≡ true) = both_true (is_some (entry_kind_of w))
         (same_forest (forest_of (lines_with f ts)) (forest_of (entry_lines (around j) e)) && is_entry j e) s in
         let b : (same_forest (forest_of (lines_with f ts)) (forest_of (entry_lines (around j) e)) ≡ true)
         × (is_entry j e ≡ true) =
-        and_both (same_forest (forest_of (lines_with f ts)) (forest_of (entry_lines (around j) e))) (is_entry j e)
+        both_true (same_forest (forest_of (lines_with f ts)) (forest_of (entry_lines (around j) e))) (is_entry j e)
         a.1 in
         let is : is_entry k (entry_with g e) ≡ true = is_entry_alike g j k tags paths e ∙ b.1 in (
           entry_with g e,

@@ -50,7 +50,6 @@ use Rattle.archive_state.proofs.Known.{path_known}
 use Rattle.import_forest.specs.Positions.{known, known_by, path_behind, paths, paths_behind}
 use Rattle.export_forest.specs.Order.{Numbered}
 use Rattle.exchange_orders.specs.Positions.{nodes_by_position}
-use Rattle.exchange_orders.proofs.Listed.{has, or_false, true_not_false}
 use Rattle.exchange_orders.proofs.Entries.{keys}
 use Rattle.exchange_orders.proofs.Ordered.{order, order_has, order_stands, StandsAt0}
 use Rattle.exchange_orders.proofs.Nodes.{node_tree, nodes_are, pos, positions_are}
@@ -60,6 +59,8 @@ use Rattle.exchange_reading.proofs.Readable.{ReadsSound, shaped}
 use Rattle.exchange_reading.specs.Laws.{IsKnownAgain}
 use Rattle.exchange_reading.proofs.Seen.{tags_back}
 use Rattle.exchange_reading.proofs.Reshaped.{place_alike}
+use Rattle.record_shapes.proofs.Each.{has}
+use Rattle.list_laws.proofs.Booleans.{neither, true_not_false}
 
 module _ (c : Content) (is : IsSound c) (reads : ReadsSound) (finds : FindsPath) where
   abbrev m : Records
@@ -126,7 +127,7 @@ module _ (c : Content) (is : IsSound c) (reads : ReadsSound) (finds : FindsPath)
   ps es = map (path_of m) (keys es)
 
   no_loc : (o : model.Other) (k : ℕ) → get m k ≡ Some (kind.Other o) → bytes_eq o.tag (codes "_LOC") ≡ false
-  no_loc o k g = (or_false (bytes_eq o.tag (codes "_LOC"))
+  no_loc o k g = (neither (bytes_eq o.tag (codes "_LOC"))
       (list_any (bytes_eq o.tag) (codes "REPO" ∷ codes "SOUR" ∷ codes "INDI" ∷ codes "FAM" ∷ []))
       (is.rules.shapes k (kind.Other o) g).own).0
 

@@ -9,7 +9,7 @@ use Rattle.record_links.specs.Links.{a_person, child_links, is_wanted, partner_l
 use Rattle.record_shapes.specs.Lists.{EachOf}
 use Rattle.archive_state.specs.Content.{Records}
 use Rattle.archive_state.specs.Sound as sound
-use Rattle.exchange_orders.proofs.Listed.{each_parts}
+use Rattle.record_shapes.proofs.Each.{each_parts}
 
 module _ (m : Records) where
   abbrev pub PersonAt : ℕ → Type 0

@@ -36,11 +36,12 @@ use Rattle.archive_state.specs.Content.{Records}
 use Rattle.archive_state.specs.Known.{known_before, path_by, path_of, path_with}
 use Rattle.import_forest.specs.Positions.{path_at}
 use Rattle.exchange_orders.specs.Positions.{position_of}
-use Rattle.exchange_orders.proofs.Listed.{has, once_not_front, has_first}
+use Rattle.exchange_orders.proofs.Listed.{once_not_front, has_first}
 use Rattle.exchange_orders.proofs.Positions.{get_next, position_behind, position_in_front, position_low}
 use Rattle.exchange_orders.proofs.Entries.{keys}
 use Rattle.exchange_orders.proofs.Ordered.{order, order_once, order_rises}
 use Rattle.exchange_orders.proofs.Nodes.{pos, positions_are}
+use Rattle.record_shapes.proofs.Each.{has}
 
 -- what stands at the position of a number, in front of others
 pub at_front : {A : Type 0} (f : ℕ → A) (j : ℕ) (as_ bs : List ℕ)

@@ -18,14 +18,15 @@ use Rattle.archive_state.specs.Known.{known_before, known_of}
 use Rattle.archive_state.specs.Owned.{AreOwned, IsAround, IsCitationOf, IsEventOf, IsSideIn, IsWithOwned}
 use Rattle.archive_state.specs.Sound.{IsSound}
 use Rattle.archive_state.specs.Sound as sound
-use Rattle.archive_state.proofs.Each.{each_more}
 use Rattle.archive_state.proofs.Known.{path_known}
 use Rattle.export_forest.specs.Around.{around, child_sides, partner_sides}
 use Rattle.export_forest.specs.Order.{Numbered, citations_of, events_of, is_citation_of, is_event_of}
-use Rattle.exchange_orders.proofs.Listed.{each_filter, each_flat, true_not_false}
+use Rattle.exchange_orders.proofs.Listed.{each_filter}
 use Rattle.exchange_orders.proofs.Entries.{Stands, entries_stand}
 use Rattle.exchange_orders.proofs.Ordered.{StandsAt0}
 use Rattle.exchange_orders.proofs.Nodes.{house, owns}
+use Rattle.record_shapes.proofs.Each.{each_more, each_flat}
+use Rattle.list_laws.proofs.Booleans.{true_not_false}
 
 -- what holds of each record of a sound archive
 abbrev pub ReadsSound : Type 0

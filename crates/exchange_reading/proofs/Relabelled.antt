@@ -6,7 +6,7 @@ use Rattle.stored_lines.specs.Tree.{Tree, Forest, node, none, more, forest_of, r
 use Rattle.record_kinds.specs.declared.record.Record.TheVariants as kind
 use Rattle.record_shapes.specs.Lists.{EachOf}
 use Rattle.export_forest.specs.Order.{Numbered, citations_of, events_of, is_citation_of, is_event_of, rank}
-use Rattle.exchange_orders.proofs.Listed.{true_not_false}
+use Rattle.list_laws.proofs.Booleans.{true_not_false}
 
 module _ {A B C : Type 0} (g : B → C) (f : A → B) where
   mutual

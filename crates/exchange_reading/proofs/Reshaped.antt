@@ -104,7 +104,6 @@ use Rattle.archive_state.specs.Merging.{
   record_with,
 }
 use Rattle.exchange_orders.specs.Laws.{IsAroundWith, side_with}
-use Rattle.exchange_orders.proofs.Listed.{has, or_false, same_self, true_not_false}
 use Rattle.exchange_orders.proofs.Renamed.{list_relabelled}
 use Rattle.exchange_reading.proofs.Alike.{
   repo_alike,
@@ -118,6 +117,9 @@ use Rattle.exchange_reading.proofs.Alike.{
   parent_alike,
   untaken_alike,
 }
+use Rattle.record_shapes.proofs.Each.{has}
+use Rattle.list_laws.proofs.Booleans.{neither, true_not_false}
+use Rattle.list_laws.proofs.Numbers.{same_self}
 
 is_some_map : {A B : Type 0} (g : A → B) (o : Option A) → is_some (option_map g o) ≡ is_some o
 is_some_map g None = refl
@@ -310,7 +312,7 @@ module _ (f : ℕ → ℕ) (k j : Known) (h : (n : ℕ) → j.tag (f n) ≡ k.ta
       map_none : (n : ℕ) (ks : List ℕ) → IsKnown (codes "INDI") k n → has n ks ≡ false → has (f n) (map f ks) ≡ false
       map_none n [] e g = refl
       map_none n (i ∷ ks) e g =
-          let both : ((i == n) ≡ false) × (has n ks ≡ false) = or_false (i == n) (has n ks) g in
+          let both : ((i == n) ≡ false) × (has n ks ≡ false) = neither (i == n) (has n ks) g in
           elim (eqb (f i) (f n)) as (λ b. eqb (f i) (f n) ≡ b → (b || has (f n) (map f ks)) ≡ false) [
             | true ↦ λ z. let same : i ≡ n = apart_ n e i (eqb-true (f i) (f n) z) in
                 absurd (true_not_false (sym (ap (λ q. q == n) same ∙ same_self n) ∙ both.0))

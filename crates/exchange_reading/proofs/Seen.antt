@@ -35,15 +35,16 @@ use Rattle.record_shapes.specs.Lists.{EachOf, IsOnce}
 use Rattle.archive_state.specs.Content.{Records}
 use Rattle.archive_state.specs.Known.{known_of}
 use Rattle.archive_state.specs.Known as archive
-use Rattle.archive_state.proofs.Each.{each_more}
 use Rattle.import_forest.specs.Positions.{tag_at}
 use Rattle.export_forest.specs.Order.{Numbered, rank}
 use Rattle.exchange_orders.specs.Positions.{nodes_by_position, position_of}
-use Rattle.exchange_orders.proofs.Listed.{has, or_right, same_self, true_not_false}
 use Rattle.exchange_orders.proofs.Positions.{get_next, same_position}
 use Rattle.exchange_orders.proofs.Entries.{keys, same_entry, Stands}
 use Rattle.exchange_orders.proofs.Ordered.{order, order_has, order_stands, StandsAt0}
 use Rattle.exchange_orders.proofs.Nodes.{node_tree, nodes_are, pos, positions_are}
+use Rattle.record_shapes.proofs.Each.{each_more, has}
+use Rattle.list_laws.proofs.Booleans.{or_right, true_not_false}
+use Rattle.list_laws.proofs.Numbers.{same_self}
 
 -- ---- the entry of a number, and what stands at its position
 abbrev pub seen : ℕ → List Numbered → Option Numbered

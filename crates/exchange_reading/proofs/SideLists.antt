@@ -38,7 +38,10 @@ use Rattle.record_shapes.specs.Shapes.{Side, side_line}
 use Rattle.export_forest.specs.Around.{child_sides, partner_sides}
 use Rattle.export_forest.specs.Order.{Numbered}
 use Rattle.exchange_orders.proofs.Entries.{keys}
-use Rattle.exchange_orders.proofs.Listed.{filter_under, has, or_false, or_right, other_way, same_self, true_not_false}
+use Rattle.exchange_orders.proofs.Listed.{filter_under, other_way}
+use Rattle.record_shapes.proofs.Each.{has}
+use Rattle.list_laws.proofs.Booleans.{neither, or_right, true_not_false}
+use Rattle.list_laws.proofs.Numbers.{same_self}
 
 pub first_map : {A B : Type 0} (g : A → B) (xs : List A) → first (map g xs) ≡ option_map g (first xs)
 first_map g [] = refl
@@ -125,7 +128,7 @@ module _ (f : ℕ → ℕ) (n : ℕ) (apart : (j : ℕ) → f j ≡ f n → j �
     flat_no : (es : List Numbered) → has n (keys es) ≡ false → filter is_one (flat_map g es) ≡ []
     flat_no [] h = refl
     flat_no (e ∷ es) h =
-        let both : ((e.0 == n) ≡ false) × (has n (keys es) ≡ false) = or_false (e.0 == n) (has n (keys es)) h in
+        let both : ((e.0 == n) ≡ false) × (has n (keys es) ≡ false) = neither (e.0 == n) (has n (keys es)) h in
         filter-append is_one (g e) (flat_map g es)
         ∙ (λ i. sides_no e.0 (g e) both.0 (of_family e) i ++ flat_no es both.1 i)
 
@@ -153,7 +156,7 @@ module _ {A : Type 0} (key : A → ℕ) where
   first_behind x xs [] n h = tt
   first_behind x xs (y ∷ ys) n h =
       let both : ((key y == key x) ≡ false) × (has (key x) (map key ys) ≡ false) =
-      or_false (key y == key x) (has (key x) (map key ys)) n in (
+      neither (key y == key x) (has (key x) (map key ys)) n in (
         ap (λ b. first (cond b (x ∷ filter (λ z. key z == key y) xs) (filter (λ z. key z == key y) xs)))
             (other_way (key y) (key x) both.0) ∙ h.0,
         first_behind x xs ys both.1 h.1,
@@ -186,7 +189,7 @@ once_parts [] b h = (tt, h)
 once_parts (x ∷ a) b h =
     let rest : IsOnce a × IsOnce b = once_parts a b h.1 in
     let e : (has x a || has x b) ≡ false = sym (list_any-append (λ m. m == x) a b) ∙ h.0 in
-    (((or_false (has x a) (has x b) e).0, rest.0), rest.1)
+    (((neither (has x a) (has x b) e).0, rest.0), rest.1)
 
 pub has_map : (f : ℕ → ℕ) (c : ℕ) (ks : List ℕ) → has c ks ≡ true → has (f c) (map f ks) ≡ true
 has_map f c [] h = absurd cc

@@ -52,7 +52,6 @@ use Rattle.archive_state.specs.Known.{known_of}
 use Rattle.archive_state.specs.Merging.{child_with, family_with, line_with, lines_with, partner_with}
 use Rattle.archive_state.specs.Sound.{IsSound}
 use Rattle.archive_state.specs.Sound as sound
-use Rattle.archive_state.proofs.Each.{each_all, each_more, each_zip}
 use Rattle.import_forest.specs.Positions.{known, positions, tag_at}
 use Rattle.import_forest.specs.Sides.{
   child_with_side,
@@ -70,7 +69,7 @@ use Rattle.export_forest.specs.Around.{around, child_sides, partner_sides}
 use Rattle.export_forest.specs.Order.{Numbered}
 use Rattle.exchange_orders.specs.Laws.{side_with}
 use Rattle.exchange_orders.specs.Positions.{nodes_by_position}
-use Rattle.exchange_orders.proofs.Listed.{each_parts, filter_under, has, map_each, or_false, or_right, true_not_false}
+use Rattle.exchange_orders.proofs.Listed.{filter_under, map_each}
 use Rattle.exchange_orders.proofs.Entries.{entries_have, entries_once, entries_stand, keys, Stands}
 use Rattle.exchange_orders.proofs.Ordered.{order, order_once, order_stands, StandsAt0}
 use Rattle.exchange_orders.proofs.Nodes.{node_tree, nodes_are, owns, pos, positions_are}
@@ -95,6 +94,8 @@ use Rattle.exchange_reading.proofs.SideLists.{
   pick_own,
   sides_one,
 }
+use Rattle.record_shapes.proofs.Each.{each_all, each_more, each_zip, each_parts, has}
+use Rattle.list_laws.proofs.Booleans.{neither, or_right, true_not_false}
 
 module _ (c : Content) (is : IsSound c) (reads : ReadsSound) (finds : FindsFamilies) where
   abbrev m : Records
@@ -248,14 +249,14 @@ module _ (c : Content) (is : IsSound c) (reads : ReadsSound) (finds : FindsFamil
 
     not_other : (k : ℕ) (o : model.Other) → get m k ≡ Some (kind.Other o) → bytes_eq o.tag (codes "INDI") ≡ false
     not_other k o g =
-        let a1 = or_false (bytes_eq o.tag (codes "_LOC"))
+        let a1 = neither (bytes_eq o.tag (codes "_LOC"))
         (list_any (bytes_eq o.tag) (codes "REPO" ∷ codes "SOUR" ∷ codes "INDI" ∷ codes "FAM" ∷ []))
         (is.rules.shapes k (kind.Other o) g).own in
-        let a2 = or_false (bytes_eq o.tag (codes "REPO"))
+        let a2 = neither (bytes_eq o.tag (codes "REPO"))
         (list_any (bytes_eq o.tag) (codes "SOUR" ∷ codes "INDI" ∷ codes "FAM" ∷ [])) a1.1 in
-        let a3 = or_false (bytes_eq o.tag (codes "SOUR")) (list_any (bytes_eq o.tag) (codes "INDI" ∷ codes "FAM" ∷ []))
+        let a3 = neither (bytes_eq o.tag (codes "SOUR")) (list_any (bytes_eq o.tag) (codes "INDI" ∷ codes "FAM" ∷ []))
         a2.1 in
-        (or_false (bytes_eq o.tag (codes "INDI")) (list_any (bytes_eq o.tag) (codes "FAM" ∷ [])) a3.1).0
+        (neither (bytes_eq o.tag (codes "INDI")) (list_any (bytes_eq o.tag) (codes "FAM" ∷ [])) a3.1).0
 
     not_late : (j : ℕ) (e : Numbered) → StandsAt0 m e → slice_get rs j ≡ Some (node_tree m e) → pos m e.0 ≡ j
         → is_late j ≡ false

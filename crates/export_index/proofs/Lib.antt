@@ -1,6 +1,4 @@
-mod Arranged
 mod Growing
-mod KeyedMaps
 pub mod Places
 pub mod Upto
 pub mod Whole

@@ -10,19 +10,15 @@ use Rattle.std.proofs.Common.{
   List,
   [],
   ◌++◌,
-  true,
-  false,
   refl,
   sym,
   ap,
   ◌∙◌,
   arith,
-  append_assoc,
   lt-ltb,
-  ltb-true,
   le-ltb,
 }
-use Rattle.std.specs.Prelude.{Option, Some, None, option_map, codes, nat_lt, if◌then◌else◌}
+use Rattle.std.specs.Prelude.{Option, Some, None, option_map, codes, if◌then◌else◌}
 use Rattle.std.specs.Option.{unwrap_or}
 use Rattle.std.specs.FinMap.{get, entries, get-entries}
 use Rattle.record_kinds.specs.declared.record.Record.{Record}
@@ -34,19 +30,12 @@ use Rattle.archive_state.specs.Known.{path_under}
 use Rattle.export_index.specs.Index.{Index, IsGathered, place_name}
 use Rattle.export_index.specs.Paths.{path_at, path_by, path_with, path_in}
 use Rattle.export_index.specs.declared.place_name.PlaceName.{PlaceName}
+use Rattle.archive_state.proofs.PathsAlike.{under_alike}
+use Rattle.record_shapes.proofs.Climbed.{goes_on, lost, so_far, ends}
+use Rattle.list_laws.proofs.Numbers.{one_more}
 
 abbrev Way : Type 0
 Way = ℕ → Option (List ℕ)
-
-under_alike : (n : ℕ) (f g : Way) (name : List ℕ) (parent : Option ℕ) → ((q : ℕ) → q < n → f q ≡ g q)
-    → path_under n f name parent ≡ path_under n g name parent
-under_alike n f g name None h = refl
-under_alike n f g name (Some q) h =
-    elim (nat_lt q n) as (λ b. nat_lt q n ≡ b → (if b then option_map (path_below name) (f q) else None)
-    ≡ (if b then option_map (path_below name) (g q) else None)) [
-      | true ↦ λ e. ap (option_map (path_below name)) (h q (ltb-true q n e))
-      | false ↦ λ e. refl
-    ] refl
 
 with_alike : (n : ℕ) (f g : Way) (o : Option PlaceName) → ((q : ℕ) → q < n → f q ≡ g q)
     → path_with n f o ≡ path_with n g o
@@ -58,9 +47,6 @@ enough zero j at n h i = absurd (omega arith)
 enough (suc k) zero at n h i = absurd (omega arith)
 enough (suc k) (suc j) at n h i = with_alike n (path_by k at) (path_by j at) (at n)
     (λ q less. enough k j at q (omega arith) (omega arith))
-
-one_more : (n : ℕ) → n + 1 ≡ suc n
-one_more n = omega arith
 
 path_there : (at : ℕ → Option PlaceName) (n : ℕ) → path_at at n ≡ path_with n (path_at at) (at n)
 unfolding path_at
@@ -93,31 +79,6 @@ above at n p q e is less =
     ∙ ap (λ b. if b then option_map (path_below p.name) (path_at at q) else None) (lt-ltb q n less)
 
 -- ---- what is put together so far, and what is above
-pub so_far : List ℕ → Option (List ℕ) → Option (List ℕ)
-so_far front rest = option_map (λ path. front ++ path) rest
-
-bare : (o : Option (List ℕ)) → so_far [] o ≡ o
-unfolding so_far
-bare None = refl
-bare (Some path) = refl
-
-pub starts : (front : List ℕ) (o : Option (List ℕ)) → front ≡ [] → so_far front o ≡ o
-starts front o e = ap (λ f. so_far f o) e ∙ bare o
-
-goes_on : (front name : List ℕ) (o : Option (List ℕ)) → so_far front (option_map (path_below name) o)
-    ≡ so_far ((front ++ name) ++ codes ", ") o
-unfolding so_far
-goes_on front name None = refl
-goes_on front name (Some path) =
-    ap Some (sym (append_assoc front name (codes ", " ++ path)) ∙ sym (append_assoc (front ++ name) (codes ", ") path))
-
-ends : (front : List ℕ) (o : Option (List ℕ)) (name : List ℕ) → o ≡ Some name → so_far front o ≡ Some (front ++ name)
-unfolding so_far
-ends front o name e = ap (option_map (λ path. front ++ path)) e
-
-lost : (front : List ℕ) (o : Option (List ℕ)) → o ≡ None → so_far front o ≡ None
-unfolding so_far
-lost front o e = ap (option_map (λ path. front ++ path)) e
 
 -- there is no place
 pub lost_there : (at : ℕ → Option PlaceName) (n : ℕ) (front : List ℕ) → at n ≡ None → so_far front (path_at at n) ≡ None

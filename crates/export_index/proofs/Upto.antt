@@ -44,6 +44,8 @@ use Rattle.record_kinds.specs.declared.record.Record.{Record}
 use Rattle.archive_state.specs.Content.{Records}
 use Rattle.export_forest.specs.Order.{Numbered}
 use Rattle.export_index.specs.Adding.{gathered_from, with_found}
+use Rattle.archive_state.proofs.Later.{none_where}
+use Rattle.list_laws.proofs.Booleans.{both_hold, rest_holds, first_holds}
 
 pub one_more : (at : ℕ → Option Record) (k : ℕ) → gathered_from at (k + 1)
     ≡ with_found (k + 1) (at (k + 1)) (gathered_from at k)
@@ -94,17 +96,6 @@ none_first at (suc k) =
     ∙ none_first at k
 
 -- ---- their numbers ascend
-both : (a b : Bool) → T a → T b → T (a && b)
-both true b p q = q
-both false b p q = absurd p
-
-first : (a b : Bool) → T (a && b) → T a
-first true b p = tt
-first false b p = p
-
-second : (a b : Bool) → T (a && b) → T b
-second true b p = p
-second false b p = absurd p
 
 abbrev all_below : ℕ → List Numbered → Bool
 all_below n [] = true
@@ -115,21 +106,21 @@ less_is a n h = subst T (let e : ltb a n ≡ is_lt (nat_cmp a n) = grind (arith,
 
 below_more : (x n : ℕ) (r : Record) (es : List Numbered) → T (ltb x n) → T (below_all nat_cmp x es)
     → T (below_all nat_cmp x (es ++ (n, r) ∷ []))
-below_more x n r [] less h = both (is_lt (nat_cmp x n)) true (less_is x n less) tt
+below_more x n r [] less h = both_hold (is_lt (nat_cmp x n)) true (less_is x n less) tt
 below_more x n r (e ∷ es) less h =
-    both (is_lt (nat_cmp x e.0)) (below_all nat_cmp x (es ++ (n, r) ∷ []))
-    (first (is_lt (nat_cmp x e.0)) (below_all nat_cmp x es) h)
-    (below_more x n r es less (second (is_lt (nat_cmp x e.0)) (below_all nat_cmp x es) h))
+    both_hold (is_lt (nat_cmp x e.0)) (below_all nat_cmp x (es ++ (n, r) ∷ []))
+    (first_holds (is_lt (nat_cmp x e.0)) (below_all nat_cmp x es) h)
+    (below_more x n r es less (rest_holds (is_lt (nat_cmp x e.0)) (below_all nat_cmp x es) h))
 
 rises_more : (n : ℕ) (r : Record) (es : List Numbered) → T (all_below n es) → T (is_sorted nat_cmp es)
     → T (is_sorted nat_cmp (es ++ (n, r) ∷ []))
 rises_more n r [] less h = tt
 rises_more n r (e ∷ es) less h =
-    both (below_all nat_cmp e.0 (es ++ (n, r) ∷ [])) (is_sorted nat_cmp (es ++ (n, r) ∷ []))
-    (below_more e.0 n r es (first (ltb e.0 n) (all_below n es) less)
-    (first (below_all nat_cmp e.0 es) (is_sorted nat_cmp es) h))
-    (rises_more n r es (second (ltb e.0 n) (all_below n es) less)
-    (second (below_all nat_cmp e.0 es) (is_sorted nat_cmp es) h))
+    both_hold (below_all nat_cmp e.0 (es ++ (n, r) ∷ [])) (is_sorted nat_cmp (es ++ (n, r) ∷ []))
+    (below_more e.0 n r es (first_holds (ltb e.0 n) (all_below n es) less)
+    (first_holds (below_all nat_cmp e.0 es) (is_sorted nat_cmp es) h))
+    (rises_more n r es (rest_holds (ltb e.0 n) (all_below n es) less)
+    (rest_holds (below_all nat_cmp e.0 es) (is_sorted nat_cmp es) h))
 
 later_true : (a n k : ℕ) → T (ltb a n) → n ≤ k → T (ltb a k)
 later_true a n k h le =
@@ -141,19 +132,19 @@ later_true a n k h le =
 below_later : (n k : ℕ) (es : List Numbered) → n ≤ k → T (all_below n es) → T (all_below k es)
 below_later n k [] le h = tt
 below_later n k (e ∷ es) le h =
-    both (ltb e.0 k) (all_below k es) (later_true e.0 n k (first (ltb e.0 n) (all_below n es) h) le)
-    (below_later n k es le (second (ltb e.0 n) (all_below n es) h))
+    both_hold (ltb e.0 k) (all_below k es) (later_true e.0 n k (first_holds (ltb e.0 n) (all_below n es) h) le)
+    (below_later n k es le (rest_holds (ltb e.0 n) (all_below n es) h))
 
 below_both : (n : ℕ) (es fs : List Numbered) → T (all_below n es) → T (all_below n fs) → T (all_below n (es ++ fs))
 below_both n [] fs h g = g
 below_both n (e ∷ es) fs h g =
-    both (ltb e.0 n) (all_below n (es ++ fs)) (first (ltb e.0 n) (all_below n es) h)
-    (below_both n es fs (second (ltb e.0 n) (all_below n es) h) g)
+    both_hold (ltb e.0 n) (all_below n (es ++ fs)) (first_holds (ltb e.0 n) (all_below n es) h)
+    (below_both n es fs (rest_holds (ltb e.0 n) (all_below n es) h) g)
 
 at_below : (n : ℕ) (o : Option Record) → T (all_below (suc n) (at_number n o))
 at_below n None = tt
 at_below n (Some r) =
-    both (ltb n (suc n)) true (subst T (sym (lt-ltb n (suc n) (omega arith))) tt) tt
+    both_hold (ltb n (suc n)) true (subst T (sym (lt-ltb n (suc n) (omega arith))) tt) tt
 
 upto_below : (at : ℕ → Option Record) (k : ℕ) → T (all_below (suc k) (upto at k))
 upto_below at zero = tt
@@ -171,9 +162,6 @@ upto_rises at zero = tt
 upto_rises at (suc k) = rises_by (suc k) (at (suc k)) (upto at k) (upto_below at k) (upto_rises at k)
 
 -- ---- all records
-none_where : (o : Option Record) → ((r : Record) → o ≡ Some r → ⊥) → o ≡ None
-none_where None h = refl
-none_where (Some r) h = absurd (h r refl)
 
 found_is : (m : Records) (k : ℕ) → ((n : ℕ) (r : Record) → get m n ≡ Some r → (0 < n) × (n ≤ k)) → (q : ℕ)
     → find nat_cmp q (upto (get m) k) ≡ get m q

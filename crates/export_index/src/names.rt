@@ -27,7 +27,7 @@ impl Named for Index {
 }
 
 /// The path of a place; none where it has none.
-#[tactic(auto, using(crate::proofs::Places::starts, crate::proofs::Places::lost_there, crate::proofs::Places::lost_above, crate::proofs::Places::ends_here, crate::proofs::Places::climbs))]
+#[tactic(auto, using(record_shapes::proofs::Climbed::starts, crate::proofs::Places::lost_there, crate::proofs::Places::lost_above, crate::proofs::Places::ends_here, crate::proofs::Places::climbs))]
 fn found_path(alloc: Global, index: &Index, place: u32) -> Result<Option<String>, AllocError>
     ensures { IfOk result (λ found. option_map string_bytes found ≡ path_at (map.get index.now.names) place) }
 {

@@ -16,10 +16,6 @@ use Rattle.record_shapes.specs.Fields.{
 use Rattle.family_sides.specs.Told.{told_as}
 use Rattle.family_sides.specs.declared.told.Told.{Told}
 
-pub and_false : (b : Bool) → (b && false) ≡ false
-and_false true = refl
-and_false false = refl
-
 -- a row of which the test fails is passed over
 row_false : (a : Bool) (x : Field) (otherwise : Field) → row (a && false) x otherwise ≡ otherwise
 row_false true x otherwise = refl

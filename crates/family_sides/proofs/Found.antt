@@ -18,12 +18,10 @@ use Rattle.std.proofs.Common.{
   subst,
   cond,
   append_assoc,
-  arith,
 }
 use Rattle.std.specs.Prelude.{◌&&◌, ◌||◌, ◌==◌, Option, Some, None, option_map, bytes_eq, codes}
 use Rattle.std.specs.List.{filter, slice_get}
 use Rattle.std.proofs.lemmas.Bool.{eqb-true}
-use Rattle.std.proofs.lemmas.List.{length-append}
 use Rattle.std.proofs.lemmas.List.Elements.{filter-append}
 use Rattle.stored_lines.specs.Tree.{Tree, Forest, node, none, more, children, label, list_of, relabel_all}
 use Rattle.stored_lines.specs.Line.{Line, Lines}
@@ -57,13 +55,7 @@ use Rattle.family_sides.proofs.FieldRows.{none_told, one_told, told_if}
 use Rattle.family_sides.proofs.Partners.{root_at}
 use Rattle.family_sides.proofs.SaidMembers.{line_with}
 use Rattle.family_sides.proofs.SaidSides.{Sided, fit_is, pointer_sided, same_and, text_sided}
-
-at_end : {A : Type 0} (pre : List A) (x : A) (ys : List A) → slice_get (pre ++ (x ∷ ys)) (length pre) ≡ Some x
-at_end [] x ys = refl
-at_end (p ∷ pre) x ys = at_end pre x ys
-
-one_more : {A : Type 0} (pre : List A) (x : A) → length (pre ++ (x ∷ [])) ≡ length pre + 1
-one_more pre x = let e = length-append pre (x ∷ []) in omega arith
+use Rattle.list_laws.proofs.Lists.{at_end, more_behind}
 
 module _ (ks : List FileNode) (n k : ℕ) where
   abbrev pub member : ℕ → Option Bool
@@ -152,7 +144,7 @@ module _ (ks : List FileNode) (n k : ℕ) where
         (sides_on ks n member (taken_by member taken told) (length pre + 1) (list_of ts))
         ∙ ap (λ us. us ++ ours (sides_on ks n member (taken_by member taken told) (length pre + 1) (list_of ts))) e
         ∙ ap (λ i. ours (sides_on ks n member (taken_by member taken told) i (list_of ts)))
-        (sym (one_more pre (node l g))))
+        (sym (more_behind pre (node l g))))
         ∙ ap (λ cs. lines_in ks cs (ours (sides_on ks n member (taken_by member taken told)
         (length (pre ++ (node l g ∷ []))) (list_of ts)))) (sym (append_assoc pre (node l g ∷ []) (list_of ts)))
         ∙ rest (taken_by member taken told) (pre ++ (node l g ∷ [])) f

@@ -9,5 +9,4 @@ pub mod Once
 pub mod Partners
 pub mod SaidMembers
 pub mod SaidSides
-pub mod Sorted
 mod Taking

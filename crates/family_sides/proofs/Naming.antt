@@ -24,14 +24,7 @@ use Rattle.family_sides.specs.Taken.{named_in}
 use Rattle.family_sides.specs.Told.{member_told}
 use Rattle.family_sides.specs.Views.{member_at, member_by, member_in}
 use Rattle.family_sides.specs.declared.told.Told.{Told}
-
-or_else-assoc : {A : Type 0} (a b c : Option A) → or_else (or_else a b) c ≡ or_else a (or_else b c)
-or_else-assoc None b c = refl
-or_else-assoc (Some a) b c = refl
-
-pub or_else-none : {A : Type 0} (a : Option A) → or_else a None ≡ a
-or_else-none None = refl
-or_else-none (Some a) = refl
+use Rattle.import_forest.proofs.Firsts.{or_else-assoc, or_else-none}
 
 -- ---- who is named
 pub named_step : (ks : List FileNode) (t : FileNode) (rest ts : List FileNode) (old new all : ℕ → Option Bool)

@@ -10,10 +10,7 @@ use Rattle.family_sides.specs.Taken.{side_by, side_if, sides_by_members, sides_o
 use Rattle.family_sides.specs.Told.{side_told}
 use Rattle.family_sides.specs.declared.sides.Side.{Side}
 use Rattle.family_sides.specs.declared.told.Told.{Told}
-
-cond_same : {A : Type 0} (b : Bool) (x : A) → cond b x x ≡ x
-cond_same true x = refl
-cond_same false x = refl
+use Rattle.list_laws.proofs.Booleans.{cond_same}
 
 cond_append : {A : Type 0} (b : Bool) (xs ys : List A) → cond b xs [] ++ cond b ys [] ≡ cond b (xs ++ ys) []
 cond_append true xs ys = refl

@@ -66,10 +66,7 @@ use Rattle.family_sides.proofs.Found.{
 use Rattle.family_sides.proofs.Partners.{root_at}
 use Rattle.family_sides.proofs.SaidMembers.{line_with}
 use Rattle.family_sides.proofs.SaidSides.{Sided, pointer_sided, text_sided}
-
-or_yes : (a b : Bool) → b ≡ true → (a || b) ≡ true
-or_yes true b e = refl
-or_yes false b e = e
+use Rattle.list_laws.proofs.Booleans.{or_right}
 
 -- the one side of person n, who is a member of the family as m says
 pub record IsSideOf (n : ℕ) (m : Option Bool) (ss : List Side) : Type 0 where
@@ -109,7 +106,7 @@ module _ (ks : List FileNode) (n k : ℕ) where
       → taken_if t (cond f (cond w (Some word.Doubled) None) (Some word.OneSided)) taken k ≡ true
   still_if false w t taken e = e
   still_if true true t taken e = e
-  still_if true false t taken e = or_yes (t.other == k) (taken k) e
+  still_if true false t taken e = or_right (t.other == k) (taken k) e
 
   still_by : (taken : ℕ → Bool) (o : Option Told) → taken k ≡ true
       → taken_by (member ks n k) taken o k ≡ true

@@ -27,8 +27,9 @@ use Rattle.family_sides.specs.Members.{first_as, members_told, membership, names
 use Rattle.family_sides.specs.Taken.{named_in}
 use Rattle.family_sides.specs.Told.{is_member_tag, member_as, position_in, with_tag}
 use Rattle.family_sides.specs.declared.told.Told.{Told}
-use Rattle.family_sides.proofs.FieldRows.{and_false, member_row, none_told, one_told, told_if}
+use Rattle.family_sides.proofs.FieldRows.{member_row, none_told, one_told, told_if}
 use Rattle.family_sides.proofs.SaidMembers.{as_partner, line_with}
+use Rattle.list_laws.proofs.Booleans.{and_never}
 
 -- as a partner, where it does
 abbrev pub partner_in : Option Bool → Bool
@@ -73,7 +74,7 @@ module _ (k : Known) (n : ℕ) where
 
   once_has : (ts : Lines) (seen : List ℕ) → among seen (all_of (family_field k) a_member ts)
       ≡ (not (list_any (λ m. m == n) seen) && partner_in (line_first ts))
-  once_has [] seen = sym (and_false (not (list_any (λ m. m == n) seen)))
+  once_has [] seen = sym (and_never (not (list_any (λ m. m == n) seen)))
   once_has (t ∷ ts) seen =
       let rest : Lines = all_of (family_field k) a_member ts in
       let s : Bool = list_any (λ m. m == n) seen in
@@ -126,7 +127,7 @@ module _ (ks : List FileNode) (n : ℕ) where
         let u : Tree Line = line_with l (value.Text t) (resolved (place_in ks) g) in
         subst (λ told. Names told l (Some (value.Text t)) g ts) (sym (none_told (is_member_tag l.tag) (as_partner l)))
         (names u false (member_row (is_member_tag l.tag && false) (is_among family_tags u && is_text u)
-        (is_citation (known (roots ks)) u) ∙ and_false (is_member_tag l.tag)))
+        (is_citation (known (roots ks)) u) ∙ and_never (is_member_tag l.tag)))
 
     pointer_names : (o : Option ℕ) → Names (member_as l.tag (with_tag (roots ks) (codes "INDI") o)) l
         (option_map value.Ref o) g ts

@@ -18,7 +18,8 @@ use Rattle.import_forest.specs.Report.{judge_member, judged, names_member, said_
 use Rattle.family_sides.specs.Members.{doubled, doubled_by, doubled_in, seen_by}
 use Rattle.family_sides.specs.Told.{is_member_tag, member_as, position_in, with_tag}
 use Rattle.family_sides.specs.declared.told.Told.{Told}
-use Rattle.family_sides.proofs.FieldRows.{and_false, member_row, none_told, one_told, told_if}
+use Rattle.family_sides.proofs.FieldRows.{member_row, none_told, one_told, told_if}
+use Rattle.list_laws.proofs.Booleans.{and_never}
 
 -- one line, which names person k where m holds
 said_one : (m seen was : Bool) (as_partner : Bool) (k : ℕ) (s : ℕ → Bool) (l : FileLine) → s k ≡ seen → seen ≡ was
@@ -78,7 +79,7 @@ module _ (ks : List FileNode) where
         subst (λ told. Says s before told l (Some (value.Text t)) g ts)
         (sym (none_told (is_member_tag l.tag) (as_partner l)))
         (says u false false (member_row (is_member_tag l.tag && false) (is_among family_tags u && is_text u)
-        (is_citation (known (roots ks)) u) ∙ and_false (is_member_tag l.tag)))
+        (is_citation (known (roots ks)) u) ∙ and_never (is_member_tag l.tag)))
 
     pointer_says : (o : Option ℕ) → Says s before (member_as l.tag (with_tag (roots ks) (codes "INDI") o)) l
         (option_map value.Ref o) g ts

@@ -40,6 +40,7 @@ use Rattle.family_sides.specs.declared.told.Told.{Told}
 use Rattle.family_sides.proofs.FieldRows.{none_told, one_told, pointer_side, text_no_side, told_if}
 use Rattle.family_sides.proofs.Partners.{is_partner_told, partner_in}
 use Rattle.family_sides.proofs.SaidMembers.{line_with}
+use Rattle.list_laws.proofs.Booleans.{and_first}
 
 -- ---- the tag of the lines that count
 -- a line of the other tag
@@ -103,10 +104,6 @@ same_and false true false h = refl
 same_and false false true h = refl
 same_and false false false h = refl
 
-both_first : (a b : Bool) → (a && b) ≡ true → a ≡ true
-both_first true b e = refl
-both_first false b e = e
-
 both_second : (a b : Bool) → (a && b) ≡ true → b ≡ true
 both_second true b e = e
 both_second false b e = absurd cc
@@ -157,7 +154,7 @@ module _ (ks : List FileNode) (n : ℕ) where
           field_is = pointer_side (tagged (codes "NAME") u) (tagged (codes "SEX") u) (is_among person_tags u)
               (is_side_tag l.tag && d) (is_citation (known (roots ks)) u);
           tag_is = refl;
-          side = λ e. both_first (is_side_tag l.tag) d e;
+          side = λ e. and_first (is_side_tag l.tag) d e;
           family = λ e. both_second (is_side_tag l.tag) d e;
         }
 

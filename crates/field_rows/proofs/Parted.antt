@@ -1,7 +1,6 @@
 -- The parts of texts: a text made normal part by part, and how many parts there are.
 use Rattle.std.proofs.Common.{
   ◌≡◌,
-  ◌≢◌,
   ℕ,
   suc,
   ◌+◌,
@@ -14,10 +13,8 @@ use Rattle.std.proofs.Common.{
   ◌++◌,
   length,
   map,
-  true,
   false,
   ◌==◌,
-  cond,
   refl,
   sym,
   ap,
@@ -25,79 +22,35 @@ use Rattle.std.proofs.Common.{
   append_assoc,
   arith,
 }
-use Rattle.std.specs.Prelude.{codes, ◌&&◌, nat_le}
-use Rattle.std.specs.List.{onto_first, count_by}
+use Rattle.std.specs.Prelude.{◌&&◌, nat_le}
+use Rattle.std.specs.List.{onto_first}
 use Rattle.std.proofs.lemmas.Bool.Decides.{nat_tests}
-use Rattle.std.proofs.lemmas.List.{length-append}
-use Rattle.std.proofs.lemmas.List.Splits.{slice_split-cons_no, length-slice_split}
+use Rattle.std.proofs.lemmas.List.Splits.{slice_split-cons_no}
 use Rattle.record_shapes.specs.Paths.{joined, trimmed, parts, normal, is_within_limits}
 use Rattle.record_shapes.specs.Fields.{path_below}
 use Rattle.field_rows.specs.Cuts.{Without}
-
-not_it : (a b : ℕ) → a ≢ b → (a == b) ≡ false
-not_it a b apart = grind (arith)
+use Rattle.record_shapes.proofs.PathTexts.{parts_below, parts_some, joined_two, bytes_below}
+use Rattle.list_laws.proofs.Numbers.{is_not}
 
 -- ---- parts
 behind_first : (b : ℕ) (bs : List ℕ) → Without 44 (b ∷ bs) → Without 44 bs
 behind_first b bs h = λ i less. h (suc i) (omega arith)
 
 first_is_none : (b : ℕ) (bs : List ℕ) → Without 44 (b ∷ bs) → (b == 44) ≡ false
-first_is_none b bs h = not_it b 44 (h 0 (omega arith))
+first_is_none b bs h = is_not b 44 (h 0 (omega arith))
 
-parts_cut : (part after : List ℕ) → Without 44 part → parts (part ++ (44 ∷ after)) ≡ part ∷ parts after
+pub parts_cut : (part after : List ℕ) → Without 44 part → parts (part ++ (44 ∷ after)) ≡ part ∷ parts after
 parts_cut [] after h = refl
 parts_cut (b ∷ bs) after h =
     slice_split-cons_no (λ c. c == 44) b (bs ++ (44 ∷ after)) (first_is_none b bs h) ∙ ap (onto_first b)
     (parts_cut bs after (behind_first b bs h))
 
-parts_alone : (t : List ℕ) → Without 44 t → parts t ≡ t ∷ []
+pub parts_alone : (t : List ℕ) → Without 44 t → parts t ≡ t ∷ []
 parts_alone [] h = refl
 parts_alone (b ∷ bs) h = slice_split-cons_no (λ c. c == 44) b bs (first_is_none b bs h)
     ∙ ap (onto_first b) (parts_alone bs (behind_first b bs h))
 
-pub parts_some : (xs : List ℕ) → (y : List ℕ) × (ys : List (List ℕ)) × (parts xs ≡ y ∷ ys)
-parts_some [] = ([], [], refl)
-parts_some (x ∷ xs) = elim (x == 44) as (λ b. (y : List ℕ) × (ys : List (List ℕ))
-    × (cond b ([] ∷ parts xs) (onto_first x (parts xs)) ≡ y ∷ ys)) [
-      | true ↦ ([], parts xs, refl)
-      | false ↦ let s = parts_some xs in (x ∷ s.0, s.1, ap (onto_first x) s.2)
-    ]
-
-onto_both : (x : ℕ) (xs ys : List (List ℕ)) (y : List ℕ) (more : List (List ℕ)) → xs ≡ y ∷ more
-    → onto_first x (xs ++ ys) ≡ onto_first x xs ++ ys
-onto_both x xs ys y more e = ap (λ l. onto_first x (l ++ ys)) e ∙ sym (ap (λ l. onto_first x l ++ ys) e)
-
-parts_both : (xs ys : List ℕ) → parts (xs ++ (44 ∷ ys)) ≡ parts xs ++ parts ys
-parts_both [] ys = refl
-parts_both (x ∷ xs) ys =
-    let s = parts_some xs in
-    ap (λ l. cond (x == 44) ([] ∷ l) (onto_first x l)) (parts_both xs ys)
-    ∙ elim (x == 44) as (λ b. cond b ([] ∷ (parts xs ++ parts ys)) (onto_first x (parts xs ++ parts ys))
-    ≡ cond b ([] ∷ parts xs) (onto_first x (parts xs)) ++ parts ys) [
-      | true ↦ refl
-      | false ↦ onto_both x (parts xs) (parts ys) s.0 s.1 s.2
-    ]
-
-onto_length : (x : ℕ) (ys : List (List ℕ)) (y : List ℕ) (more : List (List ℕ)) → ys ≡ y ∷ more
-    → length (onto_first x ys) ≡ length ys
-onto_length x ys y more e = ap (λ l. length (onto_first x l)) e ∙ sym (ap length e)
-
 -- ---- how many
-pub count_is : (t : List ℕ) → length (parts t) ≡ count_by (λ b. b == 44) t + 1
-count_is t = length-slice_split (λ b. b == 44) t
-
-parts_below : (name above : List ℕ) → length (parts (path_below name above)) ≡ length (parts name)
-    + length (parts above)
-parts_below name above =
-    let s = parts_some above in
-    ap length (parts_both name (32 ∷ above)) ∙ length-append (parts name) (parts (32 ∷ above))
-    ∙ ap (λ k. length (parts name) + k) (onto_length 32 (parts above) s.0 s.1 s.2)
-
-bytes_below : (name above : List ℕ) → length (path_below name above) ≡ length name + (2 + length above)
-bytes_below name above = length-append name (44 ∷ (32 ∷ above)) ∙ ap (λ k. length name + k) (two (length above))
-  where
-    two : (k : ℕ) → suc (suc k) ≡ 2 + k
-    two k = omega arith
 
 below_is : (name above : List ℕ) → is_within_limits (path_below name above)
     ≡ (nat_le (length (parts name) + length (parts above)) 32 && nat_le (length name + (2 + length above)) 4096)
@@ -129,10 +82,6 @@ room_is name above h k =
     room (length (parts name)) (length (parts above)) (length name) (length above) h k ∙ sym (below_is name above)
 
 -- ---- made normal
-joined_two : (x : List ℕ) (ys : List (List ℕ)) (y : List ℕ) (more : List (List ℕ)) → ys ≡ y ∷ more
-    → joined (trimmed x ∷ map trimmed ys) ≡ trimmed x ++ (codes ", " ++ joined (map trimmed ys))
-joined_two x ys y more e = ap (λ l. joined (trimmed x ∷ map trimmed l)) e
-    ∙ sym (ap (λ l. trimmed x ++ (codes ", " ++ joined (map trimmed l))) e)
 
 normal_cut : (part after : List ℕ) → Without 44 part → normal (part ++ (44 ∷ after)) ≡ trimmed part
     ++ (44 ∷ (32 ∷ normal after))
@@ -141,7 +90,7 @@ normal_cut part after h =
     let s = parts_some after in ap (λ l. joined (map trimmed l)) (parts_cut part after h)
     ∙ joined_two part (parts after) s.0 s.1 s.2
 
-normal_alone : (t : List ℕ) → Without 44 t → normal t ≡ trimmed t
+pub normal_alone : (t : List ℕ) → Without 44 t → normal t ≡ trimmed t
 unfolding normal
 normal_alone t h = ap (λ l. joined (map trimmed l)) (parts_alone t h)
 

@@ -21,24 +21,13 @@ use Rattle.std.proofs.Common.{
   subst,
   arith,
 }
-use Rattle.std.specs.Prelude.{if◌then◌else◌, ◌||◌, ◌&&◌, codes, nat_le}
+use Rattle.std.specs.Prelude.{if◌then◌else◌, ◌&&◌, codes, nat_le}
 use Rattle.std.specs.List.{list_any, onto_first}
 use Rattle.std.proofs.lemmas.Bool.Decides.{nat_tests}
 use Rattle.record_text.specs.Text.{IsPlain}
 use Rattle.record_shapes.specs.Paths.{from_word, backwards, trimmed, parts, joined, normal, is_within_limits}
-use Rattle.field_rows.proofs.Parted.{parts_some}
-
-or_none : (a b : Bool) → a ≡ false → b ≡ false → (a || b) ≡ false
-or_none true b e h = e
-or_none false b e h = h
-
-or_first : (a b : Bool) → (a || b) ≡ false → a ≡ false
-or_first true b e = e
-or_first false b e = refl
-
-or_second : (a b : Bool) → (a || b) ≡ false → b ≡ false
-or_second true b e = absurd cc
-or_second false b e = e
+use Rattle.list_laws.proofs.Booleans.{or_first, or_none, or_second}
+use Rattle.record_shapes.proofs.PathTexts.{parts_some}
 
 module _ (p : ℕ → Bool) where
   any_both : (xs ys : List ℕ) → list_any p xs ≡ false → list_any p ys ≡ false → list_any p (xs ++ ys) ≡ false

@@ -1,41 +1,7 @@
 -- Spaces at the ends of texts.
-use Rattle.std.proofs.Common.{
-  ◌≡◌,
-  ◌≢◌,
-  ℕ,
-  List,
-  [],
-  ◌∷◌,
-  ◌++◌,
-  true,
-  false,
-  ◌==◌,
-  refl,
-  sym,
-  ap,
-  ◌∙◌,
-  arith,
-}
-use Rattle.std.specs.Prelude.{if◌then◌else◌}
+use Rattle.std.proofs.Common.{◌≡◌, ◌≢◌, ℕ, List, [], ◌∷◌, ◌++◌, sym, ap, ◌∙◌}
 use Rattle.record_shapes.specs.Paths.{from_word, backwards}
-
-is_it : (a b : ℕ) → (a == b) ≡ true → a ≡ b
-is_it a b e = grind (arith)
-
-backwards_push : (xs : List ℕ) (b : ℕ) → backwards (xs ++ (b ∷ [])) ≡ b ∷ backwards xs
-backwards_push [] b = refl
-backwards_push (x ∷ xs) b = ap (λ l. l ++ (x ∷ [])) (backwards_push xs b)
-
-twice : (t : List ℕ) → backwards (backwards t) ≡ t
-twice [] = refl
-twice (b ∷ bs) = backwards_push (backwards bs) b ∙ ap (λ l. b ∷ l) (twice bs)
-
-as_it_is : (t : List ℕ) → ((rest : List ℕ) → t ≢ 32 ∷ rest) → from_word t ≡ t
-as_it_is [] h = refl
-as_it_is (b ∷ bs) h = elim (b == 32) as (λ x. (b == 32) ≡ x → (if x then from_word bs else b ∷ bs) ≡ b ∷ bs) [
-  | true ↦ λ e. absurd (h bs (ap (λ y. y ∷ bs) (is_it b 32 e)))
-  | false ↦ λ e. refl
-] refl
+use Rattle.record_shapes.proofs.Trimmed.{backwards_push, as_it_is, twice}
 
 -- ---- in front
 pub word_on : (t rest next : List ℕ) → rest ≡ 32 ∷ next → from_word rest ≡ from_word t → from_word next ≡ from_word t

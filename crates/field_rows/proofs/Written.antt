@@ -2,7 +2,6 @@
 use Rattle.std.proofs.Common.{
   ◌≡◌,
   ℕ,
-  ◌+◌,
   ◌<◌,
   List,
   [],
@@ -25,7 +24,9 @@ use Rattle.std.specs.List.{list_any, onto_first}
 use Rattle.std.proofs.lemmas.Bool.Decides.{nat_tests}
 use Rattle.record_shapes.specs.Paths.{from_word, backwards, trimmed, parts, has_part}
 use Rattle.field_rows.specs.Cuts.{is_written}
-use Rattle.field_rows.proofs.Parted.{parts_some}
+use Rattle.record_shapes.proofs.Trimmed.{length_backwards}
+use Rattle.list_laws.proofs.Booleans.{or_assoc}
+use Rattle.record_shapes.proofs.PathTexts.{parts_some}
 
 -- the part is not empty, freed of spaces
 abbrev is_some_part : List ℕ → Bool
@@ -46,17 +47,6 @@ stays (z ∷ zs) y e = elim
       | false ↦ omega arith
     ]
 
-length_push : (xs : List ℕ) (y : ℕ) → length (xs ++ (y ∷ [])) ≡ length xs + 1
-length_push [] y = refl
-length_push (x ∷ xs) y = let more : length (xs ++ (y ∷ [])) ≡ length xs + 1 = length_push xs y in omega arith
-
-length_backwards : (t : List ℕ) → length (backwards t) ≡ length t
-length_backwards [] = refl
-length_backwards (b ∷ bs) =
-    let push : length (backwards bs ++ (b ∷ [])) ≡ length (backwards bs) + 1 = length_push (backwards bs) b in
-    let less : length (backwards bs) ≡ length bs = length_backwards bs in
-    omega arith
-
 -- a text that begins with no space
 begun : (x : ℕ) (xs : List ℕ) → (x == 32) ≡ false
     → 0 < length (backwards (from_word (backwards (x ∷ xs))))
@@ -74,16 +64,12 @@ part_of x xs = elim (x == 32) as (λ b. (x == 32) ≡ b
       | false ↦ λ e. positive (length (backwards (from_word (backwards (x ∷ xs))))) (begun x xs e)
     ] refl
 
-either : (a b c : Bool) → ((a || b) || c) ≡ (a || (b || c))
-either true b c = refl
-either false b c = refl
-
 some_part : (ps : List (List ℕ)) (y : List ℕ) (ys : List (List ℕ)) (x : ℕ) → ps ≡ y ∷ ys
     → list_any is_some_part (onto_first x ps) ≡ (not (x == 32) || list_any is_some_part ps)
 some_part ps y ys x e =
     ap (λ l. list_any is_some_part (onto_first x l)) e
     ∙ ap (λ b. b || list_any is_some_part ys) (part_of x y)
-    ∙ either (not (x == 32)) (is_some_part y) (list_any is_some_part ys)
+    ∙ sym (or_assoc (not (x == 32)) (is_some_part y) (list_any is_some_part ys))
     ∙ ap (λ l. not (x == 32) || list_any is_some_part l) (sym e)
 
 parts_any : (t : List ℕ) → list_any is_some_part (parts t) ≡ list_any is_written t

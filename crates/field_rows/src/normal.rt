@@ -139,7 +139,7 @@ pub fn path_below(alloc: Global, name: &str, above: &str) -> Result<String, Allo
 }
 
 /// How many parts a text has: one more than its commas.
-#[tactic(auto, using(crate::proofs::Parted::count_is))]
+#[tactic(auto, using(record_shapes::proofs::PathTexts::count_is))]
 fn part_count(text: &str) -> usize
     ensures { result ≡ length (paths.parts text.now) }
 {

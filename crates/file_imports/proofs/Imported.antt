@@ -11,25 +11,26 @@ use Rattle.store.specs.Histories.{Outcome}
 use Rattle.store.specs.declared.archive.Archive.{Archive}
 use Rattle.tables.specs.Applying.{Steps}
 use Rattle.interchange.specs.Results.{IsUnreported}
-use Rattle.file_imports.specs.Importing.{Imports, ImportsAll, ImportsSilently, IsFileOf, import_request}
+use Rattle.file_imports.specs.Importing.{Imports, ImportsAll, ImportsSilently, IsFileOf}
+use Rattle.archive_core.specs.Machine.{import_of}
 
 module _ {S : Type 0} (g : Ghosts S) (token : List ℕ) (input : Option (List ℕ)) (old new : Archive S g)
     (forest : List Item) (read : IsFileOf input forest) where
   abbrev Done : Outcome → Type 0
-  Done o = Steps g (Ok (import_request token forest, o)) old new
+  Done o = Steps g (Ok (import_of token forest, o)) old new
 
   abbrev imported : (o : Outcome) → Done o → Imports g token input old o new
   imported o did = record { forest = forest; read = read; done = did }
 
   pub all_imported : (r : Result (Answer × List ReportLine) Refusal)
-      → IfOk r (λ done. Steps g (Ok (import_request token forest, Ok done.0)) old new × (done.1 ≡ report forest))
+      → IfOk r (λ done. Steps g (Ok (import_of token forest, Ok done.0)) old new × (done.1 ≡ report forest))
       → IfOk r (λ done. ImportsAll g token input old done.0 done.1 new)
   all_imported (Ok done) h = (imported (Ok done.0) h.0, h.1)
   all_imported (Err e) h = tt
 
   pub none_imported : (P : Refusal → Type 0) (r : Result (Answer × List ReportLine) Refusal)
-      → IfErr r (λ e. Steps g (Ok (import_request token forest, Err e)) old new
-      ⊎ ((answer : Answer) × Steps g (Ok (import_request token forest, Ok answer)) old new × IsUnreported forest e))
+      → IfErr r (λ e. Steps g (Ok (import_of token forest, Err e)) old new
+      ⊎ ((answer : Answer) × Steps g (Ok (import_of token forest, Ok answer)) old new × IsUnreported forest e))
       → IfErr r (λ e. Imports g token input old (Err e) new ⊎ (ImportsSilently g token input old e new ⊎ P e))
   none_imported P (Ok done) h = tt
   none_imported P (Err e) (inl did) = inl (imported (Err e) did)

@@ -10,18 +10,13 @@ use Rattle.gedcom_tree.specs.File.{ReadsFile}
 use Rattle.gedcom_tree.specs.Forest.{Item}
 use Rattle.gedcom_tree.specs.Streams.{NotRead}
 use Rattle.gedcom_tree.specs.Text.{IsForest}
-use Rattle.commands.specs.declared.command.Command.TheVariants as command
 use Rattle.import_forest.specs.Report.{report}
+use Rattle.archive_core.specs.Machine.{import_of}
 use Rattle.interchange.specs.Results.{IsUnreported}
-use Rattle.archive_core.specs.declared.request.Request.{Request}
 use Rattle.store.specs.Histories.{Outcome}
 use Rattle.store.specs.declared.archive.Archive.{Archive}
 use Rattle.tables.specs.Applying.{Steps}
 use Rattle.file_imports.specs.Faults.{refusal_of}
-
--- the request of the import of a forest
-abbrev pub import_request : List ℕ → List Item → Request
-import_request token forest = record { token = token; command = command.Import forest }
 
 -- the input is a file of that forest
 abbrev pub IsFileOf : Option (List ℕ) → List Item → Type 0
@@ -32,7 +27,7 @@ pub record Imports {S : Type 0} (g : Ghosts S) (token : List ℕ) (input : Optio
     (outcome : Outcome) (new : Archive S g) : Type 0 where
   pub forest : List Item
   pub read : IsFileOf input forest
-  pub done : Steps g (Ok (import_request token forest, outcome)) old new
+  pub done : Steps g (Ok (import_of token forest, outcome)) old new
 
 -- it was accepted, and this is the report of the file
 abbrev pub ImportsAll : {S : Type 0} → (g : Ghosts S) → List ℕ → Option (List ℕ) → Archive S g → Answer

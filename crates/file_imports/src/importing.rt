@@ -5,14 +5,9 @@ ghost use Rattle.devices.specs.Devices.{Rose};
 ghost use Rattle.receipts.specs.declared.answer.Answer.{Answer};
 ghost use Rattle.import_forest.specs.Report.{report as report_said};
 ghost use Rattle.tables.specs.Applying.{Steps};
-ghost use Rattle.file_imports.specs.Importing.{
-  Imports,
-  ImportsAll,
-  ImportsSilently,
-  IsNoFile,
-  import_request,
-};
+ghost use Rattle.file_imports.specs.Importing.{Imports, ImportsAll, ImportsSilently, IsNoFile};
 ghost use Rattle.interchange.specs.Results.{IsUnreported};
+ghost use Rattle.archive_core.specs.Machine.{import_of};
 
 use crate::faults::refusal_of;
 use devices::Device;
@@ -60,10 +55,10 @@ fn import_forest<S: Alter, P: Progress>(
     forest: Forest,
     progress: &mut P,
 ) -> Result<(Answer, Report), Refusal>
-    ensures imported { IfOk result (λ done. Steps S.Store (Ok (import_request token forest, Ok done.0)) archive.old
+    ensures imported { IfOk result (λ done. Steps S.Store (Ok (import_of token forest, Ok done.0)) archive.old
         archive.new × (done.1 ≡ report_said forest)) }
-    ensures refused { IfErr result (λ e. Steps S.Store (Ok (import_request token forest, Err e)) archive.old archive.new
-        ⊎ ((answer : Answer) × Steps S.Store (Ok (import_request token forest, Ok answer)) archive.old archive.new
+    ensures refused { IfErr result (λ e. Steps S.Store (Ok (import_of token forest, Err e)) archive.old archive.new
+        ⊎ ((answer : Answer) × Steps S.Store (Ok (import_of token forest, Ok answer)) archive.old archive.new
         × IsUnreported forest e)) }
 {
     let report = report_of(alloc, &forest);
@@ -87,7 +82,7 @@ fn import_once<S: Alter, P: Progress>(
     forest: Forest,
     progress: &mut P,
 ) -> Result<Answer, Refusal>
-    ensures { Steps S.Store (Ok (import_request token forest, result)) archive.old archive.new }
+    ensures { Steps S.Store (Ok (import_of token forest, result)) archive.old archive.new }
 {
     let outcome = archive.import(alloc, &token, forest, progress);
     drop(token);

@@ -27,14 +27,6 @@ after_then ss m (suc n) k =
     then_step step.Breaks h = refl
     then_step (step.Leads j) h = h j
 
-pub one_step : (ss : List Step) (k : ℕ) → at ss k ≡ after ss 1 k
-one_step ss k = one (at ss k)
-  where
-    one : (s : Step) → s ≡ then_by (after ss 0) s
-    one step.Ends = refl
-    one step.Breaks = refl
-    one (step.Leads j) = refl
-
 pub twice : (ss old new : List Step) (n : ℕ) → ((k : ℕ) → at old k ≡ after ss n k) → new ≡ map (then_by (at old)) old
     → (k : ℕ) → at new k ≡ after ss (n + n) k
 twice ss old new n h e k =

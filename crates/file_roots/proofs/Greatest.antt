@@ -27,7 +27,6 @@ use Rattle.std.proofs.Common.{
   refl,
   sym,
   ap,
-  ◌∙◌,
   arith,
   Option,
   Some,
@@ -47,15 +46,9 @@ use Rattle.file_roots.specs.Roots.{
   is_kept,
   kept,
 }
+use Rattle.list_laws.proofs.Booleans.{both_true}
 
 -- ---- tests
-pub or_right : (a b : Bool) → (a || b) ≡ true → a ≡ false → b ≡ true
-or_right true b h e = absurd cc
-or_right false b h e = h
-
-pub and_both : (a b : Bool) → (a && b) ≡ true → (a ≡ true) × (b ≡ true)
-and_both true b h = (refl, h)
-and_both false b h = absurd cc
 
 pub and_of : (a b : Bool) → a ≡ true → b ≡ true → (a && b) ≡ true
 and_of a b h k = rw (h, k) refl
@@ -71,10 +64,10 @@ implies false b h = refl
 -- ---- sets
 within_head : (P Q : FileNode → Bool) (t : FileNode) (ts : List FileNode) → IsWithin (t ∷ ts) P Q
     → P t ≡ true → Q t ≡ true
-within_head P Q t ts h = implied (P t) (Q t) (and_both (not (P t) || Q t) (list_all (λ u. not (P u) || Q u) ts) h).0
+within_head P Q t ts h = implied (P t) (Q t) (both_true (not (P t) || Q t) (list_all (λ u. not (P u) || Q u) ts) h).0
 
 within_tail : (P Q : FileNode → Bool) (t : FileNode) (ts : List FileNode) → IsWithin (t ∷ ts) P Q → IsWithin ts P Q
-within_tail P Q t ts h = (and_both (not (P t) || Q t) (list_all (λ u. not (P u) || Q u) ts) h).1
+within_tail P Q t ts h = (both_true (not (P t) || Q t) (list_all (λ u. not (P u) || Q u) ts) h).1
 
 within_cons : (P Q : FileNode → Bool) (t : FileNode) (ts : List FileNode) → (P t ≡ true → Q t ≡ true) → IsWithin ts P Q
     → IsWithin (t ∷ ts) P Q

@@ -71,8 +71,9 @@ use Rattle.file_roots.specs.Nodes.{
 }
 use Rattle.file_roots.specs.Roots.{behind_first, candidates, is_called, is_society, is_kept, kept}
 use Rattle.file_roots.specs.Views.{AreInFile}
-use Rattle.file_roots.proofs.Places.{bytes_same}
 use Rattle.file_roots.proofs.Trees.{tree_out, nodes_same}
+use Rattle.list_laws.proofs.Booleans.{not_true, neither}
+use Rattle.list_laws.proofs.Bytes.{bytes_same}
 
 -- ---- a tag is a tag, and a text a text
 tag_is : (tag : List ℕ) → is_tag tag ≡ true → IsTag tag
@@ -81,7 +82,7 @@ tag_is tag h =
     let b = and_parts (list_all is_word tag) (ltb 0 (length tag)) a.0 in
     record { some = ltb-true 0 (length tag) b.1; short = leb-true (length tag) 31 a.1; words = b.0 }
 
-text_free : (t : List ℕ) → list_all is_textual t ≡ true → (list_any (λ b. b == 0) t ≡ false)
+pub text_free : (t : List ℕ) → list_all is_textual t ≡ true → (list_any (λ b. b == 0) t ≡ false)
     × (list_any (λ b. b == 13) t ≡ false)
 text_free [] h = (refl, refl)
 text_free (b ∷ bs) h =
@@ -160,10 +161,6 @@ distinct_behind (i ∷ is) b h = distinct_behind is b
 called_said : (name : List ℕ) (n : Node) → is_called name (tree_of n) ≡ is_item_called name (said 0 n)
 called_said name n = ap (is_called name) (tree_out n)
 
-or_false : (a b : Bool) → (a || b) ≡ false → (a ≡ false) × (b ≡ false)
-or_false true b h = absurd cc
-or_false false b h = (refl, h)
-
 none_called : (name : List ℕ) (ns : List Node) → list_any (is_item_called name) (flats 0 ns) ≡ false
     → list_any (is_called name) (trees_of ns) ≡ false
 none_called name [] h = refl
@@ -171,16 +168,12 @@ none_called name (n ∷ ns) h =
     let first : list_any (is_item_called name) ((said 0 n ∷ flats 1 (out-Node n).children.items) ++ flats 0 ns)
     ≡ false =
     ap (λ (x : List Item). list_any (is_item_called name) (x ++ flats 0 ns)) (sym (flat_out n 0)) ∙ h in
-    let a = or_false (is_item_called name (said 0 n))
+    let a = neither (is_item_called name (said 0 n))
     (list_any (is_item_called name) (flats 1 (out-Node n).children.items ++ flats 0 ns)) first in
-    let b = or_false (list_any (is_item_called name) (flats 1 (out-Node n).children.items))
+    let b = neither (list_any (is_item_called name) (flats 1 (out-Node n).children.items))
     (list_any (is_item_called name) (flats 0 ns))
     (sym (list_any-append (is_item_called name) (flats 1 (out-Node n).children.items) (flats 0 ns)) ∙ a.1) in
     (λ i. called_said name n i || none_called name ns b.1 i) ∙ ap (λ x. x || false) a.0
-
-not_false : (a : Bool) → not a ≡ true → a ≡ false
-not_false true h = absurd cc
-not_false false h = refl
 
 first_apart : (o : Option (List ℕ)) (is : List Item) (name : List ℕ)
     → not (option_map_or (λ x. list_any (is_item_called x) is) o false) ≡ true
@@ -188,7 +181,7 @@ first_apart : (o : Option (List ℕ)) (is : List Item) (name : List ℕ)
     → list_any (is_item_called name) is ≡ false
 first_apart None is name h e = absurd cc
 first_apart (Some x) is name h e =
-    ap (λ y. list_any (is_item_called y) is) (bytes_same name x e) ∙ not_false (list_any (is_item_called x) is) h
+    ap (λ y. list_any (is_item_called y) is) (bytes_same name x e) ∙ not_true (list_any (is_item_called x) is) h
 
 trees_apart : (ns : List Node) → are_distinct (flats 0 ns) ≡ true → AreApart (trees_of ns)
 trees_apart [] h = tt
@@ -200,7 +193,7 @@ trees_apart (n ∷ ns) h =
     (said 0 n).xref false))
     (are_distinct (below ++ flats 0 ns)) first in (
       λ name e. none_called name ns
-          (or_false (list_any (is_item_called name) below) (list_any (is_item_called name) (flats 0 ns))
+          (neither (list_any (is_item_called name) below) (list_any (is_item_called name) (flats 0 ns))
           (sym (list_any-append (is_item_called name) below (flats 0 ns))
           ∙ first_apart (said 0 n).xref (below ++ flats 0 ns) name a.0 (sym (called_said name n) ∙ e))).1,
       trees_apart ns (distinct_behind below (flats 0 ns) a.1),
@@ -210,7 +203,7 @@ trees_apart (n ∷ ns) h =
 filter_none : (f p : FileNode → Bool) (ts : List FileNode) → list_any f ts ≡ false → list_any f (filter p ts) ≡ false
 filter_none f p [] h = refl
 filter_none f p (t ∷ ts) h =
-    let a = or_false (f t) (list_any f ts) h in
+    let a = neither (f t) (list_any f ts) h in
     none_step (p t) a.0 (filter_none f p ts a.1)
   where
     none_step : (b : Bool) → f t ≡ false → list_any f (filter p ts) ≡ false
@@ -251,7 +244,7 @@ behind_in_file : (ts : List FileNode) → AreInFile ts → AreInFile (behind_fir
 behind_in_file [] h = tt
 behind_in_file (t ∷ ts) h = h.1
 
-behind_few : (ts : List FileNode) → length (behind_first ts) ≤ length ts
+pub behind_few : (ts : List FileNode) → length (behind_first ts) ≤ length ts
 behind_few [] = omega arith
 behind_few (t ∷ ts) = omega arith
 

@@ -6,3 +6,4 @@ pub mod Lined
 pub mod Places
 pub mod Sifted
 pub mod Trees
+pub mod Below

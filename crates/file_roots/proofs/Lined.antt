@@ -40,6 +40,7 @@ use Rattle.file_roots.specs.Nodes.{FileLine, line_said, tree_of, trees_of, IsLin
 use Rattle.file_roots.specs.Lines.{Lined, resolve, put, resolved, lines_below}
 use Rattle.file_roots.specs.Reports.{dangles, dangling}
 use Rattle.file_roots.proofs.Trees.{tree_out}
+use Rattle.stored_lines.proofs.Listed.{forest_list}
 
 abbrev pub below : Node → Forest FileLine
 below n = forest_of (trees_of (out-Node n).children.items)
@@ -66,11 +67,8 @@ low_front ns i n h e k =
     (omega (arith, same), omega (arith, same))
 
 -- ---- lines
-forest_list : {A : Type 0} (f : Forest A) → forest_of (list_of f) ≡ f
-forest_list none = refl
-forest_list (more t f) = ap (more t) (forest_list f)
 
-abbrev bare : Lined → Line
+abbrev pub bare : Lined → Line
 bare l = l.1
 
 put_some : (l : FileLine) (v : Value) (o : Option Value) (b r : Forest Lined) → Some v ≡ o
@@ -141,7 +139,7 @@ report_left place ns i n old new whole h e r is was =
     ∙ was
 
 -- ---- levels
-resolved_low : (place : List ℕ → Option ℕ) (f : Forest FileLine)
+pub resolved_low : (place : List ℕ → Option ℕ) (f : Forest FileLine)
     → forest_levels (relabel_all bare (resolved place f)) ≤ forest_levels f
 resolved_low place none = omega arith
 resolved_low place (more (node l f) ts) =

@@ -32,24 +32,12 @@ use Rattle.std.specs.Borrow.{Bor}
 use Rattle.std.specs.Map.{update}
 use Rattle.std.proofs.lemmas.List.{take_more, map-append, length-map, length-take-le}
 use Rattle.std.proofs.Math.Seq.{drop-cons}
-use Rattle.std.proofs.lemmas.Slice.Eq.{bytes_eq-Decides}
 use Rattle.gedcom_tree.specs.declared.node.Node.{Node}
 use Rattle.file_roots.specs.Nodes.{tree_of, trees_at}
 use Rattle.file_roots.specs.Roots.{is_called}
 use Rattle.file_roots.specs.Lines.{position_from, place_in}
 use Rattle.file_roots.specs.Views.{first_of, with_first, with_node}
-
-pub bytes_same : (a b : List ℕ) → bytes_eq a b ≡ true → a ≡ b
-bytes_same a b h = (bytes_eq-Decides a b).0 h
-
-pub bytes_flip : (a b : List ℕ) → bytes_eq a b ≡ bytes_eq b a
-bytes_flip a b = flip (bytes_eq a b) (bytes_eq b a) refl refl
-  where
-    flip : (x y : Bool) → bytes_eq a b ≡ x → bytes_eq b a ≡ y → x ≡ y
-    flip true true h k = refl
-    flip false false h k = refl
-    flip true false h k = sym ((bytes_eq-Decides b a).1 (sym (bytes_same a b h))) ∙ k
-    flip false true h k = sym h ∙ (bytes_eq-Decides a b).1 (sym (bytes_same b a k))
+use Rattle.list_laws.proofs.Bytes.{bytes_same, bytes_flip}
 
 -- a name that is put where there is none
 pub first_put : (old new : List ℕ → Option ℕ) (name key : List ℕ) (k : ℕ) → key ≡ name → false ≡ is_some (old name)
@@ -69,22 +57,6 @@ first_put old new name key k same none h q =
     put_step : (b : Bool) → bytes_eq q name ≡ b → cond b (Some k) (old q) ≡ first_of (old q) (cond b (Some k) None)
     put_step true e = first_none (old q) (none ∙ ap (λ x. is_some (old x)) (sym (bytes_same q name e)))
     put_step false e = first_some (old q)
-
-pub first_kept : (old : List ℕ → Option ℕ) (name : List ℕ) (k : ℕ) → true ≡ is_some (old name) → (q : List ℕ)
-    → old q ≡ with_first old name k q
-first_kept old name k some q = kept_step (bytes_eq q name) refl
-  where
-    first_any : (o : Option ℕ) (p : Option ℕ) → true ≡ is_some o → o ≡ first_of o p
-    first_any None p e = absurd cc
-    first_any (Some x) p e = refl
-
-    first_some : (o : Option ℕ) → o ≡ first_of o None
-    first_some None = refl
-    first_some (Some x) = refl
-
-    kept_step : (b : Bool) → bytes_eq q name ≡ b → old q ≡ first_of (old q) (cond b (Some k) None)
-    kept_step true e = first_any (old q) (Some k) (some ∙ ap (λ x. is_some (old x)) (sym (bytes_same q name e)))
-    kept_step false e = first_some (old q)
 
 -- ---- one node more
 position_push : {A : Type 0} (P : A → Bool) (k : ℕ) (xs : List A) (y : A) → position_from P k (xs ++ y ∷ [])

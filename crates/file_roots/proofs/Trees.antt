@@ -1,30 +1,8 @@
 -- The nodes of a forest and those of the code are the same trees, and what is so of each.
-use Rattle.std.proofs.Common.{
-  ◌≡◌,
-  ℕ,
-  ◌+◌,
-  ◌<◌,
-  ◌≤◌,
-  cond,
-  List,
-  [],
-  ◌∷◌,
-  ◌++◌,
-  map,
-  refl,
-  sym,
-  ap,
-  ◌∙◌,
-  subst,
-  arith,
-  append_assoc,
-  append-nil,
-}
-use Rattle.std.specs.Prelude.{◌==◌}
+use Rattle.std.proofs.Common.{◌≡◌, ℕ, ◌+◌, List, [], ◌∷◌, ◌++◌, map, refl, sym, ap, ◌∙◌, subst, append-nil}
 use Rattle.std.proofs.lemmas.List.{map-append}
-use Rattle.std.proofs.lemmas.Bool.Decides.{nat_tests}
-use Rattle.stored_lines.specs.Tree.{Tree, Forest, node, none, more, forest_of, flat, flat_all}
-use Rattle.stored_lines.specs.Growing.{fronts, backs, graft, grown}
+use Rattle.stored_lines.specs.Tree.{Tree, node, forest_of, flat, flat_all}
+use Rattle.stored_lines.specs.Growing.{grown}
 use Rattle.gedcom_tree.specs.Flat.{flats}
 use Rattle.gedcom_tree.specs.Flat.{flat as items_of}
 use Rattle.gedcom_tree.proofs.Grown.{flat_out}
@@ -33,67 +11,12 @@ use Rattle.gedcom_tree.specs.declared.node.Node.TheOpen.{Node-F}
 use Rattle.gedcom_tree.specs.declared.node.Node.TheViews.{out-Node, roll-Node, out-roll-Node}
 use Rattle.gedcom_tree.specs.declared.node.Node.TheFolds.{fold_out-Node, ind-Node}
 use Rattle.file_roots.specs.Nodes.{FileLine, FileNode, leveled, nodes_of, line_said, tree_step, tree_of, trees_of}
+use Rattle.stored_lines.proofs.Growing.{beside, grown-flat_all}
 
 pub tree_out : (n : Node) → tree_of n ≡ node (line_said (out-Node n)) (forest_of (trees_of (out-Node n).children.items))
 tree_out n = fold_out-Node FileNode tree_step n
 
 -- ---- lines grow into their trees
-at_self : {X : Type 0} (d : ℕ) (x y : X) → cond (d == d) x y ≡ x
-at_self d x y = grind (arith, nat_tests)
-
-module _ {A : Type 0} where
-  abbrev beside : ℕ → Forest A → List (ℕ × Tree A) → List (ℕ × Tree A)
-  beside d none ts = ts
-  beside d (more t f) ts = (d, t) ∷ beside d f ts
-
-  -- no tree at the head is deeper than that
-  abbrev Low : ℕ → List (ℕ × Tree A) → Type 0
-  Low d [] = Unit {0}
-  Low d (t ∷ ts) = t.0 ≤ d
-
-  Low-beside : (d : ℕ) (f : Forest A) (ts : List (ℕ × Tree A)) → Low d ts → Low d (beside d f ts)
-  Low-beside d none ts h = h
-  Low-beside d (more t f) ts h = omega arith
-
-  Low-more : (d : ℕ) (ts : List (ℕ × Tree A)) → Low d ts → Low (d + 1) ts
-  Low-more d [] h = tt
-  Low-more d (t ∷ ts) h = omega arith
-
-  fronts-low : (d : ℕ) (ts : List (ℕ × Tree A)) → Low d ts → fronts (d + 1) ts ≡ []
-  fronts-low d [] h = refl
-  fronts-low d (t ∷ ts) h = let low : t.0 ≤ d = h in grind (arith, nat_tests)
-
-  backs-low : (d : ℕ) (ts : List (ℕ × Tree A)) → Low d ts → backs (d + 1) ts ≡ ts
-  backs-low d [] h = refl
-  backs-low d (t ∷ ts) h = let low : t.0 ≤ d = h in grind (arith, nat_tests)
-
-  fronts-beside : (d : ℕ) (f : Forest A) (ts : List (ℕ × Tree A)) → Low d ts
-      → forest_of (fronts (d + 1) (beside (d + 1) f ts)) ≡ f
-  fronts-beside d none ts h = ap forest_of (fronts-low d ts h)
-  fronts-beside d (more t f) ts h = ap forest_of (at_self (d + 1) (t ∷ fronts (d + 1) (beside (d + 1) f ts)) [])
-      ∙ ap (more t) (fronts-beside d f ts h)
-
-  backs-beside : (d : ℕ) (f : Forest A) (ts : List (ℕ × Tree A)) → Low d ts → backs (d + 1) (beside (d + 1) f ts) ≡ ts
-  backs-beside d none ts h = backs-low d ts h
-  backs-beside d (more t f) ts h = at_self (d + 1) (backs (d + 1) (beside (d + 1) f ts))
-      ((d + 1, t) ∷ beside (d + 1) f ts) ∙ backs-beside d f ts h
-
-  mutual
-    grown-flat : (d : ℕ) (t : Tree A) (ls : List (ℕ × A)) → Low d (grown ls) → grown (flat d t ++ ls)
-        ≡ (d, t) ∷ grown ls
-    grown-flat d (node a f) ls h =
-        ap (graft d a) (grown-flat_all (d + 1) f ls (Low-more d (grown ls) h))
-        ∙ ap (λ g. (d, node a g) ∷ backs (d + 1) (beside (d + 1) f (grown ls))) (fronts-beside d f (grown ls) h)
-        ∙ ap (λ ts. (d, node a f) ∷ ts) (backs-beside d f (grown ls) h)
-
-    grown-flat_all : (d : ℕ) (f : Forest A) (ls : List (ℕ × A)) → Low d (grown ls)
-        → grown (flat_all d f ++ ls) ≡ beside d f (grown ls)
-    grown-flat_all d none ls h = refl
-    grown-flat_all d (more t f) ls h =
-        ap grown (append_assoc (flat d t) (flat_all d f) ls)
-        ∙ grown-flat d t (flat_all d f ++ ls)
-        (subst (Low d) (sym (grown-flat_all d f ls h)) (Low-beside d f (grown ls) h))
-        ∙ ap (λ ts. (d, t) ∷ ts) (grown-flat_all d f ls h)
 
 beside-list : {A : Type 0} (d : ℕ) (ts : List (Tree A)) → map (λ (t : ℕ × Tree A). t.1) (beside d (forest_of ts) [])
     ≡ ts

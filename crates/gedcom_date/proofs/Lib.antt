@@ -16,3 +16,4 @@ pub mod Fitting
 pub mod Again
 pub mod Written
 pub mod Deciding
+pub mod SaidAgain

@@ -22,6 +22,7 @@ use Rattle.std.specs.List.{list_all}
 use Rattle.std.proofs.lemmas.Bool.{and_parts}
 use Rattle.gedcom_date.specs.Words.{is_space, Without}
 use Rattle.gedcom_date.specs.Grammar.{IsPhrased}
+use Rattle.list_laws.proofs.Lists.{head_same, tail_same}
 
 -- the facts of a list but for its first
 pub without_tail : (c x : ℕ) (xs : List ℕ) → Without c (x ∷ xs) → Without c xs
@@ -33,12 +34,6 @@ without_head c xs none = none 0 (omega arith) refl
 all_tail : (x : ℕ) (xs : List ℕ) → list_all is_space (x ∷ xs) ≡ true → list_all is_space xs ≡ true
 all_tail x xs all = (and_parts (is_space x) (list_all is_space xs) all).1
 
-head_of : (x y : ℕ) (xs ys : List ℕ) → x ∷ xs ≡ y ∷ ys → x ≡ y
-head_of x y xs ys e = cc
-
-tail_of : (x y : ℕ) (xs ys : List ℕ) → x ∷ xs ≡ y ∷ ys → xs ≡ ys
-tail_of x y xs ys e = cc
-
 -- among spaces there is nothing else
 no_other : (c : ℕ) (xs ys : List ℕ) → is_space c ≡ false → list_all is_space (xs ++ c ∷ ys) ≡ true → ⊥
 no_other c [] ys other all = absurd (let h = (and_parts (is_space c) (list_all is_space ys) all).0 in cc)
@@ -48,32 +43,32 @@ no_other c (x ∷ xs) ys other all = no_other c xs ys other (all_tail x (xs ++ c
 first_front : (c : ℕ) (a b x y : List ℕ) → Without c a → Without c b → a ++ c ∷ x ≡ b ++ c ∷ y → a ≡ b
 first_front c [] [] x y na nb e = refl
 first_front c [] (q ∷ qs) x y na nb e =
-    absurd (without_head c qs (subst (λ (h : ℕ). Without c (h ∷ qs)) (sym (head_of c q x (qs ++ c ∷ y) e)) nb))
+    absurd (without_head c qs (subst (λ (h : ℕ). Without c (h ∷ qs)) (sym (head_same c q x (qs ++ c ∷ y) e)) nb))
 first_front c (r ∷ rs) [] x y na nb e =
-    absurd (without_head c rs (subst (λ (h : ℕ). Without c (h ∷ rs)) (head_of r c (rs ++ c ∷ x) y e) na))
+    absurd (without_head c rs (subst (λ (h : ℕ). Without c (h ∷ rs)) (head_same r c (rs ++ c ∷ x) y e) na))
 first_front c (r ∷ rs) (q ∷ qs) x y na nb e =
     let tails = first_front c rs qs x y (without_tail c r rs na) (without_tail c q qs nb)
-    (tail_of r q (rs ++ c ∷ x) (qs ++ c ∷ y) e) in
-    let heads : r ≡ q = head_of r q (rs ++ c ∷ x) (qs ++ c ∷ y) e in
+    (tail_same r q (rs ++ c ∷ x) (qs ++ c ∷ y) e) in
+    let heads : r ≡ q = head_same r q (rs ++ c ∷ x) (qs ++ c ∷ y) e in
     cc
 
 first_back : (c : ℕ) (a b x y : List ℕ) → Without c a → Without c b → a ++ c ∷ x ≡ b ++ c ∷ y → x ≡ y
-first_back c [] [] x y na nb e = tail_of c c x y e
+first_back c [] [] x y na nb e = tail_same c c x y e
 first_back c [] (q ∷ qs) x y na nb e =
-    absurd (without_head c qs (subst (λ (h : ℕ). Without c (h ∷ qs)) (sym (head_of c q x (qs ++ c ∷ y) e)) nb))
+    absurd (without_head c qs (subst (λ (h : ℕ). Without c (h ∷ qs)) (sym (head_same c q x (qs ++ c ∷ y) e)) nb))
 first_back c (r ∷ rs) [] x y na nb e =
-    absurd (without_head c rs (subst (λ (h : ℕ). Without c (h ∷ rs)) (head_of r c (rs ++ c ∷ x) y e) na))
+    absurd (without_head c rs (subst (λ (h : ℕ). Without c (h ∷ rs)) (head_same r c (rs ++ c ∷ x) y e) na))
 first_back c (r ∷ rs) (q ∷ qs) x y na nb e = first_back c rs qs x y (without_tail c r rs na) (without_tail c q qs nb)
-    (tail_of r q (rs ++ c ∷ x) (qs ++ c ∷ y) e)
+    (tail_same r q (rs ++ c ∷ x) (qs ++ c ∷ y) e)
 
 -- a text and spaces, the text without a bracket
 no_bracket : (a sp front x : List ℕ) → Without 40 a → list_all is_space sp ≡ true → a ++ sp ≡ front ++ 40 ∷ x → ⊥
 no_bracket [] sp front x none all e = no_other 40 front x refl
     (subst (λ (l : List ℕ). list_all is_space l ≡ true) e all)
 no_bracket (r ∷ rs) sp [] x none all e = without_head 40 rs
-    (subst (λ (h : ℕ). Without 40 (h ∷ rs)) (head_of r 40 (rs ++ sp) x e) none)
+    (subst (λ (h : ℕ). Without 40 (h ∷ rs)) (head_same r 40 (rs ++ sp) x e) none)
 no_bracket (r ∷ rs) sp (q ∷ qs) x none all e = no_bracket rs sp qs x (without_tail 40 r rs none) all
-    (tail_of r q (rs ++ sp) (qs ++ 40 ∷ x) e)
+    (tail_same r q (rs ++ sp) (qs ++ 40 ∷ x) e)
 
 -- spaces end with a space
 abbrev Ended : List ℕ → Type 0
@@ -106,15 +101,15 @@ up_to : (rest sp p after : List ℕ) → NotEnded rest → list_all is_space sp 
     → rest ++ sp ≡ p ++ 41 ∷ after → rest ≡ p ++ 41 ∷ []
 up_to [] sp p after none all more e =
     absurd (no_other 41 p after refl (subst (λ (l : List ℕ). list_all is_space l ≡ true) e all))
-up_to (r ∷ []) sp [] after none all more e = ap (λ (h : ℕ). h ∷ []) (head_of r 41 sp after e)
+up_to (r ∷ []) sp [] after none all more e = ap (λ (h : ℕ). h ∷ []) (head_same r 41 sp after e)
 up_to (r ∷ (s ∷ ss)) sp [] after none all more e =
     let spaces = subst (λ (l : List ℕ). list_all is_space l ≡ true)
-    (sym (tail_of r 41 ((s ∷ ss) ++ sp) after e)) more in
+    (sym (tail_same r 41 ((s ∷ ss) ++ sp) after e)) more in
     let end = ended s ss (front_all (s ∷ ss) sp spaces) in
     absurd (none (r ∷ end.0) (ap (λ (l : List ℕ). r ∷ l) end.1))
 up_to (r ∷ rs) sp (q ∷ qs) after none all more e =
-    let tails = up_to rs sp qs after (not_tail r rs none) all more (tail_of r q (rs ++ sp) (qs ++ 41 ∷ after) e) in
-    let heads : r ≡ q = head_of r q (rs ++ sp) (qs ++ 41 ∷ after) e in
+    let tails = up_to rs sp qs after (not_tail r rs none) all more (tail_same r q (rs ++ sp) (qs ++ 41 ∷ after) e) in
+    let heads : r ≡ q = head_same r q (rs ++ sp) (qs ++ 41 ∷ after) e in
     cc
 
 -- what stands before the last bracket
@@ -123,13 +118,13 @@ last_bracket : (p q a b : List ℕ) → list_all is_space a ≡ true → list_al
 last_bracket [] [] a b all more e = refl
 last_bracket [] (q ∷ qs) a b all more e =
     absurd (no_other 41 qs b refl
-    (subst (λ (l : List ℕ). list_all is_space l ≡ true) (tail_of 41 q a (qs ++ 41 ∷ b) e) all))
+    (subst (λ (l : List ℕ). list_all is_space l ≡ true) (tail_same 41 q a (qs ++ 41 ∷ b) e) all))
 last_bracket (p ∷ ps) [] a b all more e =
     absurd (no_other 41 ps a refl
-    (subst (λ (l : List ℕ). list_all is_space l ≡ true) (sym (tail_of p 41 (ps ++ 41 ∷ a) b e)) more))
+    (subst (λ (l : List ℕ). list_all is_space l ≡ true) (sym (tail_same p 41 (ps ++ 41 ∷ a) b e)) more))
 last_bracket (p ∷ ps) (q ∷ qs) a b all more e =
-    let tails = last_bracket ps qs a b all more (tail_of p q (ps ++ 41 ∷ a) (qs ++ 41 ∷ b) e) in
-    let heads : p ≡ q = head_of p q (ps ++ 41 ∷ a) (qs ++ 41 ∷ b) e in
+    let tails = last_bracket ps qs a b all more (tail_same p q (ps ++ 41 ∷ a) (qs ++ 41 ∷ b) e) in
+    let heads : p ≡ q = head_same p q (ps ++ 41 ∷ a) (qs ++ 41 ∷ b) e in
     cc
 
 -- brackets, regrouped

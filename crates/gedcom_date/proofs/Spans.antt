@@ -24,6 +24,7 @@ use Rattle.gedcom_date.specs.Days.{IsDayOf, Lies}
 use Rattle.calendar_days.specs.Bounds.{IsLeast, IsGreatest}
 use Rattle.calendar_days.specs.Told.{Told}
 use Rattle.gedcom_date.specs.Form.{Form, BeforeDate, AfterDate, BetweenDates, SinceDate, UntilDate, FromToDates}
+use Rattle.list_laws.proofs.Numbers.{through}
 
 -- a number below two
 abbrev below : ℤ → ℤ → ℤ
@@ -49,9 +50,6 @@ lt_le a b c h k = omega (arith, signed_arith)
 
 le_lt : (a b c : ℤ) → a ≤ℤ b → b <ℤ c → a <ℤ c
 le_lt a b c h k = omega (arith, signed_arith)
-
-le_le : (a b c : ℤ) → a ≤ℤ b → b ≤ℤ c → a ≤ℤ c
-le_le a b c h k = omega (arith, signed_arith)
 
 lt-le : (a b : ℤ) → a <ℤ b → a ≤ℤ b
 lt-le a b h = omega (arith, signed_arith)
@@ -120,14 +118,14 @@ pub lies_lo : (first last : Told) (lo hi : ℤ) → IsOrdered first last → IsL
 lies_lo first last lo hi ordered least greatest =
     let both = joined first last lo hi ordered least greatest in
     let same : lo ≤ℤ lo = omega (arith, signed_arith) in
-    ((lo, hi, least.0, greatest.0, same, both), (λ n l. le_le lo l.0 n (least.1 l.0 l.2) l.4))
+    ((lo, hi, least.0, greatest.0, same, both), (λ n l. through lo l.0 n (least.1 l.0 l.2) l.4))
 
 pub lies_hi : (first last : Told) (lo hi : ℤ) → IsOrdered first last → IsLeast (IsIn first) (Some lo)
     → IsGreatest (IsIn last) (Some hi) → IsGreatest (Lies first last) (Some hi)
 lies_hi first last lo hi ordered least greatest =
     let both = joined first last lo hi ordered least greatest in
     let same : hi ≤ℤ hi = omega (arith, signed_arith) in
-    ((lo, hi, least.0, greatest.0, both, same), (λ n l. le_le n l.1 hi l.5 (greatest.1 l.1 l.3)))
+    ((lo, hi, least.0, greatest.0, both, same), (λ n l. through n l.1 hi l.5 (greatest.1 l.1 l.3)))
 
 pub period_lo : (v : Form) (first last : Told) (lo hi : ℤ) → (v ≡ BetweenDates first last)
     ⊎ (v ≡ FromToDates first last) → IsOrdered first last → IsLeast (IsIn first) (Some lo)

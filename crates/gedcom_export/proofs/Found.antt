@@ -10,9 +10,10 @@ use Rattle.std.specs.declared.cmp.Ordering.TheVariants.{Less, Equal, Greater}
 use Rattle.record_kinds.specs.declared.record.Record.{Record}
 use Rattle.record_shapes.specs.Lists.{EachOf}
 use Rattle.archive_state.specs.Content.{Records}
-use Rattle.archive_state.proofs.Rising.{first_holds, less_is, rest_holds}
+use Rattle.archive_state.proofs.Rising.{less_is}
 use Rattle.export_forest.specs.Order.{Numbered}
 use Rattle.export_index.specs.Index.{numbers}
+use Rattle.list_laws.proofs.Booleans.{first_holds, rest_holds}
 
 -- each is found at its number
 abbrev pub AreAt : (ℕ → Option Record) → List Numbered → Type 0

@@ -24,7 +24,7 @@ use Rattle.std.specs.FinMap.{entries, get}
 use Rattle.std.proofs.lemmas.Grind.{flat_map-append}
 use Rattle.std.proofs.lemmas.List.{map-append}
 use Rattle.std.proofs.lemmas.List.Folds.{flat_map-map}
-use Rattle.stored_lines.specs.Tree.{Tree, forest_of, list_of, none, more, node, relabel, relabel_all}
+use Rattle.stored_lines.specs.Tree.{Tree, forest_of, list_of, none, node, relabel_all}
 use Rattle.record_kinds.specs.declared.record.Record.{Record}
 use Rattle.record_kinds.specs.declared.record.Record.TheVariants as kind
 use Rattle.record_shapes.specs.Shapes.{shape_of}
@@ -70,17 +70,14 @@ use Rattle.gedcom_export.specs.Pieces.{
   whole_text,
   with_citations,
 }
-use Rattle.gedcom_export.proofs.Parted.{listed_again}
 use Rattle.gedcom_export.proofs.Found.{all_got, by_records, same_of, some_at}
+use Rattle.stored_lines.proofs.Relabel.{relabel_children}
+use Rattle.stored_lines.proofs.Listed.{list_back}
 
 abbrev bare : Numbered → Record
 bare e = e.1
 
 -- ---- trees
-relabelled : {A B : Type 0} (f : A → B) (ts : List (Tree A)) → relabel_all f (forest_of ts) ≡ forest_of
-    (map (relabel f) ts)
-relabelled f [] = refl
-relabelled f (t ∷ ts) = λ i. more (relabel f t) (relabelled f ts i)
 
 module _ (m : Records) (i : Index) (h : IsIndexOf (entries m) i) where
   -- ---- what a record owns
@@ -114,7 +111,7 @@ module _ (m : Records) (i : Index) (h : IsIndexOf (entries m) i) where
   whole_event : (e : Numbered) → node e.1 (forest_of (those_at m (listed e.0 i.citations)))
       ≡ without_numbers (node e (forest_of (citations_of (entries m) e.0)))
   whole_event e = ap (λ ts. node e.1 (forest_of ts)) (citations_are e.0)
-      ∙ ap (node e.1) (sym (relabelled bare (citations_of (entries m) e.0)))
+      ∙ ap (node e.1) (sym (relabel_children bare (citations_of (entries m) e.0)))
 
   abbrev cited : Numbered → List (Tree Record)
   cited e = node e.1 (forest_of (those_at m (listed e.0 i.citations))) ∷ []
@@ -150,7 +147,7 @@ module _ (m : Records) (i : Index) (h : IsIndexOf (entries m) i) where
       let es : List (Tree Numbered) = events_of (entries m) n in
       let cs : List (Tree Numbered) = citations_of (entries m) n in
       (λ j. events_are n j ++ citations_are n j) ∙ sym (map-append without_numbers es cs)
-      ∙ sym (ap list_of (relabelled bare (es ++ cs)) ∙ listed_again (map without_numbers (es ++ cs)))
+      ∙ sym (ap list_of (relabel_children bare (es ++ cs)) ∙ list_back (map without_numbers (es ++ cs)))
 
   -- ---- records
   names_same : names_in i ≡ name_of m

@@ -1,25 +1,5 @@
 -- Lines of many records, one record after the other.
-use Rattle.std.proofs.Common.{
-  ◌≡◌,
-  ℕ,
-  ◌+◌,
-  ◌<◌,
-  ◌≤◌,
-  List,
-  [],
-  ◌∷◌,
-  ◌++◌,
-  length,
-  get_or,
-  drop,
-  map,
-  drop-cons,
-  add-one,
-  refl,
-  sym,
-  ap,
-  ◌∙◌,
-}
+use Rattle.std.proofs.Common.{◌≡◌, ℕ, ◌+◌, ◌<◌, ◌≤◌, List, [], ◌∷◌, ◌++◌, length, get_or, drop, map, refl, sym, ap, ◌∙◌}
 use Rattle.std.specs.List.{flat_map}
 use Rattle.std.specs.FinMap.{get}
 use Rattle.std.proofs.Math.ListN.{drop_of_length-le}
@@ -35,6 +15,7 @@ use Rattle.export_index.specs.declared.membership.Membership.{Membership}
 use Rattle.export_index.specs.declared.owned.Owned.{Owned}
 use Rattle.node_writing.proofs.Appending.{nothing, then_page}
 use Rattle.gedcom_export.specs.Pieces.{alone, events_at, those_at, with_citations}
+use Rattle.list_laws.proofs.Lists.{from_here}
 
 -- the lines of what is listed
 abbrev pub cited : Records → Owned → Lines
@@ -55,9 +36,6 @@ evented_all m i [] = refl
 evented_all m i (o ∷ os) =
     ap (λ (l : Lines). evented m i o ++ l) (evented_all m i os)
     ∙ sym (flat_map-append (event_part (around_in i)) (with_citations m i o.number (get m o.number)) (events_at m i os))
-
-pub from_here : {A : Type 0} (xs : List A) (i : ℕ) (d : A) → i < length xs → drop i xs ≡ get_or xs i d ∷ drop (i + 1) xs
-from_here xs i d less = drop-cons xs i d less ∙ ap (λ k. get_or xs i d ∷ drop k xs) (sym (add-one i))
 
 -- the line of a family of a person
 abbrev pub membership_line : List ℕ → Membership → Tree Line

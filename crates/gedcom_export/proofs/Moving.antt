@@ -43,6 +43,7 @@ use Rattle.gedcom_tree.proofs.Handing.{going_stops}
 use Rattle.gedcom_export.specs.Ends.{IsBegun, IsReason, IsWhole}
 use Rattle.gedcom_export.specs.Waiting.{Halts, IsShort, Moves}
 use Rattle.gedcom_export.specs.declared.output.Output.{Output}
+use Rattle.devices.proofs.Begun.{begins_none}
 
 pub by_result : {A E : Type 0} {P Q : A → Type 0} {S T : E → Type 0} (r : Result A E) → ((a : A) → P a → Q a)
     → ((e : E) → S e → T e) → MatchResult r P S → MatchResult r Q T
@@ -62,9 +63,6 @@ begins_more a b s t h =
     let n : ℕ = h.0 in
     let short : n ≤ length s = h.1 in
     (n, omega (arith, length-append s t), subst (Appends a b) (sym (take-append-le n s t h.1)) h.2)
-
-pub begins_none : (a : Option (List ℕ)) (s : List ℕ) → AppendsBeginning a a s
-begins_none a s = (0, omega arith, Appends-nil a)
 
 module _ (a b : Option (List ℕ)) (x : Output) where
   -- where it ends after a part, and more was to come

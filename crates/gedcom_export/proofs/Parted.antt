@@ -1,10 +1,10 @@
 -- Records that are put together of their parts.
-use Rattle.std.proofs.Common.{◌≡◌, ℕ, List, [], ◌∷◌, ◌++◌, map, refl, sym, ap, ◌∙◌, append-nil, append_assoc}
+use Rattle.std.proofs.Common.{◌≡◌, ℕ, List, [], ◌∷◌, ◌++◌, map, refl, sym, ap, ◌∙◌, append-nil}
 use Rattle.std.specs.Prelude.{codes, Option, Some, None}
 use Rattle.std.specs.FinMap.{get}
 use Rattle.std.proofs.lemmas.Grind.{flat_map-append}
 use Rattle.stored_lines.specs.Line.{Lines}
-use Rattle.stored_lines.specs.Tree.{Tree, forest_of, list_of}
+use Rattle.stored_lines.specs.Tree.{forest_of, list_of}
 use Rattle.stored_lines.specs.declared.carried.Value.{Value}
 use Rattle.stored_lines.specs.declared.carried.Value.TheVariants as value
 use Rattle.record_kinds.specs.Model as model
@@ -21,14 +21,8 @@ use Rattle.export_index.specs.declared.owned.Owned.{Owned}
 use Rattle.node_writing.specs.Parts.{event_head, family_head, person_head}
 use Rattle.node_writing.proofs.Parts.{event_parts, family_parts, person_parts}
 use Rattle.gedcom_export.specs.Pieces.{alone, below_at, events_at, listed, text_of, those_at, with_citations}
-
-pub listed_again : {A : Type 0} (ts : List (Tree A)) → list_of (forest_of ts) ≡ ts
-listed_again [] = refl
-listed_again (t ∷ ts) = λ i. t ∷ listed_again ts i
-
--- a text is put behind, and then all that is left
-behind : (old new last part rest : List ℕ) → new ≡ old ++ part → last ≡ new ++ rest → last ≡ old ++ (part ++ rest)
-behind old new last part rest e f = f ∙ ap (λ (l : List ℕ). l ++ rest) e ∙ append_assoc old part rest
+use Rattle.list_laws.proofs.Lists.{behind}
+use Rattle.stored_lines.proofs.Listed.{list_back}
 
 -- the first line of a record, and then those below it
 pub simple_page : (names : ℕ → List ℕ) (n : ℕ) (tag : List ℕ) (v : Value) (below : Lines) (a b d : List ℕ)
@@ -101,7 +95,7 @@ module _ (m : Records) (i : Index) (n : ℕ) where
       ++ (page (names_in i) 2 (citation_lines (whole j)) ++ page (names_in i) 2 e.carried))
       ∙ sym (event_parts (names_in i) (around_in i) e (forest_of (those_at m (listed n i.citations))))) where
         whole : those_at m cs ≡ list_of (forest_of (those_at m (listed n i.citations)))
-        whole = ap (those_at m) of ∙ sym (listed_again (those_at m (listed n i.citations)))
+        whole = ap (those_at m) of ∙ sym (list_back (those_at m (listed n i.citations)))
 
   -- a person
   pub person_page : (p : model.Person) (es cs : List Owned) (child partner : List Membership)

@@ -32,6 +32,7 @@ use Rattle.std.proofs.lemmas.Fmt.{decimal_step}
 use Rattle.std.proofs.lemmas.List.{append-nil, take-append-le}
 use Rattle.std.proofs.Math.Seq.{take-append-add}
 use Rattle.gedcom_line.specs.Spelling.{Begun}
+use Rattle.list_laws.proofs.Lists.{behind}
 
 -- nothing of it
 pub begun_same : (old new more : List ℕ) → new ≡ old → Begun old new more
@@ -64,14 +65,6 @@ pub begun_part : (old mid new a b c whole : List ℕ) → mid ≡ old ++ a → B
     → Begun old new whole
 begun_part old mid new a b c whole e h w = subst (Begun old new) (sym w)
     (begun_behind old mid new a (b ++ c) e (begun_longer mid new b c h))
-
-pub on_err : {T E P : Type 0} (r : Result T E) → P → OnErr r P
-on_err (Ok x) p = tt
-on_err (Err e) p = p
-
--- a text that is behind another one
-pub behind : (old mid new a b : List ℕ) → mid ≡ old ++ a → new ≡ mid ++ b → new ≡ old ++ (a ++ b)
-behind old mid new a b e f = f ∙ ap (λ (x : List ℕ). x ++ b) e ∙ append_assoc old a b
 
 -- what is left of a line behind each of its parts
 pub from_level : (d x t r : List ℕ) → (d ++ 32 ∷ (x ++ (t ++ r))) ++ 10 ∷ [] ≡ d

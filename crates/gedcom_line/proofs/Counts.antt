@@ -53,6 +53,7 @@ use Rattle.gedcom_line.specs.Split.{
   cut_len,
 }
 use Rattle.gedcom_line.proofs.Doubled.{escaped_skip, escaped_all, marks_inside, marks_begin, marks_pair}
+use Rattle.list_laws.proofs.Booleans.{and_false}
 
 pub greatest_no : (test : ℕ → Bool) (n : ℕ) → 0 < n → test n ≡ false → greatest test n ≡ greatest test (n - 1)
 greatest_no test zero lt h = absurd (omega arith)
@@ -175,10 +176,6 @@ front_len_more (suc n) (b ∷ bs) (suc p) lt le = rw (char_count-cons b (take p 
 pub long_part : (s : List ℕ) (p : ℕ) → front_len 200 s < p → p ≤ length s → is_short (take p s) ≡ false
 long_part s p lt le = lt-leb (char_count (escaped (take p s))) 200
     (omega (arith, front_len_more 200 s p lt le, count_le_escaped false (take p s)))
-
-and_false : (a b : Bool) → b ≡ false → (a && b) ≡ false
-and_false true b h = h
-and_false false b h = refl
 
 -- a part that is too long ends at no cut
 pub no_cut_long : (s : List ℕ) (p : ℕ) → is_short (take p s) ≡ false → may_cut s p ≡ false

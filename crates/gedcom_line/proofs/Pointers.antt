@@ -47,7 +47,6 @@ use Rattle.gedcom_line.proofs.Steps.{
   spans_only,
   spans_made,
   bind_some,
-  some_is,
   past_at,
   at_parts,
   name_is,
@@ -57,6 +56,7 @@ use Rattle.gedcom_line.proofs.Steps.{
   ref_front,
 }
 use Rattle.gedcom_line.proofs.Doubled.{begins_made, marks_begin, marks_pair}
+use Rattle.list_laws.proofs.Outcomes.{some_is}
 
 and_mid : (a b c : Bool) → b ≡ false → (a && b && c) ≡ false
 and_mid true b c h = rw h refl

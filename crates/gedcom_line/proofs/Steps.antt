@@ -64,6 +64,7 @@ use Rattle.gedcom_line.specs.Reading.{
   xref_at,
   tag_at,
 }
+use Rattle.list_laws.proofs.Outcomes.{some_is}
 
 -- the front that passes, and the rest
 pub stops_skip : (p : ℕ → Bool) (t : List ℕ) → Stops p (drop (prefix_len p t) t)
@@ -102,9 +103,6 @@ pub bind_some : {A B : Type 0} (r : Option A) (f : A → Option B) (y : B) → (
     → (x : A) × (r ≡ Some x) × (f x ≡ Some y)
 bind_some (Some x) f y e = (x, refl, e)
 bind_some None f y e = absurd cc
-
-pub some_is : {A : Type 0} (x y : A) → Some x ≡ Some y → x ≡ y
-some_is x y e = cc
 
 pub guard_some : {A : Type 0} (b : Bool) (r : Option A) (y : A) → cond b None r ≡ Some y → (b ≡ false) × (r ≡ Some y)
 guard_some true r y e = absurd cc

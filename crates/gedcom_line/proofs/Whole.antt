@@ -56,7 +56,6 @@ use Rattle.gedcom_line.specs.declared.fault.LineKind.{LineKind}
 use Rattle.gedcom_line.specs.declared.fault.LineKind.TheVariants.{NotUtf8, BadLevel, BadXref, BadTag, Nul}
 use Rattle.gedcom_line.proofs.Steps.{
   spans_only,
-  some_is,
   eqb_false,
   level_spelled,
   spelled_level,
@@ -71,6 +70,7 @@ use Rattle.gedcom_line.specs.declared.class.Class.TheVariants.{White}
 use Rattle.std.proofs.lemmas.List.{append-nil}
 use Rattle.std.proofs.lemmas.List.Sums.{AllPass-from_list_all}
 use Rattle.std.proofs.lemmas.Str.Ascii.{IsAscii-from_all}
+use Rattle.list_laws.proofs.Outcomes.{some_is}
 
 -- results, one step after another
 ok_is : {A : Type 0} (x y : A) → let r : Result A LineKind = Ok x in r ≡ Ok y → x ≡ y

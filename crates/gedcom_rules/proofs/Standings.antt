@@ -39,7 +39,6 @@ use Rattle.std.specs.Prelude.{option_map, slice_get}
 use Rattle.std.proofs.lemmas.Bool.{eqb-true, ltb-true, ltb-false, eq-eqb, cases_Bool}
 use Rattle.std.proofs.lemmas.Option.{slice_get_past}
 use Rattle.std.specs.Str.{bytes_eq}
-use Rattle.std.proofs.lemmas.Slice.Eq.{bytes_eq-Decides}
 use Rattle.gedcom_line.specs.Reading.{Parts, is_continuation}
 use Rattle.gedcom_line.proofs.Steps.{eqb_no, eqb_false}
 use Rattle.gedcom_rules.specs.declared.standing.Standing as code
@@ -48,6 +47,7 @@ use Rattle.gedcom_rules.specs.Rules.{Standing, standing}
 use Rattle.gedcom_rules.specs.Judging.{continue_at, above_after}
 use Rattle.gedcom_rules.specs.Views.{standing_view, standings}
 use Rattle.std.proofs.Math.Bool.{and-false}
+use Rattle.list_laws.proofs.Bytes.{bytes_flip}
 
 get_front : (xs : List code.Standing) (k n : ℕ) → n < k → slice_get (take k xs) n ≡ slice_get xs n
 get_front xs zero n h = absurd (omega arith)
@@ -111,20 +111,10 @@ stands l stack front kept new own le cut len above all view n = elim (cases_Bool
   ]
 ]
 
--- one cross reference more
-same_either_way : (a b : List ℕ) → bytes_eq a b ≡ bytes_eq b a
-same_either_way a b = elim (cases_Bool (bytes_eq a b)) [
-  | inl e ↦ let h : a ≡ b = (bytes_eq-Decides a b).0 e in rw h refl
-  | inr e ↦ elim (cases_Bool (bytes_eq b a)) [
-    | inl f ↦ let h : b ≡ a = (bytes_eq-Decides b a).0 f in rw h refl
-    | inr f ↦ e ∙ sym f
-  ]
-]
-
 pub named_more : (key name x : List ℕ) (v w : Bool) → key ≡ name → w ≡ cond (bytes_eq key x) true v
     → w ≡ (v || bytes_eq x name)
 named_more key name x v w e h = h ∙ ap (λ (k : List ℕ). cond (bytes_eq k x) true v) e ∙ ap (λ (b : Bool). cond b true v)
-    (same_either_way name x) ∙ chosen (bytes_eq x name) v
+    (bytes_flip name x) ∙ chosen (bytes_eq x name) v
   where
     chosen : (b v : Bool) → cond b true v ≡ (v || b)
     chosen true true = refl

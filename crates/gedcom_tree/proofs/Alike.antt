@@ -30,8 +30,8 @@ use Rattle.gedcom_line.specs.Value.{Meaning, Text, Pointer}
 use Rattle.gedcom_tree.specs.Comparing.{is_same_value, is_same_item, are_same}
 use Rattle.gedcom_tree.specs.Forest.{Item}
 use Rattle.gedcom_tree.specs.Text.{unnumbered, IsSame}
-use Rattle.gedcom_tree.proofs.Named.{equal_names}
 use Rattle.gedcom_tree.proofs.Matched.{heads, tails}
+use Rattle.list_laws.proofs.Bytes.{bytes_same}
 
 own_bytes : (x : List ℕ) → bytes_eq x x ≡ true
 own_bytes [] = refl
@@ -52,13 +52,13 @@ same_xref : (x y : Option (List ℕ)) → option_eq bytes_eq x y ≡ true → x 
 same_xref None None h = refl
 same_xref None (Some y) h = absurd cc
 same_xref (Some x) None h = absurd cc
-same_xref (Some x) (Some y) h = ap Some (equal_names x y h)
+same_xref (Some x) (Some y) h = ap Some (bytes_same x y h)
 
 same_value : (v w : Meaning) → is_same_value v w ≡ true → v ≡ w
-same_value (Text s) (Text t) h = ap Text (equal_names s t h)
+same_value (Text s) (Text t) h = ap Text (bytes_same s t h)
 same_value (Text s) (Pointer q) h = absurd cc
 same_value (Pointer p) (Text t) h = absurd cc
-same_value (Pointer p) (Pointer q) h = ap Pointer (equal_names p q h)
+same_value (Pointer p) (Pointer q) h = ap Pointer (bytes_same p q h)
 
 same_item : (i j : Item) → is_same_item i j ≡ true → unnumbered i ≡ unnumbered j
 same_item i j h =
@@ -68,7 +68,7 @@ same_item i j h =
     let c = and_parts (bytes_eq i.tag j.tag) (is_same_value i.value j.value) b.1 in
     let level = eqb-true i.level j.level a.0 in
     let xref = same_xref i.xref j.xref b.0 in
-    let tag = equal_names i.tag j.tag c.0 in
+    let tag = bytes_same i.tag j.tag c.0 in
     let value = same_value i.value j.value c.1 in
     λ k. record { line = 0; level = level k; xref = xref k; tag = tag k; value = value k }
 

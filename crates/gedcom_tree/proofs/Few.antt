@@ -25,6 +25,7 @@ use Rattle.gedcom_rules.specs.Pieces.{pieces, onto_first, skip_mark, file_pieces
 use Rattle.std.proofs.lemmas.Bool.{cases_Bool}
 use Rattle.gedcom_tree.specs.Forest.{Item, Reads}
 use Rattle.gedcom_tree.specs.File.{ReadsFile, untrailed}
+use Rattle.gedcom_rules.proofs.Marks.{skip_le}
 
 onto_few : (b : ℕ) (ps : List (List ℕ)) (rest : List ℕ) → length (onto_first b ps rest).ended ≡ length ps
 onto_few b [] rest = omega arith
@@ -38,18 +39,12 @@ pieces_few (b ∷ bs) = elim (cases_Bool (is_end b)) [
   | inr e ↦ rw e (omega (arith, pieces_few bs, onto_few b (pieces bs).ended (pieces bs).open_))
 ]
 
-skip_few : (b : List ℕ) → length (skip_mark b) ≤ length b
-skip_few [] = omega arith
-skip_few (a ∷ []) = omega arith
-skip_few (a ∷ b ∷ []) = omega arith
-skip_few (a ∷ b ∷ c ∷ bs) = grind arith
-
 all_few : (b : List ℕ) → length (all_pieces b) ≤ length b + 1
 all_few b = omega (
   arith,
   length-append (file_pieces b).ended ((file_pieces b).open_ ∷ []),
   pieces_few (skip_mark b),
-  skip_few b,
+  skip_le b,
 )
 
 clean_few : (before : List Parts) (ps : List (List ℕ)) (lines : List Parts) → Clean before ps lines

@@ -37,7 +37,6 @@ use Rattle.std.specs.List.{list_all, list_any}
 use Rattle.std.specs.Str.{bytes_eq}
 use Rattle.std.proofs.lemmas.Bool.{eqb-true, not-true, not-false, and_parts, cases_Bool}
 use Rattle.std.proofs.lemmas.Bool.Decides.{nat_tests}
-use Rattle.std.proofs.lemmas.Slice.Eq.{bytes_eq-Decides}
 use Rattle.gedcom_line.specs.Reading.{Parts, is_continuation}
 use Rattle.gedcom_line.specs.Escape.{unescaped}
 use Rattle.gedcom_line.specs.Spelling.{is_inner, IsInner}
@@ -69,6 +68,7 @@ use Rattle.gedcom_tree.proofs.Named.{continued_open}
 use Rattle.gedcom_tree.proofs.Closed.{role_above, in_head_kept, set_none, version_none}
 use Rattle.gedcom_tree.proofs.Charsets.{charset_unescaped, charset_no_pointer}
 use Rattle.gedcom_rules.proofs.Bools.{counted}
+use Rattle.list_laws.proofs.Bytes.{bytes_same}
 
 -- a test that must hold where the others do
 unless_three : (a b c v : Bool) → (a ≡ true → b ≡ true → c ≡ true → v ≡ true) → (a && b && c && not v) ≡ false
@@ -89,18 +89,14 @@ implied : (a b : Bool) → (a && not b) ≡ false → a ≡ true → b ≡ true
 implied true b e h = not-false b e
 implied false b e h = absurd cc
 
--- the tags of the header
-is_tag_of : (t u : List ℕ) → bytes_eq t u ≡ true → t ≡ u
-is_tag_of t u e = (bytes_eq-Decides t u).0 e
-
 set_role : (t : List ℕ) → bytes_eq t (codes "CHAR") ≡ true → is_charset_tag (role_of t) ≡ true
-set_role t e = rw (is_tag_of t (codes "CHAR") e) refl
+set_role t e = rw (bytes_same t (codes "CHAR") e) refl
 
 gedcom_role : (t : List ℕ) → bytes_eq t (codes "GEDC") ≡ true → is_gedcom_tag (role_of t) ≡ true
-gedcom_role t e = rw (is_tag_of t (codes "GEDC") e) refl
+gedcom_role t e = rw (bytes_same t (codes "GEDC") e) refl
 
 version_role : (t : List ℕ) → bytes_eq t (codes "VERS") ≡ true → is_version_tag (role_of t) ≡ true
-version_role t e = rw (is_tag_of t (codes "VERS") e) refl
+version_role t e = rw (bytes_same t (codes "VERS") e) refl
 
 -- the value of the line that names the character set
 set_text : (raw : List ℕ) → is_charset raw ≡ true → is_charset_node (continued (meaning raw) []) ≡ true

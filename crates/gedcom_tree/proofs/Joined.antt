@@ -10,7 +10,6 @@ use Rattle.std.proofs.Common.{
   Bool,
   true,
   false,
-  cond,
   eqb,
   ltb,
   not,
@@ -50,10 +49,7 @@ use Rattle.gedcom_rules.specs.Continuing.{belongs, adds}
 use Rattle.gedcom_rules.proofs.Runs.{belongs_deeper}
 use Rattle.gedcom_rules.proofs.Unbroken.{Unbroken}
 use Rattle.std.proofs.Math.Bool.{and-false, or-true}
-
-cond_same : {A : Type 0} (b : Bool) (x : A) → cond b x x ≡ x
-cond_same true x = refl
-cond_same false x = refl
+use Rattle.list_laws.proofs.Booleans.{cond_same}
 
 -- a line that continues none of these
 pub belongs-push : (n : ℕ) (ls : List Parts) (l : Parts) → (is_continuation l.tag && eqb l.level (n + 1)) ≡ false

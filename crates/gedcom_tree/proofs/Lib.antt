@@ -5,7 +5,6 @@ pub mod Pointed
 pub mod Gathered
 pub mod Computed
 pub mod Ends
-pub mod Results
 pub mod Led
 pub mod Behind
 pub mod Fed

@@ -35,6 +35,7 @@ use Rattle.gedcom_rules.specs.Judging.{after}
 use Rattle.gedcom_tree.specs.Text.{rises, is_called, are_distinct}
 use Rattle.gedcom_rules.proofs.Unbroken.{Unbroken}
 use Rattle.gedcom_tree.proofs.Fitting.{Fits, above_own, parent_at}
+use Rattle.list_laws.proofs.Bytes.{bytes_same}
 
 -- behind a node of the level k and its continuations the last line is no deeper than the node, or a continuation below
 -- it
@@ -70,16 +71,12 @@ fits_rises n k q (l ∷ ls) b f =
       | inr c ↦ rw (c, le-leb l.level (k + 1) le) (fits_rises (n + 1) l.level (after q l) ls (inl (omega arith)) f.1)
     ]
 
--- a cross reference that stands on a line before
-pub equal_names : (x y : List ℕ) → bytes_eq x y ≡ true → x ≡ y
-equal_names x y e = (bytes_eq-Decides x y).0 e
-
 own_name : (q : Progress) (l : Parts) (x : List ℕ) → (o : Option (List ℕ)) → l.xref ≡ o
     → option_map_or q.named o false ≡ false → q.named x ≡ true → option_map_or (bytes_eq x) o false ≡ false
 own_name q l x None e u h = refl
 own_name q l x (Some y) e u h = elim (cases_Bool (bytes_eq x y)) [
   | inr k ↦ k
-  | inl k ↦ absurd (let named : q.named y ≡ true = subst (λ (z : List ℕ). q.named z ≡ true) (equal_names x y k) h in cc)
+  | inl k ↦ absurd (let named : q.named y ≡ true = subst (λ (z : List ℕ). q.named z ≡ true) (bytes_same x y k) h in cc)
 ]
 
 not_again : (n : ℕ) (q : Progress) (ls : List Parts) (x : List ℕ) → q.named x ≡ true → Fits q ls

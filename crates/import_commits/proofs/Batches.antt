@@ -1,5 +1,5 @@
 -- Batches: which are closed.
-use Rattle.std.proofs.Common.{◌≡◌, ℕ, Bool, true, false, not, List, [], ◌∷◌, Ok, refl, ap, ap₂, subst}
+use Rattle.std.proofs.Common.{◌≡◌, ℕ, true, false, not, List, [], ◌∷◌, Ok, refl, ap, ap₂, subst}
 use Rattle.std.specs.Prelude.{◌==◌, ◌&&◌, ◌||◌}
 use Rattle.std.specs.List.{AllByRecursion, list_any}
 use Rattle.std.specs.Ordering.{nat_cmp, match_ordering}
@@ -9,27 +9,7 @@ use Rattle.store_tables.specs.Looking.{Looks}
 use Rattle.store_tables.specs.Rows.{BatchRow, Rows, put_by}
 use Rattle.store_rows.specs.Meaning.{is_closed}
 use Rattle.import_commits.specs.Commits.{IsNextBatch}
-
-and_false : (a b : Bool) → b ≡ false → (a && b) ≡ false
-and_false true b h = h
-and_false false b h = refl
-
-or_first : (a b : Bool) → (a || b) ≡ false → a ≡ false
-or_first true b h = absurd cc
-or_first false b h = refl
-
-or_second : (a b : Bool) → (a || b) ≡ false → b ≡ false
-or_second true b h = absurd cc
-or_second false b h = h
-
--- one that is not there is not closed, and is not where it is opened
-pub none_closed : (n : ℕ) (bs : List BatchRow) → list_any (λ (b : BatchRow). b.no == n) bs ≡ false
-    → is_closed n bs ≡ false
-none_closed n [] none = refl
-none_closed n (b ∷ bs) none =
-    let first = or_first (b.no == n) (list_any (λ (b : BatchRow). b.no == n) bs) none in
-    let more = or_second (b.no == n) (list_any (λ (b : BatchRow). b.no == n) bs) none in
-    ap₂ (λ s t. s || t) (ap (λ s. s && not b.is_open) first) (none_closed n bs more)
+use Rattle.list_laws.proofs.Booleans.{or_first, or_second, and_false}
 
 pub opened_is_not_closed : (n : ℕ) (bs : List BatchRow) → is_closed n bs ≡ false
     → is_closed n (put_by (λ (b : BatchRow). b.no) (record { no = n; is_open = true }) bs) ≡ false

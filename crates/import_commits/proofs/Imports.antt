@@ -60,7 +60,11 @@ use Rattle.staged_rows.specs.Staging.{
 }
 use Rattle.staging.specs.Opened.{Import}
 use Rattle.import_commits.specs.Commits.{IsAddition, IsBegun, IsNextBatch}
-use Rattle.import_commits.proofs.Batches.{none_closed, opened_is_not_closed}
+use Rattle.import_commits.proofs.Batches.{opened_is_not_closed}
+use Rattle.staged_rows.proofs.Staged.{batches_stay}
+use Rattle.staging.proofs.Cursors.{staged_has}
+use Rattle.staged_rows.proofs.Whole.{joined as staged_after}
+use Rattle.staged_rows.proofs.Alike.{none_closed}
 
 -- ---- lists
 taken : {A : Type 0} (xs ys : List A) → take (length xs) (xs ++ ys) ≡ xs
@@ -77,30 +81,16 @@ joined [] ys zs = refl
 joined (x ∷ xs) ys zs = ap (λ ws. x ∷ ws) (joined xs ys zs)
 
 -- ---- rows that are staged
-staged_after : (xs ys : List StagedRow) (rows : Rows) → with_staged (xs ++ ys) rows
-    ≡ with_staged ys (with_staged xs rows)
-staged_after [] ys rows = refl
-staged_after (x ∷ xs) ys rows = staged_after xs ys (with_staged_row x rows)
 
 row_society : (x : StagedRow) (rows : Rows) → (with_staged_row x rows).society ≡ rows.society
 row_society (a_record r) rows = refl
 row_society (a_line n at l) rows = refl
 row_society (a_span n span) rows = refl
 
-row_batches : (x : StagedRow) (rows : Rows) → (with_staged_row x rows).batches ≡ rows.batches
-row_batches (a_record r) rows = refl
-row_batches (a_line n at l) rows = refl
-row_batches (a_span n span) rows = refl
-
 row_version : (x : StagedRow) (rows : Rows) → (with_staged_row x rows).version ≡ rows.version
 row_version (a_record r) rows = refl
 row_version (a_line n at l) rows = refl
 row_version (a_span n span) rows = refl
-
-row_has_spans : (x : StagedRow) (rows : Rows) → (with_staged_row x rows).has_spans ≡ rows.has_spans
-row_has_spans (a_record r) rows = refl
-row_has_spans (a_line n at l) rows = refl
-row_has_spans (a_span n span) rows = refl
 
 staged_society : (xs : List StagedRow) (rows : Rows) → (with_staged xs rows).society ≡ rows.society
 staged_society [] rows = refl
@@ -108,15 +98,11 @@ staged_society (x ∷ xs) rows = staged_society xs (with_staged_row x rows) ∙ 
 
 staged_batches : (xs : List StagedRow) (rows : Rows) → (with_staged xs rows).batches ≡ rows.batches
 staged_batches [] rows = refl
-staged_batches (x ∷ xs) rows = staged_batches xs (with_staged_row x rows) ∙ row_batches x rows
+staged_batches (x ∷ xs) rows = staged_batches xs (with_staged_row x rows) ∙ batches_stay x rows
 
 staged_version : (xs : List StagedRow) (rows : Rows) → (with_staged xs rows).version ≡ rows.version
 staged_version [] rows = refl
 staged_version (x ∷ xs) rows = staged_version xs (with_staged_row x rows) ∙ row_version x rows
-
-staged_has_spans : (xs : List StagedRow) (rows : Rows) → (with_staged xs rows).has_spans ≡ rows.has_spans
-staged_has_spans [] rows = refl
-staged_has_spans (x ∷ xs) rows = staged_has_spans xs (with_staged_row x rows) ∙ row_has_spans x rows
 
 -- ---- an import is begun, and goes on
 pub fresh_from : ((rows : Rows) (t : Trees) → Good rows t → AreOwned rows)
@@ -165,7 +151,7 @@ module _ (before rows : Rows) (i : Import) (c : Content) (begun : IsBegun before
   begun_version = ap (λ (r : Rows). r.version) begun.rows_are ∙ staged_version begun.done opened
 
   begun_has_spans : rows.has_spans ≡ before.has_spans
-  begun_has_spans = ap (λ (r : Rows). r.has_spans) begun.rows_are ∙ staged_has_spans begun.done opened
+  begun_has_spans = ap (λ (r : Rows). r.has_spans) begun.rows_are ∙ staged_has begun.done opened
 
   pub still_open : is_closed i.batch rows.batches ≡ false
   still_open = ap (λ (r : Rows). is_closed i.batch r.batches) begun.rows_are
@@ -249,8 +235,3 @@ module _ (before rows : Rows) (i : Import) (c : Content) (begun : IsBegun before
   published_spans law spans none = published_has KeepsSpans none
       (law i.batch i.changes.next i.changes.puts begun.drawn i.changes.answer i.changes.kept before c adds.once fresh
       begun.are spans)
-
--- what no record has is so where the same is seen
-pub still_aside : (ns : List ℕ) (before rows : Rows) → IsSeenAs before rows → AreAside ns before → AreAside ns rows
-still_aside [] before rows seen apart = tt
-still_aside (n ∷ ns) before rows seen apart = (seen.recorded n ∙ apart.0, still_aside ns before rows seen apart.1)

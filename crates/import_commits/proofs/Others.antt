@@ -1,25 +1,7 @@
 -- What a published import leaves of the rows of before.
-use Rattle.std.proofs.Common.{
-  ◌≡◌,
-  ◌≢◌,
-  ℕ,
-  Bool,
-  true,
-  false,
-  List,
-  [],
-  ◌∷◌,
-  cond,
-  filter,
-  sym,
-  ap,
-  subst,
-  arith,
-  ◌∙◌,
-}
+use Rattle.std.proofs.Common.{◌≡◌, ◌≢◌, ℕ, Bool, true, false, List, [], ◌∷◌, cond, filter, sym, ap, subst, ◌∙◌}
 use Rattle.std.specs.Prelude.{◌==◌, Option, Some, None}
 use Rattle.std.specs.FinMap.{get, insert}
-use Rattle.std.proofs.lemmas.Bool.Decides.{nat_tests}
 use Rattle.record_kinds.specs.declared.record.Record.{Record}
 use Rattle.record_shapes.specs.Lists.{EachOf}
 use Rattle.archive_state.specs.Applied.{applied, with_puts, without}
@@ -33,6 +15,7 @@ use Rattle.staged_rows.specs.Staging.{with_published, with_whole_import}
 use Rattle.staging.specs.Opened.{Import}
 use Rattle.import_commits.specs.Commits.{IsAddition, IsBegun}
 use Rattle.import_commits.proofs.Imports.{published_is}
+use Rattle.list_laws.proofs.Numbers.{same_self}
 
 -- the number has the same rows, each with its id
 abbrev pub HasSameRows : ℕ → Rows → Rows → Type 0
@@ -41,8 +24,6 @@ HasSameRows m before now =
     × (filter (λ (r : RecordRow). r.no == m) now.records ≡ filter (λ (r : RecordRow). r.no == m) before.records)
 
 -- ---- what is put is there
-itself : (n : ℕ) → (n == n) ≡ true
-itself n = grind (arith, nat_tests)
 
 some_of : (b : Bool) (v : Record) (o : Option Record) → o ≢ None → cond b (Some v) o ≢ None
 some_of true v o there e = absurd cc
@@ -56,7 +37,7 @@ there_still (p ∷ ps) m n there =
 
 put_there : (m : Records) (k : ℕ) (v : Record) → get (insert m k v) k ≢ None
 put_there m k v none =
-    let is : get (insert m k v) k ≡ Some v = got_put m k v k ∙ ap (λ b. cond b (Some v) (get m k)) (itself k) in
+    let is : get (insert m k v) k ≡ Some v = got_put m k v k ∙ ap (λ b. cond b (Some v) (get m k)) (same_self k) in
     absurd cc
 
 all_there : (ps : List Numbered) (m : Records) → EachOf (λ (p : Numbered). get (with_puts m ps) p.number ≢ None) ps

@@ -105,7 +105,7 @@ fn is_there(batches: &[BatchRow], number: u32) -> bool
 }
 
 /// A batch that is open, in one commit.
-#[tactic(auto, using(crate::proofs::Settling::settles))]
+#[tactic(auto, using(staging::proofs::Commits::settles))]
 fn open_batch<S: Alter>(conn: &mut Connection<S>, batch: u32) -> Result<(), Error>
     requires autocommit { conn.old.in_transaction ≡ false }
     ensures done { HasCleanDisk (state S.Store conn.new) → OnOk result ((rows : Rows)

@@ -38,7 +38,7 @@ pub fn publish<S: Alter>(conn: &mut Connection<S>, import: &OpenImport) -> Resul
 }
 
 /// The same, with the error of the database.
-#[tactic(auto, using(crate::proofs::Settling::settles))]
+#[tactic(auto, using(staging::proofs::Commits::settles))]
 fn try_publish<S: Alter>(conn: &mut Connection<S>, import: &OpenImport) -> Result<(), Error>
     requires autocommit { conn.old.in_transaction ≡ false }
     ensures published { HasCleanDisk (state S.Store conn.new)

@@ -6,7 +6,7 @@ use Rattle.stored_lines.specs.Growing.{backs, grown}
 use Rattle.gedcom_tree.specs.Forest.{Item}
 use Rattle.file_roots.specs.Nodes.{FileLine, FileNode, leveled, nodes_of}
 use Rattle.file_roots.specs.Roots.{behind_first, candidates, is_kept, is_society, kept}
-use Rattle.file_roots.proofs.InFile.{filter_few}
+use Rattle.file_roots.proofs.InFile.{filter_few, behind_few}
 
 backs_few : (d : ℕ) (ts : List (ℕ × FileNode)) → length (backs d ts) ≤ length ts
 backs_few d [] = omega arith
@@ -19,10 +19,6 @@ backs_few d (t ∷ ts) = by (t.0 == d) (backs_few d ts)
 grown_few : (ls : List (ℕ × FileLine)) → length (grown ls) ≤ length ls
 grown_few [] = omega arith
 grown_few (l ∷ ls) = let h = grown_few ls in let k = backs_few (l.0 + 1) (grown ls) in omega arith
-
-behind_few : (ts : List FileNode) → length (behind_first ts) ≤ length ts
-behind_few [] = omega arith
-behind_few (t ∷ ts) = omega arith
 
 pub kept_few : (f : List Item) → length (kept (candidates f)) ≤ length f
 kept_few f = omega (

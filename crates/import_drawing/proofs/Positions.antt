@@ -29,9 +29,9 @@ use Rattle.std.specs.Prelude.{Result, Ok, Err, OnOk}
 use Rattle.std.proofs.lemmas.List.{length-map, length-take-le, map-append, take_more}
 use Rattle.record_shapes.specs.Reading.{has_path}
 use Rattle.file_roots.specs.Views.{first_of, with_first}
-use Rattle.file_roots.proofs.Places.{bytes_flip}
 use Rattle.import_forest.specs.Positions.{position_of}
 use Rattle.import_drawing.specs.Firsts.{with_path}
+use Rattle.list_laws.proofs.Bytes.{bytes_flip}
 
 pub path_put : (places : List ℕ → Option ℕ) (path : List ℕ) (k : ℕ) (q : List ℕ) → with_first places path k q
     ≡ with_path places (Some path) k q

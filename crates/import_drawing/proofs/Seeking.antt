@@ -60,7 +60,7 @@ use Rattle.import_forest.specs.Positions.{known, known_before}
 use Rattle.import_forest.specs.Sides.{drafts_from, root_with_sides, with_sides}
 use Rattle.import_places.specs.Settling.{IsPathText}
 use Rattle.import_drawing.specs.Drafts.{AllSeekByPaths, SeeksByPaths}
-use Rattle.import_drawing.proofs.Normal.{normal_twice}
+use Rattle.record_shapes.proofs.Names.{normal_twice}
 
 -- ---- plain lines
 abbrev IsPlainValue : Value → Type 0

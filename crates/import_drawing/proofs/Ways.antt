@@ -1,11 +1,11 @@
 -- Numbers drawn over a view, call after call.
-use Rattle.std.proofs.Common.{◌≡◌, ℕ, ◌+◌, ◌≤◌, ◌<◌, true, false, sym, ap, ◌∙◌, subst, arith}
-use Rattle.std.specs.Prelude.{Option, Result, Ok, Err, IfErr, IfOk}
+use Rattle.std.proofs.Common.{◌≡◌, ℕ, ◌+◌, ◌≤◌, ◌<◌, false, sym, ap, ◌∙◌, subst, arith}
+use Rattle.std.specs.Prelude.{Option, Result, Ok, Err, IfOk}
 use Rattle.std.specs.BTreeMap.{BTreeMap}
 use Rattle.std.specs.declared.string.String.{String}
 use Rattle.std.specs.Global.{Global}
 use Rattle.archive_state.specs.Content.{Content}
-use Rattle.archive_view.specs.Looks.{OnView, is_failure, is_stop}
+use Rattle.archive_view.specs.Looks.{OnView, is_stop}
 use Rattle.record_text.specs.declared.refusal.RefusalKind.{RefusalKind}
 use Rattle.record_text.specs.declared.refusal.RefusalKind.TheVariants.{Full}
 use Rattle.import_forest.specs.Numbers as numbers
@@ -121,12 +121,6 @@ module _ {S Held : Type 0} (honest : S → Type 0) (shows : S → Held → Type 
       ok_all : {A E P : Type 0} → P → (s : Result A E) → IfOk s (λ a. P)
       ok_all p (Ok a) = p
       ok_all p (Err e) = tt
-
--- a refusal of the call's own is no failure of a view
-pub no_failure : {A : Type 0} (a b : ℕ) (Rose : Type 0) (r : Result A RefusalKind) → a ≤ b
-    → IfErr r (λ x. is_failure x ≡ false) → (a ≤ b) × IfErr r (λ x. is_failure x ≡ true → Rose)
-no_failure a b Rose (Ok f) less own = (less, tt)
-no_failure a b Rose (Err x) less own = (less, λ h. absurd (let both : false ≡ true = sym own ∙ h in cc))
 
 -- a number that cannot be drawn
 pub full_is : {A : Type 0} (next : ℕ) (d : Drawing) (right : numbers.Drawing) (x : RefusalKind)

@@ -15,8 +15,10 @@ use Rattle.archive_state.specs.Content.{Records}
 use Rattle.archive_state.specs.Known.{path_of}
 use Rattle.archive_state.specs.Paths.{Climbs, HasPath, IsLowest}
 use Rattle.archive_state.proofs.Known.{path_known}
-use Rattle.archive_state.proofs.Rising.{first_holds, rest_holds, less_is, not_found}
+use Rattle.archive_state.proofs.Rising.{less_is, not_found}
 use Rattle.import_forest.specs.Made.{lowest_place}
+use Rattle.record_shapes.proofs.PathTexts.{path_has}
+use Rattle.list_laws.proofs.Booleans.{first_holds, rest_holds}
 
 module _ {X : Type 0} where
   -- what is below one that is below all is below all
@@ -69,9 +71,6 @@ module _ {X : Type 0} where
           ] refl
 
 -- ---- the lowest place
-has_path_is : (path : List ℕ) (o : Option (List ℕ)) → has_path path o ≡ true → o ≡ Some path
-has_path_is path None h = absurd cc
-has_path_is path (Some p) h = ap Some ((bytes_eq-Decides p path).0 h)
 
 is_path_told : (path : List ℕ) (o : Option (List ℕ)) → o ≡ Some path → has_path path o ≡ true
 is_path_told path o h = ap (has_path path) h ∙ (bytes_eq-Decides path path).1 refl
@@ -86,6 +85,6 @@ pub lowest_is : (m : Records) (path : List ℕ) (found : Option ℕ) → IsLowes
     → found ≡ lowest_place m path
 unfolding lowest_place
 lowest_is m path found low = first_along (λ n. HasPath m n path) (λ n. has_path path (path_of m n))
-    (λ k h. (path_known m k path).1 (has_path_is path (path_of m k) h))
+    (λ k h. (path_known m k path).1 (path_has path (path_of m k) h))
     (λ k h. is_path_told path (path_of m k) ((path_known m k path).0 h)) (entries m) (entries_sorted m)
     (λ k h gone. stands m k h.0 h.1 (get-entries m k ∙ gone)) found low

@@ -2,7 +2,6 @@
 use Rattle.std.proofs.Common.{
   ◌≡◌,
   ℕ,
-  suc,
   ◌+◌,
   ◌-◌,
   ◌≤◌,
@@ -23,37 +22,21 @@ use Rattle.std.proofs.Common.{
   subst,
   arith,
 }
-use Rattle.std.specs.Prelude.{◌==◌, ◌||◌, ◌&&◌, codes, nat_le}
-use Rattle.std.specs.List.{list_any, onto_first}
-use Rattle.std.proofs.lemmas.Bool.{ne_eqb}
+use Rattle.std.specs.Prelude.{◌==◌, ◌||◌, codes, nat_le}
+use Rattle.std.specs.List.{list_any}
 use Rattle.std.proofs.lemmas.Bool.Decides.{nat_tests}
-use Rattle.std.proofs.lemmas.List.Splits.{slice_split-cons_no}
 use Rattle.record_text.specs.Text.{IsPlain}
 use Rattle.record_shapes.specs.Fields.{path_below}
 use Rattle.record_shapes.specs.Paths.{is_within_limits, joined, normal, parts, trimmed}
 use Rattle.field_rows.specs.Cuts.{Without}
-use Rattle.field_rows.proofs.Parted.{many_bytes, many_parts, parts_some, room_is}
+use Rattle.field_rows.proofs.Parted.{many_bytes, many_parts, room_is, parts_alone, parts_cut, normal_alone}
 use Rattle.field_rows.proofs.Plain.{name_is_plain}
 use Rattle.import_forest.specs.Numbers.{names_of}
 use Rattle.import_places.specs.Settling.{IsPathText}
+use Rattle.list_laws.proofs.Booleans.{or_second, or_first, both_true}
+use Rattle.record_shapes.proofs.PathTexts.{parts_some}
 
 -- ---- parts
-behind_first : (b : ℕ) (bs : List ℕ) → Without 44 (b ∷ bs) → Without 44 bs
-behind_first b bs h = λ i less. h (suc i) (omega arith)
-
-first_is_none : (b : ℕ) (bs : List ℕ) → Without 44 (b ∷ bs) → (b == 44) ≡ false
-first_is_none b bs h = ne_eqb b 44 (h 0 (omega arith))
-
-parts_cut : (part after : List ℕ) → Without 44 part → parts (part ++ (44 ∷ after)) ≡ part ∷ parts after
-parts_cut [] after h = refl
-parts_cut (b ∷ bs) after h =
-    slice_split-cons_no (λ c. c == 44) b (bs ++ (44 ∷ after)) (first_is_none b bs h) ∙ ap (onto_first b)
-    (parts_cut bs after (behind_first b bs h))
-
-parts_alone : (t : List ℕ) → Without 44 t → parts t ≡ t ∷ []
-parts_alone [] h = refl
-parts_alone (b ∷ bs) h = slice_split-cons_no (λ c. c == 44) b bs (first_is_none b bs h)
-    ∙ ap (onto_first b) (parts_alone bs (behind_first b bs h))
 
 -- ---- names
 pub names_cut : (t part after : List ℕ) → t ≡ part ++ (44 ∷ after) → Without 44 part
@@ -62,10 +45,6 @@ names_cut t part after e h = ap names_of e ∙ ap (map trimmed) (parts_cut part 
 
 pub names_alone : (t : List ℕ) → Without 44 t → names_of t ≡ trimmed t ∷ []
 names_alone t h = ap (map trimmed) (parts_alone t h)
-
-pub normal_alone : (t : List ℕ) → Without 44 t → normal t ≡ trimmed t
-unfolding normal
-normal_alone t h = ap joined (names_alone t h)
 
 pub names_some : (t : List ℕ) → (y : List ℕ) × (ys : List (List ℕ)) × (names_of t ≡ y ∷ ys)
 names_some t = let s = parts_some t in (trimmed s.0, map trimmed s.1, ap (map trimmed) s.2)
@@ -81,13 +60,6 @@ normal_cut t part after e h = let s = names_some after in
     ap joined (names_cut t part after e h) ∙ joined_two (trimmed part) (names_of after) s.0 s.1 s.2
 
 -- ---- texts
-or_second : (a b : Bool) → (a || b) ≡ false → b ≡ false
-or_second true b e = absurd cc
-or_second false b e = e
-
-or_first : (a b : Bool) → (a || b) ≡ false → a ≡ false
-or_first true b e = e
-or_first false b e = refl
 
 any_front : (p : ℕ → Bool) (xs ys : List ℕ) → list_any p (xs ++ ys) ≡ false → list_any p xs ≡ false
 any_front p [] ys h = refl
@@ -124,9 +96,6 @@ plain_behind t xs b ys e h = record {
 }
 
 -- ---- limits
-both_true : (a b : Bool) → (a && b) ≡ true → (a ≡ true) × (b ≡ true)
-both_true true b e = (refl, e)
-both_true false b e = absurd cc
 
 within : (t : List ℕ) → length (parts t) ≤ 32 → length t ≤ 4096 → is_within_limits t ≡ true
 unfolding is_within_limits

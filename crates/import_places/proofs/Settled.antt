@@ -12,7 +12,8 @@ use Rattle.import_places.specs.Settling.{Settles}
 use Rattle.import_places.specs.Views.{drawing_said, found_said}
 use Rattle.import_places.specs.declared.drawing.Drawing.{Drawing}
 use Rattle.import_places.specs.declared.found.Found.{Found}
-use Rattle.import_places.proofs.Cutting.{names_alone, names_cut, names_some, normal_alone}
+use Rattle.import_places.proofs.Cutting.{names_alone, names_cut, names_some}
+use Rattle.field_rows.proofs.Parted.{normal_alone}
 
 module _ (w : numbers.Places) (before : Option ℕ) (k : ℕ) (t : List ℕ) (d : numbers.Drawing) where
   abbrev pub right : numbers.Drawing × Option numbers.Found

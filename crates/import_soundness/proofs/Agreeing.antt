@@ -30,7 +30,6 @@ use Rattle.std.specs.Prelude.{Option, Some, None, IfSome, option_map, codes, if�
 use Rattle.std.specs.FinMap.{get}
 use Rattle.std.specs.List.{slice_get}
 use Rattle.std.specs.Option.{unwrap_or}
-use Rattle.std.proofs.lemmas.Bool.Decides.{nat_tests}
 use Rattle.stored_lines.specs.Line.{Line, Lines}
 use Rattle.stored_lines.specs.Tree.{Tree}
 use Rattle.record_kinds.specs.Model as model
@@ -48,8 +47,8 @@ use Rattle.archive_state.specs.Known.{
   path_of,
   path_with,
   written_tag,
+  tag_at as archive_tag,
 }
-use Rattle.archive_state.specs.Known.{tag_at as archive_tag}
 use Rattle.archive_state.specs.Merging.{place_with, record_with}
 use Rattle.archive_state.specs.Paths.{HasPath}
 use Rattle.archive_state.proofs.Climbing.{goes_path}
@@ -67,8 +66,9 @@ use Rattle.import_soundness.proofs.Paths.{
   path_of_other,
   path_of_place,
 }
-use Rattle.import_soundness.proofs.Renamed.{through}
+use Rattle.renumbered_records.proofs.Untaken.{through}
 use Rattle.import_soundness.proofs.Rooted.{F, IsRootAt, There, all_rooted, number_past, rooted_count}
+use Rattle.list_laws.proofs.Numbers.{not_less, is_less}
 
 -- ---- records with other numbers
 written_owned : (n : ℕ) (r : Record) → written_tag (owned_by n r) ≡ written_tag r
@@ -105,12 +105,6 @@ no_path f n owner above (kind.Citation r) h = refl
 no_path f n owner above (kind.Event r) h = refl
 no_path f n owner above (kind.Entry r) h = refl
 no_path f n owner above (kind.Other r) h = refl
-
-is_less : (a b : ℕ) → a < b → nat_lt a b ≡ true
-is_less a b h = grind (arith, nat_tests)
-
-not_less : (a b : ℕ) → b ≤ a → nat_lt a b ≡ false
-not_less a b h = grind (arith, nat_tests)
 
 get_past : {A : Type 0} (xs : List A) (k : ℕ) → slice_get xs k ≡ None → length xs ≤ k
 get_past [] k e = omega arith

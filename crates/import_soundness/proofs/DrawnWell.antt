@@ -42,8 +42,6 @@ use Rattle.record_shapes.specs.Tags.{event_tags}
 use Rattle.archive_state.specs.Content.{Records}
 use Rattle.archive_state.specs.Known.{path_of}
 use Rattle.archive_state.specs.Merging.{record_with}
-use Rattle.archive_state.proofs.Each.{each_both, each_more}
-use Rattle.archive_state.proofs.PathTexts.{parts_some}
 use Rattle.import_forest.specs.Numbers.{
   Drawing,
   Found,
@@ -70,7 +68,7 @@ use Rattle.import_soundness.proofs.Finding.{found_made, found_more}
 use Rattle.import_soundness.proofs.Going.{GoesOn, draw_all_goes, draw_goes, goes_then, roots_go}
 use Rattle.import_soundness.proofs.Links.{AllNamed, EachNamed, IsPath, IsSought, NamesAll}
 use Rattle.import_soundness.proofs.LinksNodes.{node_named}
-use Rattle.import_soundness.proofs.Normal.{are_limits, are_names, names_clean}
+use Rattle.import_soundness.proofs.Normal.{names_clean}
 use Rattle.import_soundness.proofs.ReadNodes.{nodes_are_read}
 use Rattle.import_soundness.proofs.Rooted.{F, IsRootAt, There, last_there, draw_roots_same, number_seam}
 use Rattle.import_soundness.proofs.RootRecords.{root_is_read}
@@ -83,6 +81,10 @@ use Rattle.import_soundness.proofs.Settling.{
   made_later,
   settled,
 }
+use Rattle.record_shapes.proofs.Each.{each_both, each_more}
+use Rattle.record_shapes.proofs.PathTexts.{parts_some}
+use Rattle.record_shapes.proofs.Limits.{limits_are}
+use Rattle.record_shapes.proofs.Names.{are_names}
 
 -- a record that counts as much as an owner as another
 pub record IsOwnerLike (old r : Record) : Type 0 where
@@ -151,7 +153,7 @@ module _ (A : Records) (w : Places) (D : Drawing) (all : EachOf (There A w D) D.
   are_path_names q h = record {
     each = are_names q;
     clean = names_clean q h.clean;
-    within = are_limits (joined (names_of q)) (ap is_within_limits (path_joined q h) ∙ h.within);
+    within = limits_are (joined (names_of q)) (ap is_within_limits (path_joined q h) ∙ h.within);
   }
 
   found_now : (k : ℕ) (name : List ℕ) (names : List (List ℕ)) (d : Drawing)

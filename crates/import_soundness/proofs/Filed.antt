@@ -7,7 +7,6 @@ use Rattle.std.proofs.Common.{
   suc,
   ◌<◌,
   ◌≤◌,
-  ◌==◌,
   Bool,
   true,
   false,
@@ -26,8 +25,8 @@ use Rattle.std.proofs.Common.{
   subst,
   arith,
 }
-use Rattle.std.specs.Prelude.{Option, Some, None, option_map, ◌&&◌, ◌||◌, nat_lt, nat_le, codes}
-use Rattle.std.specs.List.{list_all, list_any}
+use Rattle.std.specs.Prelude.{Option, Some, None, option_map, ◌&&◌, nat_lt, nat_le, codes}
+use Rattle.std.specs.List.{list_all}
 use Rattle.std.proofs.lemmas.Bool.{and_parts, ltb-true, leb-true}
 use Rattle.stored_lines.specs.Levels.{forest_levels}
 use Rattle.stored_lines.specs.Line.{Line}
@@ -41,9 +40,7 @@ use Rattle.record_text.specs.Text.{IsText}
 use Rattle.record_shapes.specs.Lists.{EachOf}
 use Rattle.archive_state.specs.Sound.{IsOfRecords}
 use Rattle.archive_state.specs.Texts.{forest_texts, value_texts}
-use Rattle.archive_state.proofs.Each.{each_both, each_more}
 use Rattle.gedcom_line.specs.Reading.{is_continuation}
-use Rattle.gedcom_line.specs.Spelling.{is_textual}
 use Rattle.gedcom_line.specs.Value.{Meaning, Text, Pointer}
 use Rattle.gedcom_line.specs.Words.{is_word}
 use Rattle.gedcom_tree.specs.Forest.{Item}
@@ -68,7 +65,9 @@ use Rattle.file_roots.specs.Roots.{behind_first, candidates, is_called, is_kept,
 use Rattle.import_soundness.specs.Read.{FilesHaveNodes, IsNode, PointsWithin, rows}
 use Rattle.import_soundness.proofs.Fine.{empty_text}
 use Rattle.import_soundness.proofs.Grown.{HaveFileLines, IsFileLine, IsRoot, all_roots}
-use Rattle.import_soundness.proofs.Lists.{each_filter, each_mapped}
+use Rattle.import_soundness.proofs.Lists.{each_filter}
+use Rattle.file_roots.proofs.InFile.{text_free}
+use Rattle.record_shapes.proofs.Each.{each_both, each_more, each_mapped}
 
 -- ---- tags and texts
 tag_fits : (tag : List ℕ) → is_tag tag ≡ true → is_continuation tag ≡ false → IsOfRecords tag
@@ -79,20 +78,6 @@ tag_fits tag h own =
       (λ (e : tag ≡ codes "CONC"). let no : true ≡ false = ap is_continuation (sym e) ∙ own in cc),
       (λ (e : tag ≡ codes "CONT"). let no : true ≡ false = ap is_continuation (sym e) ∙ own in cc),
     )
-
-text_free : (t : List ℕ) → list_all is_textual t ≡ true → (list_any (λ b. b == 0) t ≡ false)
-    × (list_any (λ b. b == 13) t ≡ false)
-text_free [] h = (refl, refl)
-text_free (b ∷ bs) h =
-    let a = and_parts (is_textual b) (list_all is_textual bs) h in
-    let r = text_free bs a.1 in
-    free_step (b == 0) (b == 13) (list_any (λ c. c == 0) bs) (list_any (λ c. c == 13) bs) a.0 r.0 r.1
-  where
-    free_step : (x y p q : Bool) → (not x && not y) ≡ true → p ≡ false → q ≡ false
-        → ((x || p) ≡ false) × ((y || q) ≡ false)
-    free_step true y p q h e f = absurd cc
-    free_step false true p q h e f = absurd cc
-    free_step false false p q h e f = (e, f)
 
 text_fits : (t : List ℕ) → IsNodeValue (Text t) → IsText t
 text_fits t h = let free = text_free t h.1.0 in

@@ -23,15 +23,12 @@ use Rattle.std.proofs.Common.{
 }
 use Rattle.std.specs.Prelude.{Option, Some, None, IfSome, option_map, bytes_eq, if◌then◌else◌}
 use Rattle.std.proofs.lemmas.Bool.Decides.{nat_tests}
-use Rattle.record_fields.specs.Bytes.{bytes_are, bytes_same}
+use Rattle.record_fields.specs.Bytes.{bytes_same}
 use Rattle.record_shapes.specs.Forms.{is_some}
 use Rattle.record_shapes.specs.Reading.{has_path}
 use Rattle.import_forest.specs.Numbers.{Found, Places, at_number, at_position, find, or_else, where_before}
 use Rattle.import_forest.specs.Positions.{path_at, position_of}
-
-pub path_has : (path : List ℕ) (o : Option (List ℕ)) → has_path path o ≡ true → o ≡ Some path
-path_has path None e = absurd cc
-path_has path (Some p) e = ap Some (bytes_are p path e)
+use Rattle.record_shapes.proofs.PathTexts.{path_has}
 
 -- the position of a path has it
 position_has : (path : List ℕ) (k : ℕ) (ps : List (Option (List ℕ))) (n : ℕ) → position_of path k ps ≡ Some n

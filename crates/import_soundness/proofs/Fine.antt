@@ -18,9 +18,9 @@ use Rattle.record_shapes.specs.Fields.{is_same}
 use Rattle.record_shapes.specs.Picking.{all_of, first, is_left, left, text_at, without_first, without_firsts}
 use Rattle.archive_state.specs.Sound.{IsOfRecords}
 use Rattle.archive_state.specs.Texts.{forest_texts, line_texts, there, value_texts}
-use Rattle.archive_state.proofs.Each.{each_back, each_front, each_more}
 use Rattle.import_soundness.specs.Read.{IsLine}
-use Rattle.import_soundness.proofs.Lists.{each_filter, each_joined, each_mapped, if_first}
+use Rattle.import_soundness.proofs.Lists.{each_filter, if_first}
+use Rattle.record_shapes.proofs.Each.{each_back, each_front, each_more, each_flat, each_mapped}
 
 abbrev pub AreLines : ℕ → Lines → Type 0
 AreLines n ts = EachOf (IsLine n) ts
@@ -34,11 +34,11 @@ lines_deeper n m less ts h = each_more (IsLine n) (IsLine m) (deeper n m less) t
 
 -- ---- all of several lines
 pub lines_tags : (n : ℕ) (ts : Lines) → AreLines n ts → EachOf IsOfRecords (flat_map tags ts)
-lines_tags n ts h = each_joined IsOfRecords tags ts (each_more (IsLine n) (λ t. EachOf IsOfRecords (tags t))
+lines_tags n ts h = each_flat IsOfRecords tags ts (each_more (IsLine n) (λ t. EachOf IsOfRecords (tags t))
     (λ t k. k.of_tags) ts h)
 
 pub lines_texts : (n : ℕ) (ts : Lines) → AreLines n ts → EachOf IsText (flat_map line_texts ts)
-lines_texts n ts h = each_joined IsText line_texts ts (each_more (IsLine n) (λ t. EachOf IsText (line_texts t))
+lines_texts n ts h = each_flat IsText line_texts ts (each_more (IsLine n) (λ t. EachOf IsText (line_texts t))
     (λ t k. k.of_texts) ts h)
 
 pub lines_within : (n : ℕ) (ts : Lines) → AreLines n ts → AreWithin n ts

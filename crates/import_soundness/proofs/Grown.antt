@@ -31,7 +31,7 @@ use Rattle.gedcom_tree.specs.Forest.{Item}
 use Rattle.gedcom_tree.specs.Text.{EachNode, IsForest, IsNodeValue, begins, is_tag, rises}
 use Rattle.gedcom_tree.specs.Text.{behind_first as items_behind}
 use Rattle.file_roots.specs.Nodes.{FileLine, FileNode, leveled, nodes_of}
-use Rattle.import_soundness.proofs.Lists.{each_mapped}
+use Rattle.record_shapes.proofs.Each.{each_mapped}
 
 -- what is so of a line of a forest
 pub record IsFileLine (l : FileLine) : Type 0 where

@@ -32,7 +32,6 @@ use Rattle.archive_state.specs.Known.{known_before as archive_before, known_of, 
 use Rattle.archive_state.specs.Merging.{lines_with, participant_with, record_with}
 use Rattle.archive_state.specs.Paths.{HasPath}
 use Rattle.archive_state.specs.Sound.{IsNumber, Stands}
-use Rattle.archive_state.proofs.Each.{each_both}
 use Rattle.archive_state.proofs.Keeping.{KeepsRules}
 use Rattle.import_forest.specs.Made.{drawing}
 use Rattle.import_forest.specs.Numbers.{Places}
@@ -44,16 +43,17 @@ use Rattle.import_soundness.proofs.DrawnWell.{IsOwnerLike}
 use Rattle.import_soundness.proofs.Left.{first_is}
 use Rattle.import_soundness.proofs.Links.{Names, NamesAll, PlaceIs}
 use Rattle.import_soundness.proofs.LinksMet.{parent_met}
-use Rattle.import_soundness.proofs.Lists.{cat, flat_cat}
+use Rattle.list_laws.proofs.Lists.{cat, flat_cat}
 use Rattle.import_soundness.proofs.Paths.{known_earlier}
-use Rattle.import_soundness.proofs.Renamed.{through, untaken_with}
-use Rattle.import_soundness.proofs.RenamedEntries.{no_entry_with}
-use Rattle.import_soundness.proofs.RenamedLinks.{lines_moved, moved, participant_moved}
-use Rattle.import_soundness.proofs.RenamedTexts.{of_records_with, room_with, texts_with}
+use Rattle.renumbered_records.proofs.Untaken.{through, untaken_with}
+use Rattle.renumbered_records.proofs.Entries.{no_entry_with}
+use Rattle.renumbered_records.proofs.Links.{lines_moved, moved, participant_moved}
+use Rattle.renumbered_records.proofs.Texts.{of_records_with, room_with, texts_with}
 use Rattle.import_soundness.proofs.RootRecords.{root_is_read}
 use Rattle.import_soundness.proofs.Rooted.{There}
 use Rattle.import_soundness.proofs.Targets.{family_once, link_stands, links_stand, record_stands}
 use Rattle.import_soundness.proofs.Said.{is_no_place, path_stands, said_at, sound_mentions}
+use Rattle.record_shapes.proofs.Each.{each_both}
 
 module _ (A : Records) (w : Places) (next : ℕ) (rs : Lines)
     (all : EachOf (There A w (drawing next w rs)) (drawing next w rs).drawn) (zero_none : get A 0

@@ -11,9 +11,9 @@ use Rattle.record_shapes.specs.Forms.{is_some, text_of}
 use Rattle.record_shapes.specs.Lists.{EachOf}
 use Rattle.record_shapes.specs.Picking.{all_of, first, is_left, left, without_firsts}
 use Rattle.record_shapes.specs.Untaken.{AreUntaken}
-use Rattle.archive_state.proofs.Each.{each_more, each_zip}
 use Rattle.import_soundness.proofs.Fine.{each_but_firsts}
 use Rattle.import_soundness.proofs.Lists.{each_filter, filter_holds, if_first}
+use Rattle.record_shapes.proofs.Each.{each_more, each_zip}
 
 pub same_itself : (x : Field) → is_same x x ≡ true
 same_itself x = eq-eqb (field_number x) (field_number x) refl

@@ -1,5 +1,5 @@
 pub mod Drawn
-mod Standing
+pub mod Standing
 mod Lists
 mod Fine
 mod Left
@@ -22,20 +22,15 @@ mod Paths
 mod LinksNodes
 mod RootRecords
 mod Going
-mod Renamed
-mod RenamedEntries
 mod Rooted
 mod Agreeing
 mod Finding
 mod Settling
 mod DrawnWell
-mod RenamedLinks
-mod RenamedTexts
 mod Targets
 mod Judging
 mod Keys
 pub mod Whole
-mod EntryLines
 mod LinksMet
 mod Said
 mod Within

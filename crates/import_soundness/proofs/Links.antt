@@ -34,10 +34,10 @@ use Rattle.record_shapes.specs.Lists.{EachOf}
 use Rattle.record_shapes.specs.Paths.{has_part, is_within_limits, normal}
 use Rattle.record_shapes.specs.Picking.{all_of}
 use Rattle.record_shapes.specs.Reading.{Draft, read, sought}
-use Rattle.archive_state.proofs.Each.{each_back, each_both, each_front, each_more, each_zip}
 use Rattle.import_soundness.specs.Read.{PointsWithin}
 use Rattle.import_soundness.proofs.Clean.{IsClean}
-use Rattle.import_soundness.proofs.Lists.{each_filter, each_joined, each_mapped, filter_holds}
+use Rattle.import_soundness.proofs.Lists.{each_filter, filter_holds}
+use Rattle.record_shapes.proofs.Each.{each_back, each_both, each_front, each_more, each_zip, each_flat, each_mapped}
 
 -- ---- links
 -- what stands at the position has the tag that is wanted; one on a carried line is there; owners are judged apart
@@ -127,7 +127,7 @@ module _ (known : Known) (count : ℕ) where
         (forest_named ts (each_back (λ (l : Link). l.0 < count) (line_links t) (forest_links ts) h))
 
   pub lines_named : (ts : Lines) → EachOf Low ts → EachOf (Names known count) (carried_links ts)
-  lines_named ts h = each_joined (Names known count) line_links ts
+  lines_named ts h = each_flat (Names known count) line_links ts
       (each_more Low (λ t. EachOf (Names known count) (line_links t)) line_named ts h)
 
   forest_low : (f : Forest Line) → EachOf (λ (l : Link). l.0 < count) (forest_links f) → EachOf Low (list_of f)

@@ -48,13 +48,13 @@ use Rattle.record_fields.specs.Words.{sex_of}
 use Rattle.record_shapes.specs.Lists.{EachOf}
 use Rattle.record_shapes.specs.Reading.{draft_if}
 use Rattle.record_shapes.specs.Tags.{family_tags, person_tags}
-use Rattle.archive_state.proofs.Each.{each_zip}
 use Rattle.import_forest.specs.Positions.{known, known_before}
 use Rattle.import_soundness.specs.Read.{IsLine, PointsWithin}
 use Rattle.import_soundness.proofs.Fine.{below_lines}
 use Rattle.import_soundness.proofs.Left.{row_is, row_next, row_not}
 use Rattle.import_soundness.proofs.Links.{AllNamed, OwnerIs, below_low, named_a, named_both}
 use Rattle.import_soundness.proofs.LinksOwned.{citation_named, event_named}
+use Rattle.record_shapes.proofs.Each.{each_zip}
 
 -- a line that may stand below a node
 abbrev pub IsFit98 : ℕ → Tree Line → Type 0

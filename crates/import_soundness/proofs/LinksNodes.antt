@@ -81,7 +81,6 @@ use Rattle.record_shapes.specs.Reading.{
   source_from,
 }
 use Rattle.record_shapes.specs.Roles.{is_role_of}
-use Rattle.archive_state.proofs.Each.{each_both, each_front, each_more, each_zip}
 use Rattle.import_forest.specs.Positions.{known, known_before, positions, tag_at}
 use Rattle.import_forest.specs.Sides.{
   child_with_side,
@@ -111,7 +110,7 @@ use Rattle.import_soundness.proofs.Links.{
   made_of_each,
   value_named,
 }
-use Rattle.import_soundness.proofs.Lists.{each_filter, each_joined, each_mapped, filter_holds, if_first}
+use Rattle.import_soundness.proofs.Lists.{each_filter, filter_holds, if_first}
 use Rattle.import_soundness.proofs.Paths.{known_earlier, placed_loc}
 use Rattle.import_soundness.proofs.ReadEntries.{each_true, guessed}
 use Rattle.import_soundness.proofs.ReadFamilies.{each_get, each_once}
@@ -125,6 +124,7 @@ use Rattle.import_soundness.proofs.LinksMet.{
   parent_met,
   person_cites,
 }
+use Rattle.record_shapes.proofs.Each.{each_both, each_front, each_more, each_zip, each_flat, each_mapped}
 
 -- ---- nodes
 module _ (rs : Lines) (count : ℕ) (nodes : EachOf (λ t. IsNode t × PointsWithin count t) rs) where
@@ -153,7 +153,7 @@ module _ (rs : Lines) (count : ℕ) (nodes : EachOf (λ t. IsNode t × PointsWit
       let field : Tree Line → Field = source_field kn in
       let s : model.Source = source_from kn ts in
       each_both N (flat_map holding_links s.holdings) (carried_links s.carried)
-      (each_joined N holding_links s.holdings
+      (each_flat N holding_links s.holdings
       (made_of_each kn count (λ t. L t × (is_same (field t) a_holding ≡ true))
       (λ (x : model.Holding). EachOf N (holding_links x)) holding_from holding_named (all_of field a_holding ts)
       (field_lines kn count field a_holding ts h)))
@@ -164,7 +164,7 @@ module _ (rs : Lines) (count : ℕ) (nodes : EachOf (λ t. IsNode t × PointsWit
       let field : Tree Line → Field = person_field kn in
       let p : model.Person = person_from kn ts in
       each_both N (flat_map name_links p.names) (carried_links p.carried)
-      (each_joined N name_links p.names
+      (each_flat N name_links p.names
       (made_of_each kn count L (λ (n : model.Name). EachOf N (name_links n)) name_from
       (λ t k. lines_named kn count (below t) (below_low kn count t k)) (all_of field a_name ts)
       (each_filter L (λ t. is_same (field t) a_name) ts h)))
@@ -238,9 +238,9 @@ module _ (rs : Lines) (count : ℕ) (nodes : EachOf (λ t. IsNode t × PointsWit
       (map (λ (p : model.Partner). p.person) f.partners ++ map (λ (c : model.Child). c.person) f.children))) e).0)
       (late rs k f) (filter_holds test (positions (length rs))))) in
       each_both N (flat_map partner_links x.partners) (flat_map child_links x.children ++ carried_links x.carried)
-      (each_joined N partner_links x.partners partners)
+      (each_flat N partner_links x.partners partners)
       (each_both N (flat_map child_links x.children) (carried_links x.carried)
-      (each_joined N child_links x.children children)
+      (each_flat N child_links x.children children)
       (lines_named kn count x.carried (each_left L field [] ts h)))
 
   -- ---- places
@@ -310,7 +310,7 @@ module _ (rs : Lines) (count : ℕ) (nodes : EachOf (λ t. IsNode t × PointsWit
       let d = and_parts (nat_le (length e.mentions) 100) all c.1 in (
         a.0,
         each_both N (field_links a_place e.place) (flat_map mention_links e.mentions) (said_named e.place b.0)
-            (each_joined N mention_links e.mentions
+            (each_flat N mention_links e.mentions
             (each_more (λ m. whole m ≡ true) (λ m. EachOf N (mention_links m))
             (λ m k. mention_named m.link (and_parts (is_role_of e.kind m.role) (names_person kn m.link) k).1) e.mentions
             (each_true whole e.mentions d.1))),

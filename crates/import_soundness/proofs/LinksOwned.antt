@@ -62,7 +62,6 @@ use Rattle.record_shapes.specs.Reading.{
   sought_on,
   unless_named,
 }
-use Rattle.archive_state.proofs.Each.{each_both, each_zip}
 use Rattle.import_soundness.specs.Read.{IsLine}
 use Rattle.import_soundness.proofs.Clean.{text_clean}
 use Rattle.import_soundness.proofs.Fine.{each_left, text_is}
@@ -83,8 +82,10 @@ use Rattle.import_soundness.proofs.Links.{
   named_a,
   named_both,
 }
-use Rattle.import_soundness.proofs.Lists.{each_filter, each_joined, each_without, filter_holds, if_first}
-use Rattle.import_soundness.proofs.Normal.{normal_clean, normal_twice}
+use Rattle.import_soundness.proofs.Lists.{each_filter, each_without, filter_holds, if_first}
+use Rattle.import_soundness.proofs.Normal.{normal_clean}
+use Rattle.record_shapes.proofs.Each.{each_both, each_zip, each_flat}
+use Rattle.record_shapes.proofs.Names.{normal_twice}
 
 -- a line of a citation names a source
 pub citation_met : (known : Known) (t : Tree Line) → is_citation known t ≡ true
@@ -302,7 +303,7 @@ module _ (known : Known) (count : ℕ) where
           owner,
           place_named_is (first (all_of field a_place ts)) places,
           each_both N (flat_map participant_links e.participants) (carried_links e.carried)
-              (each_joined N participant_links e.participants
+              (each_flat N participant_links e.participants
               (made_of_each known count (λ u. Low known count u × (is_same (field u) a_participant ≡ true))
               (λ p. EachOf N (participant_links p)) participant_from participant_named (all_of field a_participant ts)
               (field_lines known count field a_participant ts lows)))

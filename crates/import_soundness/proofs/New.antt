@@ -19,7 +19,6 @@ use Rattle.archive_state.specs.Merging.{entry_with, record_with}
 use Rattle.archive_state.specs.Sound.{IsNumber, IsSound, Stands}
 use Rattle.archive_state.specs.declared.changes.Numbered.{Numbered}
 use Rattle.archive_state.proofs.Changing.{path_within}
-use Rattle.archive_state.proofs.Each.{each_zip}
 use Rattle.archive_state.proofs.Keeping.{KeepsRules, stands_as}
 use Rattle.import_forest.specs.Made.{drawing, lowest_place, second}
 use Rattle.import_forest.specs.Numbers.{
@@ -56,12 +55,13 @@ use Rattle.import_soundness.proofs.Said.{path_stands}
 use Rattle.import_soundness.proofs.Keys.{one_node}
 use Rattle.import_soundness.proofs.Links.{NamesAll}
 use Rattle.import_soundness.proofs.MadePlaces.{judge_made}
-use Rattle.import_soundness.proofs.Normal.{are_limits}
 use Rattle.import_soundness.proofs.Rooted.{F, There, all_rooted}
 use Rattle.import_soundness.proofs.Settling.{IsDrawnWell, IsPlaceDrawn, found_path}
 use Rattle.import_soundness.proofs.Standing.{count_range}
 use Rattle.import_soundness.proofs.Targets.{IsThere, apart, tagged_there}
-use Rattle.import_soundness.proofs.Within.{each_unmapped, file_within, lowest_has}
+use Rattle.import_soundness.proofs.Within.{file_within, lowest_has}
+use Rattle.record_shapes.proofs.Each.{each_zip, each_under}
+use Rattle.record_shapes.proofs.Limits.{limits_are}
 
 module _ (c : Content) (sound : IsSound c) (A : Records) (w : Places) (rs : Lines)
     (still : (n : ℕ) (r : Record) → get c.records n ≡ Some r → get A n ≡ Some r)
@@ -278,7 +278,7 @@ module _ (c : Content) (sound : IsSound c) (A : Records) (w : Places) (rs : Line
           → get A n ≡ Some (owned_by owner (placed w D path (record_with h r))) → (q : List ℕ) → path_of A n ≡ Some q
           → IsWithinLimits q
       limits k None r path named owned stands q e =
-          are_limits q (file_within rs k q (path_known_too A w c.next rs all zero_none k
+          limits_are q (file_within rs k q (path_known_too A w c.next rs all zero_none k
           ∙ ap (path_of A) (sym owned.0) ∙ e))
       limits k (Some o) (kind.Event x) None named owned stands q e = absurd (no_place n _ stands refl
           (path_stands A n q e))
@@ -343,7 +343,7 @@ module _ (c : Content) (sound : IsSound c) (A : Records) (w : Places) (rs : Line
   pub all_new : EachOf (λ x. IsNew (finished w D x)) D.drawn
   all_new =
       let Range : Drawn → Type 0 = λ x. (c.next ≤ number_drawn x) × (number_drawn x < last) in
-      let ranges : EachOf Range D.drawn = each_unmapped (λ n. (c.next ≤ n) × (n < last)) number_drawn D.drawn
+      let ranges : EachOf Range D.drawn = each_under (λ n. (c.next ≤ n) × (n < last)) number_drawn D.drawn
       (count_range (map number_drawn D.drawn) c.next last (all_up c.next w rs)) in
       each_zip (λ x. Range x × Well x) (There A w D) (λ x. IsNew (finished w D x))
       (λ x a b. drawn_new x a.0 a.1 b) D.drawn

@@ -1,25 +1,16 @@
 -- Lists on which no number stands twice.
 use Rattle.std.proofs.Common.{◌≡◌, ℕ, ◌==◌, Bool, true, false, not, cond, List, [], ◌∷◌, ◌++◌, refl, sym, ◌∙◌, arith}
-use Rattle.std.specs.Prelude.{map, ◌||◌}
-use Rattle.std.specs.List.{filter, list_any}
+use Rattle.std.specs.Prelude.{map}
+use Rattle.std.specs.List.{filter}
 use Rattle.std.proofs.lemmas.Bool.{or_parts}
 use Rattle.std.proofs.lemmas.Bool.Decides.{nat_tests}
 use Rattle.std.proofs.lemmas.List.Folds.{list_any-append}
 use Rattle.record_shapes.specs.Lists.{EachOf, IsOnce}
-use Rattle.archive_state.proofs.Each.{each_more}
-
-abbrev pub has : ℕ → List ℕ → Bool
-has n ns = list_any (λ m. m == n) ns
-
-pub or_none : (a b : Bool) → a ≡ false → b ≡ false → (a || b) ≡ false
-or_none a b e f = λ i. e i || f i
+use Rattle.record_shapes.proofs.Each.{has, each_more}
+use Rattle.list_laws.proofs.Booleans.{or_none}
 
 pub not_either : (n m : ℕ) → (m == n) ≡ false → (n == m) ≡ false
 not_either n m e = grind (arith, nat_tests)
-
-pub not_true : (x : Bool) → not x ≡ true → x ≡ false
-not_true true e = absurd cc
-not_true false e = refl
 
 -- ---- lists behind one another
 module _ (n : ℕ) where

@@ -35,20 +35,12 @@ use Rattle.stored_lines.specs.Tree.{Tree}
 use Rattle.record_shapes.specs.Forms.{below, tag_of, tagged}
 use Rattle.record_shapes.specs.Reading.{path_from}
 use Rattle.import_forest.specs.Positions.{known_before, path_at, path_behind, paths, paths_behind, tag_at}
+use Rattle.list_laws.proofs.Lists.{at_end}
 
 abbrev Path : Type 0
 Path = Option (List ℕ)
 
 -- ---- what stands at a position
-get_seam : {A : Type 0} (xs : List A) (a : A) (ys : List A) → slice_get (xs ++ (a ∷ ys)) (length xs) ≡ Some a
-get_seam [] a ys = refl
-get_seam (x ∷ xs) a ys = get_seam xs a ys
-
-pub get_front : {A : Type 0} (xs ys : List A) (k : ℕ) (a : A) → slice_get xs k ≡ Some a
-    → slice_get (xs ++ ys) k ≡ Some a
-get_front [] ys k a e = absurd cc
-get_front (x ∷ xs) ys zero a e = e
-get_front (x ∷ xs) ys (suc k) a e = get_front xs ys k a e
 
 -- what is among the first is there, below their count
 pub get_taken : {A : Type 0} (k : ℕ) (xs : List A) (j : ℕ) (a : A) → slice_get (take k xs) j ≡ Some a
@@ -98,7 +90,7 @@ paths_at rs ps (r ∷ behind) zero k e =
     let more = goes_on rs (ps ++ x ∷ []) behind in
     let whole : all ≡ ps ++ (x ∷ more.rest) = more.whole ∙ append_assoc ps (x ∷ []) more.rest in
     let here : k ≡ length ps = omega arith in
-    let at : slice_get all k ≡ Some x = (λ i. slice_get (whole i) (here i)) ∙ get_seam ps x more.rest in
+    let at : slice_get all k ≡ Some x = (λ i. slice_get (whole i) (here i)) ∙ at_end ps x more.rest in
     let front : take k all ≡ ps = (λ i. take (here i) (whole i)) ∙ take-append_seam ps (x ∷ more.rest) in
     at ∙ ap (λ (qs : List Path). Some (path_behind rs qs r)) (sym front)
 paths_at rs ps (r ∷ behind) (suc j) k e =

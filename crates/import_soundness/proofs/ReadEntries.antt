@@ -1,27 +1,8 @@
 -- Register entries, and records of no other kind, that are read from lines keep the rules on one record.
-use Rattle.std.proofs.Common.{
-  ◌≡◌,
-  ◌≢◌,
-  ℕ,
-  ◌≤◌,
-  Bool,
-  true,
-  false,
-  cond,
-  List,
-  [],
-  ◌∷◌,
-  length,
-  refl,
-  sym,
-  ◌∙◌,
-  subst,
-  arith,
-}
+use Rattle.std.proofs.Common.{◌≡◌, ◌≢◌, ℕ, Bool, true, false, cond, List, [], ◌∷◌, length, refl, sym, ◌∙◌, subst}
 use Rattle.std.specs.Prelude.{Option, Some, None, IfSome, ◌&&◌, nat_le, bytes_eq, codes, map, option_map}
 use Rattle.std.specs.List.{filter, flat_map, list_all}
 use Rattle.std.proofs.lemmas.Bool.{and_parts}
-use Rattle.std.proofs.lemmas.Bool.Decides.{nat_tests}
 use Rattle.stored_lines.specs.Tree.{Tree, node, none, forest_of}
 use Rattle.stored_lines.specs.Line.{Line, Lines}
 use Rattle.stored_lines.specs.declared.carried.Value.{Value}
@@ -34,7 +15,6 @@ use Rattle.record_fields.specs.Words.{entry_kind_of}
 use Rattle.record_text.specs.Text.{IsText}
 use Rattle.record_shapes.specs.Entries.{
   around,
-  entry_if,
   entry_of,
   entry_on,
   has_its_lines,
@@ -55,7 +35,6 @@ use Rattle.record_shapes.specs.Roles.{is_role_of}
 use Rattle.record_shapes.specs.Shapes.{entry_lines}
 use Rattle.archive_state.specs.Sound.{HasSoundMentions, IsOfRecords}
 use Rattle.archive_state.specs.Texts.{date_texts, line_texts, mention_texts, own_texts, reason_texts, value_texts}
-use Rattle.archive_state.proofs.Each.{each_both, each_more}
 use Rattle.import_soundness.specs.Read.{IsLine, IsRead}
 use Rattle.import_soundness.proofs.Fine.{
   AreLines,
@@ -67,8 +46,11 @@ use Rattle.import_soundness.proofs.Fine.{
   mapped_lines,
   text_is,
 }
-use Rattle.import_soundness.proofs.Lists.{each_filter, each_joined, if_first}
+use Rattle.import_soundness.proofs.Lists.{each_filter, if_first}
 use Rattle.import_soundness.proofs.ReadEvents.{date_of_texts}
+use Rattle.list_laws.proofs.Numbers.{at_most}
+use Rattle.record_shapes.proofs.EntryLines.{if_entry}
+use Rattle.record_shapes.proofs.Each.{each_both, each_more, each_flat}
 
 -- ---- texts of an entry
 line_at_is : (n : ℕ) (tag : List ℕ) (ts : Lines) → AreLines n ts → IfSome (line_at tag ts) (IsLine n)
@@ -102,9 +84,6 @@ pub each_true : {A : Type 0} (q : A → Bool) (xs : List A) → list_all q xs �
 each_true q [] e = tt
 each_true q (x ∷ xs) e = let p = and_parts (q x) (list_all q xs) e in (p.0, each_true q xs p.1)
 
-at_most : (a b : ℕ) → nat_le a b ≡ true → a ≤ b
-at_most a b e = grind (arith, nat_tests)
-
 sound_mentions : (known : Known) (e : model.Entry) → is_entry known e ≡ true → HasSoundMentions (kind.Entry e)
 sound_mentions known e h =
     let role : model.Mention → Bool = λ m. is_role_of e.kind m.role in
@@ -122,9 +101,6 @@ sound_mentions known e h =
     )
 
 -- ---- entries
-if_entry : (b : Bool) (g e : model.Entry) → entry_if b g ≡ Some e → (b ≡ true) × (g ≡ e)
-if_entry true g e h = let same : g ≡ e = cc in (refl, same)
-if_entry false g e h = absurd cc
 
 -- what is read is the entry that is guessed, which keeps the rules
 pub guessed : (known : Known) (v : Value) (ts : Lines) (e : model.Entry) → entry_of known v ts ≡ Some e
@@ -143,7 +119,7 @@ entry_on_read : (earlier known : Known) (owner : Option Record) (word : List ℕ
 entry_on_read earlier known owner word ts h rules =
     let ms : Lines = filter (tagged (codes "_MENT")) ts in
     let mentions : EachOf IsText (flat_map mention_texts (map mention_on ms)) =
-    each_joined IsText mention_texts (map mention_on ms) (mapped_lines 98 (λ m. EachOf IsText (mention_texts m))
+    each_flat IsText mention_texts (map mention_on ms) (mapped_lines 98 (λ m. EachOf IsText (mention_texts m))
     mention_on mention_on_texts ms (each_filter (IsLine 98) (tagged (codes "_MENT")) ts h)) in
     let own : EachOf IsText (own_texts (kind.Entry (entry_on word ts))) = (
       field_text 98 (codes "PAGE") ts h,

@@ -49,7 +49,6 @@ use Rattle.record_shapes.specs.Reading.{
 use Rattle.record_shapes.specs.Tags.{is_event_tag}
 use Rattle.record_shapes.specs.Untaken.{AreUntaken, event_leaves, participant_leaves}
 use Rattle.archive_state.specs.Texts.{date_texts, there}
-use Rattle.archive_state.proofs.Each.{each_both}
 use Rattle.import_soundness.specs.Read.{AllRead, EachRead, IsLine, IsRead}
 use Rattle.import_soundness.proofs.Fine.{
   AreLines,
@@ -68,9 +67,10 @@ use Rattle.import_soundness.proofs.Fine.{
   text_of_field,
 }
 use Rattle.import_soundness.proofs.Left.{all_find, first_is, left_untaken, row_is, some_mapped}
-use Rattle.import_soundness.proofs.Lists.{each_joined, each_mapped, each_without}
+use Rattle.import_soundness.proofs.Lists.{each_without}
 use Rattle.import_soundness.proofs.ReadSources.{citation_read}
 use Rattle.import_soundness.proofs.Spelt.{spelt_text, spelt_twice}
+use Rattle.record_shapes.proofs.Each.{each_both, each_flat, each_mapped}
 
 -- ---- dates
 if_spelt : (text : List ℕ) (b : Bool) (e : bytes_eq (spelt text) text ≡ b) → b ≡ true
@@ -193,7 +193,7 @@ event_read earlier known o t tag h =
     let placed : IfSome e.place (λ (p : model.EventPlace). AreLines 96 p.carried) =
     place_lines known (first (all_of field a_place ts)) (first_of_field (IsLine 97) field a_place ts fine) in
     let parts : AreLines 97 (flat_map (λ (p : model.Participant). p.carried) e.participants) =
-    each_joined (IsLine 97) (λ (p : model.Participant). p.carried) e.participants
+    each_flat (IsLine 97) (λ (p : model.Participant). p.carried) e.participants
     (mapped_lines 97 (λ (p : model.Participant). AreLines 97 p.carried) participant_from
     (λ u k. lines_deeper 96 97 (omega arith) (participant_from u).carried (participant_lines u k)) of kept) in
     let all : AreLines 97 (place_line_carried e.place

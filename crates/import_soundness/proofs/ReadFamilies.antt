@@ -52,7 +52,6 @@ use Rattle.record_shapes.specs.Reading.{
 }
 use Rattle.record_shapes.specs.Tags.{family_tags, is_event_tag}
 use Rattle.record_shapes.specs.Untaken.{family_leaves}
-use Rattle.archive_state.proofs.Each.{each_both, each_more}
 use Rattle.import_forest.specs.Positions.{known, positions}
 use Rattle.import_forest.specs.Sides.{
   child_with_side,
@@ -78,9 +77,11 @@ use Rattle.import_soundness.proofs.Fine.{
   mapped_lines,
 }
 use Rattle.import_soundness.proofs.Left.{all_find, left_untaken, row_is, row_next, row_not}
-use Rattle.import_soundness.proofs.Lists.{each_filter, each_joined, each_mapped, filter_holds, if_first}
-use Rattle.import_soundness.proofs.Once.{has, not_true, once_apart, once_both, once_filter, or_none}
+use Rattle.import_soundness.proofs.Lists.{each_filter, filter_holds, if_first}
+use Rattle.import_soundness.proofs.Once.{once_apart, once_both, once_filter}
 use Rattle.import_soundness.proofs.ReadPersons.{owned_read}
+use Rattle.record_shapes.proofs.Each.{each_both, each_more, each_flat, each_mapped, has}
+use Rattle.list_laws.proofs.Booleans.{not_true, or_none}
 
 -- ---- each person once
 -- a number that was seen is not there
@@ -270,11 +271,11 @@ family_read earlier owner rs nodes k ts h =
     let all : AreLines 98 (flat_map (λ (p : model.Partner). p.carried ++ p.carried_by_person) x.partners
     ++ (flat_map (λ (c : model.Child). c.carried ++ c.carried_by_person) x.children ++ x.carried)) =
     each_both (IsLine 98) (flat_map (λ (p : model.Partner). p.carried ++ p.carried_by_person) x.partners) _
-    (each_joined (IsLine 98) (λ (p : model.Partner). p.carried ++ p.carried_by_person) x.partners
+    (each_flat (IsLine 98) (λ (p : model.Partner). p.carried ++ p.carried_by_person) x.partners
     (each_more OfPartner (λ (p : model.Partner). AreLines 98 (p.carried ++ p.carried_by_person))
     (λ p l. both_lines p.carried p.carried_by_person l) x.partners partners))
     (each_both (IsLine 98) (flat_map (λ (c : model.Child). c.carried ++ c.carried_by_person) x.children) x.carried
-    (each_joined (IsLine 98) (λ (c : model.Child). c.carried ++ c.carried_by_person) x.children
+    (each_flat (IsLine 98) (λ (c : model.Child). c.carried ++ c.carried_by_person) x.children
     (each_more OfChild (λ (c : model.Child). AreLines 98 (c.carried ++ c.carried_by_person))
     (λ c l. both_lines c.carried c.carried_by_person l) x.children children)) lines) in
     record {

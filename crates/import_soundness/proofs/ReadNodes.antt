@@ -11,7 +11,6 @@ use Rattle.record_shapes.specs.Forms.{Known}
 use Rattle.record_shapes.specs.Entries.{entry_of}
 use Rattle.record_shapes.specs.Reading.{Draft, entry_or_other, read, registered}
 use Rattle.archive_state.specs.Texts.{forest_texts, value_texts}
-use Rattle.archive_state.proofs.Each.{each_front}
 use Rattle.import_forest.specs.Positions.{known, known_before}
 use Rattle.import_forest.specs.Sides.{root_with_sides, with_sides}
 use Rattle.import_soundness.specs.Read.{EachRead, IsRead, NodesAreRead}
@@ -21,6 +20,7 @@ use Rattle.import_soundness.proofs.ReadFamilies.{family_owned, family_read}
 use Rattle.import_soundness.proofs.ReadPersons.{person_owned, person_read}
 use Rattle.import_soundness.proofs.ReadPlaces.{place_read}
 use Rattle.import_soundness.proofs.ReadSources.{repo_read, source_read}
+use Rattle.record_shapes.proofs.Each.{each_front}
 
 -- one of two, by what the test says
 pub chosen : {A : Type 0} (Q : A → Type 0) (b : Bool) (x y : A) → (b ≡ true → Q x) → (b ≡ false → Q y)

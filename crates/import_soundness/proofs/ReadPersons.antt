@@ -41,7 +41,6 @@ use Rattle.record_shapes.specs.Picking.{all_of, first, is_left}
 use Rattle.record_shapes.specs.Reading.{draft_if, name_from, person_from, read_by}
 use Rattle.record_shapes.specs.Tags.{is_event_tag, person_tags}
 use Rattle.record_shapes.specs.Untaken.{person_leaves}
-use Rattle.archive_state.proofs.Each.{each_both}
 use Rattle.import_soundness.specs.Read.{AllRead, IsLine, IsRead}
 use Rattle.import_soundness.proofs.Fine.{
   AreLines,
@@ -56,9 +55,9 @@ use Rattle.import_soundness.proofs.Fine.{
   text_is,
 }
 use Rattle.import_soundness.proofs.Left.{all_find, first_is, left_untaken, row_is, row_next, row_not}
-use Rattle.import_soundness.proofs.Lists.{each_joined, each_mapped}
 use Rattle.import_soundness.proofs.ReadEvents.{event_draft_read, read_both}
 use Rattle.import_soundness.proofs.ReadSources.{citation_read}
+use Rattle.record_shapes.proofs.Each.{each_both, each_flat, each_mapped}
 
 -- ---- what is owned
 -- the field tells events, of the tags of their owner
@@ -129,7 +128,7 @@ person_read earlier known owner ts h =
     let kept : AreLines 98 of = each_of (IsLine 98) field a_name ts h in
     let lines : AreLines 98 p.carried = each_left (IsLine 98) field (a_sex ∷ []) ts h in
     let named : AreLines 98 (flat_map (λ (n : model.Name). n.carried) p.names) =
-    each_joined (IsLine 98) (λ (n : model.Name). n.carried) p.names
+    each_flat (IsLine 98) (λ (n : model.Name). n.carried) p.names
     (mapped_lines 98 (λ (n : model.Name). AreLines 98 n.carried) name_from
     (λ t k. lines_deeper 97 98 (omega arith) (below t) (below_lines 97 98 refl t k)) of kept) in
     let all : AreLines 98 (flat_map (λ (n : model.Name). n.carried) p.names ++ p.carried) =

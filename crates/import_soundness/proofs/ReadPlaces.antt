@@ -29,7 +29,8 @@ use Rattle.import_soundness.proofs.Fine.{
   text_is,
 }
 use Rattle.import_soundness.proofs.Left.{Finds, all_find, first_is, left_untaken, row_is, some_mapped}
-use Rattle.import_soundness.proofs.Normal.{normal_text, normal_twice}
+use Rattle.import_soundness.proofs.Normal.{normal_text}
+use Rattle.record_shapes.proofs.Names.{normal_twice}
 
 -- the name on a line is within the limits
 name_met : (t : Tree Line) → is_same (place_field t) a_name ≡ true → is_within_limits (normal (text_of t)) ≡ true

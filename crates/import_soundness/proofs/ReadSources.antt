@@ -35,7 +35,6 @@ use Rattle.record_shapes.specs.Picking.{all_of, first, is_left}
 use Rattle.record_shapes.specs.Reading.{citation_from, holding_from, read_by, repo_from, source_from}
 use Rattle.record_shapes.specs.Untaken.{AreUntaken, citation_leaves, holding_leaves, repo_leaves, source_leaves}
 use Rattle.archive_state.specs.Texts.{line_texts, there}
-use Rattle.archive_state.proofs.Each.{each_both}
 use Rattle.import_soundness.specs.Read.{IsLine, IsRead}
 use Rattle.import_soundness.proofs.Fine.{
   AreLines,
@@ -50,7 +49,7 @@ use Rattle.import_soundness.proofs.Fine.{
   text_of_field,
 }
 use Rattle.import_soundness.proofs.Left.{all_find, first_is, left_untaken, row_is, row_next, some_text}
-use Rattle.import_soundness.proofs.Lists.{each_joined}
+use Rattle.record_shapes.proofs.Each.{each_both, each_flat}
 
 -- ---- repositories
 repo_leaves_it : (r : model.Repo) (x : Field) → is_left (a_name ∷ []) x ≡ true
@@ -119,13 +118,13 @@ source_read earlier known owner ts h =
     let held : EachOf (λ (x : model.Holding). AreLines 97 x.carried) s.holdings = mapped_lines 98
     (λ (x : model.Holding). AreLines 97 x.carried) holding_from holding_lines of kept in
     let all_held : AreLines 98 (flat_map (λ (x : model.Holding). x.carried) s.holdings) =
-    each_joined (IsLine 98) (λ (x : model.Holding). x.carried) s.holdings
+    each_flat (IsLine 98) (λ (x : model.Holding). x.carried) s.holdings
     (mapped_lines 98 (λ (x : model.Holding). AreLines 98 x.carried) holding_from
     (λ t k. lines_deeper 97 98 (omega arith) (holding_from t).carried (holding_lines t k)) of kept) in
     let all : AreLines 98 (flat_map (λ (x : model.Holding). x.carried) s.holdings ++ s.carried) =
     each_both (IsLine 98) (flat_map (λ (x : model.Holding). x.carried) s.holdings) s.carried all_held lines in
     let numbers : EachOf IsText (flat_map (λ (x : model.Holding). there x.call_number) s.holdings) =
-    each_joined IsText (λ (x : model.Holding). there x.call_number) s.holdings
+    each_flat IsText (λ (x : model.Holding). there x.call_number) s.holdings
     (mapped_lines 98 (λ (x : model.Holding). EachOf IsText (there x.call_number)) holding_from
     (λ t k. text_of_field 97 holding_field a_call_number (below t) (below_lines 97 98 refl t k)) of kept) in
     record {

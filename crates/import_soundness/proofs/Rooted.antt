@@ -32,7 +32,6 @@ use Rattle.record_shapes.specs.Lists.{EachOf}
 use Rattle.record_shapes.specs.Reading.{Draft}
 use Rattle.archive_state.specs.Content.{Records}
 use Rattle.archive_state.specs.Merging.{record_with}
-use Rattle.archive_state.proofs.Each.{each_back, each_both, each_front, each_more}
 use Rattle.import_forest.specs.Made.{drawing}
 use Rattle.import_forest.specs.Numbers.{
   Drawing,
@@ -53,6 +52,7 @@ use Rattle.import_forest.specs.Sides.{draft_at}
 use Rattle.import_soundness.proofs.Drawn.{draw_keeps}
 use Rattle.import_soundness.proofs.Going.{GoesOn, IsFront, draw_all_goes, draw_goes, goes_itself, goes_then, roots_go}
 use Rattle.import_soundness.proofs.RootRecords.{IsRootOf, root_is_read}
+use Rattle.record_shapes.proofs.Each.{each_back, each_both, each_front, each_more}
 
 -- ---- numbers of positions
 pub number_seam : (xs : List ℕ) (a : ℕ) (ys : List ℕ) → number_at (xs ++ (a ∷ ys)) (length xs) ≡ a

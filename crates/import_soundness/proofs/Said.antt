@@ -13,9 +13,8 @@ use Rattle.archive_state.specs.Known.{path_of}
 use Rattle.archive_state.specs.Merging.{mention_with, record_with}
 use Rattle.archive_state.specs.Paths.{Climbs, HasPath}
 use Rattle.archive_state.specs.Sound.{HasSoundMentions, Stands}
-use Rattle.archive_state.proofs.Each.{each_more}
 use Rattle.archive_state.proofs.Known.{path_known}
-use Rattle.import_soundness.proofs.Lists.{each_mapped}
+use Rattle.record_shapes.proofs.Each.{each_more, each_mapped}
 
 -- where there is a path, a place stands
 pub path_stands : (A : Records) (n : ℕ) (q : List ℕ) → path_of A n ≡ Some q → Stands A (n, a_place)

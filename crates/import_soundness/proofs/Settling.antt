@@ -23,7 +23,6 @@ use Rattle.std.proofs.Common.{
   length-append,
 }
 use Rattle.std.specs.Prelude.{Option, Some, None, IfSome, option_map, bytes_eq, if◌then◌else◌}
-use Rattle.std.specs.List.{onto_first}
 use Rattle.std.specs.FinMap.{get}
 use Rattle.record_kinds.specs.declared.record.Record.{Record}
 use Rattle.record_kinds.specs.declared.record.Record.TheVariants as kind
@@ -33,9 +32,7 @@ use Rattle.record_shapes.specs.Paths.{IsWithinLimits, joined, parts}
 use Rattle.archive_state.specs.Content.{Records}
 use Rattle.archive_state.specs.Known.{path_of}
 use Rattle.archive_state.proofs.Climbing.{goes_path}
-use Rattle.archive_state.proofs.Each.{each_both}
 use Rattle.archive_state.proofs.Known.{path_known}
-use Rattle.archive_state.proofs.PathTexts.{parts_both, parts_some}
 use Rattle.import_forest.specs.Numbers.{
   Drawing,
   Drawn,
@@ -56,13 +53,13 @@ use Rattle.record_fields.specs.Bytes.{bytes_are}
 use Rattle.import_soundness.proofs.Clean.{IsClean}
 use Rattle.import_soundness.proofs.Finding.{found_by, found_made}
 use Rattle.import_soundness.proofs.Going.{GoesOn, goes_made, goes_then}
-use Rattle.import_soundness.proofs.Normal.{IsName}
 use Rattle.import_soundness.proofs.Rooted.{F, There, last_there}
+use Rattle.list_laws.proofs.Bytes.{onto_length}
+use Rattle.record_shapes.proofs.Each.{each_both}
+use Rattle.record_shapes.proofs.PathTexts.{parts_both, parts_some}
+use Rattle.record_shapes.proofs.Names.{IsName}
 
 -- ---- the limits of a part of a path
-onto_length : (x : ℕ) (ys : List (List ℕ)) (y : List ℕ) (more : List (List ℕ)) → ys ≡ y ∷ more
-    → length (onto_first x ys) ≡ length ys
-onto_length x ys y more e = ap (λ l. length (onto_first x l)) e ∙ sym (ap length e)
 
 above_limits : (n m : List ℕ) (ns : List (List ℕ)) → IsWithinLimits (joined (n ∷ (m ∷ ns)))
     → IsWithinLimits (joined (m ∷ ns)) × (length n ≤ 4096)

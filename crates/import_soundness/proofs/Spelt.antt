@@ -75,7 +75,6 @@ use Rattle.gedcom_date.specs.Spelling.{
   two_text,
   year_text,
 }
-use Rattle.gedcom_date.proofs.Again.{IsRead, form_back}
 use Rattle.gedcom_date.proofs.Deciding.{some_value}
 use Rattle.import_soundness.proofs.Clean.{
   IsClean,
@@ -91,32 +90,14 @@ use Rattle.import_soundness.proofs.Clean.{
   text_clean,
 }
 use Rattle.record_fields.specs.Dated.{one_said, spelt}
+use Rattle.gedcom_date.proofs.SaidAgain.{says_again}
 
 -- ---- it is spelt as it is
-read_if : (text : List ℕ) (f : Form) → IsOfForm text f → IsRead f
-unfolding IsOfForm
-read_if text (VerbatimText t) h = h
-read_if text (OnDate d) h = tt
-read_if text (NearDate how d) h = tt
-read_if text (BeforeDate d) h = tt
-read_if text (AfterDate d) h = tt
-read_if text (BetweenDates d e) h = tt
-read_if text (SinceDate d) h = tt
-read_if text (UntilDate d) h = tt
-read_if text (FromToDates d e) h = tt
-read_if text (InterpretedDate d phrase) h = tt
-read_if text (PhraseAlone phrase) h = tt
 
 -- what is kept as it is, is spelt so
 verbatim : (text : List ℕ) → spelling (VerbatimText text) ≡ text
 unfolding spelling
 verbatim text = refl
-
-says_again : (text : List ℕ) (f : Form) → Says text f → Says (spelling f) f
-says_again text f (inl h) = inl (form_back f (read_if text f h.0) h.1, h.1)
-says_again text f (inr h) =
-    let same : spelling f ≡ text = ap spelling h.0 ∙ verbatim text in
-    subst (λ t. Says t f) (sym same) (inr h)
 
 pub spelt_twice : (text : List ℕ) → spelt (spelt text) ≡ spelt text
 spelt_twice text =
@@ -260,8 +241,6 @@ phrase_clean text front phrase is h =
     clean_both (40 ∷ phrase) (41 ∷ []) opened (clean_short 1 (41 ∷ []) (record { bytes = refl; short = omega arith }))
 
 -- ---- all forms
-short_text : (t : List ℕ) → IsShortText 100 t → IsText t
-short_text t h = short_is_text 100 (omega arith) t h
 
 form_text : (text : List ℕ) (f : Form) → IsText text → IsOfForm text f → IsGood f → IsText (spelling f)
 unfolding spelling IsOfForm IsShort

@@ -7,16 +7,16 @@ use Rattle.record_shapes.specs.Lists.{EachOf}
 use Rattle.archive_state.specs.Applied.{with_puts}
 use Rattle.archive_state.specs.Content.{Records}
 use Rattle.archive_state.specs.declared.changes.Numbered.{Numbered}
-use Rattle.archive_state.proofs.Each.{each_more}
 use Rattle.archive_state.proofs.Putting.{put_cases, put_elsewhere, put_here}
 use Rattle.import_soundness.specs.Imported.{CountUp, RecordsStand}
 use Rattle.import_soundness.proofs.Drawn.{numbers_are_new}
+use Rattle.record_shapes.proofs.Each.{each_more}
 
-abbrev numbers_of : List Numbered → List ℕ
+abbrev pub numbers_of : List Numbered → List ℕ
 numbers_of ps = map (λ (p : Numbered). p.number) ps
 
 -- below the first nothing changes
-below_stays : (ps : List Numbered) (m : Records) (first end n : ℕ) → CountUp first end (numbers_of ps) → n < first
+pub below_stays : (ps : List Numbered) (m : Records) (first end n : ℕ) → CountUp first end (numbers_of ps) → n < first
     → get (with_puts m ps) n ≡ get m n
 below_stays [] m first end n h less = refl
 below_stays (p ∷ ps) m first end n h less =

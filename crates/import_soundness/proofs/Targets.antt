@@ -56,17 +56,16 @@ use Rattle.record_shapes.specs.Members.{members}
 use Rattle.archive_state.specs.Content.{Records}
 use Rattle.archive_state.specs.Merging.{child_with, family_with, partner_with, record_with}
 use Rattle.archive_state.specs.Sound.{Stands}
-use Rattle.archive_state.proofs.Each.{each_back, each_both, each_front, each_more}
 use Rattle.import_forest.specs.Made.{drawing}
 use Rattle.import_forest.specs.Numbers.{Places, owned_by}
 use Rattle.import_forest.specs.Positions.{known, tag_at}
 use Rattle.import_soundness.proofs.Agreeing.{at_node, f}
 use Rattle.import_soundness.proofs.Links.{Names}
-use Rattle.import_soundness.proofs.Lists.{each_mapped}
-use Rattle.import_soundness.proofs.Once.{has, or_none}
 use Rattle.import_soundness.proofs.ReadFamilies.{map_by}
-use Rattle.import_soundness.proofs.RenamedLinks.{links_moved, moved}
+use Rattle.renumbered_records.proofs.Links.{links_moved, moved}
 use Rattle.import_soundness.proofs.Rooted.{There}
+use Rattle.record_shapes.proofs.Each.{each_back, each_both, each_front, each_more, each_mapped, has}
+use Rattle.list_laws.proofs.Booleans.{or_none}
 
 -- a record that is wanted as another is
 record IsWantedAs (old r : Record) : Type 0 where

@@ -23,11 +23,10 @@ use Rattle.import_soundness.specs.Read.{IsNode, PointsWithin, rows}
 use Rattle.import_soundness.proofs.Drawn.{drawing_by, made_is, numbers_are_new, places_by}
 use Rattle.import_soundness.proofs.Filed.{files_have_nodes}
 use Rattle.import_soundness.proofs.Said.{path_stands}
-use Rattle.import_soundness.proofs.Lists.{each_mapped}
 use Rattle.import_soundness.proofs.Rooted.{There}
 use Rattle.import_soundness.proofs.Standing.{ends, new_holds, records_stand}
 use Rattle.import_soundness.proofs.New.{IsNew, all_new, old_and_new, two_new}
-use Rattle.import_soundness.proofs.Within.{each_unmapped}
+use Rattle.record_shapes.proofs.Each.{each_mapped, each_under}
 
 -- ---- the whole
 whole : (c : Content) (file : List Item) → IsSound c → IsForest file
@@ -53,7 +52,7 @@ whole c file sound forest e =
             let begun_is : 0 < c.next = sound.begun in absurd (omega arith)
       ]
     ] in
-    let all : EachOf (There A w d) d.drawn = each_unmapped (λ (p : Numbered). get A p.number ≡ Some p.«record»)
+    let all : EachOf (There A w d) d.drawn = each_under (λ (p : Numbered). get A p.number ≡ Some p.«record»)
     (finished w d) d.drawn stands.batch in
     let nodes : EachOf (λ t. IsNode t × PointsWithin (length rs) t) rs = files_have_nodes file forest in
     let New : Numbered → Type 0 = IsNew c sound A w rs stands.still (λ q n x. x) (λ q k x. x) all zero_none nodes in

@@ -1,5 +1,5 @@
 -- Paths that the archive and the file have, and what holds of lists.
-use Rattle.std.proofs.Common.{◌≡◌, ℕ, Bool, true, false, List, [], ◌∷◌, refl, sym, ◌∙◌, subst}
+use Rattle.std.proofs.Common.{◌≡◌, ℕ, Bool, true, false, List, [], refl, sym, ◌∙◌, subst}
 use Rattle.std.specs.Prelude.{Option, Some, None, IfSome, map, codes}
 use Rattle.std.specs.FinMap.{entries}
 use Rattle.std.specs.List.{filter, slice_get}
@@ -9,7 +9,6 @@ use Rattle.record_kinds.specs.declared.record.Record.{Record}
 use Rattle.std.specs.Option.{unwrap_or}
 use Rattle.record_shapes.specs.Fields.{a_parent, is_above, is_same, parent_field, path_below}
 use Rattle.record_shapes.specs.Forms.{below, number_of, tagged}
-use Rattle.record_shapes.specs.Lists.{EachOf}
 use Rattle.record_shapes.specs.Paths.{is_within_limits}
 use Rattle.record_shapes.specs.Reading.{has_path, parent_line, path_from, path_on, place_name}
 use Rattle.archive_state.specs.Content.{Records}
@@ -17,18 +16,14 @@ use Rattle.archive_state.specs.Known.{path_of}
 use Rattle.import_forest.specs.Made.{lowest_place}
 use Rattle.import_forest.specs.Positions.{known_before, path_at, paths}
 use Rattle.import_soundness.proofs.Agreeing.{f}
-use Rattle.import_soundness.proofs.Finding.{path_has}
 use Rattle.import_soundness.proofs.Left.{first_is}
 use Rattle.import_soundness.proofs.LinksMet.{parent_met}
 use Rattle.import_soundness.proofs.Paths.{path_of_none, path_of_other, path_of_place}
 use Rattle.import_soundness.proofs.ReadPlaces.{place_name_within}
 use Rattle.import_soundness.proofs.Lists.{filter_holds, if_first}
+use Rattle.record_shapes.proofs.PathTexts.{path_has}
 
 -- ---- lists
-pub each_unmapped : {X Y : Type 0} (P : Y → Type 0) (h : X → Y) (xs : List X) → EachOf P (map h xs)
-    → EachOf (λ x. P (h x)) xs
-each_unmapped P h [] e = tt
-each_unmapped P h (x ∷ xs) e = (e.0, each_unmapped P h xs e.1)
 
 -- ---- the places of the archive
 pub lowest_has : (m : Records) (q : List ℕ) (n : ℕ) → lowest_place m q ≡ Some n → path_of m n ≡ Some q

@@ -1,8 +1,6 @@
 -- What an accepted import leaves beside its records: receipts and the next number; and that it is sound.
-use Rattle.std.proofs.Common.{◌≡◌, ℕ, ◌≤◌, ◌-◌, List, [], Bool, true, false, refl, sym, ap, ◌∙◌, inl, subst, arith}
-use Rattle.std.specs.Prelude.{Option, Some, None, Result, Ok, Err, if◌then◌else◌, nat_le}
-use Rattle.std.specs.FinMap.{get}
-use Rattle.record_kinds.specs.declared.record.Record.{Record}
+use Rattle.std.proofs.Common.{◌≡◌, ◌≤◌, ◌-◌, List, [], Bool, true, false, refl, sym, ap, ◌∙◌, inl, subst, arith}
+use Rattle.std.specs.Prelude.{None, Result, Ok, Err, if◌then◌else◌, nat_le}
 use Rattle.record_text.specs.declared.refusal.Refusal.{Refusal}
 use Rattle.record_text.specs.declared.refusal.RefusalKind.TheVariants.{Full}
 use Rattle.receipts.specs.declared.answer.Answer.{Answer}
@@ -21,7 +19,10 @@ use Rattle.import_soundness.specs.Imported.{CountUp, imported, numbers}
 use Rattle.import_soundness.proofs.Drawn.{numbers_are_new}
 use Rattle.import_soundness.proofs.Whole.{imports_stay_sound}
 use Rattle.import_steps.specs.Imports.{OnlyAdds, answer_of, import_step}
-use Rattle.import_steps.proofs.Standing.{all_taken, ascend, below_stays, ends, free_from, none_before, once}
+use Rattle.import_steps.proofs.Standing.{all_taken, ascend, free_from, none_before}
+use Rattle.archive_state.proofs.Later.{none_later}
+use Rattle.import_soundness.proofs.Standing.{below_stays, ends}
+use Rattle.record_shapes.proofs.Each.{once_ascending}
 
 -- the numbers of a batch
 counted : (c : Content) (f : List Item) (b : Batch) → made c f ≡ Ok b → CountUp c.next b.next (numbers b)
@@ -69,13 +70,6 @@ abbrev pub changes_of : Batch → Answer → Changes
 changes_of b a =
     record { puts = b.records; removals = []; next = b.next; answer = a; kept = None; slip = None }
 
-none_later : (c : Content) → IsSound c → (n : ℕ) → c.next ≤ n → get c.records n ≡ None
-none_later c sound n less = by (get c.records n) refl
-  where
-    by : (o : Option Record) → get c.records n ≡ o → o ≡ None
-    by None q = refl
-    by (Some r) q = let number = sound.rules.numbered n r q in absurd (omega (arith, number.1, less))
-
 pub made_is_exact : (c : Content) (f : List Item) (b : Batch) (a : Answer) → made c f ≡ Ok b
     → IsExact c (changes_of b a)
 made_is_exact c f b a e =
@@ -94,7 +88,7 @@ made_adds c f b a e =
     let up = counted c f b e in
     record {
       numbers = up;
-      once = once (numbers b) (ascend (numbers b) c.next b.next up);
+      once = once_ascending (numbers b) (ascend (numbers b) c.next b.next up);
       free = λ sound. free_from c.records c.next (none_later c sound) b.records c.next b.next (omega arith) up;
       removals = refl;
       slip = refl;

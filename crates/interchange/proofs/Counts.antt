@@ -1,28 +1,16 @@
 -- There is a path for each node, and a draft.
-use Rattle.std.proofs.Common.{◌≡◌, ℕ, ◌+◌, ◌<◌, ◌^◌, List, [], ◌∷◌, ◌++◌, length, map, ap, ◌∙◌, arith, refl}
+use Rattle.std.proofs.Common.{◌≡◌, ℕ, ◌+◌, ◌<◌, ◌^◌, List, [], ◌∷◌, length, map, ap, arith, refl}
 use Rattle.std.specs.Prelude.{Option}
-use Rattle.std.proofs.lemmas.List.{length-append, length-map}
+use Rattle.std.proofs.lemmas.List.{length-map}
 use Rattle.stored_lines.specs.Line.{Lines}
 use Rattle.stored_lines.specs.Tree.{Tree}
 use Rattle.record_shapes.specs.Reading.{Draft}
 use Rattle.file_roots.specs.Nodes.{FileNode}
-use Rattle.file_roots.specs.Lines.{lined_root, lined_roots, place_in, roots, unlined}
-use Rattle.import_forest.specs.Positions.{path_behind, paths, paths_behind}
+use Rattle.file_roots.specs.Lines.{roots}
+use Rattle.import_forest.specs.Positions.{paths}
 use Rattle.import_forest.specs.Sides.{drafts_from}
-
-behind_long : (rs : Lines) (ps : List (Option (List ℕ))) (behind : Lines)
-    → length (paths_behind rs ps behind) ≡ length ps + length behind
-behind_long rs ps [] = omega arith
-behind_long rs ps (r ∷ behind) =
-    omega (arith, behind_long rs (ps ++ path_behind rs ps r ∷ []) behind, length-append ps (path_behind rs ps r ∷ []))
-
-paths_long : (rs : Lines) → length (paths rs) ≡ length rs
-unfolding paths
-paths_long rs = omega (arith, behind_long rs [] rs)
-
-roots_long : (ks : List FileNode) → length (roots ks) ≡ length ks
-unfolding roots
-roots_long ks = length-map (lined_roots ks) unlined ∙ length-map ks (lined_root (place_in ks))
+use Rattle.import_forest.proofs.Firsts.{paths_length}
+use Rattle.file_roots.proofs.Below.{roots_length}
 
 drafts_long : (rs : Lines) (k : ℕ) (behind : Lines) → length (drafts_from rs k behind) ≡ length behind
 drafts_long rs k [] = refl
@@ -32,9 +20,9 @@ drafts_long rs k (r ∷ behind) = omega (arith, drafts_long rs (k + 1) behind)
 pub paths_few : {P : Type 0} (ks : List FileNode) (said : P → Option (List ℕ)) (ps : List P)
     → map said ps ≡ paths (roots ks) → length ks < 2 ^ 32 → length ps < 2 ^ 32
 paths_few ks said ps same few =
-    omega (arith, length-map ps said, ap length same, paths_long (roots ks), roots_long ks, few)
+    omega (arith, length-map ps said, ap length same, paths_length (roots ks), roots_length ks, few)
 
 pub drafts_few : {D : Type 0} (ks : List FileNode) (said : D → Tree Draft) (ds : List D)
     → map said ds ≡ drafts_from (roots ks) 0 (roots ks) → length ks < 2 ^ 32 → length ds < 2 ^ 32
 drafts_few ks said ds same few =
-    omega (arith, length-map ds said, ap length same, drafts_long (roots ks) 0 (roots ks), roots_long ks, few)
+    omega (arith, length-map ds said, ap length same, drafts_long (roots ks) 0 (roots ks), roots_length ks, few)

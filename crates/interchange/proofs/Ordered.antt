@@ -28,6 +28,7 @@ use Rattle.std.specs.List.Sorted.{IsNonDecreasingBy}
 use Rattle.std.proofs.lemmas.Bool.Decides.{nat_tests}
 use Rattle.receipts.specs.declared.report.ReportLine.{ReportLine}
 use Rattle.import_forest.specs.Report.{in_order, put_in}
+use Rattle.list_laws.proofs.Numbers.{same_self}
 
 -- no item has a number below this one
 abbrev IsFrom : {X : Type 0} → (X → ℕ) → ℕ → List X → Type 0
@@ -65,14 +66,11 @@ found_from number least n (y ∷ ys) far x more e =
       | false ↦ λ t is. found_from number least n ys (λ j d lt. far (suc j) d (omega arith)) x more is
     ] refl e
 
-itself : (n : ℕ) → (n == n) ≡ true
-itself n = grind (arith, nat_tests)
-
 own_found : {X : Type 0} (number : X → ℕ) (x : X) (xs : List X)
     → filter (λ y. number y == number x) (x ∷ xs) ≡ x ∷ filter (λ y. number y == number x) xs
 own_found number x xs =
     ap (λ b. cond b (x ∷ filter (λ y. number y == number x) xs) (filter (λ y. number y == number x) xs))
-    (itself (number x))
+    (same_self (number x))
 
 abbrev HaveSame : {X : Type 0} → (X → ℕ) → List X → List X → Type 0
 HaveSame number xs ys = (n : ℕ) → filter (λ x. number x == n) xs ≡ filter (λ x. number x == n) ys

@@ -1,3 +1,1 @@
-mod Maps
-pub mod Steps
 pub mod Surveyed

@@ -7,7 +7,6 @@ use Rattle.std.proofs.Common.{
   ◌+◌,
   ◌<◌,
   ◌==◌,
-  nat_le,
   List,
   [],
   ◌∷◌,
@@ -30,15 +29,12 @@ use Rattle.std.proofs.Common.{
   eq-eqb,
 }
 use Rattle.std.specs.Prelude.{Option, Some, None, if◌then◌else◌, string_bytes}
-use Rattle.std.specs.Bool.{Decides}
-use Rattle.std.proofs.lemmas.Bool.Decides.{nat_tests, Decides-and}
 use Rattle.std.specs.List.{list_any}
 use Rattle.std.specs.FinMap.{get, insert}
 use Rattle.std.proofs.lemmas.List.{take_more}
 use Rattle.std.proofs.lemmas.List.Folds.{list_any-append}
-use Rattle.record_kinds.specs.declared.record.Record.{Record}
 use Rattle.record_shapes.specs.Lists.{Ascends, EachOf}
-use Rattle.record_shapes.specs.Paths.{IsWithinLimits, is_within_limits, parts}
+use Rattle.record_shapes.specs.Paths.{is_within_limits}
 use Rattle.archive_state.specs.Content.{Records}
 use Rattle.archive_state.specs.Known.{path_of, path_with}
 use Rattle.archive_state.proofs.Known.{path_known}
@@ -47,7 +43,10 @@ use Rattle.known_records.specs.Knowing.{AreWithin, HasAll, IsTooLong, KnowsPaths
 use Rattle.known_records.specs.Looks.{IsLook, Keeps, is_too_long}
 use Rattle.known_records.specs.declared.survey.PathLook.{PathLook}
 use Rattle.known_records.specs.declared.survey.PathLook.TheVariants as looks
-use Rattle.known_records.proofs.Steps.{path_there, with_alike}
+use Rattle.archive_state.proofs.Later.{none_where}
+use Rattle.record_shapes.proofs.Limits.{limits}
+use Rattle.list_laws.proofs.Booleans.{or_nothing}
+use Rattle.archive_state.proofs.PathsAlike.{path_there, with_alike}
 
 abbrev pub is_in : List ℕ → ℕ → Bool
 is_in ns n = list_any (λ k. k == n) ns
@@ -89,10 +88,6 @@ in_front (n ∷ ns) (suc i) q asc less small e =
 no_record : (m : Records) (n : ℕ) → get m n ≡ None → path_of m n ≡ None
 no_record m n e = path_there m n ∙ ap (path_with n (path_of m)) e
 
-none_where : (o : Option Record) → ((r : Record) → o ≡ Some r → ⊥) → o ≡ None
-none_where None h = refl
-none_where (Some r) h = absurd (h r refl)
-
 -- ---- one number more
 or_none : (a b : Bool) (o : Option (List ℕ)) → (b ≡ true → o ≡ None)
     → (if a then o else None) ≡ (if (a || b) then o else None)
@@ -115,16 +110,6 @@ not_same n k h = elim (n == k) as (λ b. (n == k) ≡ b → b ≡ false) [
   | true ↦ λ e. absurd (h (sym (eqb-true n k e)))
   | false ↦ λ _. refl
 ] refl
-
-or_nothing : (b : Bool) → (b || false) ≡ b
-or_nothing true = refl
-or_nothing false = refl
-
-limits : (path : List ℕ) → Decides (is_within_limits path) (IsWithinLimits path)
-unfolding is_within_limits
-limits path = Decides-and (nat_le (length (parts path)) 32) (nat_le (length path) 4096)
-    (λ h. grind (arith, nat_tests), λ h. grind (arith, nat_tests))
-    (λ h. grind (arith, nat_tests), λ h. grind (arith, nat_tests))
 
 module _ (m : Records) (ns : List ℕ) (asc : Ascends ns) (all : HasAll ns m) where
   module _ (i : ℕ) (less : i < length ns) (paths : PathMap) (h : Upto m (take i ns) paths) where

@@ -2,8 +2,8 @@
 use Rattle.std.proofs.Common.{◌≡◌, List, [], ◌∷◌, ◌++◌, Bool, true, false, cond, refl}
 use Rattle.std.specs.Prelude.{map}
 use Rattle.std.specs.List.{flat_map, filter}
-use Rattle.archive_state.proofs.Each.{each_front, each_back, each_both}
 use Rattle.record_shapes.specs.Lists.{EachOf}
+use Rattle.record_shapes.proofs.Each.{each_front, each_back, each_both}
 
 -- ---- parts that are changed, each by itself
 module _ {A B : Type 0} (P Q : B → Type 0) (all : A → List B) (f : A → A)

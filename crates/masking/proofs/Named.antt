@@ -29,7 +29,6 @@ use Rattle.record_links.specs.Links.{
 use Rattle.record_shapes.specs.Lists.{EachOf}
 use Rattle.archive_state.specs.Content.{Content, Records}
 use Rattle.archive_state.specs.Sound.{Stands}
-use Rattle.archive_state.proofs.Each.{each_front, each_back, each_both}
 use Rattle.archive_state.proofs.Keeping.{stands_as}
 use Rattle.masking.specs.Masking.{
   Judged,
@@ -49,6 +48,7 @@ use Rattle.masking.specs.Masking.{
 }
 use Rattle.masking.proofs.Lists.{each_part, each_filtered}
 use Rattle.masking.proofs.Showing.{shown_where}
+use Rattle.record_shapes.proofs.Each.{each_front, each_back, each_both}
 
 -- ---- what is wanted is not gone, and is shown as what is wanted
 abbrev IsKept : Judged → Looks → Wanted → ℕ → Record → Type 0

@@ -40,7 +40,6 @@ use Rattle.archive_state.specs.Sound.{
 use Rattle.archive_state.specs.Known.{known_before, known_of}
 use Rattle.archive_state.specs.Texts.{there, date_texts, own_texts, carried_texts, line_texts}
 use Rattle.archive_state.specs.Sound as sound_rules
-use Rattle.archive_state.proofs.Each.{each_front, each_back, each_both}
 use Rattle.archive_state.proofs.Keeping.{KeepsRules}
 use Rattle.masking.specs.Masking.{
   Judged,
@@ -59,45 +58,46 @@ use Rattle.masking.specs.Masking.{
 use Rattle.masking.proofs.Lists.{map_same, flat_same, each_filtered, each_changed, each_single, single_each}
 use Rattle.masking.proofs.Named.{links_shown, owner_shown}
 use Rattle.masking.proofs.Showing.{bare_carried, came_from}
+use Rattle.list_laws.proofs.Outcomes.{if_some}
+use Rattle.record_shapes.proofs.Limits.{none_within}
+use Rattle.record_shapes.proofs.Each.{each_front, each_back, each_both}
 
 -- ---- what no other record is asked for
-no_levels : (n : ℕ) → AreWithin n []
-no_levels n = omega arith
 
 room_person : (o : Option Record) (b : Bool) (p : model.Person) → HasRoom o (kind.Person (shown_person b p))
-room_person o true p = ((no_levels 97, tt), no_levels 98)
+room_person o true p = ((none_within 97, tt), none_within 98)
 room_person o false p = (
-  each_changed (λ (n : model.Name). AreWithin 97 n.carried) shown_name (λ x. no_levels 97) p.names,
-  no_levels 98,
+  each_changed (λ (n : model.Name). AreWithin 97 n.carried) shown_name (λ x. none_within 97) p.names,
+  none_within 98,
 )
 
 room_place : (o : Option model.EventPlace) → IfSome (option_map shown_event_place o)
     (λ (p : model.EventPlace). AreWithin 96 p.carried)
 room_place None = tt
-room_place (Some p) = no_levels 96
+room_place (Some p) = none_within 96
 
 pub room_shown : (j : Judged) (look : Looks) (n : ℕ) (owner : Option Record) (r : Record) → is_gone j look n r ≡ false
     → HasRoom owner (shown_of j n r)
-room_shown j look n owner (kind.Place p) gone = no_levels 98
-room_shown j look n owner (kind.Repo r) gone = no_levels 98
+room_shown j look n owner (kind.Place p) gone = none_within 98
+room_shown j look n owner (kind.Repo r) gone = none_within 98
 room_shown j look n owner (kind.Source s) gone = (
-  each_changed (λ (h : model.Holding). AreWithin 97 h.carried) shown_holding (λ x. no_levels 97) s.holdings,
-  no_levels 98,
+  each_changed (λ (h : model.Holding). AreWithin 97 h.carried) shown_holding (λ x. none_within 97) s.holdings,
+  none_within 98,
 )
 room_shown j look n owner (kind.Person p) gone = room_person owner (j.living n) p
 room_shown j look n owner (kind.Family x) gone = (
   each_changed (λ (p : model.Partner). AreWithin 97 p.carried × AreWithin 97 p.carried_by_person) shown_partner
-      (λ y. (no_levels 97, no_levels 97)) x.partners,
+      (λ y. (none_within 97, none_within 97)) x.partners,
   each_changed (λ (c : model.Child). AreWithin 97 c.carried × AreWithin 97 c.carried_by_person) shown_child
-      (λ y. (no_levels 97, no_levels 97)) x.children,
-  no_levels 98,
+      (λ y. (none_within 97, none_within 97)) x.children,
+  none_within 98,
 )
-room_shown j look n owner (kind.Citation c) gone = no_levels (room_below owner)
+room_shown j look n owner (kind.Citation c) gone = none_within (room_below owner)
 room_shown j look n owner (kind.Event e) gone = (
   room_place e.place,
-  each_changed (λ (p : model.Participant). AreWithin 96 p.carried) shown_participant (λ y. no_levels 96)
+  each_changed (λ (p : model.Participant). AreWithin 96 p.carried) shown_participant (λ y. none_within 96)
       (filter (λ (p : model.Participant). not (j.living p.person)) e.participants),
-  no_levels 97,
+  none_within 97,
 )
 room_shown j look n owner (kind.Entry e) gone = tt
 room_shown j look n owner (kind.Other o) gone = absurd cc
@@ -268,10 +268,6 @@ place_same : (j : Judged) (n : ℕ) (r : Record) → place_of (shown_of j n r) �
 place_same j n (kind.Event e) = same_place e.place
 place_same j n (kind.Entry e) = refl
 place_same j n _ = refl
-
-if_some : {A : Type 0} (P Q : A → Type 0) → ((a : A) → P a → Q a) → (o : Option A) → IfSome o P → IfSome o Q
-if_some P Q f None h = tt
-if_some P Q f (Some a) h = f a h
 
 module _ (c : Content) (today : ℤ) (d : Content) (h : IsMasked c today d) where
   place_was : (n : ℕ) (p : model.Place) → IsPlaceAt d.records n p

@@ -18,12 +18,8 @@ use Rattle.std.specs.Prelude.{
   zero,
   Some,
   None,
-  Result,
-  Ok,
-  Err,
-  OnOk,
 }
-use Rattle.std.proofs.Common.{ap, sym, ◌∙◌, append_assoc, append-nil, drop-cons, add-one, arith}
+use Rattle.std.proofs.Common.{ap, sym, ◌∙◌, append_assoc, append-nil, arith}
 use Rattle.std.proofs.Math.ListN.{drop_of_length-le}
 use Rattle.stored_lines.specs.Tree.{Tree, node, none, forest_of, forest_size, tree_size}
 use Rattle.stored_lines.specs.Levels.{levels, forest_levels}
@@ -48,10 +44,7 @@ use Rattle.record_nodes.proofs.Pages.{
   page-none,
   record-bare,
 }
-
-pub on_ok : {A E P Q : Type 0} (r : Result A E) → (P → Q) → OnOk r P → OnOk r Q
-on_ok (Ok a) f h = f h
-on_ok (Err e) f h = h
+use Rattle.list_laws.proofs.Lists.{item_here}
 
 -- a text is written, and more is left
 pub then_text : (old new text more : List ℕ) → new ≡ old ++ text → new ++ more ≡ old ++ (text ++ more)
@@ -76,13 +69,6 @@ module _ (level : ℕ) where
       ≡ spelling (record { level = level; xref = None; tag = tag; raw = raw }) ++ 10 ∷ []
   pointer_node tag raw = nodes-bare level (record { xref = None; tag = tag; value = Pointer raw })
       ∙ append-nil (spelling (record { level = level; xref = None; tag = tag; raw = raw }) ++ 10 ∷ [])
-
--- the element of a list at an index, and those behind it
-pub at_index : {A : Type 0} (xs : List A) (i : ℕ) (x : A) → i < length xs → x ≡ get_or xs i x
-    → drop i xs ≡ x ∷ drop (i + 1) xs
-at_index {A} xs i x less at =
-    drop-cons xs i x less ∙ ap (λ (y : A). y ∷ drop (suc i) xs) (sym at) ∙ ap (λ (k : ℕ). x ∷ drop k xs)
-    (sym (add-one i))
 
 module _ (names : ℕ → List ℕ) (level : ℕ) where
   -- lines are written, and further lines of that level are left
@@ -125,14 +111,14 @@ module _ (names : ℕ → List ℕ) (level : ℕ) where
       → new ++ page names level (map f (drop (i + 1) xs)) ≡ whole
   then_next {A} f xs i x old new whole less at e before =
       then_page old new (f x ∷ []) (map f (drop (i + 1) xs)) e
-      ∙ ap (λ (ys : List A). old ++ page names level (map f ys)) (sym (at_index xs i x less at)) ∙ before
+      ∙ ap (λ (ys : List A). old ++ page names level (map f ys)) (sym (item_here xs i x less at)) ∙ before
 
   pub then_line : (ts : Lines) (i : ℕ) (t : Tree Line) (old new whole : List ℕ) → i < length ts → t ≡ get_or ts i t
       → new ≡ old ++ page names level (t ∷ []) → old ++ page names level (drop i ts) ≡ whole
       → new ++ page names level (drop (i + 1) ts) ≡ whole
   then_line ts i t old new whole less at e before =
       then_page old new (t ∷ []) (drop (i + 1) ts) e
-      ∙ ap (λ (us : Lines). old ++ page names level us) (sym (at_index ts i t less at)) ∙ before
+      ∙ ap (λ (us : Lines). old ++ page names level us) (sym (item_here ts i t less at)) ∙ before
 
   -- all lines of a list are written
   pub all_written : {A : Type 0} (f : A → Tree Line) (xs : List A) (i : ℕ) (old whole : List ℕ) → length xs ≤ i

@@ -29,7 +29,6 @@ use Rattle.std.specs.Prelude.{◌==◌, ◌&&◌, ◌||◌}
 use Rattle.std.specs.List.{list_any}
 use Rattle.std.proofs.Math.Seq.{take-suc}
 use Rattle.std.proofs.lemmas.Bool.{and_parts}
-use Rattle.std.proofs.lemmas.Bool.Decides.{nat_tests}
 use Rattle.std.proofs.lemmas.List.Folds.{list_any_at}
 use Rattle.stored_lines.specs.Line.{Label}
 use Rattle.record_kinds.specs.declared.record.Record.{Record}
@@ -44,6 +43,7 @@ use Rattle.store_tables.specs.Rows.{SlipRow}
 use Rattle.store_rows.specs.Sides.{SideLine}
 use Rattle.old_rows.specs.Reading.{AreChangesAnewOf, AreRecordsAnew, AreSlipsAnew}
 use Rattle.old_rows.specs.Renewing.{Anew, IsAnewOf, RecordAnew, SideAnew, SlipAnew}
+use Rattle.list_laws.proofs.Numbers.{same_self}
 
 -- ---- lists
 pub each_more : {A : Type 0} (P : A → Type 0) (xs : List A) (x : A) → EachOf P xs → P x → EachOf P (xs ++ x ∷ [])
@@ -79,9 +79,6 @@ pub taken : {A : Type 0} → (xs : List A) (i : ℕ) (x : A) → i < length xs �
 taken xs i x low at =
     let next : suc i ≡ i + 1 = omega arith in
     ap (λ k. take k xs) (sym next) ∙ take-suc xs i x low ∙ ap (λ y. take i xs ++ y ∷ []) (sym at)
-
-pub itself : (n : ℕ) → (n == n) ≡ true
-itself n = grind (arith, nat_tests)
 
 -- ---- a record
 pub read_is : (lines : List (ℕ × Label)) (r : Record) (a : Anew) → reading.IsAnewOf lines r → a.lines ≡ stored r
@@ -131,7 +128,7 @@ pub slip_at : (rows : List SlipRow) (i : ℕ) (r : SlipRow) → i < length rows 
     → list_any (λ (s : SlipRow). s.no == r.no) rows ≡ true
 slip_at rows i r low at =
     list_any_at (λ (s : SlipRow). s.no == r.no) rows i r low
-    (subst (λ (s : SlipRow). (s.no == r.no) ≡ true) at (itself r.no))
+    (subst (λ (s : SlipRow). (s.no == r.no) ≡ true) at (same_self r.no))
 
 module _ (lines : ℕ → List SideLine) where
   pub no_slips : AreSlipsAnew lines [] []

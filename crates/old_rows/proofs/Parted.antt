@@ -66,6 +66,7 @@ use Rattle.old_rows.specs.Reading.{
   old_side_lines,
 }
 use Rattle.old_rows.specs.Renewing.{Anew, IsAnewOf, SideAnew}
+use Rattle.list_laws.proofs.Booleans.{neither}
 
 abbrev Row : Type 0
 Row = ℕ × SideLine
@@ -220,10 +221,6 @@ flat_one : (done more : List SideAnew) (s : SideAnew) → more ≡ done ++ s ∷
 flat_one done more s pushed = ap (flat_map lines_anew) pushed ∙ flat_map-append lines_anew done (s ∷ [])
     ∙ ap (λ (x : List SideLine). flat_map lines_anew done ++ x) (append-nil (lines_anew s))
 
-or_none : (a b : Bool) → (a || b) ≡ false → (a ≡ false) × (b ≡ false)
-or_none true b e = absurd cc
-or_none false b e = (refl, e)
-
 or_end : (b : Bool) → (b || false) ≡ false → b ≡ false
 or_end true e = absurd cc
 or_end false e = refl
@@ -264,7 +261,7 @@ one_read lines rows first others n done more s some long fst snd parts pushed is
                 ∙ ap (λ (x : List SideLine). x ++ flat_map new_side_lines step.0) (sym (flat_one done more s pushed)),
           );
       same = λ e.
-          let both = or_none (list_any (λ (x : SideAnew). x.anew.has_changed) done)
+          let both = neither (list_any (λ (x : SideAnew). x.anew.has_changed) done)
           (list_any (λ (x : SideAnew). x.anew.has_changed) (s ∷ []))
           (sym (list_any-append (λ (x : SideAnew). x.anew.has_changed) done (s ∷ []))
           ∙ ap (list_any (λ (x : SideAnew). x.anew.has_changed)) (sym pushed) ∙ e) in

@@ -23,15 +23,13 @@ use Rattle.std.specs.Prelude.{◌==◌, ◌||◌, IfSome, option_map}
 use Rattle.std.specs.FinMap.{get}
 use Rattle.std.specs.List.{list_any}
 use Rattle.stored_lines.specs.Line.{Label}
-use Rattle.record_fields.specs.declared.date.Date.{Date}
 use Rattle.record_kinds.specs.declared.record.Record.{Record}
-use Rattle.record_kinds.specs.declared.record.Record.TheVariants as kind
 use Rattle.records.specs.Shallow.{IsShallow}
 use Rattle.record_shapes.specs.Lists.{EachOf}
 use Rattle.archive_state.specs.Content.{Content}
 use Rattle.archive_state.specs.Slips.{Slip}
 use Rattle.archive_state.specs.declared.slip.Change.{Change}
-use Rattle.records_anew.specs.Anew.{IsAnew, OldChange, OldContent, OldSlip, anew, change_anew, slip_anew, with_date}
+use Rattle.records_anew.specs.Anew.{IsAnew, OldChange, OldContent, OldSlip, anew, change_anew, slip_anew}
 use Rattle.records_anew.specs.Old.{OldRecord}
 use Rattle.store_tables.specs.Reading.{ReadRows, read_line, read_of, read_record, read_slip_line}
 use Rattle.store_tables.specs.Rows.{Rows, SlipRow, lines_of, slip_lines_of, with_span_table, with_version}
@@ -64,21 +62,13 @@ use Rattle.old_rows.specs.Renewing.{
 }
 use Rattle.old_rows.proofs.Rest.{records_only, slips_only}
 use Rattle.old_rows.proofs.Written.{lines_written, slip_written, span_written}
+use Rattle.records_anew.proofs.OldLines.{shallow_still}
+use Rattle.record_shapes.proofs.Each.{each_more}
 
 -- ---- what is shallow stays so
-dated_shallow : (date : Option Date) (r : Record) → IsShallow r → IsShallow (with_date date r)
-dated_shallow date (kind.Event e) h = h
-dated_shallow date (kind.Entry e) h = tt
-dated_shallow date (kind.Place p) h = h
-dated_shallow date (kind.Repo r) h = h
-dated_shallow date (kind.Source s) h = h
-dated_shallow date (kind.Person p) h = h
-dated_shallow date (kind.Family f) h = h
-dated_shallow date (kind.Citation c) h = h
-dated_shallow date (kind.Other o) h = h
 
 shallow_anew : (o : OldRecord) → IsShallowOld o → IsShallow (anew o)
-shallow_anew o h = dated_shallow _ o.rest h
+shallow_anew o h = shallow_still _ o.rest h
 
 shallow_new : (o : Option OldRecord) → IfSome o IsShallowOld → IsShallowOption (option_map anew o)
 shallow_new None h = tt
@@ -211,9 +201,6 @@ module _ (rows : Rows) (renewal : Renewal) (read : IsReadOf rows renewal) (none 
       })
 
 -- ---- from what is read of the rows
-each_by : {A : Type 0} (P Q : A → Type 0) → ((a : A) → P a → Q a) → (as' : List A) → EachOf P as' → EachOf Q as'
-each_by P Q f [] h = tt
-each_by P Q f (a ∷ as') h = (f a h.0, each_by P Q f as' h.1)
 
 module _ (rows : Rows) (closed : ℕ → Bool) (lines : ℕ → List (ℕ × Label)) (slip_lines : ℕ → List SideLine)
     (closed_is : (n : ℕ) → closed n ≡ is_closed n rows.batches)
@@ -233,11 +220,11 @@ module _ (rows : Rows) (closed : ℕ → Bool) (lines : ℕ → List (ℕ × Lab
       → AreRecordsAnew closed lines (map read_record rows.records) renewal.records
       → AreSlipsAnew slip_lines rows.slips renewal.slips → IsReadOf rows renewal
   read_of_rows renewal records slips = record {
-    records = each_by (λ (r : RecordAnew). IsAnewOf (lines r.number) r.anew)
+    records = each_more (λ (r : RecordAnew). IsAnewOf (lines r.number) r.anew)
         (λ (r : RecordAnew). IsAnewOf (lines_of r.number rows) r.anew)
         (λ r h. subst (λ ls. IsAnewOf ls r.anew) (lines_at r.number) h) renewal.records records.each;
     all_records = λ n e. records.all n (has_is n ∙ e);
-    slips = each_by (λ (s : SlipAnew). AreChangesAnewOf (slip_lines s.number) s.sides)
+    slips = each_more (λ (s : SlipAnew). AreChangesAnewOf (slip_lines s.number) s.sides)
         (λ (s : SlipAnew). AreChangesAnewOf (slip_lines_of s.number rows) s.sides)
         (λ s h. subst (λ ls. AreChangesAnewOf ls s.sides) (slip_lines_at s.number) h) renewal.slips slips.each;
     all_slips = slips.all;

@@ -1,6 +1,5 @@
 -- What a transaction makes of tables of the first version, when it is committed.
-use Rattle.std.proofs.Common.{◌≡◌, false, true, inl, inr, [], Result, Ok, Err, refl, sym, ap, ◌∙◌, subst}
-use Rattle.std.specs.Prelude.{IfErr}
+use Rattle.std.proofs.Common.{◌≡◌, false, true, inl, inr, [], refl, sym, ap, ◌∙◌, subst}
 use Rattle.sqlite.specs.Effect.{Database}
 use Rattle.sqlite.specs.State.{Shows, State}
 use Rattle.sqlite.specs.Tree.{Trees}
@@ -22,11 +21,6 @@ settles old mid new f rows follows shows none was =
       schema = ap (λ (d : Database). d.schema) shows.now_is ∙ inside.schema;
       good = subst (Good (f rows)) (sym (ap (λ (d : Database). d.trees) shows.now_is)) inside.good;
     }
-
--- the exit of a `?`
-pub if_err : {A E : Type 0} (r : Result A E) (P : E → Type 0) → ((e : E) → P e) → IfErr r P
-if_err (Ok a) P h = tt
-if_err (Err e) P h = h e
 
 -- tables without spans have none
 pub no_spans : (rows : Rows) (t : Trees) → Good rows t → rows.has_spans ≡ false → rows.spans ≡ []

@@ -1,23 +1,12 @@
 -- Calls in a transaction over tables that have spans: one after the other, and loops of them.
-use Rattle.std.proofs.Common.{◌≡◌, true, false, refl, sym, subst, ◌∙◌, arith, cond, Result, OnOk}
+use Rattle.std.proofs.Common.{◌≡◌, true, false, refl, sym, subst, ◌∙◌, cond, Result, OnOk}
 use Rattle.std.specs.List.{list_any}
-use Rattle.sqlite.specs.State.{State, HasCleanDisk, Survives}
-use Rattle.sqlite.proofs.StateLemmas.{survives_then}
+use Rattle.sqlite.specs.State.{State}
 use Rattle.store_tables.specs.Calls.{Inside, Follows, FollowsDated, FollowsUndated}
 use Rattle.store_tables.specs.Rows.{Rows, with_span_table, with_version, without_slip_lines}
 use Rattle.store_tables.proofs.Calls.{follows_then, on_ok}
 use Rattle.old_rows.specs.Renewing.{SideAnew, SlipAnew, with_sides_anew, with_slip_anew}
-
--- the tables have spans afterwards, where they had some
-abbrev pub KeepsTable : (Rows → Rows) → Type 0
-KeepsTable f = (rows : Rows) → rows.has_spans ≡ true → (f rows).has_spans ≡ true
-
-pub dated_then : (a b c : State) (f g : Rows → Rows) → KeepsTable f → FollowsDated a b f → FollowsDated b c g
-    → FollowsDated a c (λ rows. g (f rows))
-dated_then a b c f g keeps p q rows has was =
-    let one = p rows has was in
-    let two = q (f rows) (keeps rows has) one.0 in
-    (two.0, two.1 ∙ one.1)
+use Rattle.store_rows.proofs.Dated.{dated_then, KeepsTable}
 
 pub dated : (a b : State) (f : Rows → Rows) → Follows a b f → FollowsDated a b f
 dated a b f p rows has was = p rows was
@@ -60,20 +49,3 @@ all_slip r a b c slip some one = on_ok r (λ two rows was.
           (sym some) did.0,
       did.1,
     ))
-
--- at each turn, what is left leads from here to where all leads
-pub record IsOnItsWay (old now : State) (all left : Rows → Rows) : Type 0 where
-  pub survives : Survives old now (λ _. ⊥)
-  pub leads : HasCleanDisk now → (rows : Rows) → rows.has_spans ≡ true → Inside old rows → (here : Rows)
-      × (here.has_spans ≡ true) × Inside now here × (now.committed ≡ old.committed) × (left here ≡ all rows)
-
-pub goes_on : (old mid now : State) (all left one rest : Rows → Rows) → IsOnItsWay old mid all left → KeepsTable one
-    → (HasCleanDisk now → FollowsDated mid now one) → Survives mid now (λ _. ⊥)
-    → ((rows : Rows) → left rows ≡ rest (one rows)) → IsOnItsWay old now all rest
-goes_on old mid now all left one rest way keeps step kept is = record {
-  survives = survives_then old mid now _ _ (λ _. ⊥) (λ _ db none. none) (λ _ db none. none) way.survives kept;
-  leads = λ clean rows had was.
-      let came = way.leads (omega (arith, kept.clean)) rows had was in
-      let next = step clean came.0 came.1 came.2 in
-      (one came.0, keeps came.0 came.1, next.0, next.1 ∙ came.3, sym (is came.0) ∙ came.4);
-}

@@ -48,7 +48,7 @@ use Rattle.store_tables.specs.Rows.{
 use Rattle.store_rows.specs.Meaning.{change_lines}
 use Rattle.store_rows.specs.Sides.{SideLine}
 use Rattle.store_rows.specs.Spans.{span_at, with_span_if}
-use Rattle.store_rows.proofs.Own.{it, none_left, not_it, others_left, own, put_elsewhere, put_here}
+use Rattle.store_rows.proofs.Own.{none_left, others_left, own, put_elsewhere, put_here}
 use Rattle.store_rows.proofs.Puts.{line_put}
 use Rattle.store_rows.proofs.Slips as slips
 use Rattle.old_rows.specs.Meaning.{IsOldChange, old_change_lines}
@@ -65,6 +65,7 @@ use Rattle.old_rows.specs.Renewing.{
   with_slips_anew,
 }
 use Rattle.old_rows.proofs.Rest.{span_lines, spans_stay}
+use Rattle.list_laws.proofs.Numbers.{it, not_it}
 
 -- ---- items of numbers, one after the other: what waits for the first of a number is got by it, and is kept
 module _ {A : Type 0} (key : A → ℕ) (E : A → Type 0) (step : A → Rows → Rows) (P Q : Rows → Type 0) (n : ℕ)

@@ -1,10 +1,9 @@
 //! What is read anew, written as rows inside a transaction.
 
-ghost use Rattle.std.specs.Prelude.{◌≡◌, OnOk, cond};
+ghost use Rattle.std.specs.Prelude.{◌≡◌, cond};
 ghost use Rattle.std.specs.List.{list_any};
-ghost use Rattle.sqlite.specs.State.{HasCleanDisk, Survives};
 ghost use Rattle.sqlite.specs.Held.{state};
-ghost use Rattle.store_tables.specs.Calls.{Follows, FollowsDated, FollowsUndated};
+ghost use Rattle.store_tables.specs.Calls.{LeavesAsBefore, Writes, WritesDated, WritesUndated};
 ghost use Rattle.store_tables.specs.Rows.{with_changed_lines, with_slip_lines};
 ghost use Rattle.store_rows.specs.Spans.{with_span_if};
 ghost use Rattle.old_rows.specs.Renewing.{
@@ -27,10 +26,9 @@ use store_tables::{rows, spans};
 /// that changes, the spans, and each slip of which a record changes. After an error the transaction is to be given up.
 pub fn write_renewal<S: Alter>(tx: &mut Transaction<'_, S>, renewal: &Renewal) -> Result<(), Error>
     ensures same_reference { tx.new.conn.ghost_name ≡ tx.old.conn.ghost_name }
-    ensures ok { HasCleanDisk (state S.Store tx.new.conn.now)
-        → OnOk result (FollowsUndated (state S.Store tx.old.conn.now) (state S.Store tx.new.conn.now)
-        (with_renewal renewal.now)) }
-    ensures survives { Survives (state S.Store tx.old.conn.now) (state S.Store tx.new.conn.now) (λ _. ⊥) }
+    ensures ok { WritesUndated (state S.Store tx.old.conn.now) (state S.Store tx.new.conn.now)
+        result (with_renewal renewal.now) }
+    ensures survives { LeavesAsBefore (state S.Store tx.old.conn.now) (state S.Store tx.new.conn.now) }
 {
     spans::create_spans(tx)?;
     spans::set_version(tx)?;
@@ -41,10 +39,9 @@ pub fn write_renewal<S: Alter>(tx: &mut Transaction<'_, S>, renewal: &Renewal) -
 /// The lines of the records that change, and all spans.
 fn write_records<S: Alter>(tx: &mut Transaction<'_, S>, records: &[RecordAnew]) -> Result<(), Error>
     ensures same_reference { tx.new.conn.ghost_name ≡ tx.old.conn.ghost_name }
-    ensures ok { HasCleanDisk (state S.Store tx.new.conn.now)
-        → OnOk result (FollowsDated (state S.Store tx.old.conn.now) (state S.Store tx.new.conn.now)
-        (with_records_anew records.now)) }
-    ensures survives { Survives (state S.Store tx.old.conn.now) (state S.Store tx.new.conn.now) (λ _. ⊥) }
+    ensures ok { WritesDated (state S.Store tx.old.conn.now) (state S.Store tx.new.conn.now)
+        result (with_records_anew records.now) }
+    ensures survives { LeavesAsBefore (state S.Store tx.old.conn.now) (state S.Store tx.new.conn.now) }
 {
     'records: for record in records {
         write_record(tx, record)?;
@@ -55,10 +52,9 @@ fn write_records<S: Alter>(tx: &mut Transaction<'_, S>, records: &[RecordAnew]) 
 /// The lines of a record, where they change, and its span.
 fn write_record<S: Alter>(tx: &mut Transaction<'_, S>, record: &RecordAnew) -> Result<(), Error>
     ensures same_reference { tx.new.conn.ghost_name ≡ tx.old.conn.ghost_name }
-    ensures ok { HasCleanDisk (state S.Store tx.new.conn.now)
-        → OnOk result (FollowsDated (state S.Store tx.old.conn.now) (state S.Store tx.new.conn.now)
-        (with_record_anew «record».now)) }
-    ensures survives { Survives (state S.Store tx.old.conn.now) (state S.Store tx.new.conn.now) (λ _. ⊥) }
+    ensures ok { WritesDated (state S.Store tx.old.conn.now) (state S.Store tx.new.conn.now)
+        result (with_record_anew «record».now) }
+    ensures survives { LeavesAsBefore (state S.Store tx.old.conn.now) (state S.Store tx.new.conn.now) }
 {
     write_anew(tx, record.number, &record.anew)
 }
@@ -66,10 +62,9 @@ fn write_record<S: Alter>(tx: &mut Transaction<'_, S>, record: &RecordAnew) -> R
 /// The same of a number.
 fn write_anew<S: Alter>(tx: &mut Transaction<'_, S>, number: u32, anew: &Anew) -> Result<(), Error>
     ensures same_reference { tx.new.conn.ghost_name ≡ tx.old.conn.ghost_name }
-    ensures ok { HasCleanDisk (state S.Store tx.new.conn.now)
-        → OnOk result (FollowsDated (state S.Store tx.old.conn.now) (state S.Store tx.new.conn.now)
-        (with_record_anew (record { number = number; anew = anew.now }))) }
-    ensures survives { Survives (state S.Store tx.old.conn.now) (state S.Store tx.new.conn.now) (λ _. ⊥) }
+    ensures ok { WritesDated (state S.Store tx.old.conn.now) (state S.Store tx.new.conn.now)
+        result (with_record_anew (record { number = number; anew = anew.now })) }
+    ensures survives { LeavesAsBefore (state S.Store tx.old.conn.now) (state S.Store tx.new.conn.now) }
 {
     write_lines(tx, number, anew)?;
     write_span(tx, number, anew.span)
@@ -78,10 +73,9 @@ fn write_anew<S: Alter>(tx: &mut Transaction<'_, S>, number: u32, anew: &Anew) -
 /// The lines of a record, where they are others than they were.
 fn write_lines<S: Alter>(tx: &mut Transaction<'_, S>, number: u32, anew: &Anew) -> Result<(), Error>
     ensures same_reference { tx.new.conn.ghost_name ≡ tx.old.conn.ghost_name }
-    ensures ok { HasCleanDisk (state S.Store tx.new.conn.now)
-        → OnOk result (Follows (state S.Store tx.old.conn.now) (state S.Store tx.new.conn.now)
-        (λ rows. cond anew.now.has_changed (with_changed_lines number anew.now.lines rows) rows)) }
-    ensures survives { Survives (state S.Store tx.old.conn.now) (state S.Store tx.new.conn.now) (λ _. ⊥) }
+    ensures ok { Writes (state S.Store tx.old.conn.now) (state S.Store tx.new.conn.now)
+        result (λ rows. cond anew.now.has_changed (with_changed_lines number anew.now.lines rows) rows) }
+    ensures survives { LeavesAsBefore (state S.Store tx.old.conn.now) (state S.Store tx.new.conn.now) }
 {
     if anew.has_changed {
         change_lines(tx, number, &anew.lines)
@@ -97,10 +91,9 @@ fn write_span<S: Alter>(
     span: Option<Span>,
 ) -> Result<(), Error>
     ensures same_reference { tx.new.conn.ghost_name ≡ tx.old.conn.ghost_name }
-    ensures ok { HasCleanDisk (state S.Store tx.new.conn.now)
-        → OnOk result (FollowsDated (state S.Store tx.old.conn.now) (state S.Store tx.new.conn.now)
-        (with_span_if number span)) }
-    ensures survives { Survives (state S.Store tx.old.conn.now) (state S.Store tx.new.conn.now) (λ _. ⊥) }
+    ensures ok { WritesDated (state S.Store tx.old.conn.now) (state S.Store tx.new.conn.now)
+        result (with_span_if number span) }
+    ensures survives { LeavesAsBefore (state S.Store tx.old.conn.now) (state S.Store tx.new.conn.now) }
 {
     match span {
         Some(span) => spans::insert_span(tx, number, span.lo, span.hi),
@@ -111,10 +104,9 @@ fn write_span<S: Alter>(
 /// The lines of the slips of which a record changes.
 fn write_slips<S: Alter>(tx: &mut Transaction<'_, S>, slips: &[SlipAnew]) -> Result<(), Error>
     ensures same_reference { tx.new.conn.ghost_name ≡ tx.old.conn.ghost_name }
-    ensures ok { HasCleanDisk (state S.Store tx.new.conn.now)
-        → OnOk result (Follows (state S.Store tx.old.conn.now) (state S.Store tx.new.conn.now)
-        (with_slips_anew slips.now)) }
-    ensures survives { Survives (state S.Store tx.old.conn.now) (state S.Store tx.new.conn.now) (λ _. ⊥) }
+    ensures ok { Writes (state S.Store tx.old.conn.now) (state S.Store tx.new.conn.now)
+        result (with_slips_anew slips.now) }
+    ensures survives { LeavesAsBefore (state S.Store tx.old.conn.now) (state S.Store tx.new.conn.now) }
 {
     'slips: for slip in slips {
         write_slip(tx, slip)?;
@@ -125,10 +117,9 @@ fn write_slips<S: Alter>(tx: &mut Transaction<'_, S>, slips: &[SlipAnew]) -> Res
 /// The lines of a slip in place of those that it had, where a record of it changes.
 fn write_slip<S: Alter>(tx: &mut Transaction<'_, S>, slip: &SlipAnew) -> Result<(), Error>
     ensures same_reference { tx.new.conn.ghost_name ≡ tx.old.conn.ghost_name }
-    ensures ok { HasCleanDisk (state S.Store tx.new.conn.now)
-        → OnOk result (Follows (state S.Store tx.old.conn.now) (state S.Store tx.new.conn.now)
-        (with_slip_anew slip.now)) }
-    ensures survives { Survives (state S.Store tx.old.conn.now) (state S.Store tx.new.conn.now) (λ _. ⊥) }
+    ensures ok { Writes (state S.Store tx.old.conn.now) (state S.Store tx.new.conn.now)
+        result (with_slip_anew slip.now) }
+    ensures survives { LeavesAsBefore (state S.Store tx.old.conn.now) (state S.Store tx.new.conn.now) }
 {
     if !has_changed(&slip.sides) {
         return Ok(());
@@ -151,10 +142,9 @@ fn write_sides<S: Alter>(
     sides: &[SideAnew],
 ) -> Result<(), Error>
     ensures same_reference { tx.new.conn.ghost_name ≡ tx.old.conn.ghost_name }
-    ensures ok { HasCleanDisk (state S.Store tx.new.conn.now)
-        → OnOk result (Follows (state S.Store tx.old.conn.now) (state S.Store tx.new.conn.now)
-        (with_sides_anew slip sides.now)) }
-    ensures survives { Survives (state S.Store tx.old.conn.now) (state S.Store tx.new.conn.now) (λ _. ⊥) }
+    ensures ok { Writes (state S.Store tx.old.conn.now) (state S.Store tx.new.conn.now)
+        result (with_sides_anew slip sides.now) }
+    ensures survives { LeavesAsBefore (state S.Store tx.old.conn.now) (state S.Store tx.new.conn.now) }
 {
     'sides: for side in sides {
         write_side(tx, slip, side)?;
@@ -169,10 +159,9 @@ fn write_side<S: Alter>(
     side: &SideAnew,
 ) -> Result<(), Error>
     ensures same_reference { tx.new.conn.ghost_name ≡ tx.old.conn.ghost_name }
-    ensures ok { HasCleanDisk (state S.Store tx.new.conn.now)
-        → OnOk result (Follows (state S.Store tx.old.conn.now) (state S.Store tx.new.conn.now)
-        (with_slip_lines slip side.now.is_new side.now.number 0 side.now.anew.lines)) }
-    ensures survives { Survives (state S.Store tx.old.conn.now) (state S.Store tx.new.conn.now) (λ _. ⊥) }
+    ensures ok { Writes (state S.Store tx.old.conn.now) (state S.Store tx.new.conn.now)
+        result (with_slip_lines slip side.now.is_new side.now.number 0 side.now.anew.lines) }
+    ensures survives { LeavesAsBefore (state S.Store tx.old.conn.now) (state S.Store tx.new.conn.now) }
 {
     write_side_lines(tx, slip, side.is_new, side.number, &side.anew)
 }
@@ -186,10 +175,9 @@ fn write_side_lines<S: Alter>(
     anew: &Anew,
 ) -> Result<(), Error>
     ensures same_reference { tx.new.conn.ghost_name ≡ tx.old.conn.ghost_name }
-    ensures ok { HasCleanDisk (state S.Store tx.new.conn.now)
-        → OnOk result (Follows (state S.Store tx.old.conn.now) (state S.Store tx.new.conn.now)
-        (with_slip_lines slip is_new number 0 anew.now.lines)) }
-    ensures survives { Survives (state S.Store tx.old.conn.now) (state S.Store tx.new.conn.now) (λ _. ⊥) }
+    ensures ok { Writes (state S.Store tx.old.conn.now) (state S.Store tx.new.conn.now)
+        result (with_slip_lines slip is_new number 0 anew.now.lines) }
+    ensures survives { LeavesAsBefore (state S.Store tx.old.conn.now) (state S.Store tx.new.conn.now) }
 {
     insert_slip_lines(tx, slip, is_new, number, &anew.lines)
 }

@@ -38,7 +38,7 @@ use Rattle.record_shapes.specs.Reading.{child_from, family_from, is_child_line, 
 use Rattle.record_reading.specs.Partly.{left_with}
 use Rattle.owner_reading.specs.Owners.{family_with, joined_by, once_of}
 use Rattle.record_reading.proofs.Picked.{all_here, all_past, left_gone, left_kept, other_field, row_is}
-use Rattle.owner_reading.proofs.Persons.{or_one, or_two}
+use Rattle.list_laws.proofs.Booleans.{or_first, or_second}
 
 -- ---- numbers that were seen
 once_is : (P : ℕ → Bool) (seen : List ℕ) → ((n : ℕ) → P n ≡ list_any (λ m. m == n) seen) → (ts : Lines)
@@ -87,8 +87,8 @@ left_one known t owned member =
     let y : Field = family_field known t in
     or_left (is_left [] y) (is_same y a_member) (is_same y an_event) (is_same y a_citation) (family_fields known t)
     member
-    (or_one (is_same y an_event) (is_same y a_citation) owned)
-    (or_two (is_same y an_event) (is_same y a_citation) owned)
+    (or_first (is_same y an_event) (is_same y a_citation) owned)
+    (or_second (is_same y an_event) (is_same y a_citation) owned)
 
 module _ (known : Known) (P : ℕ → Bool) (f : model.Family) (t : Tree Line) where
   -- a line that is not carried
@@ -167,9 +167,6 @@ module _ (known : Known) (P : ℕ → Bool) (f : model.Family) (t : Tree Line) w
       })
 
 -- ---- answers
-pub not_seen : (b : Bool) → not b ≡ true → b ≡ false
-not_seen true e = sym e
-not_seen false e = refl
 
 pub ok_then : {A E : Type 0} {P Q : Type 0} (r : Result A E) → OnOk r Q → (Q → P) → IfOk r (λ x. P)
 ok_then (Ok a) q f = f q

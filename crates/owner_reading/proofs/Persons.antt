@@ -54,15 +54,9 @@ use Rattle.record_reading.proofs.Picked.{
   told_here,
   told_same,
 }
+use Rattle.list_laws.proofs.Booleans.{or_second, or_first}
 
 -- ---- what is owned
-pub or_one : (a b : Bool) → (a || b) ≡ false → a ≡ false
-or_one true b e = e
-or_one false b e = refl
-
-pub or_two : (a b : Bool) → (a || b) ≡ false → b ≡ false
-or_two true b e = absurd (let wrong : true ≡ false = e in cc)
-or_two false b e = e
 
 -- ---- persons
 is_of_person : Field → Bool
@@ -131,8 +125,8 @@ unfolding is_of_person
 left_one known t owned name side =
     let y : Field = person_field known t in
     or_left (is_left (a_sex ∷ []) y) (is_same y a_name) (is_same y an_event) (is_same y a_side) (is_same y a_citation)
-    (person_fields known t) name (or_one (is_same y an_event) (is_same y a_citation) owned) side
-    (or_two (is_same y an_event) (is_same y a_citation) owned)
+    (person_fields known t) name (or_first (is_same y an_event) (is_same y a_citation) owned) side
+    (or_second (is_same y an_event) (is_same y a_citation) owned)
 
 module _ (known : Known) (p : model.Person) (t : Tree Line) where
   pub person_sex : is_first (person_field known t) a_sex p.sex ≡ true → (ts : Lines)

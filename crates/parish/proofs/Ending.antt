@@ -1,7 +1,6 @@
 -- How `init`, `apply` and `export` end.
-use Rattle.std.proofs.Common.{◌≡◌, ℕ, List, refl, sym, subst, arith, Ok, Err}
-use Rattle.std.specs.Prelude.{Option, Some, None, Result, IfErr, OnOk, is_ok, if◌then◌else◌}
-use Rattle.std.specs.Io.KnownBytes.{Keeps}
+use Rattle.std.proofs.Common.{◌≡◌, ℕ, List, sym, subst, arith, Ok, Err}
+use Rattle.std.specs.Prelude.{Option, Result, IfErr, OnOk, is_ok, if◌then◌else◌}
 use Rattle.sqlite.specs.Held.{Held}
 use Rattle.sqlite_disk.specs.declared.Disk as disk
 use Rattle.sqlite_store.specs.declared.store.FileStore.{FileStore}
@@ -11,10 +10,6 @@ use Rattle.archive_commands.specs.Exporting.{Exported, Unexported}
 use Rattle.archive_commands.specs.Made.{IsMadeIn, Unmade}
 use Rattle.record_text.specs.declared.refusal.RefusalKind.{RefusalKind}
 use Rattle.parish.specs.Ends.{ApplyEnds, ExportEnds, InitEnds}
-
-pub keeps : (old : Option (List ℕ)) → Keeps old old
-keeps None = tt
-keeps (Some bytes) = refl
 
 module _ {D : Type 0} {g : disk.Ghosts D} (image : Image) where
   init_by : {A : Type 0} (r : Result A RefusalKind) (society : List ℕ) (status : ℕ)

@@ -192,7 +192,7 @@ pub fn check<R: Read + Device, W: Write + Device, F: Write + Device>(
 }
 
 /// Reads a whole file, and writes how many records it has.
-#[tactic(auto, using(crate::proofs::Ending::keeps))]
+#[tactic(auto, using(list_laws::proofs::Outcomes::keeps))]
 fn count_records<R: Read + Device, W: Write + Device>(
     alloc: Global,
     input: &mut R,

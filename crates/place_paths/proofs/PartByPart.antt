@@ -4,7 +4,6 @@ use Rattle.std.proofs.Common.{
   ◌≢◌,
   ℕ,
   suc,
-  ◌+◌,
   ◌≤◌,
   ◌<◌,
   List,
@@ -24,19 +23,15 @@ use Rattle.std.proofs.Common.{
   inr,
   arith,
 }
-use Rattle.std.specs.Prelude.{codes, IsTrue}
-use Rattle.std.specs.List.{onto_first, count_by}
-use Rattle.std.proofs.lemmas.List.{append_cancel_left, length-append}
-use Rattle.std.proofs.lemmas.List.Splits.{slice_split-cons_no, length-slice_split}
+use Rattle.std.specs.List.{onto_first}
+use Rattle.std.proofs.lemmas.List.{append_cancel_left}
+use Rattle.std.proofs.lemmas.List.Splits.{slice_split-cons_no}
 use Rattle.std.proofs.lemmas.Bool.{ne_eqb}
 use Rattle.record_shapes.specs.Paths.{joined, trimmed, parts, normal, IsNormal}
-use Rattle.record_shapes.specs.Fields.{path_below}
 use Rattle.place_paths.specs.Cuts.{Without}
 use Rattle.place_paths.proofs.Trimmed.{trimmed_cases}
-use Rattle.archive_state.proofs.PathTexts.{parts_some, parts_both, spaced}
-
-pub same_no : IsTrue false → ⊥
-same_no t = cc
+use Rattle.list_laws.proofs.Lists.{head_same, tail_same}
+use Rattle.record_shapes.proofs.PathTexts.{joined_two, parts_some, spaced}
 
 -- ---- parts
 behind_first : (b : ℕ) (bs : List ℕ) → Without 44 (b ∷ bs) → Without 44 bs
@@ -56,31 +51,11 @@ parts_alone [] h = refl
 parts_alone (b ∷ bs) h = slice_split-cons_no (λ c. c == 44) b bs (first_is_none b bs h)
     ∙ ap (onto_first b) (parts_alone bs (behind_first b bs h))
 
-onto_length : (x : ℕ) (ys : List (List ℕ)) (y : List ℕ) (more : List (List ℕ)) → ys ≡ y ∷ more
-    → length (onto_first x ys) ≡ length ys
-onto_length x ys y more e = ap (λ l. length (onto_first x l)) e ∙ sym (ap length e)
-
--- a path below another has the parts of both
-pub parts_below : (name above : List ℕ) → length (parts (path_below name above)) ≡ length (parts name)
-    + length (parts above)
-parts_below name above =
-    let s = parts_some above in
-    ap length (parts_both name (32 ∷ above)) ∙ length-append (parts name) (parts (32 ∷ above))
-    ∙ ap (λ k. length (parts name) + k) (onto_length 32 (parts above) s.0 s.1 s.2)
-
-pub count_is : (t : List ℕ) → length (parts t) ≡ count_by (λ b. b == 44) t + 1
-count_is t = length-slice_split (λ b. b == 44) t
-
 -- ---- normal texts
 -- a space in front is none of the text made normal
 behind_space : (t : List ℕ) → normal (32 ∷ t) ≡ normal t
 unfolding normal
 behind_space t = let s = parts_some t in ap joined (spaced (parts t) s.0 s.1 s.2)
-
-joined_two : (x : List ℕ) (ys : List (List ℕ)) (y : List ℕ) (more : List (List ℕ)) → ys ≡ y ∷ more
-    → joined (trimmed x ∷ map trimmed ys) ≡ trimmed x ++ (codes ", " ++ joined (map trimmed ys))
-joined_two x ys y more e = ap (λ l. joined (trimmed x ∷ map trimmed l)) e
-    ∙ sym (ap (λ l. trimmed x ++ (codes ", " ++ joined (map trimmed l))) e)
 
 normal_cut : (part after : List ℕ) → Without 44 part → normal (part ++ (44 ∷ after)) ≡ trimmed part
     ++ (44 ∷ (32 ∷ normal after))
@@ -95,11 +70,6 @@ unfolding normal
 normal_alone t h = ap (λ l. joined (map trimmed l)) (parts_alone t h)
 
 -- ---- one part after the other
-tail_of : (a b : ℕ) (xs ys : List ℕ) → a ∷ xs ≡ b ∷ ys → xs ≡ ys
-tail_of a b xs ys e = cc
-
-head_of : (a b : ℕ) (xs ys : List ℕ) → a ∷ xs ≡ b ∷ ys → a ≡ b
-head_of a b xs ys e = cc
 
 pub goes_on : (t part after next : List ℕ) → t ≡ part ++ (44 ∷ after) → Without 44 part → trimmed part ≡ part
     → after ≡ 32 ∷ next → IsNormal t ↔ IsNormal next
@@ -111,7 +81,7 @@ goes_on t part after next is h same e =
       λ n.
           let rest : 44 ∷ (32 ∷ normal next) ≡ 44 ∷ (32 ∷ next) = append_cancel_left part (44 ∷ (32 ∷ normal next))
           (44 ∷ (32 ∷ next)) (sym made ∙ n ∙ whole) in
-          tail_of 32 32 (normal next) next (tail_of 44 44 (32 ∷ normal next) (32 ∷ next) rest),
+          tail_same 32 32 (normal next) next (tail_same 44 44 (32 ∷ normal next) (32 ∷ next) rest),
       λ n. made ∙ ap (λ x. part ++ (44 ∷ (32 ∷ x))) n ∙ sym whole,
     )
 
@@ -119,10 +89,10 @@ goes_on t part after next is h same e =
 apart : (xs part front after : List ℕ) → length xs < length part → Without 44 part
     → xs ++ (44 ∷ front) ≡ part ++ (44 ∷ after) → ⊥
 apart xs [] front after less h e = absurd (omega arith)
-apart [] (b ∷ bs) front after less h e = h 0 (omega arith) (sym (head_of 44 b front (bs ++ (44 ∷ after)) e))
+apart [] (b ∷ bs) front after less h e = h 0 (omega arith) (sym (head_same 44 b front (bs ++ (44 ∷ after)) e))
 apart (x ∷ xs) (b ∷ bs) front after less h e =
     apart xs bs front after (omega arith) (behind_first b bs h)
-    (tail_of x b (xs ++ (44 ∷ front)) (bs ++ (44 ∷ after)) e)
+    (tail_same x b (xs ++ (44 ∷ front)) (bs ++ (44 ∷ after)) e)
 
 pub spaces_at_ends : (t part after : List ℕ) → t ≡ part ++ (44 ∷ after) → Without 44 part → (trimmed part ≡ part → ⊥)
     → IsNormal t → ⊥
@@ -142,7 +112,7 @@ no_space_behind t part after is h same none n =
     ∙ ap normal (sym is) ∙ n ∙ is in
     let rest : 44 ∷ (32 ∷ normal after) ≡ 44 ∷ after = append_cancel_left part (44 ∷ (32 ∷ normal after))
     (44 ∷ after) made in
-    none (normal after) (sym (tail_of 44 44 (32 ∷ normal after) after rest))
+    none (normal after) (sym (tail_same 44 44 (32 ∷ normal after) after rest))
 
 pub last_part : (t : List ℕ) → Without 44 t → IsNormal t ↔ (trimmed t ≡ t)
 last_part t h = (λ n. sym (normal_alone t h) ∙ n, λ e. normal_alone t h ∙ e)

@@ -4,7 +4,6 @@ use Rattle.std.proofs.Common.{
   ◌≢◌,
   ◌⊎◌,
   ℕ,
-  suc,
   ◌+◌,
   ◌≤◌,
   ◌<◌,
@@ -27,24 +26,8 @@ use Rattle.std.proofs.Common.{
 }
 use Rattle.std.specs.Prelude.{if◌then◌else◌}
 use Rattle.std.proofs.lemmas.List.{length-append}
-use Rattle.std.proofs.lemmas.Bool.{eqb-true}
 use Rattle.record_shapes.specs.Paths.{from_word, backwards, trimmed}
-
-backwards_push : (xs : List ℕ) (b : ℕ) → backwards (xs ++ (b ∷ [])) ≡ b ∷ backwards xs
-backwards_push [] b = refl
-backwards_push (x ∷ xs) b = ap (λ l. l ++ (x ∷ [])) (backwards_push xs b)
-
-twice : (t : List ℕ) → backwards (backwards t) ≡ t
-twice [] = refl
-twice (b ∷ bs) = backwards_push (backwards bs) b ∙ ap (λ l. b ∷ l) (twice bs)
-
-length_backwards : (t : List ℕ) → length (backwards t) ≡ length t
-length_backwards [] = refl
-length_backwards (b ∷ bs) = length-append (backwards bs) (b ∷ []) ∙ ap (λ k. k + 1) (length_backwards bs)
-    ∙ one (length bs)
-  where
-    one : (k : ℕ) → k + 1 ≡ suc k
-    one k = omega arith
+use Rattle.record_shapes.proofs.Trimmed.{length_backwards, twice, backwards_push, as_it_is}
 
 -- what spaces are taken from is the same or shorter
 word_cases : (t : List ℕ) → (from_word t ≡ t) ⊎ (length (from_word t) < length t)
@@ -82,12 +65,6 @@ no_more t = elim (word_cases t) as (λ _. length (from_word t) ≤ length t) [
 ]
 
 -- ---- no space at the ends
-as_it_is : (t : List ℕ) → ((rest : List ℕ) → t ≢ 32 ∷ rest) → from_word t ≡ t
-as_it_is [] h = refl
-as_it_is (b ∷ bs) h = elim (b == 32) as (λ x. (b == 32) ≡ x → (if x then from_word bs else b ∷ bs) ≡ b ∷ bs) [
-  | true ↦ λ e. absurd (h bs (ap (λ y. y ∷ bs) (eqb-true b 32 e)))
-  | false ↦ λ e. refl
-] refl
 
 pub none_at_ends : (t : List ℕ) → ((rest : List ℕ) → t ≢ 32 ∷ rest)
     → ((front : List ℕ) → t ≢ front ++ (32 ∷ [])) → trimmed t ≡ t

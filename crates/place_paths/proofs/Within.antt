@@ -2,14 +2,11 @@
 use Rattle.std.proofs.Common.{
   ◌≡◌,
   ℕ,
-  zero,
-  suc,
   ◌+◌,
   ◌-◌,
   ◌≤◌,
   ◌<◌,
   List,
-  ◌++◌,
   length,
   true,
   false,
@@ -21,26 +18,24 @@ use Rattle.std.proofs.Common.{
   ◌∙◌,
   arith,
 }
-use Rattle.std.specs.Prelude.{Option, Some, None, option_map, codes, if◌then◌else◌, ◌&&◌}
+use Rattle.std.specs.Prelude.{Option, Some, None, option_map, if◌then◌else◌, ◌&&◌}
 use Rattle.std.proofs.lemmas.Bool.Decides.{nat_tests}
-use Rattle.std.proofs.lemmas.List.{length-append}
 use Rattle.std.specs.FinMap.{get}
-use Rattle.std.proofs.lemmas.Bool.{lt-ltb, ltb-true}
+use Rattle.std.proofs.lemmas.Bool.{lt-ltb}
 use Rattle.record_kinds.specs.Model as model
 use Rattle.record_kinds.specs.declared.record.Record.{Record}
 use Rattle.record_kinds.specs.declared.record.Record.TheVariants as kind
 use Rattle.record_shapes.specs.Paths.{parts, is_within_limits}
 use Rattle.record_shapes.specs.Fields.{path_below}
 use Rattle.archive_state.specs.Content.{Records}
-use Rattle.archive_state.specs.Known.{path_under, path_with, path_by, path_of}
-use Rattle.place_paths.proofs.PartByPart.{parts_below}
+use Rattle.archive_state.specs.Known.{path_under, path_with, path_of}
 use Rattle.place_paths.specs.Fits.{new_path, is_fit, is_within, measured}
 use Rattle.place_paths.specs.declared.paths.Measure.{Measure}
+use Rattle.archive_state.proofs.PathsAlike.{path_there}
+use Rattle.list_laws.proofs.Numbers.{not_less}
+use Rattle.record_shapes.proofs.PathTexts.{bytes_below, parts_below}
 
 -- ---- a path below another
-bytes_below : (name above : List ℕ) → length (path_below name above) ≡ length name + (2 + length above)
-bytes_below name above = length-append name (codes ", " ++ above) ∙ ap (λ k. length name + k)
-    (length-append (codes ", ") above)
 
 left_for : (p q n m k b : ℕ) → p ≤ k → n + 2 ≤ b → (nat_le (p + q) k && nat_le (n + (2 + m)) b)
     ≡ (nat_le q (k - p) && nat_le m (b - n - 2))
@@ -76,46 +71,6 @@ too_long k b name (Some above) h = within_measure k b name above ∙ over_two (l
     (length name) (length above) k b h
 
 -- ---- the path of a place
-is_not_less : (a b : ℕ) → b ≤ a → nat_lt a b ≡ false
-is_not_less a b h = grind (arith, nat_tests)
-
--- as many steps as the number says are enough
-under_alike : (n : ℕ) (f g : ℕ → Option (List ℕ)) (name : List ℕ) (parent : Option ℕ) → ((q : ℕ) → q < n → f q ≡ g q)
-    → path_under n f name parent ≡ path_under n g name parent
-under_alike n f g name None h = refl
-under_alike n f g name (Some q) h =
-    elim (nat_lt q n) as (λ b. nat_lt q n ≡ b → (if b then option_map (path_below name) (f q) else None)
-    ≡ (if b then option_map (path_below name) (g q) else None)) [
-      | true ↦ λ e. ap (option_map (path_below name)) (h q (ltb-true q n e))
-      | false ↦ λ e. refl
-    ] refl
-
-with_alike : (n : ℕ) (f g : ℕ → Option (List ℕ)) (o : Option Record) → ((q : ℕ) → q < n → f q ≡ g q)
-    → path_with n f o ≡ path_with n g o
-with_alike n f g None h = refl
-with_alike n f g (Some (kind.Place p)) h = under_alike n f g p.name p.parent h
-with_alike n f g (Some (kind.Repo p)) h = refl
-with_alike n f g (Some (kind.Source p)) h = refl
-with_alike n f g (Some (kind.Person p)) h = refl
-with_alike n f g (Some (kind.Family p)) h = refl
-with_alike n f g (Some (kind.Citation p)) h = refl
-with_alike n f g (Some (kind.Event p)) h = refl
-with_alike n f g (Some (kind.Entry p)) h = refl
-with_alike n f g (Some (kind.Other p)) h = refl
-
-enough : (k j : ℕ) (m : Records) (n : ℕ) → n < k → n < j → path_by k m n ≡ path_by j m n
-enough zero j m n h i = absurd (omega arith)
-enough (suc k) zero m n h i = absurd (omega arith)
-enough (suc k) (suc j) m n h i = with_alike n (path_by k m) (path_by j m) (get m n)
-    (λ q less. enough k j m q (omega arith) (omega arith))
-
-one_more : (n : ℕ) → n + 1 ≡ suc n
-one_more n = omega arith
-
-pub path_there : (m : Records) (n : ℕ) → path_of m n ≡ path_with n (path_of m) (get m n)
-unfolding path_of
-path_there m n = ap (λ s. path_by s m n) (one_more n) ∙ with_alike n (path_by n m) (λ q. path_by (q + 1) m q) (get m n)
-    (λ q less. enough n (q + 1) m q less (omega arith))
 
 -- ---- what is measured
 found_place : (o : Option Record) (me : Measure) → measured o ≡ Some me
@@ -218,7 +173,7 @@ pub within_not_below : (k b : ℕ) (m : Records) (n q : ℕ) (me : Measure) → 
 within_not_below k b m n q me e is h =
     let f = path_of_measured m n me e in
     ap (is_within k b) (f.3 ∙ ap (path_under n (path_of m) f.0) is
-    ∙ ap (λ x. if x then option_map (path_below f.0) (path_of m q) else None) (is_not_less q n h))
+    ∙ ap (λ x. if x then option_map (path_below f.0) (path_of m q) else None) (not_less q n h))
 
 -- the path below another is as long as the two
 under_less : (m : Records) (n q : ℕ) (name : List ℕ) → q < n → path_under n (path_of m) name (Some q)

@@ -127,7 +127,7 @@ fn measure_of(record: &Record) -> Option<Measure>
 }
 
 /// How many parts a text has: one more than its commas.
-#[tactic(auto, using(crate::proofs::PartByPart::count_is))]
+#[tactic(auto, using(record_shapes::proofs::PathTexts::count_is))]
 fn part_count(text: &str) -> usize
     ensures { result ≡ length (parts text.now) }
 {

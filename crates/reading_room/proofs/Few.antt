@@ -25,6 +25,7 @@ use Rattle.std.specs.Str.Parse.{digits_value}
 use Rattle.std.proofs.lemmas.Bool.Decides.{nat_tests}
 use Rattle.room_routes.specs.Pages.{is_number, number_in}
 use Rattle.room_routes.specs.Queries.{at_most, generations_in, generations_of, value_of}
+use Rattle.list_laws.proofs.Numbers.{at_most as most_is}
 
 -- what is some number is within these bounds
 abbrev pub AreFew : ℕ → Option ℕ → Type 0
@@ -33,9 +34,6 @@ AreFew most found = IfSome found (λ n. (1 ≤ n) × (n ≤ most))
 least : (d : Bool) (l v places : ℕ)
     → (d && nat_le 1 l && nat_le l places && nat_le 1 v && nat_le v 4294967295) ≡ true → 1 ≤ v
 least d l v places h = grind (arith, nat_tests)
-
-most_is : (v most : ℕ) → nat_le v most ≡ true → v ≤ most
-most_is v most h = grind (arith, nat_tests)
 
 bounded : (c : Bool) (v most : ℕ) → 1 ≤ v → (c ≡ true → v ≤ most) → AreFew most (if c then Some v else None)
 bounded true v most a b = (a, b refl)

@@ -1,4 +1,3 @@
 pub mod Alike
-pub mod Begun
 pub mod Few
 pub mod Missing

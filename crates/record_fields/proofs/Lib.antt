@@ -2,3 +2,4 @@ pub mod Dated
 pub mod Dates
 pub mod Items
 pub mod Worded
+pub mod WordTexts

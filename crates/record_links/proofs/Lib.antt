@@ -1,2 +1,2 @@
-mod Links
+pub mod Links
 pub mod Stored

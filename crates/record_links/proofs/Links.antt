@@ -1,14 +1,11 @@
 -- Whether a number stands among links.
-use Rattle.std.proofs.Common.{◌≡◌, ℕ, List, [], ◌∷◌, ◌++◌, refl, ap, ◌∙◌, Bool, true, false}
+use Rattle.std.proofs.Common.{◌≡◌, ℕ, List, [], ◌∷◌, ◌++◌, refl, ap, ◌∙◌}
 use Rattle.std.specs.Prelude.{◌||◌, ◌==◌}
 use Rattle.std.specs.List.{flat_map}
 use Rattle.stored_lines.specs.Tree.{Tree, forest_of}
 use Rattle.stored_lines.specs.Line.{Line}
 use Rattle.record_links.specs.Links.{Link, is_among, line_links, forest_links}
-
-or_assoc : (a b c : Bool) → (a || (b || c)) ≡ ((a || b) || c)
-or_assoc true b c = refl
-or_assoc false b c = refl
+use Rattle.list_laws.proofs.Booleans.{or_assoc}
 
 pub among_both : (n : ℕ) (ls ms : List Link) → is_among n (ls ++ ms) ≡ (is_among n ls || is_among n ms)
 among_both n [] ms = refl

@@ -21,7 +21,7 @@ use Rattle.std.specs.Prelude.{
   refl,
 }
 use Rattle.std.specs.Option.{unwrap_or}
-use Rattle.std.proofs.Common.{ap, sym, ◌∙◌, append_assoc}
+use Rattle.std.proofs.Common.{ap, sym, ◌∙◌}
 use Rattle.stored_lines.specs.Tree.{Tree}
 use Rattle.stored_lines.specs.Line.{Line, Lines}
 use Rattle.record_fields.specs.Bytes.{bytes_are}
@@ -32,42 +32,10 @@ use Rattle.record_shapes.specs.Forms.{Known, is_bare, is_childless, is_text, num
 use Rattle.record_shapes.specs.Fields.{a_name, a_parent, carried, is_above, is_same, parent_field, place_field, row}
 use Rattle.record_shapes.specs.Picking.{all_of, first, is_left, without_first}
 use Rattle.record_shapes.specs.Reading.{parent_line, path_from, path_on, place_from, place_name}
-use Rattle.record_reading.specs.Partly.{left_with, name_or, or_told, path_at, place_called, place_with, unless, unnamed}
-use Rattle.record_reading.proofs.Picked.{
-  first_none,
-  first_same,
-  is_first,
-  left_kept,
-  missing_one,
-  passes,
-  row_is,
-  told_here,
-  told_same,
-}
+use Rattle.record_reading.specs.Partly.{left_with, name_or, or_told, path_at, place_called, place_with, unless}
+use Rattle.record_reading.proofs.Picked.{is_first, left_kept, missing_one, row_is}
 
 -- ---- the name
-pub name_taken : (o : Option (List ℕ)) (t : Tree Line) (n : List ℕ) → is_first (place_field t) a_name o ≡ true
-    → n ≡ normal (text_of t) → (ts : Lines) → name_or (Some n) ts ≡ name_or o (t ∷ ts)
-name_taken o t n h e ts =
-    ap Some e ∙ told_here place_field (option_map normal) a_name t ts (first_same (place_field t) a_name o h)
-    ∙ ap (λ (x : Option (List ℕ)). name_or x (t ∷ ts)) (sym (first_none (place_field t) a_name o h))
-
-pub name_passed : (o : Option (List ℕ)) (t : Tree Line) → is_first (place_field t) a_name o ≡ false
-    → (ts : Lines) → name_or o ts ≡ name_or o (t ∷ ts)
-name_passed o t h ts = told_same place_field (option_map normal) a_name o t ts h
-
-pub rest_taken : (rest : Lines) (o : Option (List ℕ)) (t : Tree Line) (n : List ℕ)
-    → is_first (place_field t) a_name o ≡ true → (ts : Lines)
-    → rest ++ unnamed (Some n) ts ≡ rest ++ unnamed o (t ∷ ts)
-rest_taken rest o t n h ts = ap (λ us. rest ++ us)
-    (ap (λ (b : Bool). cond b ts (t ∷ without_first place_field a_name ts))
-    (sym (first_same (place_field t) a_name o h))
-    ∙ ap (λ (x : Option (List ℕ)). unnamed x (t ∷ ts)) (sym (first_none (place_field t) a_name o h)))
-
-pub rest_passed : (rest : Lines) (o : Option (List ℕ)) (t : Tree Line) → is_first (place_field t) a_name o ≡ false
-    → (ts : Lines) → (rest ++ t ∷ []) ++ unnamed o ts ≡ rest ++ unnamed o (t ∷ ts)
-rest_passed rest o t h ts = append_assoc rest (t ∷ []) (unnamed o ts)
-    ∙ ap (λ us. rest ++ us) (sym (passes place_field (unless o a_name) t ts (missing_one (place_field t) a_name o h)))
 
 normal_none : normal [] ≡ []
 unfolding normal

@@ -1,7 +1,7 @@
 -- A test of each of lists that were put together.
-use Rattle.std.proofs.Common.{◌≡◌, List, [], ◌∷◌, ◌++◌, Bool, ◌&&◌, map, refl, ap, ◌∙◌}
+use Rattle.std.proofs.Common.{◌≡◌, List, [], ◌∷◌, ◌++◌, Bool, ◌&&◌, refl, ap, ◌∙◌}
 use Rattle.std.specs.List.{list_all, flat_map}
-use Rattle.std.proofs.lemmas.List.Folds.{list_all-append, list_all-map}
+use Rattle.std.proofs.lemmas.List.Folds.{list_all-append}
 use Rattle.stored_lines.specs.Tree.{Tree, forest_of}
 use Rattle.stored_lines.specs.Line.{Line}
 use Rattle.record_kinds.specs.Model as model
@@ -20,10 +20,6 @@ pub forest_is : (fits : Line → Bool) (ts : List (Tree Line)) → forest_all fi
     (line_all fits) ts
 forest_is fits [] = refl
 forest_is fits (t ∷ ts) = ap (λ b. line_all fits t && b) (forest_is fits ts)
-
-pub all_mapped : {A B : Type 0} (p : B → Bool) (f : A → B) (xs : List A) → list_all p (map f xs) ≡ list_all
-    (λ x. p (f x)) xs
-all_mapped p f xs = list_all-map p f xs
 
 -- the carried lines of a family, part by part
 pub family_flat : (p : Tree Line → Bool) (f : model.Family) → list_all p (family_carried f)

@@ -21,7 +21,6 @@ use Rattle.std.proofs.Common.{
   not,
   ◌&&◌,
   ◌||◌,
-  refl,
   sym,
   ap,
   ◌∙◌,
@@ -30,6 +29,7 @@ use Rattle.std.proofs.Common.{
 use Rattle.std.specs.List.{list_any}
 use Rattle.std.proofs.lemmas.List.{drop_more}
 use Rattle.record_rules.specs.Judged.{is_once}
+use Rattle.list_laws.proofs.Booleans.{and_never}
 
 one_down : (ns : List ℕ) (left : ℕ) → 0 < left → left ≤ length ns
     → drop (left - 1) ns ≡ get_or ns (left - 1) 0 ∷ drop left ns
@@ -37,16 +37,12 @@ one_down ns left some within =
     let same : (left - 1) + 1 ≡ left = omega arith in
     drop_more ns (left - 1) 0 (omega arith) ∙ ap (λ i. get_or ns (left - 1) 0 ∷ drop i ns) same
 
-and_false : (b : Bool) → (b && false) ≡ false
-and_false true = refl
-and_false false = refl
-
 -- what is twice among the last is twice
 among_last : (ns : List ℕ) (i : ℕ) → is_once (drop i ns) ≡ false → is_once ns ≡ false
 among_last [] zero h = h
 among_last [] (suc i) h = h
 among_last (n ∷ ns) zero h = h
-among_last (n ∷ ns) (suc i) h = ap (λ b. not (list_any (λ m. m == n) ns) && b) (among_last ns i h) ∙ and_false _
+among_last (n ∷ ns) (suc i) h = ap (λ b. not (list_any (λ m. m == n) ns) && b) (among_last ns i h) ∙ and_never _
 
 module _ (ns : List ℕ) (left : ℕ) (some : 0 < left) (within : left ≤ length ns) where
   first_of : is_once (drop (left - 1) ns) ≡ (not (list_any (λ m. m == get_or ns (left - 1) 0) (drop left ns))

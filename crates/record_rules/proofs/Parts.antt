@@ -55,7 +55,7 @@ use Rattle.record_shapes.specs.Forms.{Known, is_some}
 use Rattle.record_shapes.specs.Levels.{AreWithin, HasRoom, room_below}
 use Rattle.record_shapes.specs.Lists.{EachOf, IsOnce}
 use Rattle.record_shapes.specs.Members.{members}
-use Rattle.record_shapes.specs.Paths.{IsWithinLimits, is_within_limits, normal, parts}
+use Rattle.record_shapes.specs.Paths.{normal}
 use Rattle.record_shapes.specs.Readable.{IsReadableOther}
 use Rattle.record_shapes.specs.Roles.{is_role_of}
 use Rattle.record_shapes.specs.Untaken.{HasUntaken}
@@ -145,10 +145,6 @@ parent n _ = yes
 pub name : (r : Record) → Decides (has_normal_name r) (HasNormalName r)
 name (kind.Place p) = bytes_eq-Decides (normal p.name) p.name
 name _ = yes
-
-pub within : (path : List ℕ) → Decides (is_within_limits path) (IsWithinLimits path)
-unfolding is_within_limits
-within path = Decides-and (nat_le (length (parts path)) 32) (nat_le (length path) 4096) (at_most _ _) (at_most _ _)
 
 pub once : (ns : List ℕ) → Decides (is_once ns) (IsOnce ns)
 once [] = yes

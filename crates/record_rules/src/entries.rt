@@ -7,8 +7,9 @@ ghost use Rattle.record_shapes.specs.Lists.{EachOf};
 ghost use Rattle.record_shapes.specs.Roles as roles;
 ghost use Rattle.archive_state.specs.Sound.{HasSoundMentions};
 
-use record_fields::{EntryKind, Role};
+use record_fields::EntryKind;
 use record_kinds::{Entry, Mention, Record};
+use record_shapes::is_role_of;
 
 /// The most mentions that an entry has.
 const MOST_MENTIONS: usize = 100;
@@ -34,24 +35,4 @@ fn has_roles(kind: EntryKind, mentions: &[Mention]) -> bool
     ensures { IsTrue result ↔ EachOf (λ (x : model.Mention). roles.is_role_of kind x.role ≡ true) mentions.now }
 {
     mentions.iter().all(|m| is_role_of(kind, m.role))
-}
-
-/// Whether a role is of a kind of entry.
-fn is_role_of(kind: EntryKind, role: Role) -> bool
-    ensures { result ≡ roles.is_role_of kind role }
-{
-    match kind {
-        EntryKind::Baptism => matches!(
-            role,
-            Role::Child | Role::Father | Role::Mother | Role::Godparent
-        ),
-        EntryKind::Marriage => matches!(
-            role,
-            Role::Groom | Role::Bride | Role::FatherOfGroom | Role::FatherOfBride | Role::Witness
-        ),
-        EntryKind::Burial => matches!(
-            role,
-            Role::Buried | Role::Spouse | Role::Father | Role::Mother
-        ),
-    }
 }

@@ -274,7 +274,7 @@ none-sought known a None h = refl
 none-sought known a (Some p) h = ap (unless_named (normal (a.path p.place))) (place-named known a p h)
 
 -- ---- dates
-date-read : (o : Option Date) → read_by dated (option_map date_text o) ≡ o
+pub date-read : (o : Option Date) → read_by dated (option_map date_text o) ≡ o
 date-read None = refl
 date-read (Some d) = ap date_of (sym (d.written (some_value d.text).0 (some_value d.text).1)) ∙ date_back (Some d)
 

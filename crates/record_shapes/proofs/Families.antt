@@ -65,6 +65,7 @@ use Rattle.record_shapes.specs.Laws.{apart_child, apart_partner}
 use Rattle.record_shapes.proofs.Picked.{Are, kept_all, keep_skip, all_skip, all_own, lacks, left_more}
 use Rattle.record_shapes.proofs.Persons.{other_tag}
 use Rattle.record_shapes.proofs.Owned.{IsOwner, are_events, are_citations}
+use Rattle.record_shapes.proofs.Each.{each_parts}
 
 module _ (known : Known) where
   family-events : (tag v : List ℕ) (under : Lines) → list_any (bytes_eq tag) family_tags ≡ true
@@ -99,10 +100,6 @@ module _ (known : Known) where
       (map (λ (c : model.Child). c.person) cs) → Are (family_field known) a_member (map child_line cs)
   children-are [] h = tt
   children-are (c ∷ cs) h = (rw h.0, children-are cs h.1)
-
-pub each-front : {A : Type 0} (P : A → Type 0) (xs ys : List A) → EachOf P (xs ++ ys) → EachOf P xs × EachOf P ys
-each-front P [] ys h = (tt, h)
-each-front P (x ∷ xs) ys h = let both : EachOf P xs × EachOf P ys = each-front P xs ys h.1 in ((h.0, both.0), both.1)
 
 -- ---- none twice
 -- none of the numbers is among those seen
@@ -216,7 +213,7 @@ family_back known a x under h =
     let ps = map partner_line x.partners in
     let known-both : EachOf (IsKnown (codes "INDI") known) (map (λ (p : model.Partner). p.person) x.partners)
     × EachOf (IsKnown (codes "INDI") known) (map (λ (p : model.Child). p.person) x.children) =
-    each-front (IsKnown (codes "INDI") known) (map (λ (p : model.Partner). p.person) x.partners)
+    each_parts (IsKnown (codes "INDI") known) (map (λ (p : model.Partner). p.person) x.partners)
     (map (λ (p : model.Child). p.person) x.children) h.persons in
     let are-ps : Are f a_member ps = partners-are known x.partners known-both.0 in
     let are-cs : Are f a_member cs = children-are known x.children known-both.1 in

@@ -1,5 +1,5 @@
 pub mod Entries
-mod Events
+pub mod Events
 pub mod Examples
 pub mod Pairs
 mod Families
@@ -10,3 +10,10 @@ mod Picked
 mod Places
 mod Records
 mod Sources
+pub mod EntryLines
+pub mod Each
+pub mod Limits
+pub mod PathTexts
+pub mod Trimmed
+pub mod Names
+pub mod Climbed

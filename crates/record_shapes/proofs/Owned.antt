@@ -3,7 +3,7 @@ use Rattle.std.specs.Prelude.{ℕ, ◌≡◌, List, [], ◌∷◌, ◌++◌, map
 use Rattle.std.specs.List.{list_any, flat_map}
 use Rattle.std.proofs.Common.{ap, sym, ◌∙◌, append-nil, subst}
 use Rattle.std.proofs.lemmas.List.Concat.{flat_map-append}
-use Rattle.stored_lines.specs.Tree.{Tree, Forest, node, none, more, forest_of, list_of, relabel_all}
+use Rattle.stored_lines.specs.Tree.{Tree, Forest, node, forest_of, list_of, relabel_all}
 use Rattle.stored_lines.specs.Line.{Line, Lines}
 use Rattle.stored_lines.specs.declared.carried.Value.TheVariants as value
 use Rattle.stored_lines.proofs.Relabel.{relabel_children}
@@ -29,16 +29,13 @@ use Rattle.record_shapes.specs.Readable.{IsCitationBelow, IsEventBelow, IsKnown,
 use Rattle.record_shapes.specs.Laws.{apart, drafted}
 use Rattle.record_shapes.proofs.Picked.{Are}
 use Rattle.record_shapes.proofs.Events.{citation_back, event_back}
-
-forest-back : {A : Type 0} (f : Forest A) → forest_of (list_of f) ≡ f
-forest-back none = refl
-forest-back (more t ts) = ap (more t) (forest-back ts)
+use Rattle.stored_lines.proofs.Listed.{forest_list}
 
 -- the drafts of what is owned
 pub drafted_below : (r : Record) (f : Forest Record) → node (read (apart r) None) (forest_of (map drafted (list_of f)))
     ≡ drafted (node r f)
 drafted_below r f = ap (node (read (apart r) None)) (sym (relabel_children (λ r. read (apart r) None) (list_of f))
-    ∙ ap (relabel_all (λ r. read (apart r) None)) (forest-back f))
+    ∙ ap (relabel_all (λ r. read (apart r) None)) (forest_list f))
 
 -- a field of neither an event nor a citation makes no draft
 no-draft : (known : Known) (x : Field) (t : Tree Line) → is_same x an_event ≡ false → is_same x a_citation ≡ false

@@ -75,6 +75,7 @@ use Rattle.record_shapes.proofs.Picked.{text_are, lacks}
 use Rattle.record_shapes.proofs.Sources.{repo_back, source_back}
 use Rattle.record_shapes.proofs.Places.{place_back}
 use Rattle.record_shapes.proofs.Persons.{person_owner, names-are, sex-is, children-are, partners-are, person_back}
+use Rattle.record_shapes.proofs.Each.{each_parts}
 use Rattle.record_shapes.proofs.Families as families
 use Rattle.record_shapes.proofs.Owned.{drafted_below, drafts_skip, drafts_left, drafts_events, drafts_citations}
 use Rattle.record_shapes.proofs.Entries.{entry_back}
@@ -126,7 +127,7 @@ family-drafts known a x under h =
     let ev = events_below a under in
     let cs = map child_line x.children in
     let ps = map partner_line x.partners in
-    let known-both = families.each-front (IsKnown (codes "INDI") known)
+    let known-both = each_parts (IsKnown (codes "INDI") known)
     (map (λ (p : model.Partner). p.person) x.partners) (map (λ (p : model.Child). p.person) x.children) h.persons in
     drafts_skip known f family_tags w a a_member ps (cs ++ (ev ++ (q ++ c)))
     (families.partners-are known x.partners known-both.0) refl refl

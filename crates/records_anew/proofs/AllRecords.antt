@@ -41,7 +41,6 @@ use Rattle.archive_state.specs.Sound.{
   place_of,
 }
 use Rattle.record_links.specs.Carried.{carried_tags}
-use Rattle.archive_state.proofs.Each.{each_more}
 use Rattle.archive_state.proofs.Known.{path_known, path_same}
 use Rattle.records_anew.specs.Anew.{redated}
 use Rattle.records_anew.proofs.OneRecord.{
@@ -55,16 +54,14 @@ use Rattle.records_anew.proofs.OneRecord.{
   texts_still,
   untaken_still,
 }
+use Rattle.list_laws.proofs.Outcomes.{if_some}
+use Rattle.record_shapes.proofs.Each.{each_more}
 
 -- what stands at a number, of what stood there
 pub redated_from : (f : Date → Date) (o : Option Record) (x : Record) → option_map (redated f) o ≡ Some x
     → (r : Record) × (o ≡ Some r) × (redated f r ≡ x)
 redated_from f None x e = absurd cc
 redated_from f (Some r) x e = (r, refl, cc)
-
-if_all : {A : Type 0} (P Q : A → Type 0) → ((a : A) → P a → Q a) → (o : Option A) → IfSome o P → IfSome o Q
-if_all P Q h None p = tt
-if_all P Q h (Some a) p = h a p
 
 module _ (f : Date → Date) (m after : Records) (at : (n : ℕ) → get after n ≡ option_map (redated f) (get m n)) where
   -- each of them, of each of those
@@ -95,7 +92,7 @@ module _ (f : Date → Date) (m after : Records) (at : (n : ℕ) → get after n
 
   -- ---- what the rules ask of other records
   said_still : (r : Record) → HasSaidPlace m r → HasSaidPlace after r
-  said_still r h = if_all (λ p. (path : List ℕ) → HasPath m p path → has_part path ≡ true)
+  said_still r h = if_some (λ p. (path : List ℕ) → HasPath m p path → has_part path ≡ true)
       (λ p. (path : List ℕ) → HasPath after p path → has_part path ≡ true) (λ p old path there. old path
       (path_was p path there)) (place_of r) h
 

@@ -29,7 +29,8 @@ use Rattle.records_anew.proofs.OldLines.{
   shallow_still,
   with_spelling,
 }
-use Rattle.records_anew.proofs.OldTexts.{dated_back, fitted_is_written, written_was}
+use Rattle.records_anew.proofs.OldTexts.{fitted_is_written, written_was}
+use Rattle.record_shapes.proofs.Events.{date-read}
 
 -- ---- a record of today, as one of that time
 spelt_was : (o : Option Date) → IfSome (option_map date_text o) WasWritten
@@ -43,7 +44,7 @@ pub kept_as_before : (r : Record) → stored r ≡ stored_with (option_map date_
 kept_as_before r = sym (with_spelling (date_in r) (with_date None r) ∙ ap stored (put_back r))
 
 pub anew_itself : (r : Record) → anew (old_by date_text r) ≡ r
-anew_itself r = ap (λ d. with_date d (with_date None r)) (dated_back (date_in r)) ∙ put_back r
+anew_itself r = ap (λ d. with_date d (with_date None r)) (date-read (date_in r)) ∙ put_back r
 
 pub stays : (lines : List (ℕ × Label)) (r : Record) → lines ≡ stored r → IsAnewOf lines r
 stays lines r is = (

@@ -1,16 +1,10 @@
 -- What the texts of that time say today.
 use Rattle.std.proofs.Common.{◌≡◌, ◌⊎◌, ℕ, List, sym, ap, ◌∙◌, inl, inr}
-use Rattle.std.specs.Prelude.{Option, Some, None, option_map}
 use Rattle.gedcom_date.specs.Before.{FitsBefore, FittedNone}
 use Rattle.gedcom_date.specs.Form.{Form, VerbatimText}
 use Rattle.gedcom_date.specs.Spelling.{spelling}
-use Rattle.gedcom_date.proofs.Deciding.{some_value}
 use Rattle.gedcom_date.proofs.Earlier.{one_said}
-use Rattle.record_fields.specs.Dated.{date_of, date_text}
 use Rattle.record_fields.specs.Dates.{IsWritten}
-use Rattle.record_fields.specs.declared.date.Date.{Date}
-use Rattle.record_fields.proofs.Dated.{date_back}
-use Rattle.record_shapes.specs.Reading.{dated, read_by}
 use Rattle.records_anew.specs.Dates.{WasWritten}
 
 -- a text that fitted none stood for itself
@@ -41,9 +35,3 @@ fitted_is_written text form fits was g says = was form (inl fits) ∙ ap spellin
     (one_said text form g (inl fits.0) says)
 
 -- ---- what a spelling of today says
-dated_if : (d : Date) → dated d.text ≡ Some d
-dated_if d = ap date_of (sym (d.written (some_value d.text).0 (some_value d.text).1)) ∙ date_back (Some d)
-
-pub dated_back : (o : Option Date) → read_by dated (option_map date_text o) ≡ o
-dated_back None = λ i. None
-dated_back (Some d) = dated_if d

@@ -34,8 +34,9 @@ use Rattle.records_anew.specs.Dates.{WasWritten}
 use Rattle.records_anew.specs.Old.{OldRecord, stored_with}
 use Rattle.records_anew.proofs.KeptAnew.{anew_itself}
 use Rattle.records_anew.proofs.OldLines.{with_spelling}
-use Rattle.records_anew.proofs.OldTexts.{dated_back, fitted_is_written}
+use Rattle.records_anew.proofs.OldTexts.{fitted_is_written}
 use Rattle.records_anew.proofs.SoundAnew.{dated_is, said}
+use Rattle.record_shapes.proofs.Events.{date-read}
 
 -- ---- one archive
 same_content : (c d : Content) → ((n : ℕ) → get c.records n ≡ get d.records n) → c.next ≡ d.next
@@ -109,7 +110,7 @@ lines_stay : (rest : Record) (d : Option (List ℕ)) → IfSome d IsWritten
 lines_stay rest None h = sym (with_spelling None rest)
 lines_stay rest (Some t) h =
     let date : Date = record { text = t; written = h } in
-    ap (λ d. stored (with_date d rest)) (dated_back (Some date)) ∙ sym (with_spelling (Some date) rest)
+    ap (λ d. stored (with_date d rest)) (date-read (Some date)) ∙ sym (with_spelling (Some date) rest)
 
 pub record_stays : (o : OldRecord) → IfSome o.date IsWritten → stored (anew o) ≡ stored_with o.date o.rest
 record_stays o h = lines_stay o.rest o.date h

@@ -31,8 +31,8 @@ use Rattle.archive_state.specs.Known.{path_with, tag_at}
 use Rattle.archive_state.specs.Merging.{clashes, merged_record}
 use Rattle.archive_state.specs.Sound.{IsEmptyPerson, IsPerson}
 use Rattle.archive_state.specs.Texts.{carried_texts, date_texts, mention_texts, own_texts}
-use Rattle.archive_state.proofs.Each.{each_back, each_both, each_front}
 use Rattle.records_anew.specs.Anew.{redated}
+use Rattle.record_shapes.proofs.Each.{each_back, each_both, each_front}
 
 module _ (f : Date → Date) where
   -- ---- what holds of any date holds of another

@@ -1,24 +1,7 @@
 -- An archive with other dates for its own is sound where it was, and so is what an archive of that time is today.
-use Rattle.std.proofs.Common.{◌≡◌, ◌⊎◌, ◌<◌, ◌≤◌, ℕ, List, [], ◌∷◌, refl, sym, ap, subst, ◌∙◌, inl, inr}
+use Rattle.std.proofs.Common.{◌≡◌, ◌<◌, ◌≤◌, ℕ, List, [], ◌∷◌, refl, sym, ap, subst, ◌∙◌}
 use Rattle.std.specs.Prelude.{Option, Some, None, map, option_map, IfSome}
 use Rattle.std.specs.FinMap.{get}
-use Rattle.gedcom_date.specs.Form.{
-  AfterDate,
-  BeforeDate,
-  BetweenDates,
-  Form,
-  FromToDates,
-  InterpretedDate,
-  NearDate,
-  OnDate,
-  PhraseAlone,
-  SinceDate,
-  UntilDate,
-  VerbatimText,
-}
-use Rattle.gedcom_date.specs.Grammar.{Fits, FitsNone, IsOfForm, Says}
-use Rattle.gedcom_date.specs.Spelling.{spelling}
-use Rattle.gedcom_date.proofs.Again.{IsRead, form_back}
 use Rattle.gedcom_date.proofs.Deciding.{some_value}
 use Rattle.owner_reading.proofs.Spelt.{spelt_as_text}
 use Rattle.record_fields.specs.Dated.{spelt, written_by}
@@ -54,6 +37,7 @@ use Rattle.records_anew.proofs.AllRecords.{named_still, rules_still}
 use Rattle.records_anew.proofs.OldLines.{put_twice}
 use Rattle.records_anew.proofs.OneRecord.{person_still}
 use Rattle.records_anew.proofs.SlipsAnew.{slip_still}
+use Rattle.gedcom_date.proofs.SaidAgain.{said_again}
 
 -- ---- other dates for those of an archive
 slip_from : (f : Date → Date) (o : Option Slip) (x : Slip) → option_map (redated_slip f) o ≡ Some x → (s : Slip)
@@ -103,26 +87,6 @@ module _ (f : Date → Date) (are : (d : Date) → IsText d.text → IsText (f d
   }
 
 -- ---- each text says a date today
-read_if : (text : List ℕ) (form : Form) → IsOfForm text form → IsRead form
-unfolding IsOfForm
-read_if text (OnDate d) h = tt
-read_if text (NearDate how d) h = tt
-read_if text (BeforeDate d) h = tt
-read_if text (AfterDate d) h = tt
-read_if text (BetweenDates d e) h = tt
-read_if text (SinceDate d) h = tt
-read_if text (UntilDate d) h = tt
-read_if text (FromToDates d e) h = tt
-read_if text (InterpretedDate d phrase) h = tt
-read_if text (PhraseAlone phrase) h = tt
-read_if text (VerbatimText t) h = absurd h
-
-said_again : (text : List ℕ) (form : Form) → Fits text form ⊎ ((form ≡ VerbatimText text) × FitsNone text)
-    → Says (spelling form) form
-unfolding spelling
-said_again text form (inl fits) = inl (form_back form (read_if text form fits.0) fits.1, fits.1)
-said_again text form (inr is) =
-    subst (λ (g : Form). Says (spelling g) g) (sym is.0) (inr (refl, is.1))
 
 pub spelt_written : (text : List ℕ) → IsWritten (spelt text)
 spelt_written text =

@@ -2,12 +2,10 @@
 use Rattle.std.proofs.Common.{
   ◌≡◌,
   ◌≤◌,
-  ◌<◌,
   ◌+◌,
   ◌-◌,
   ℕ,
   List,
-  [],
   ◌++◌,
   length,
   take,
@@ -21,23 +19,20 @@ use Rattle.std.proofs.Common.{
   None,
   inl,
   inr,
-  append-nil,
   append_assoc,
-  refl,
   ◌⊎◌,
 }
 use Rattle.std.proofs.lemmas.List.{length-map, length-take, length-append}
 use Rattle.std.proofs.Math.Seq.{take-append-add, take-append_seam}
 use Rattle.std.specs.Prelude.{IfSome}
-use Rattle.std.specs.Io.KnownBytes.{Consumes, IsAtEnd}
+use Rattle.std.specs.Io.KnownBytes.{Consumes}
 use Rattle.httparse.proofs.GrammarLemmas.{ReadsRequest-append}
-use Rattle.httparse.specs.Grammar.{HasNoRequest}
 use Rattle.httparse.specs.Spans.{IsRequestWithin}
 use Rattle.httparse.specs.declared.spans.HeaderSpan.{HeaderSpan}
 use Rattle.httparse.specs.declared.spans.RequestSpans.{RequestSpans}
 use Rattle.request_heads.specs.Heads.{Begins, HasManyLines, IsLong}
 use Rattle.request_heads.specs.Parts.{Head}
-use Rattle.request_heads.specs.Reading.{IsCopied, IsOverfull, IsRuledOut}
+use Rattle.request_heads.specs.Reading.{IsCopied, IsOverfull}
 use Rattle.request_heads.specs.declared.head.HeadRead.TheVariants as read
 
 -- what a list begins with, a longer front of it begins with
@@ -48,10 +43,6 @@ front_begins f x p y e h =
       sym (take-append_seam f x) ∙ ap (take (length f)) e ∙ ap (λ m. take m (p ++ y)) (sym size)
           ∙ take-append-add p y (length f - length p),
     )
-
-ruled_out : (front rest : List ℕ) → IsRuledOut front (Some rest) → HasNoRequest (front ++ rest)
-ruled_out front rest (inl never) h after reads = never rest h after reads
-ruled_out front rest (inr (none, ended)) h after reads = none h after (rw (ended, append-nil front) at reads)
 
 overfull : (front rest : List ℕ) → IsOverfull front → HasManyLines (front ++ rest) ⊎ IsLong (front ++ rest)
 overfull front rest (inl (exceeds, overflows)) = inl (record {
@@ -69,19 +60,6 @@ overfull front rest (inr (full, none)) = inr (record {
   size = omega (arith, length-append front rest);
   none = rw (← full, take-append_seam front rest) none;
 })
-
-pub nothing_begins : (old new : Option (List ℕ)) (front : List ℕ) → Consumes old new front
-    → (front ≡ []) × IsAtEnd new → IfSome old (λ input. Begins input read.Nothing)
-nothing_begins None new front taken shows = tt
-nothing_begins (Some input) None front taken shows = absurd taken
-nothing_begins (Some input) (Some rest) front taken shows = rw (taken, shows.0, shows.1) refl
-
-pub malformed_begins : (old new : Option (List ℕ)) (front : List ℕ) → Consumes old new front
-    → (0 < length front) × IsRuledOut front new → IfSome old (λ input. Begins input read.Malformed)
-malformed_begins None new front taken shows = tt
-malformed_begins (Some input) None front taken shows = absurd taken
-malformed_begins (Some input) (Some rest) front taken shows =
-    rw taken (omega (arith, shows.0, length-append front rest), ruled_out front rest shows.1)
 
 pub too_large_begins : (old new : Option (List ℕ)) (front : List ℕ) → Consumes old new front
     → IsOverfull front → IfSome old (λ input. Begins input read.TooLarge)

@@ -9,8 +9,6 @@ use Rattle.std.specs.Prelude.{
   ◌&&◌,
   nat_le,
   List,
-  [],
-  ◌∷◌,
   length,
   Bool,
   true,
@@ -25,12 +23,11 @@ use Rattle.std.specs.Prelude.{
 use Rattle.std.specs.Result.{OkIff}
 use Rattle.std.specs.Char.{is_ascii_digit}
 use Rattle.std.specs.List.{list_all}
-use Rattle.std.specs.Str.{all_ascii_digits}
 use Rattle.std.specs.Str.Parse.{digits_value, ParsesUnsigned}
 use Rattle.std.proofs.Common.{ap, sym, ◌∙◌, arith, subst}
 use Rattle.std.proofs.lemmas.Bool.Decides.{nat_tests}
-use Rattle.std.proofs.lemmas.Str.Parse.{IsNumeralModel, tells_all_ascii_digits, numerals_by_value, parse_digits}
 use Rattle.room_routes.specs.Pages.{is_number, number_in}
+use Rattle.list_laws.proofs.Numbers.{parsed}
 
 -- ---- how a text is judged
 number-ok : (places : ℕ) (text : List ℕ) → is_number places text ≡ true
@@ -68,18 +65,6 @@ pub number_undigit : (places : ℕ) (text : List ℕ) → list_all is_ascii_digi
 number_undigit places text h = number-bad places text (rw h refl)
 
 -- ---- what the library parses of digits
-all-digits : (text : List ℕ) → all_ascii_digits text ≡ list_all is_ascii_digit text
-all-digits [] = refl
-all-digits (c ∷ cs) = ap (λ b. is_ascii_digit c && b) (all-digits cs)
-
-own : IsNumeralModel (λ ds. all_ascii_digits ds ≡ true) (digits_value 10)
-own = numerals_by_value (λ ds. all_ascii_digits ds ≡ true) tells_all_ascii_digits
-
--- where the digits are not too many, they are parsed as their value
-parsed : {E : Type 0} (text : List ℕ) (r : Result ℕ E) → ParsesUnsigned 32 10 text r
-    → list_all is_ascii_digit text ≡ true
-    → OkIff r ((0 < length text) × (digits_value 10 text < 2 ^ 32)) (digits_value 10 text)
-parsed text r h digits = parse_digits own 32 text r h (all-digits text ∙ digits)
 
 pub number_parsed : {E : Type 0} (places : ℕ) (text : List ℕ) (r : Result ℕ E) (n : ℕ) → ParsesUnsigned 32 10 text r
     → list_all is_ascii_digit text ≡ true

@@ -25,6 +25,7 @@ use Rattle.record_shapes.specs.Reading.{
 }
 use Rattle.import_forest.specs.Positions.{known}
 use Rattle.root_drafts.specs.Drafts.{ReadsFamily}
+use Rattle.list_laws.proofs.Outcomes.{some_is}
 
 -- the family that a draft is
 abbrev family_in : Tree Draft → Option model.Family
@@ -35,9 +36,6 @@ entry_no_family : (tag : List ℕ) (v : Value) (ts : Lines) (o : Option model.En
     → family_in (node (read (entry_or_other tag v ts o) None) none) ≡ None
 entry_no_family tag v ts None = refl
 entry_no_family tag v ts (Some e) = refl
-
-some_is : {A : Type 0} (x y : A) → Some x ≡ Some y → x ≡ y
-some_is x y e = cc
 
 none_some : {A B : Type 0} (x : A) → ◌≡◌ {A = Option A} None (Some x) → B
 none_some x e = absurd cc

@@ -2,7 +2,6 @@
 use Rattle.std.proofs.Common.{
   ◌≡◌,
   ℕ,
-  suc,
   ◌+◌,
   ◌<◌,
   ◌≤◌,
@@ -19,33 +18,20 @@ use Rattle.std.proofs.Common.{
   sym,
   ap,
   ◌∙◌,
-  subst,
   arith,
   append_assoc,
   append-nil,
 }
-use Rattle.std.specs.Prelude.{Option, Some, None, option_map}
+use Rattle.std.specs.Prelude.{Option, Some, option_map}
 use Rattle.std.specs.Borrow.{Bor}
 use Rattle.std.specs.List.{flat_map, slice_get}
 use Rattle.std.specs.declared.string.String.{String}
 use Rattle.std.specs.Global.{Global}
 use Rattle.std.proofs.Math.ListN.{drop_of_length-le}
-use Rattle.std.proofs.Math.Seq.{drop-cons}
-use Rattle.std.proofs.lemmas.List.{length-append, length-map, length-take-le, map-append, take-map}
+use Rattle.std.proofs.lemmas.List.{length-map, length-take-le, map-append, take-map}
 use Rattle.std.proofs.lemmas.Option.{slice_get-map, slice_get_read, slice_get_within}
 use Rattle.receipts.specs.declared.report.ReportLine.{ReportLine}
-use Rattle.stored_lines.specs.Tree.{
-  Tree,
-  Forest,
-  node,
-  none,
-  more,
-  children,
-  forest_of,
-  label,
-  list_of,
-  relabel_all,
-}
+use Rattle.stored_lines.specs.Tree.{Tree, Forest, node, children, forest_of, label, relabel_all}
 use Rattle.stored_lines.specs.Levels.{forest_levels}
 use Rattle.stored_lines.specs.Line.{Line, Lines}
 use Rattle.stored_lines.specs.declared.carried.Value.{Value}
@@ -54,67 +40,20 @@ use Rattle.draft_reading.specs.Trees.{draft_tree}
 use Rattle.draft_reading.specs.declared.drafts.Draft as code
 use Rattle.gedcom_tree.specs.declared.node.Node.{Node}
 use Rattle.gedcom_tree.specs.declared.node.Node.TheViews.{out-Node}
-use Rattle.file_roots.specs.Nodes.{
-  FileLine,
-  FileNode,
-  HaveLines,
-  IsInFile,
-  line_said,
-  tree_of,
-  trees_at,
-  trees_of,
-}
-use Rattle.file_roots.specs.Lines.{
-  Lined,
-  lined_root,
-  lined_roots,
-  lines_below,
-  place_in,
-  put,
-  resolve,
-  resolved,
-  root_value,
-  roots,
-  unlined,
-}
+use Rattle.file_roots.specs.Nodes.{FileLine, FileNode, line_said, tree_of, trees_at, trees_of}
+use Rattle.file_roots.specs.Lines.{lined_root, lined_roots, lines_below, place_in, resolved, root_value, roots, unlined}
 use Rattle.file_roots.specs.Reports.{dangling}
 use Rattle.file_roots.proofs.Trees.{tree_out}
-use Rattle.import_forest.specs.Positions.{known, known_before, known_by, path_behind, paths, paths_behind}
+use Rattle.import_forest.specs.Positions.{known, known_before, known_by, paths}
 use Rattle.import_forest.specs.Sides.{draft_at, drafts_from}
 use Rattle.known_roots.specs.Views.{path_said}
 use Rattle.root_drafts.specs.Drafts.{as_line, as_lines}
+use Rattle.file_roots.proofs.Lined.{bare, resolved_low}
+use Rattle.import_forest.proofs.Firsts.{paths_length}
+use Rattle.file_roots.proofs.Below.{roots_length}
+use Rattle.stored_lines.proofs.Listed.{forest_list}
 
 -- ---- the nodes below a node
-have_below : (t : FileNode) (l : FileLine) (cs : List FileNode) → t ≡ node l (forest_of cs) → IsInFile t
-    → HaveLines (forest_of cs) × (forest_levels (forest_of cs) ≤ 98)
-have_below t l cs e h = let k : IsInFile (node l (forest_of cs)) = subst IsInFile e h in
-    (k.lines.1, let low = k.low in omega (arith, low))
-
-pub below_fits : (n : Node) (ns : List Node) → ns ≡ (out-Node n).children.items → IsInFile (tree_of n)
-    → HaveLines (forest_of (trees_of ns)) × (forest_levels (forest_of (trees_of ns)) ≤ 98)
-below_fits n ns e h = subst (λ ms. HaveLines (forest_of (trees_of ms)) × (forest_levels (forest_of (trees_of ms)) ≤ 98))
-    (sym e) (have_below (tree_of n) _ (trees_of (out-Node n).children.items) (tree_out n) h)
-
--- the lines that are left have no more levels
-abbrev bare : Lined → Line
-bare l = l.1
-
-resolved_low : (place : List ℕ → Option ℕ) (f : Forest FileLine)
-    → forest_levels (relabel_all bare (resolved place f)) ≤ forest_levels f
-resolved_low place none = omega arith
-resolved_low place (more (node l f) g) =
-    put_low (resolve place l.value) (resolved_low place f) (resolved_low place g)
-  where
-    put_low : (o : Option Value) → forest_levels (relabel_all bare (resolved place f)) ≤ forest_levels f
-        → forest_levels (relabel_all bare (resolved place g)) ≤ forest_levels g
-        → forest_levels (relabel_all bare (put l o (resolved place f) (resolved place g)))
-        ≤ forest_levels (more (node l f) g)
-    put_low None a b = omega arith
-    put_low (Some v) a b = omega arith
-
-forest_list : {A : Type 0} (f : Forest A) → forest_of (list_of f) ≡ f
-forest_list none = refl
-forest_list (more t f) = ap (more t) (forest_list f)
 
 pub lines_low : (place : List ℕ → Option ℕ) (f : Forest FileLine) (cs : Lines) → cs ≡ lines_below place f
     → forest_levels f ≤ 98 → forest_levels (forest_of cs) < 99
@@ -145,21 +84,6 @@ root_at ks k t at = slice_get-map unlined (lined_roots ks) k
     ∙ ap (λ o. option_map unlined (option_map (lined_root (place_in ks)) o)) at
 
 -- ---- the paths before it
-behind_length : (rs : Lines) (ps : List (Option (List ℕ))) (ts : Lines)
-    → length (paths_behind rs ps ts) ≡ length ps + length ts
-behind_length rs ps [] = omega arith
-behind_length rs ps (t ∷ ts) =
-    let more = behind_length rs (ps ++ path_behind rs ps t ∷ []) ts in
-    let one = length-append ps (path_behind rs ps t ∷ []) in
-    omega (arith, more, one)
-
-paths_length : (rs : Lines) → length (paths rs) ≡ length rs
-unfolding paths
-paths_length rs = let e = behind_length rs [] rs in omega (arith, e)
-
-roots_length : (ks : List FileNode) → length (roots ks) ≡ length ks
-unfolding roots
-roots_length ks = length-map (lined_roots ks) unlined ∙ length-map ks (lined_root (place_in ks))
 
 pub within : (ks : List FileNode) (ps : List (Option (String Global))) (k : ℕ) (t : FileNode)
     → map path_said ps ≡ paths (roots ks) → slice_get ks k ≡ Some t → k ≡ length (take k ps)
@@ -179,11 +103,6 @@ read_is ks ps k d line r e same so =
     so ∙ (λ i. draft_of (known_by (roots ks) (before i)) (known_by (roots ks) (e i)) (same i))
 
 -- ---- all nodes
-pub front_at : (ns : List (Bor Node)) (i : ℕ) (n : Bor Node) → i < length ns → n ≡ get_or ns i n
-    → trees_at (drop i ns) ≡ tree_of n.now ∷ trees_at (drop (i + 1) ns)
-front_at ns i n h e =
-    let one : suc i ≡ i + 1 = omega arith in
-    ap trees_at (drop-cons ns i n h ∙ ap (λ y. y ∷ drop (suc i) ns) (sym e) ∙ ap (λ k. n ∷ drop k ns) one)
 
 pub here : (ks : List FileNode) (ns : List (Bor Node)) (i k : ℕ) (n : Bor Node) → trees_at ns ≡ ks → i < length ns
     → n ≡ get_or ns i n → k ≡ i → slice_get ks k ≡ Some (tree_of n.now)

@@ -39,7 +39,6 @@ use Rattle.std.specs.declared.string.String.{String}
 use Rattle.std.proofs.Math.ListN.{drop_of_length-le}
 use Rattle.std.proofs.Math.Seq.{drop-cons}
 use Rattle.std.proofs.lemmas.Bool.{and_parts}
-use Rattle.std.proofs.lemmas.List.{length-map}
 use Rattle.std.proofs.lemmas.Option.{slice_get-map, slice_get_within}
 use Rattle.stored_lines.specs.Tree.{Tree, Forest, node, none, forest_of, label, list_of}
 use Rattle.stored_lines.specs.Line.{Line, Lines}
@@ -48,7 +47,7 @@ use Rattle.record_fields.specs.Bytes.{bytes_are}
 use Rattle.record_fields.specs.Words.{entry_kind_of}
 use Rattle.record_kinds.specs.Model as model
 use Rattle.record_kinds.specs.declared.record.Record.TheVariants as kind
-use Rattle.record_shapes.specs.Entries.{around, entry_if, entry_of, entry_on, has_its_lines, is_entry, same_forest}
+use Rattle.record_shapes.specs.Entries.{around, entry_of, entry_on, has_its_lines, is_entry, same_forest}
 use Rattle.record_shapes.specs.Forms.{Known, below, is_some, is_text_value, tag_of, tagged, text_in, value_of}
 use Rattle.record_shapes.specs.Fields.{family_field, person_field}
 use Rattle.record_shapes.specs.Reading.{
@@ -69,7 +68,7 @@ use Rattle.draft_reading.specs.declared.drafts.Draft as code
 use Rattle.gedcom_tree.specs.declared.node.Node.{Node}
 use Rattle.gedcom_tree.specs.declared.node.Node.TheViews.{out-Node}
 use Rattle.file_roots.specs.Nodes.{FileNode, tree_of, trees_at}
-use Rattle.file_roots.specs.Lines.{lined_root, lined_roots, place_in, roots, unlined}
+use Rattle.file_roots.specs.Lines.{roots}
 use Rattle.file_roots.proofs.Trees.{tree_out}
 use Rattle.import_forest.specs.Made.{line_of, same_key, second}
 use Rattle.import_forest.specs.Positions.{known, known_before, tag_at}
@@ -77,6 +76,9 @@ use Rattle.import_forest.specs.Sides.{draft_at, drafts_from, root_with_sides, wi
 use Rattle.second_entries.specs.Keys.{is_key, is_seen, key_words, second_by, seen_with, AreSmall, IsSmall}
 use Rattle.second_entries.specs.Seconds.{entry_in, said_of, second_among, second_position}
 use Rattle.second_entries.proofs.Keyed.{one_key}
+use Rattle.list_laws.proofs.Lists.{map_map}
+use Rattle.file_roots.proofs.Below.{roots_length}
+use Rattle.record_shapes.proofs.EntryLines.{if_entry}
 
 -- ---- what a node is read as is an entry exactly where the node is one
 registered_entry : (rs : Lines) (k : ℕ) (tag : List ℕ) (v : Value) (ts : Lines) (o : Option model.Entry)
@@ -137,16 +139,12 @@ source_small rs n e = within (slice_get rs n) refl e
     within None at h = absurd cc
     within (Some t) at h = slice_get_within rs n t at
 
-entry_names : (b : Bool) (e0 e : model.Entry) → entry_if b e0 ≡ Some e → (b ≡ true) × (e0 ≡ e)
-entry_names true e0 e h = (refl, let same : e0 ≡ e = cc in same)
-entry_names false e0 e h = absurd cc
-
 read_names : (k : Known) (v : Value) (ts : Lines) (e : model.Entry) → entry_of k v ts ≡ Some e
     → bytes_eq (k.tag e.source) (codes "SOUR") ≡ true
 unfolding entry_of
 read_names k v ts e h =
     let e0 : model.Entry = entry_on (text_in v) ts in
-    let n = entry_names (has_its_lines k v ts e0) e0 e h in
+    let n = if_entry (has_its_lines k v ts e0) e0 e h in
     let a = and_parts (is_some (entry_kind_of (text_in v))) (is_text_value v
     && (same_forest (forest_of ts) (forest_of (entry_lines (around k) e0)) && is_entry k e0)) n.0 in
     let b = and_parts (is_text_value v)
@@ -264,16 +262,9 @@ second_told rs (r ∷ us) k ds =
     (second_told rs us (k + 1) (label (draft_at rs k r) ∷ ds))
 
 -- ---- the drafts of code
-map_map : {A B C : Type 0} (f : B → C) (g : A → B) (xs : List A) → map f (map g xs) ≡ map (λ x. f (g x)) xs
-map_map f g [] = refl
-map_map f g (x ∷ xs) = ap (λ us. f (g x) ∷ us) (map_map f g xs)
 
 said_labels : (ds : List code.Draft) → map said_of ds ≡ map label (map draft_tree ds)
 said_labels ds = sym (map_map label draft_tree ds)
-
-roots_length : (ks : List FileNode) → length (roots ks) ≡ length ks
-unfolding roots
-roots_length ks = length-map (lined_roots ks) unlined ∙ length-map ks (lined_root (place_in ks))
 
 pub small_drafts : (ks : List FileNode) (ds : List code.Draft) → length ks < 2 ^ 32
     → map draft_tree ds ≡ drafts_from (roots ks) 0 (roots ks) → AreSmall (map said_of ds)

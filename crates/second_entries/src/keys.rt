@@ -9,7 +9,7 @@ use std::alloc::{AllocError, Global};
 use std::collections::BTreeSet;
 
 /// Source, kind, item and page of an entry, parted by U+0000.
-#[tactic(auto, using(crate::proofs::Keyed::joined))]
+#[tactic(auto, using(list_laws::proofs::Bytes::four_joined))]
 fn key_words(alloc: Global, entry: &Entry) -> Result<String, AllocError>
     ensures { IfOk result (λ words. string_bytes words ≡ entry_keys.key_words entry.now) }
 {

@@ -19,4 +19,4 @@ pub use families::{push_child, push_family_head, push_partner};
 pub use pages::{push_ancestor, push_ancestor_words, push_index, push_surname};
 pub use persons::{push_child_of, push_names, push_partner_in, push_person_head, push_sex};
 pub use registers::{push_entry, push_register_head};
-pub use words::display_of;
+pub use words::{display_of, push_dated, push_printed};

@@ -9,8 +9,8 @@ use record_kinds::Person;
 use record_text::display;
 use std::alloc::{AllocError, Global};
 
-/// Appends a text as it is printed: each LF is a space.
-pub(crate) fn push_printed(out: &mut String, text: &str) -> Result<(), AllocError>
+/// Appends a text as it is printed: each LF is a space. Refused only for want of memory.
+pub fn push_printed(out: &mut String, text: &str) -> Result<(), AllocError>
     ensures { OnOk result (string_bytes out.new ≡ string_bytes out.old ++ words.printed text.now) }
 {
     let mut rest = text;
@@ -37,12 +37,8 @@ pub(crate) fn push_right(out: &mut String, places: usize, number: u32) -> Result
     write!(out, "{number:>places$}")
 }
 
-/// Appends a date behind a word, where there is one.
-pub(crate) fn push_dated(
-    out: &mut String,
-    word: &str,
-    date: Option<&Date>,
-) -> Result<(), AllocError>
+/// Appends a date behind a word, where there is one. Refused only for want of memory.
+pub fn push_dated(out: &mut String, word: &str, date: Option<&Date>) -> Result<(), AllocError>
     ensures { OnOk result (string_bytes out.new ≡ string_bytes out.old
         ++ words.dated word.now (option_copied date.entry)) }
 {

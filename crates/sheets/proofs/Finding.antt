@@ -7,13 +7,13 @@ use Rattle.record_fields.specs.declared.words.Partnership.{Partnership}
 use Rattle.record_kinds.specs.Model as model
 use Rattle.record_kinds.specs.declared.record.Record.{Record}
 use Rattle.export_index.specs.declared.owned.Owned.{Owned}
-use Rattle.node_writing.proofs.Appending.{at_index}
 use Rattle.sheets.specs.Pedigrees.{date_as, first_as, first_date, is_as, or_else}
+use Rattle.list_laws.proofs.Lists.{item_here}
 
 module _ (w : Partnership) (ps : List model.Partner) (i : ℕ) where
   here : (p : model.Partner) (b : Bool) → i < length ps → p ≡ get_or ps i p → is_as p.partnership w ≡ b
       → first_as w (drop i ps) ≡ (if b then Some p.person else first_as w (drop (i + 1) ps))
-  here p b less at is = ap (first_as w) (at_index ps i p less at)
+  here p b less at is = ap (first_as w) (item_here ps i p less at)
       ∙ ap (λ (x : Bool). if x then Some p.person else first_as w (drop (i + 1) ps)) is
 
   -- the partner at that place is the first
@@ -41,7 +41,7 @@ module _ (at_number : ℕ → Option Record) (tag : List ℕ) (os : List Owned) 
   date_here : (o : Owned) (d : Option Date) → i < length os → o ≡ get_or os i o → d ≡ date_as tag (at_number o.number)
       → from_here i ≡ or_else d (from_here (i + 1))
   date_here o d less at is =
-      ap (λ (xs : List Owned). first_date at_number tag (map number_of xs)) (at_index os i o less at)
+      ap (λ (xs : List Owned). first_date at_number tag (map number_of xs)) (item_here os i o less at)
       ∙ ap (λ (x : Option Date). or_else x (from_here (i + 1))) (sym is)
 
   pub found_date : (o : Owned) (d : Date) → i < length os → o ≡ get_or os i o

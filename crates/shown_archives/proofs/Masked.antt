@@ -1,13 +1,10 @@
 -- What is said of what is shown of an archive that is open, from what was read of it.
-use Rattle.std.proofs.Common.{◌≡◌, ◌⊎◌, inl, inr, ℕ, ℤ, true, List, Ok, Err, refl, sym, ap, subst}
-use Rattle.std.specs.Prelude.{Option, None, Some, Result, IfErr, IfOk, OnOk}
-use Rattle.std.specs.Io.KnownBytes.{Keeps}
+use Rattle.std.proofs.Common.{◌≡◌, ◌⊎◌, inl, inr, ℕ, ℤ, List, Ok, Err, sym, subst}
+use Rattle.std.specs.Prelude.{Option, Result, IfErr, IfOk, OnOk}
 use Rattle.sqlite.specs.State.{HasCleanDisk, State}
 use Rattle.archive_state.specs.Content.{Content}
 use Rattle.archive_state.specs.Sound.{IsSound}
-use Rattle.archive_view.specs.Looks.{is_stop}
 use Rattle.record_text.specs.declared.refusal.RefusalKind.{RefusalKind}
-use Rattle.record_text.specs.declared.refusal.RefusalKind.TheVariants.{OutOfMemory}
 use Rattle.store.specs.Archives.{HasArchive}
 use Rattle.store.specs.Calls.{Reads}
 use Rattle.store_tables.specs.Looking.{IsFailure}
@@ -15,18 +12,9 @@ use Rattle.archive_exports.specs.Reading.{OnOpen}
 use Rattle.archive_exports.proofs.Asked.{follows, read_as}
 use Rattle.shown_archives.specs.Showing.{IsShown, OnShown}
 use Rattle.shown_archives.specs.Writing.{IsNotBegun}
+use Rattle.list_laws.proofs.Outcomes.{keeps}
 
 -- ---- want of memory
-pub want_stops : {A : Type 0} (r : Result A RefusalKind) → IfErr r (λ kind. kind ≡ OutOfMemory)
-    → IfErr r (λ kind. is_stop kind ≡ true)
-want_stops (Ok a) want = tt
-want_stops (Err kind) want = ap is_stop want
-
-pub want_fails : {A : Type 0} (r : Result A RefusalKind) (old new : State) (P : List ℕ → Content → Type 0)
-    → OnOpen old new P → IfErr r (λ kind. kind ≡ OutOfMemory)
-    → IfErr r (λ kind. OnOpen old new (λ _ _. IsFailure kind))
-want_fails (Ok a) old new P open_ want = tt
-want_fails (Err kind) old new P open_ want = follows old new P (λ _ _. IsFailure kind) (λ _ _ _. inl want) open_
 
 -- ---- what was read, masked
 module _ (old new : State) (held : Content)
@@ -76,9 +64,6 @@ module _ {A : Type 0} (old new : State) (today : ℤ) (s : Content)
       (λ _ c. N kind ⊎ OnShown c today (P kind)) (λ _ c is. of_either c today s (P kind) is.0 (did is.0.sound)) shown
 
 -- ---- nothing was written
-pub keeps : (old : Option (List ℕ)) → Keeps old old
-keeps None = tt
-keeps (Some bytes) = refl
 
 pub not_begun : (old new : State) (kind : RefusalKind) (before : Option (List ℕ)) (Q : List ℕ → Content → Type 0)
     → OnOpen old new (λ _ _. IsFailure kind) → OnOpen old new (λ society c. IsNotBegun kind before before ⊎ Q society c)

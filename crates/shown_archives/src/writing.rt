@@ -1,19 +1,20 @@
 //! A sheet of an archive that is open, written.
 
-ghost use Rattle.std.specs.Prelude.{◌≡◌, ◌⊎◌, false, true, IfErr, OnErr, OnOk};
-ghost use Rattle.std.specs.Io.KnownBytes.{Appends, Keeps};
+ghost use Rattle.std.specs.Prelude.{◌≡◌, ◌⊎◌, false, true, IfErr, OnOk};
+ghost use Rattle.std.specs.Io.KnownBytes.{Keeps};
 ghost use Rattle.sqlite.specs.Held.{state};
 ghost use Rattle.archive_state.specs.Sound.{IsSound};
 ghost use Rattle.archive_view.specs.Looks.{is_failure};
-ghost use Rattle.devices.specs.Devices.{AppendsBeginning, Rose};
-ghost use Rattle.record_text.specs.declared.refusal.RefusalKind.TheVariants.{OutOfMemory, WriteFailed};
+ghost use Rattle.devices.specs.Devices.{Rose};
+ghost use Rattle.record_text.specs.declared.refusal.RefusalKind.TheVariants.{WriteFailed};
 ghost use Rattle.archive_exports.specs.Reading.{OnOpen};
 ghost use Rattle.shown_archives.specs.Sheets.{sheet_text};
 ghost use Rattle.shown_archives.specs.Writing.{GotNoText, GotText, IsNotBegun, IsSheetRefused, IsSheetWritten};
 
 use crate::sheet::{Sheet, sheet_of};
 use crate::showing::shown_of;
-use devices::{Device, TransferError, write_bytes};
+use archive_exports::write_text;
+use devices::Device;
 use record_text::RefusalKind;
 use shown_state::Shown;
 use sqlite::Alter;
@@ -67,20 +68,5 @@ fn write_shown<W: Write + Device>(
     match sheet_of(alloc, shown, sheet) {
         Ok(text) => write_text(text.as_str(), writer),
         Err(kind) => Err(kind),
-    }
-}
-
-/// Writes a text. 95: the writer failed. 1: memory was refused. Then a beginning is written.
-fn write_text<W: Write + Device>(text: &str, writer: &mut W) -> Result<(), RefusalKind>
-    ensures written { OnOk result (Appends (W.contents writer.old) (W.contents writer.new) text.now) }
-    ensures begun { OnErr result (AppendsBeginning (W.contents writer.old) (W.contents writer.new) text.now) }
-    ensures why { IfErr result (λ kind. (kind ≡ WriteFailed) ⊎ (kind ≡ OutOfMemory)) }
-    ensures writer { IfErr result (λ kind. kind ≡ WriteFailed → Rose (W.failed writer.old) (W.failed writer.new)) }
-{
-    let before = writer.failures();
-    match write_bytes(writer, before, text.as_bytes()) {
-        Ok(()) => Ok(()),
-        Err(TransferError::OutOfMemory) => Err(RefusalKind::OutOfMemory),
-        Err(TransferError::Failed) => Err(RefusalKind::WriteFailed),
     }
 }

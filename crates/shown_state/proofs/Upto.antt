@@ -2,8 +2,7 @@
 use Rattle.std.proofs.Common.{◌≡◌, ℕ, zero, suc, ◌+◌, ◌-◌, ◌<◌, ◌≤◌, refl, sym, ap, ◌∙◌, subst, inl, inr, arith}
 use Rattle.std.proofs.lemmas.Bool.{cases_lt}
 use Rattle.std.specs.Prelude.{Option, Some, None}
-use Rattle.std.specs.FinMap.{get, empty, get-empty}
-use Rattle.std.specs.Ordering.{nat_cmp}
+use Rattle.std.specs.FinMap.{get}
 use Rattle.std.specs.BTreeSet.{BTreeSet}
 use Rattle.record_kinds.specs.declared.record.Record.{Record}
 use Rattle.archive_state.specs.Content.{Content, Records}
@@ -12,22 +11,13 @@ use Rattle.archive_state.proofs.Putting.{put_here, put_elsewhere}
 use Rattle.masking.specs.Masking.{shown_at}
 use Rattle.who_is_living.specs.Judged.{tests_of}
 use Rattle.shown_state.specs.Showing.{Shows, put_if, shown_there}
+use Rattle.archive_state.proofs.Later.{none_where}
 
 -- what is shown stands at the numbers from 1 to the last, and nothing elsewhere
 pub record IsUpto (at : ℕ → Option Record) (last : ℕ) (made : Records) : Type 0 where
   pub inside : (n : ℕ) → 0 < n → n ≤ last → get made n ≡ at n
   pub above : (n : ℕ) → last < n → get made n ≡ None
   pub first : get made 0 ≡ None
-
-nowhere : (n : ℕ) → 0 < n → n ≤ 0 → ⊥
-nowhere n from upto = omega arith
-
-pub none_upto : (at : ℕ → Option Record) (made : Records) → made ≡ empty → IsUpto at 0 made
-none_upto at made is = record {
-  inside = λ n from upto. absurd (nowhere n from upto);
-  above = λ n less. ap (λ m. get m n) is ∙ get-empty nat_cmp n;
-  first = ap (λ m. get m 0) is ∙ get-empty nat_cmp 0;
-}
 
 -- ---- one number more
 here : (made : Records) (k : ℕ) (o : Option Record) → get made k ≡ None → get (put_if made k o) k ≡ o
@@ -61,10 +51,6 @@ more_upto at last made h = record {
 none_shown : (m : Records) (living open_entries : BTreeSet ℕ) (n : ℕ) (o : Option Record) → o ≡ None
     → shown_at (tests_of living open_entries) (get m) n o ≡ None
 none_shown m living open_entries n o none = ap (shown_at (tests_of living open_entries) (get m) n) none
-
-none_where : (o : Option Record) → ((r : Record) → o ≡ Some r → ⊥) → o ≡ None
-none_where None h = refl
-none_where (Some r) h = absurd (h r refl)
 
 module _ (c : Content) (living open_entries : BTreeSet ℕ) (last : ℕ) (made : Records) (sound : IsSound c)
     (is : last ≡ c.next - 1) (h : IsUpto (shown_there c.records living open_entries) last made) where

@@ -108,6 +108,7 @@ use Rattle.sound_archives.specs.Rules.{
 use Rattle.record_rules.proofs.Tests.{each_of, from_some, if_some, to_all, to_some}
 use Rattle.sound_archives.proofs.Tests.{all_there, each_in}
 use Rattle.record_rules.proofs.Parts as part
+use Rattle.record_shapes.proofs.Limits.{limits}
 
 -- a part of a number's record, with other numbers that agree
 abbrev pub Apart : ℕ → model.Entry → ℕ → Record → Type 0
@@ -149,7 +150,7 @@ module _ (m : Records) (es : List (ℕ × Record)) (same : (n : ℕ) → get m n
       let here = all_there (λ k. all_some (λ x. all_some is_within_limits (path_seen (k + 1) (at es) k)) (at es k)) n es
       r h e in
       let mine = from_some (λ x. all_some is_within_limits (path_seen (n + 1) (at es) n)) (at es n) r e here in
-      (part.within path).0 (from_some is_within_limits (path_seen (n + 1) (at es) n) path
+      (limits path).0 (from_some is_within_limits (path_seen (n + 1) (at es) n) path
       (sym (path_is n) ∙ (path_known m n path).0 has) mine)
 
   short_paths : Decides (keeps 0 es paths) (Keeps 0 m paths)
@@ -158,7 +159,7 @@ module _ (m : Records) (es : List (ℕ × Record)) (same : (n : ℕ) → get m n
     λ h. to_all (λ e. all_some (λ x. all_some is_within_limits (path_seen (e.0 + 1) (at es) e.0)) (at es e.0)) es
         (λ e. to_some (λ x. all_some is_within_limits (path_seen (e.0 + 1) (at es) e.0)) (at es e.0)
         (λ x is. to_some is_within_limits (path_seen (e.0 + 1) (at es) e.0)
-        (λ path found. (part.within path).1 (h e.0 path ((path_known m e.0 path).1 (path_is e.0 ∙ found)))))),
+        (λ path found. (limits path).1 (h e.0 path ((path_known m e.0 path).1 (path_is e.0 ∙ found)))))),
   )
 
   -- ---- rules that look at other records

@@ -13,7 +13,6 @@ use Rattle.archive_state.specs.declared.slip.Change.{Change}
 use Rattle.archive_state.specs.Merging.{merged}
 use Rattle.archive_state.specs.Slips.{Slip}
 use Rattle.archive_state.specs.Sound.{IsSound, old_records}
-use Rattle.archive_state.proofs.Each.{each_back, each_front}
 use Rattle.sound_archives.specs.Archives.{Archive, at, content, olds}
 use Rattle.sound_archives.specs.Rules.{
   AreMerges,
@@ -60,6 +59,7 @@ use Rattle.sound_archives.specs.Rules.{
   untaken,
 }
 use Rattle.sound_archives.proofs.Whole.{is_sound, not_sound, old_same, slips_same}
+use Rattle.record_shapes.proofs.Each.{each_back, each_front}
 
 -- ---- the lists of rules have them all
 rule_in : (P : Rule → Type 0) → EachOf P rules → (r : Rule) → P r

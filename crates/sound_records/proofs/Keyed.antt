@@ -45,6 +45,7 @@ use Rattle.known_records.specs.Knowing.{HasAll}
 use Rattle.known_records.proofs.Surveyed.{is_in}
 use Rattle.sound_records.specs.Keys.{Adds, AddsKey, AreApart, HasTaken, IsKeyed, entry_in, has_words, key_words}
 use Rattle.sound_records.proofs.Worded.{same_key, same_words}
+use Rattle.list_laws.proofs.Booleans.{or_right, or_nothing}
 
 -- each of these entries has a key of its own, and the set has their keys
 pub record AreKeyed {Y : Type 0} (keys : BTreeSet (String Y)) (m : Records) (front : List ℕ) : Type 0 where
@@ -68,18 +69,10 @@ or_set true false n e = e
 or_set false true n e = e
 or_set false false n e = e
 
-or_nothing : (b : Bool) → (b || false) ≡ b
-or_nothing true = refl
-or_nothing false = refl
-
 -- one of two holds
 either_of : (a b : Bool) → (a || b) ≡ true → (P : Type 0) → (a ≡ true → P) → (b ≡ true → P) → P
 either_of true b e P f g = f refl
 either_of false b e P f g = g e
-
-to_right : (a b : Bool) → b ≡ true → (a || b) ≡ true
-to_right true b e = refl
-to_right false b e = e
 
 -- what an element of the list says
 some_has : (p : ℕ → Bool) (ns : List ℕ) → list_any p ns ≡ true → (n : ℕ) × (is_in ns n ≡ true) × (p n ≡ true)
@@ -88,7 +81,7 @@ some_has p (n ∷ ns) e = elim (p n) as (λ b. p n ≡ b → (b || list_any p ns
     → (k : ℕ) × (is_in (n ∷ ns) k ≡ true) × (p k ≡ true)) [
       | true ↦ λ is _. (n, ap (λ b. b || is_in ns n) (eq-eqb n n refl), is)
       | false ↦ λ _ rest. let h = some_has p ns rest in
-          (h.0, to_right (n == h.0) (is_in ns h.0) h.1, h.2)
+          (h.0, or_right (n == h.0) (is_in ns h.0) h.1, h.2)
     ] refl e
 
 has_some : (p : ℕ → Bool) (ns : List ℕ) (n : ℕ) → is_in ns n ≡ true → p n ≡ true → list_any p ns ≡ true
@@ -96,7 +89,7 @@ has_some p [] n e h = absurd cc
 has_some p (k ∷ ns) n e h = elim (k == n) as (λ b. (k == n) ≡ b → (b || is_in ns n) ≡ true
     → (p k || list_any p ns) ≡ true) [
       | true ↦ λ same _. ap (λ b. b || list_any p ns) (subst (λ x. p x ≡ true) (sym (eqb-true k n same)) h)
-      | false ↦ λ _ rest. to_right (p k) (list_any p ns) (has_some p ns n rest h)
+      | false ↦ λ _ rest. or_right (p k) (list_any p ns) (has_some p ns n rest h)
     ] refl e
 
 -- an entry that has these words

@@ -53,7 +53,7 @@ fn add(alloc: Global, entry: &Entry, keys: &mut BTreeSet<String>) -> Result<bool
 }
 
 /// Source, kind, item and page of an entry, parted by U+0000.
-#[tactic(auto, using(crate::proofs::Worded::joined))]
+#[tactic(auto, using(list_laws::proofs::Bytes::four_joined))]
 fn key_words(alloc: Global, entry: &Entry) -> Result<String, AllocError>
     ensures fits { IfOk result (λ _. entry.now.source < 4294967296) }
     ensures words { IfOk result (λ words. string_bytes words ≡ specs.key_words entry.now) }

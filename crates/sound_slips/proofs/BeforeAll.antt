@@ -1,60 +1,17 @@
 -- The old records of a slip, put one after the other.
-use Rattle.std.proofs.Common.{
-  ◌≡◌,
-  ℕ,
-  ◌+◌,
-  ◌-◌,
-  ◌<◌,
-  ◌≤◌,
-  ◌==◌,
-  ◌||◌,
-  List,
-  [],
-  ◌∷◌,
-  length,
-  drop,
-  get_or,
-  map,
-  Bool,
-  true,
-  false,
-  refl,
-  sym,
-  ap,
-  ◌∙◌,
-  cond,
-  arith,
-  eq-eqb,
-}
+use Rattle.std.proofs.Common.{◌≡◌, ℕ, ◌==◌, ◌||◌, List, [], ◌∷◌, map, true, false, refl, sym, ◌∙◌, cond, eq-eqb}
 use Rattle.std.specs.Prelude.{Some}
 use Rattle.std.specs.List.{list_any}
 use Rattle.std.specs.Ordering.{nat_cmp, eq_by_cmp}
 use Rattle.std.specs.Cmp.{nat_cmp_total}
-use Rattle.std.specs.FinMap.{find, get-from_entries, insert}
-use Rattle.std.proofs.lemmas.List.{drop_more}
+use Rattle.std.specs.FinMap.{find, get-from_entries}
 use Rattle.record_kinds.specs.declared.record.Record.{Record}
 use Rattle.archive_state.specs.declared.slip.Change.{Change}
 use Rattle.archive_state.proofs.Putting.{one_number}
 use Rattle.known_records.specs.Knowing.{HasAll}
 use Rattle.sound_slips.specs.Olds.{records_before}
 use Rattle.sound_slips.specs.Parts.{changed}
-
-pub one_before : (cs : List Change) (left : ℕ) (d : Change) → 0 < left → left ≤ length cs
-    → records_before (drop (left - 1) cs)
-    ≡ insert (records_before (drop left cs)) ((get_or cs (left - 1) d).number) ((get_or cs (left - 1) d).old)
-one_before cs left d some within =
-    let same : (left - 1) + 1 ≡ left = omega arith in
-    let x : Change = get_or cs (left - 1) d in
-    ap records_before (drop_more cs (left - 1) d (omega arith))
-    ∙ ap (λ i. insert (records_before (drop i cs)) x.number x.old) same
-
-either_true : (a b : Bool) → a ≡ true → (a || b) ≡ true
-either_true true b e = refl
-either_true false b e = absurd cc
-
-or_right : (a b : Bool) → b ≡ true → (a || b) ≡ true
-or_right true b e = refl
-or_right false b e = e
+use Rattle.list_laws.proofs.Booleans.{or_left, or_right}
 
 listed : (cs : List Change) (n : ℕ) (r : Record)
     → find nat_cmp n (map (λ (c : Change). (c.number, c.old)) cs) ≡ Some r → list_any (λ k. k == n) (changed cs) ≡ true
@@ -62,7 +19,7 @@ listed [] n r e = absurd cc
 listed (c ∷ cs) n r e = elim (eq_by_cmp nat_cmp n c.number) as (λ b. eq_by_cmp nat_cmp n c.number ≡ b
     → cond b (Some c.old) (find nat_cmp n (map (λ (x : Change). (x.number, x.old)) cs)) ≡ Some r
     → ((c.number == n) || list_any (λ k. k == n) (changed cs)) ≡ true) [
-      | true ↦ λ is _. either_true (c.number == n) (list_any (λ k. k == n) (changed cs))
+      | true ↦ λ is _. or_left (c.number == n) (list_any (λ k. k == n) (changed cs))
           (eq-eqb c.number n (sym (one_number n c.number is)))
       | false ↦ λ _ rest. or_right (c.number == n) (list_any (λ k. k == n) (changed cs)) (listed cs n r rest)
     ] refl e

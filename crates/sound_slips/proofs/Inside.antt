@@ -28,7 +28,6 @@ use Rattle.archive_state.specs.Merging.{clashes}
 use Rattle.archive_state.specs.Slips.{Slip}
 use Rattle.archive_state.specs.Sound.{IsNumber, IsSoundSlip, change_names, new_names, old_records}
 use Rattle.archive_state.specs.declared.slip.Change.{Change}
-use Rattle.archive_state.proofs.Each.{each_back}
 use Rattle.record_links.specs.Links.{names}
 use Rattle.known_records.specs.Knowing.{HasAll}
 use Rattle.sound_records.proofs.Keyed.{in_list}
@@ -37,6 +36,7 @@ use Rattle.sound_slips.specs.Olds.{records_before}
 use Rattle.sound_slips.specs.Parts.{AreJoinable, BreaksInside, BreaksSlip, KeepsInside, all_numbers, changed}
 use Rattle.sound_slips.specs.declared.part.SlipPart.{SlipPart}
 use Rattle.sound_slips.specs.declared.part.SlipPart.TheVariants as part
+use Rattle.record_shapes.proofs.Each.{each_back}
 
 -- what holds at the numbers of all records holds of all records
 pub joinable_all : (m : Records) (keep gone : ℕ) (ns : List ℕ) → HasAll ns m → EachOf (IsJoinableAt m keep gone) ns

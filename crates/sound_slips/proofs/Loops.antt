@@ -1,11 +1,10 @@
 -- Each of a list, one after the other.
-use Rattle.std.proofs.Common.{ℕ, ◌+◌, ◌<◌, ◌≤◌, List, [], ◌∷◌, ◌++◌, length, drop, get_or, Bool, ◌&&◌, sym, subst}
-use Rattle.std.specs.List.{flat_map}
+use Rattle.std.proofs.Common.{ℕ, ◌+◌, ◌<◌, ◌≤◌, List, ◌++◌, length, drop, get_or, Bool, ◌&&◌, sym, subst}
 use Rattle.std.specs.Bool.{Decides}
 use Rattle.std.proofs.lemmas.Bool.Decides.{Decides-and}
 use Rattle.std.proofs.lemmas.List.{drop_more, drop_all}
 use Rattle.record_shapes.specs.Lists.{EachOf}
-use Rattle.archive_state.proofs.Each.{each_back, each_both, each_front}
+use Rattle.record_shapes.proofs.Each.{each_back, each_both, each_front}
 
 module _ {A : Type 0} (P : A → Type 0) where
   -- what holds of what is left is what holds of all
@@ -33,19 +32,6 @@ module _ {A : Type 0} (P : A → Type 0) where
   none_left xs i end h = h.all (subst (EachOf P) (sym (drop_all i xs end)) tt)
 
 -- ---- lists that were put together
-pub each_flat : {A B : Type 0} (P : B → Type 0) (f : A → List B) (xs : List A) → EachOf (λ x. EachOf P (f x)) xs
-    → EachOf P (flat_map f xs)
-each_flat P f [] h = tt
-each_flat P f (x ∷ xs) h = each_both P (f x) (flat_map f xs) h.0 (each_flat P f xs h.1)
-
-pub each_of_flat : {A B : Type 0} (P : B → Type 0) (f : A → List B) (xs : List A) → EachOf P (flat_map f xs)
-    → EachOf (λ x. EachOf P (f x)) xs
-each_of_flat P f [] h = tt
-each_of_flat P f (x ∷ xs) h = (
-  each_front P (f x) (flat_map f xs) h,
-  each_of_flat P f xs
-      (each_back P (f x) (flat_map f xs) h),
-)
 
 pub both_lists : {A : Type 0} (P : A → Type 0) (xs ys : List A) (a b : Bool) → Decides a (EachOf P xs)
     → Decides b (EachOf P ys) → Decides (a && b) (EachOf P (xs ++ ys))

@@ -27,8 +27,8 @@ use Rattle.sound_slips.specs.Parts.{changed}
 use Rattle.std.specs.Bool.{Decides}
 use Rattle.std.proofs.lemmas.Bool.Decides.{Decides-and, Decides-ltb}
 use Rattle.record_shapes.specs.Lists.{Ascends}
-use Rattle.archive_state.proofs.Each.{each_more}
 use Rattle.sound_slips.specs.Rising.{rises_from}
+use Rattle.record_shapes.proofs.Each.{each_more}
 
 pub rise : (n : ℕ) (ns : List ℕ) → Decides (rises_from n ns) (Ascends (n ∷ ns))
 rise n [] = (λ _. (tt, tt), λ _. refl)

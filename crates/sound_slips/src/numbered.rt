@@ -61,7 +61,7 @@ fn all_below<T: Numbered>(items: &[T], next: u64) -> bool
 }
 
 /// Whether it is so of the line and of those below it.
-#[tactic(auto, using(standing_links::proofs::Firsts::forest_flat, crate::proofs::Below::both_below))]
+#[tactic(auto, using(record_links::proofs::Links::forest_flat, crate::proofs::Below::both_below))]
 fn line_below(line: &Carried, next: u64) -> bool
     ensures { result ≡ numbered.are_below next (line_links line.now) }
 {

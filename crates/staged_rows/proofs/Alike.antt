@@ -28,7 +28,7 @@ use Rattle.store_rows.specs.Meaning.{
 }
 use Rattle.store_rows.specs.Spans.{IsSpanned, KeepsSpans, span_at}
 use Rattle.staged_rows.specs.Removing.{IsSeenAs}
-use Rattle.staged_rows.proofs.Lists.{or_first, or_second}
+use Rattle.list_laws.proofs.Booleans.{or_first, or_second}
 
 -- ---- what is seen means the same
 at_number : (n : ℕ) (rows other : Rows) → has_record n other ≡ has_record n rows

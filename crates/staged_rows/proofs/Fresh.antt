@@ -11,7 +11,7 @@ use Rattle.store_tables.specs.Rows.{Rows, BatchRow, RecordRow, LineRow, SpanRow}
 use Rattle.store_rows.specs.Meaning.{Means, has_record, is_closed}
 use Rattle.staged_rows.specs.Staging.{AreAllClosed, AreClosed, IsFresh, numbers_of}
 use Rattle.staged_rows.proofs.Alike.{absent, none_closed}
-use Rattle.staged_rows.proofs.Lists.{it}
+use Rattle.list_laws.proofs.Numbers.{it}
 
 apart : (b : ℕ) (bs : List BatchRow) (r : RecordRow) → is_closed b bs ≡ false → is_closed r.batch bs ≡ true
     → (r.batch == b) ≡ false

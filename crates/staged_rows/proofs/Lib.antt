@@ -4,9 +4,9 @@ pub mod Alike
 mod Numbers
 mod Published
 mod Spans
-mod Staged
-mod Removed
+pub mod Staged
+pub mod Removed
 mod Staying
 pub mod Taken
 mod Traceless
-mod Whole
+pub mod Whole

@@ -18,41 +18,17 @@ use Rattle.std.proofs.Common.{
   ap,
   ap₂,
   ◌∙◌,
-  arith,
 }
 use Rattle.std.specs.Prelude.{◌==◌, ◌&&◌, ◌||◌}
 use Rattle.std.specs.List.{list_any}
 use Rattle.std.specs.Ordering.{nat_cmp, match_ordering}
 use Rattle.std.specs.declared.cmp.Ordering.TheVariants.{Less, Equal, Greater}
 use Rattle.std.specs.FinMap.{nat_cmp-IsAntisymmetric}
-use Rattle.std.proofs.lemmas.Bool.Decides.{nat_tests}
 use Rattle.record_shapes.specs.Lists.{EachOf}
 use Rattle.store_tables.specs.Rows.{put_by}
-
-pub is_not : (m n : ℕ) → m ≢ n → (m == n) ≡ false
-is_not m n off = grind (arith, nat_tests, off)
-
-pub not_it : (m n : ℕ) → (m == n) ≡ false → m ≢ n
-not_it m n e = grind (arith, nat_tests, e)
-
-pub it : (m n : ℕ) → (m == n) ≡ true → m ≡ n
-it m n e = grind (arith, nat_tests, e)
-
-pub or_first : (a b : Bool) → (a || b) ≡ false → a ≡ false
-or_first true b h = absurd cc
-or_first false b h = refl
-
-pub or_second : (a b : Bool) → (a || b) ≡ false → b ≡ false
-or_second true b h = absurd cc
-or_second false b h = h
-
-pub and_false : (a b : Bool) → b ≡ false → (a && b) ≡ false
-and_false true b h = h
-and_false false b h = refl
-
-pub any_alike : {X : Type 0} (p q : X → Bool) → ((x : X) → p x ≡ q x) → (xs : List X) → list_any p xs ≡ list_any q xs
-any_alike p q h [] = refl
-any_alike p q h (x ∷ xs) = ap₂ (λ a b. a || b) (h x) (any_alike p q h xs)
+use Rattle.list_laws.proofs.Booleans.{or_second, or_first}
+use Rattle.list_laws.proofs.Numbers.{other_way, is_not}
+use Rattle.list_laws.proofs.Lists.{filter_all}
 
 module _ {X : Type 0} (key : X → ℕ) where
   -- where the test fails of the item and of all others
@@ -133,16 +109,10 @@ filter_put key q x off (y ∷ ys) =
     ] refl
 
 -- ---- what several numbers have, taken out
-pub all_pass : {X : Type 0} (xs : List X) → filter (λ x. true) xs ≡ xs
-all_pass [] = refl
-all_pass (x ∷ xs) = ap (λ ys. x ∷ ys) (all_pass xs)
 
 -- a number is not among these
 abbrev pub is_outside : List ℕ → ℕ → Bool
 is_outside ns m = not (list_any (λ k. k == m) ns)
-
-pub other_way : (m n : ℕ) (b : Bool) → (m == n) ≡ b → (n == m) ≡ b
-other_way m n b e = grind (arith, nat_tests, e)
 
 module _ {X : Type 0} (key : X → ℕ) where
   pub one_more : (n : ℕ) (ns : List ℕ) (xs : List X)
@@ -175,7 +145,7 @@ module _ {X : Type 0} (key : X → ℕ) where
 
   pub none_of_them : (ns : List ℕ) (xs : List X) → EachOf (λ n. list_any (λ x. key x == n) xs ≡ false) ns
       → filter (λ x. is_outside ns (key x)) xs ≡ xs
-  none_of_them [] xs none = all_pass xs
+  none_of_them [] xs none = filter_all xs
   none_of_them (n ∷ ns) xs none =
       sym (one_more n ns xs) ∙ ap (filter (λ x. is_outside ns (key x))) (none_of_it n xs none.0)
       ∙ none_of_them ns xs none.1

@@ -1,5 +1,5 @@
 -- The number of each row of an import.
-use Rattle.std.proofs.Common.{◌≡◌, ℕ, ◌+◌, Bool, true, false, List, [], ◌∷◌, ◌++◌, map, refl, sym, ap, subst, arith}
+use Rattle.std.proofs.Common.{◌≡◌, ℕ, ◌+◌, true, List, [], ◌∷◌, ◌++◌, map, sym, ap, subst, arith}
 use Rattle.std.specs.Prelude.{◌==◌, ◌||◌, Option, Some, None}
 use Rattle.std.specs.List.{flat_map, list_any}
 use Rattle.std.proofs.lemmas.Bool.Decides.{nat_tests}
@@ -21,15 +21,13 @@ use Rattle.staged_rows.specs.Staging.{
   rows_of_import,
   span_row,
 }
+use Rattle.record_shapes.proofs.Each.{each_both}
+use Rattle.list_laws.proofs.Booleans.{or_right}
 
 abbrev pub number_of : StagedRow → ℕ
 number_of (a_record r) = r.no
 number_of (a_line n at l) = n
 number_of (a_span n span) = n
-
-pub each_joined : {A : Type 0} (Q : A → Type 0) (xs ys : List A) → EachOf Q xs → EachOf Q ys → EachOf Q (xs ++ ys)
-each_joined Q [] ys all more = more
-each_joined Q (x ∷ xs) ys all more = (all.0, each_joined Q xs ys all.1 more)
 
 -- what holds of the rows of each number that has P
 module _ (P : ℕ → Type 0) (Q : StagedRow → Type 0) where
@@ -46,7 +44,7 @@ module _ (P : ℕ → Type 0) (Q : StagedRow → Type 0) where
   of_all_lines : ((n at : ℕ) (l : ℕ × Label) → P n → Q (a_line n at l)) → (ps : List Numbered)
       → EachOf (λ (p : Numbered). P p.number) ps → EachOf Q (flat_map lines_of_put ps)
   of_all_lines is [] all = tt
-  of_all_lines is (p ∷ ps) all = each_joined Q (lines_of_put p) (flat_map lines_of_put ps)
+  of_all_lines is (p ∷ ps) all = each_both Q (lines_of_put p) (flat_map lines_of_put ps)
       (of_lines p.number 0 (stored p.«record») (λ at l. is p.number at l all.0)) (of_all_lines is ps all.1)
 
   of_span : (n : ℕ) (o : Option Span) → ((span : Span) → Q (a_span n span)) → EachOf Q (span_row (n, o))
@@ -58,22 +56,22 @@ module _ (P : ℕ → Type 0) (Q : StagedRow → Type 0) where
   of_spans is [] [] are all = tt
   of_spans is [] (d ∷ ds) are all = absurd are
   of_spans is (p ∷ ps) [] are all = absurd are
-  of_spans is (p ∷ ps) (d ∷ ds) are all = each_joined Q (span_row d) (flat_map span_row ds)
+  of_spans is (p ∷ ps) (d ∷ ds) are all = each_both Q (span_row d) (flat_map span_row ds)
       (of_span d.0 d.1 (λ span. is d.0 span (subst P (sym are.0.0) all.0))) (of_spans is ps ds are.1 all.1)
 
   pub of_any_spans : ((n : ℕ) (span : Span) → Q (a_span n span)) → (drawn : Drawn) → EachOf Q (flat_map span_row drawn)
   of_any_spans is [] = tt
   of_any_spans is (d ∷ ds) =
-      each_joined Q (span_row d) (flat_map span_row ds) (of_span d.0 d.1 (is d.0)) (of_any_spans is ds)
+      each_both Q (span_row d) (flat_map span_row ds) (of_span d.0 d.1 (is d.0)) (of_any_spans is ds)
 
   pub of_rows : (batch : ℕ) → ((p : Numbered) → P p.number → Q (record_of batch p))
       → ((n at : ℕ) (l : ℕ × Label) → P n → Q (a_line n at l)) → (ps : List Numbered) (drawn : Drawn)
       → EachOf Q (flat_map span_row drawn) → EachOf (λ (p : Numbered). P p.number) ps
       → EachOf Q (rows_of_import batch ps drawn)
   of_rows batch records_are lines_are ps drawn spans all =
-      each_joined Q (map (record_of batch) ps) (flat_map lines_of_put ps ++ flat_map span_row drawn)
+      each_both Q (map (record_of batch) ps) (flat_map lines_of_put ps ++ flat_map span_row drawn)
       (of_records batch records_are ps all)
-      (each_joined Q (flat_map lines_of_put ps) (flat_map span_row drawn) (of_all_lines lines_are ps all) spans)
+      (each_both Q (flat_map lines_of_put ps) (flat_map span_row drawn) (of_all_lines lines_are ps all) spans)
 
   pub of_all_rows : (batch : ℕ) → ((p : Numbered) → P p.number → Q (record_of batch p))
       → ((n at : ℕ) (l : ℕ × Label) → P n → Q (a_line n at l)) → ((n : ℕ) (span : Span) → P n → Q (a_span n span))
@@ -96,21 +94,14 @@ module _ (P : ℕ → Type 0) where
   each_number [] all = tt
   each_number (p ∷ ps) all = (all.0, each_number ps all.1)
 
-pub each_front : {A : Type 0} (P : A → Type 0) (xs ys : List A) → EachOf P (xs ++ ys) → EachOf P xs
-each_front P [] ys all = tt
-each_front P (x ∷ xs) ys all = (all.0, each_front P xs ys all.1)
-
 -- ---- each number is among them
-or_late : (a b : Bool) → b ≡ true → (a || b) ≡ true
-or_late true b h = refl
-or_late false b h = h
 
 among_more : (n : ℕ) (ns : List ℕ) (ps : List Numbered)
     → EachOf (λ (p : Numbered). list_any (λ k. k == p.number) ns ≡ true) ps
     → EachOf (λ (p : Numbered). list_any (λ k. k == p.number) (n ∷ ns) ≡ true) ps
 among_more n ns [] all = tt
 among_more n ns (p ∷ ps) all = (
-  or_late (n == p.number) (list_any (λ k. k == p.number) ns) all.0,
+  or_right (n == p.number) (list_any (λ k. k == p.number) ns) all.0,
   among_more n ns ps all.1,
 )
 

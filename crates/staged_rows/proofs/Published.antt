@@ -51,16 +51,7 @@ use Rattle.staged_rows.specs.Staging.{
   with_whole_import,
 }
 use Rattle.staged_rows.proofs.Alike.{none_closed, seen_alike, seen_means}
-use Rattle.staged_rows.proofs.Lists.{
-  it,
-  is_not,
-  not_it,
-  any_put,
-  none_put,
-  or_first,
-  or_second,
-  other_way,
-}
+use Rattle.staged_rows.proofs.Lists.{any_put, none_put}
 use Rattle.staged_rows.proofs.Spans.{none_at, put_elsewhere, put_here}
 use Rattle.staged_rows.proofs.Whole.{
   all_lines_beside,
@@ -72,6 +63,8 @@ use Rattle.staged_rows.proofs.Whole.{
   spans_put,
   wholly,
 }
+use Rattle.list_laws.proofs.Booleans.{or_always, or_first, or_second}
+use Rattle.list_laws.proofs.Numbers.{it, is_not, not_it, other_way}
 
 -- ---- batches
 closed_one : (b m : ℕ) (x : BatchRow) → b ≢ m → ((((closed_at b x).no == m)) && not (closed_at b x).is_open)
@@ -102,10 +95,6 @@ closed_here : (b : ℕ) (bs : List BatchRow) → is_closed b (map (closed_at b) 
 closed_here b [] = refl
 closed_here b (x ∷ xs) = ap₂ (λ s t. s || t) (itself_closed b x) (closed_here b xs)
 
-or_true : (a : Bool) → (a || true) ≡ true
-or_true true = refl
-or_true false = refl
-
 module _ {X : Type 0} (key : X → ℕ) where
   is_put : (x : X) (xs : List X) → list_any (λ y. key y == key x) (put_by key x xs) ≡ true
   is_put x [] = let same : (key x == key x) ≡ true = grind (arith, nat_tests) in ap (λ b. b || false) same
@@ -114,7 +103,7 @@ module _ {X : Type 0} (key : X → ℕ) where
       let q = λ (y : X). key y == key x in
       elim (nat_cmp (key y) (key x)) as (λ o. list_any q
       (match_ordering o (y ∷ put_by key x ys) (x ∷ ys) (x ∷ y ∷ ys)) ≡ true) [
-        | Less ↦ ap (λ b. q y || b) (is_put x ys) ∙ or_true (q y)
+        | Less ↦ ap (λ b. q y || b) (is_put x ys) ∙ or_always (q y)
         | Equal ↦ ap (λ b. b || list_any q ys) same
         | Greater ↦ ap (λ b. b || list_any q (y ∷ ys)) same
       ]

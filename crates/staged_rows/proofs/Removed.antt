@@ -13,8 +13,10 @@ use Rattle.store_tables.specs.Rows.{
 use Rattle.store_rows.specs.Meaning.{has_record, is_closed}
 use Rattle.staged_rows.specs.Removing.{IsSeenAs}
 use Rattle.staged_rows.proofs.Alike.{differ, seen_alike}
-use Rattle.staged_rows.proofs.Lists.{it, any_alike, any_kept, none_kept, filter_kept}
+use Rattle.staged_rows.proofs.Lists.{any_kept, none_kept, filter_kept}
 use Rattle.staged_rows.proofs.Spans.{span_kept}
+use Rattle.list_laws.proofs.Numbers.{it}
+use Rattle.list_laws.proofs.Lists.{any_alike}
 
 unlike : (l : LineRow) (stays : LineRow → Bool) (m : ℕ) (rows : Rows)
     → (stays l ≡ false → has_record l.no rows ≡ false) → has_record m rows ≡ true → stays l ≡ false

@@ -9,7 +9,8 @@ use Rattle.std.proofs.lemmas.Bool.Decides.{nat_tests}
 use Rattle.gedcom_date.specs.declared.value.Span.{Span}
 use Rattle.store_tables.specs.Rows.{SpanRow, put_by}
 use Rattle.store_rows.specs.Spans.{span_at}
-use Rattle.staged_rows.proofs.Lists.{it, is_not, or_first, or_second}
+use Rattle.list_laws.proofs.Numbers.{it, is_not}
+use Rattle.list_laws.proofs.Booleans.{or_first, or_second}
 
 abbrev pub span_in : SpanRow → Option Span
 span_in s = Some (record { lo = s.lo; hi = s.hi })

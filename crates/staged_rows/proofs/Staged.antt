@@ -33,9 +33,12 @@ use Rattle.staged_rows.specs.Staging.{
   with_open_import,
 }
 use Rattle.staged_rows.proofs.Alike.{differ, seen_alike, seen_then}
-use Rattle.staged_rows.proofs.Lists.{it, not_it, and_false, any_alike, any_put, none_put, filter_behind}
+use Rattle.staged_rows.proofs.Lists.{any_put, none_put, filter_behind}
 use Rattle.staged_rows.proofs.Numbers.{each_number, of_all_rows}
 use Rattle.staged_rows.proofs.Spans.{put_elsewhere}
+use Rattle.list_laws.proofs.Numbers.{it, not_it}
+use Rattle.list_laws.proofs.Booleans.{and_false}
+use Rattle.list_laws.proofs.Lists.{any_alike}
 
 -- ---- one row
 still_closed : (batch : ℕ) (rows : Rows) → is_closed batch rows.batches ≡ false → (m : ℕ)
@@ -111,7 +114,7 @@ row_staged batch (a_line n at line) before rows unclosed aside seen =
     line_staged n at line rows (seen.recorded n ∙ aside)
 row_staged batch (a_span n span) before rows unclosed aside seen = span_staged n span rows (seen.recorded n ∙ aside)
 
-batches_stay : (r : StagedRow) (rows : Rows) → (with_staged_row r rows).batches ≡ rows.batches
+pub batches_stay : (r : StagedRow) (rows : Rows) → (with_staged_row r rows).batches ≡ rows.batches
 batches_stay (a_record r) rows = refl
 batches_stay (a_line n at line) rows = refl
 batches_stay (a_span n span) rows = refl

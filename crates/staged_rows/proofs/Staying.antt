@@ -18,8 +18,9 @@ use Rattle.staged_rows.specs.Staging.{
   with_staged_row,
   with_whole_import,
 }
-use Rattle.staged_rows.proofs.Lists.{filter_behind, filter_put, is_not}
+use Rattle.staged_rows.proofs.Lists.{filter_behind, filter_put}
 use Rattle.staged_rows.proofs.Numbers.{of_any_spans, of_rows}
+use Rattle.list_laws.proofs.Numbers.{is_not}
 
 record Stay (m : ℕ) (before after : Rows) : Type 0 where
   lines : filter (λ (l : LineRow). l.no == m) after.lines ≡ filter (λ (l : LineRow). l.no == m) before.lines

@@ -41,8 +41,8 @@ use Rattle.store_rows.specs.Spans.{without_all_spans}
 use Rattle.store_rows.specs.Writing.{without_all_lines, without_record_rows, without_records}
 use Rattle.staged_rows.specs.Removing.{AreAside, IsSeenAs, without_batch}
 use Rattle.staged_rows.proofs.Alike.{seen_same, seen_then}
-use Rattle.staged_rows.proofs.Lists.{it}
 use Rattle.staged_rows.proofs.Removed.{batch_gone, left_out, lines_gone, record_gone, span_gone}
+use Rattle.list_laws.proofs.Numbers.{it}
 
 -- a line that is left out is of that number
 of_that : (a b : Bool) → not (a && b) ≡ false → a ≡ true

@@ -51,33 +51,27 @@ use Rattle.staged_rows.specs.Staging.{
   with_staged,
   with_staged_row,
 }
-use Rattle.staged_rows.proofs.Lists.{
-  all_pass,
-  filter_behind,
-  filter_put,
-  is_outside,
-  none_of_it,
-  none_of_them,
-  one_more,
-}
-use Rattle.staged_rows.proofs.Numbers.{are_among, each_front, number_of, of_import, of_numbers}
+use Rattle.staged_rows.proofs.Lists.{filter_behind, filter_put, is_outside, none_of_it, none_of_them, one_more}
+use Rattle.staged_rows.proofs.Numbers.{are_among, number_of, of_import, of_numbers}
+use Rattle.list_laws.proofs.Lists.{filter_all}
+use Rattle.record_shapes.proofs.Each.{each_front}
 
 -- ---- spans, lines and rows of several numbers
 spans_less : (ns : List ℕ) (rows : Rows) → without_all_spans ns rows
     ≡ record rows { spans = filter (λ (s : SpanRow). is_outside ns s.no) rows.spans }
-spans_less [] rows = sym (ap (λ (ss : List SpanRow). record rows { spans = ss }) (all_pass rows.spans))
+spans_less [] rows = sym (ap (λ (ss : List SpanRow). record rows { spans = ss }) (filter_all rows.spans))
 spans_less (n ∷ ns) rows = spans_less ns (without_span n rows)
     ∙ ap (λ (ss : List SpanRow). record rows { spans = ss }) (one_more (λ (s : SpanRow). s.no) n ns rows.spans)
 
 lines_less : (ns : List ℕ) (rows : Rows) → without_all_lines ns rows
     ≡ record rows { lines = filter (λ (l : LineRow). is_outside ns l.no) rows.lines }
-lines_less [] rows = sym (ap (λ (ls : List LineRow). record rows { lines = ls }) (all_pass rows.lines))
+lines_less [] rows = sym (ap (λ (ls : List LineRow). record rows { lines = ls }) (filter_all rows.lines))
 lines_less (n ∷ ns) rows = lines_less ns (without_lines n rows)
     ∙ ap (λ (ls : List LineRow). record rows { lines = ls }) (one_more (λ (l : LineRow). l.no) n ns rows.lines)
 
 rows_less : (ns : List ℕ) (rows : Rows) → without_record_rows ns rows
     ≡ record rows { records = filter (λ (r : RecordRow). is_outside ns r.no) rows.records }
-rows_less [] rows = sym (ap (λ (rs : List RecordRow). record rows { records = rs }) (all_pass rows.records))
+rows_less [] rows = sym (ap (λ (rs : List RecordRow). record rows { records = rs }) (filter_all rows.records))
 rows_less (n ∷ ns) rows = rows_less ns (without_record_row n rows)
     ∙ ap (λ (rs : List RecordRow). record rows { records = rs }) (one_more (λ (r : RecordRow). r.no) n ns rows.records)
 

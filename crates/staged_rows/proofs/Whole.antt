@@ -53,7 +53,9 @@ use Rattle.staged_rows.specs.Staging.{
   with_staged,
   with_staged_row,
 }
-use Rattle.staged_rows.proofs.Lists.{is_not, not_it, none_kept, or_first, or_second}
+use Rattle.staged_rows.proofs.Lists.{none_kept}
+use Rattle.list_laws.proofs.Numbers.{is_not, not_it}
+use Rattle.list_laws.proofs.Booleans.{or_first, or_second}
 
 -- a number has no line
 abbrev pub HasNoLine : Rows → ℕ → Type 0

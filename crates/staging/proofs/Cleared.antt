@@ -14,7 +14,9 @@ use Rattle.store_rows.specs.Writing.{without_records}
 use Rattle.staged_rows.specs.Removing.{AreAside, IsSeenAs, without_batch}
 use Rattle.staged_rows.proofs.Taken.{batches_stay, spans_out}
 use Rattle.staging.specs.Clearing.{Clears, LeavesEither, LeavesSeen}
-use Rattle.staging.proofs.Seen.{aside_seen, batch_unseen, seen_same, seen_then}
+use Rattle.staging.proofs.Seen.{aside_seen}
+use Rattle.staged_rows.proofs.Removed.{batch_gone}
+use Rattle.staged_rows.proofs.Alike.{seen_same, seen_then}
 
 -- ---- what a stop leaves
 pub leaves_seen : (rows : Rows) (s : State) → LeavesOnly s rows → LeavesSeen s rows
@@ -174,5 +176,5 @@ module _ {A E : Type 0} (has_spans : Bool) (batch : ℕ) (ns : List ℕ) (old on
       let open_still : is_closed batch came.0.batches ≡ false = ap (λ (r : Rows). is_closed batch r.batches) came.2
       ∙ ap (is_closed batch) (batches_stay ns rows) ∙ unclosed in
       seen_on rows came.0 new (seen_then rows less came.0 one two)
-      (either_seen came.0 (without_batch_row batch came.0) new (batch_unseen batch came.0 open_still)
+      (either_seen came.0 (without_batch_row batch came.0) new (batch_gone batch came.0 open_still)
       (crash ok came.0 came.1))

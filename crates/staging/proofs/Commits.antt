@@ -8,7 +8,8 @@ use Rattle.store_tables.specs.Rows.{Rows}
 inside : (s : State) (rows : Rows) → Settled s rows → Inside (record s { in_transaction = true }) rows
 inside s rows was = record { is_open = was.is_open; inside = refl; schema = was.schema; good = was.good }
 
-committed : (mid new : State) (rows : Rows) → Inside mid rows → Shows mid new mid.now mid.now false → Settled new rows
+pub committed : (mid new : State) (rows : Rows) → Inside mid rows → Shows mid new mid.now mid.now false
+    → Settled new rows
 committed mid new rows in_it shows = record {
   is_open = shows.is_open;
   autocommit = shows.mode;

@@ -46,9 +46,7 @@ use Rattle.std.proofs.lemmas.Bool.Decides.{nat_tests}
 use Rattle.std.proofs.lemmas.List.{drop_all}
 use Rattle.sqlite.specs.State.{State, HasCleanDisk, Survives}
 use Rattle.stored_lines.specs.Line.{Label}
-use Rattle.stored_lines.specs.Tree.{Tree, node, flat}
-use Rattle.records.specs.Stored.{record_tree, stored}
-use Rattle.record_kinds.specs.declared.record.Record.{Record}
+use Rattle.records.specs.Stored.{stored}
 use Rattle.record_shapes.specs.Lists.{EachOf}
 use Rattle.archive_state.specs.declared.changes.Numbered.{Numbered}
 use Rattle.store_tables.specs.Calls.{Follows, FollowsDated, Inside}
@@ -71,6 +69,7 @@ use Rattle.staged_rows.specs.Staging.{
 use Rattle.staging.specs.Opened.{IsNext, IsPlaced, left_of, lines_left, row_of_span}
 use Rattle.staging.specs.declared.cursor.Cursor.{Cursor}
 use Rattle.staging.specs.declared.dated.Dated.{Dated}
+use Rattle.list_laws.proofs.Numbers.{below_is}
 
 -- ---- lists
 add_one : (k : ℕ) → suc k ≡ k + 1
@@ -113,13 +112,6 @@ follows_as old new f g same did rows was =
     let done = did rows was in
     (subst (Inside new) (sym (same rows)) done.0, done.1)
 
--- of tables that have spans
-pub dated_as : (old new : State) (f g : Rows → Rows) → ((rows : Rows) → g rows ≡ f rows) → FollowsDated old new f
-    → FollowsDated old new g
-dated_as old new f g same did rows has was =
-    let done = did rows has was in
-    (subst (Inside new) (sym (same rows)) done.0, done.1)
-
 pub of_any : (old new : State) (f g : Rows → Rows) → ((rows : Rows) → g rows ≡ f rows) → Follows old new f
     → FollowsDated old new g
 of_any old new f g same did rows has was = follows_as old new f g same did rows was
@@ -129,7 +121,7 @@ row_has (a_record r) rows = refl
 row_has (a_line n at l) rows = refl
 row_has (a_span n span) rows = refl
 
-staged_has : (rs : List StagedRow) (rows : Rows) → (with_staged rs rows).has_spans ≡ rows.has_spans
+pub staged_has : (rs : List StagedRow) (rows : Rows) → (with_staged rs rows).has_spans ≡ rows.has_spans
 staged_has [] rows = refl
 staged_has (r ∷ rs) rows = staged_has rs (with_staged_row r rows) ∙ row_has r rows
 
@@ -179,19 +171,10 @@ line_next n place ls x low is =
     (drop-cons ls place x low ∙ ap (λ y. y ∷ drop (suc place) ls) (sym is) ∙ ap (λ k. x ∷ drop k ls) (add_one place))
 
 -- ---- the cursor
-flat_some : (d : ℕ) (t : Tree Label) → 0 < length (flat d t)
-flat_some d (node a f) = omega arith
-
-stored_some : (r : Record) → 0 < length (stored r)
-stored_some r = flat_some 0 (record_tree r)
 
 pub begun : (ps : List Numbered) → lines_left 0 ps ≡ flat_map lines_of_put ps
 begun [] = refl
 begun (p ∷ ps) = refl
-
-pub next_begun : (ps : List Numbered) → IsNext 0 [] ps
-next_begun [] = tt
-next_begun (p ∷ ps) = (stored_some p.«record», inl refl)
 
 -- ---- whether rows are left
 some_behind : {A : Type 0} (k : ℕ) (xs : List A) → k < length xs → (x : A) × (drop k xs ≡ x ∷ drop (suc k) xs)
@@ -263,9 +246,6 @@ nothing_left : (batch : ℕ) (ps : List Numbered) (ds : List Dated) (c : Cursor)
 nothing_left batch ps ds c rows done spans =
     spans_left batch ps ds c rows done ∙ ap (map row_of_span) (drop_all c.spans ds spans)
 
-pub there : (k n : ℕ) → nat_lt k n ≡ true → k < n
-there k n on = let low : k < n = grind (arith, nat_tests, on) in low
-
 pub at_end : (k n : ℕ) → nat_lt k n ≡ false → n ≤ k
 at_end k n off = let past : n ≤ k = grind (arith, nat_tests, off) in past
 
@@ -290,7 +270,7 @@ some_spans batch ps ds c past done = (
   where
     unless : (b : Bool) → nat_lt c.spans (length ds) ≡ b → left_of batch ps ds c ≡ [] → b ≡ false
     unless false e none = refl
-    unless true e none = absurd (spans_more batch ps ds c (there c.spans (length ds) e) none)
+    unless true e none = absurd (spans_more batch ps ds c (below_is c.spans (length ds) e) none)
 
 -- the first of the records that are left has a line at the place, and the lines at hand are known
 pub next_is : (ps : List Numbered) (c : Cursor) (p : Numbered) → IsPlaced ps c → c.done < length ps
@@ -387,5 +367,5 @@ pub all_shallow : (batch : ℕ) (ps : List Numbered) (ds : List Dated) (c : Curs
 all_shallow batch ps ds c placed none = past (nat_lt c.done (length ps)) refl
   where
     past : (b : Bool) → nat_lt c.done (length ps) ≡ b → EachOf IsShallowPut ps
-    past true e = absurd (lines_more batch ps ds c placed (there c.done (length ps) e) none)
+    past true e = absurd (lines_more batch ps ds c placed (below_is c.done (length ps) e) none)
     past false e = subst (EachOf IsShallowPut) (take_all c.done ps (at_end c.done (length ps) e)) placed.shallow

@@ -4,7 +4,6 @@ use Rattle.std.proofs.Common.{
   ℕ,
   ◌+◌,
   ◌<◌,
-  ◌≤◌,
   List,
   [],
   ◌∷◌,
@@ -21,7 +20,7 @@ use Rattle.std.proofs.Common.{
 }
 use Rattle.std.specs.List.{flat_map}
 use Rattle.std.proofs.lemmas.Grind.{flat_map-append}
-use Rattle.std.proofs.lemmas.List.{append-nil, take_all}
+use Rattle.std.proofs.lemmas.List.{append-nil}
 use Rattle.gedcom_date.specs.declared.value.Span.{Span}
 use Rattle.archive_state.specs.declared.changes.Numbered.{Numbered}
 use Rattle.store_rows.specs.Spans.{AreDrawn, Drawn, IsDrawn}
@@ -48,14 +47,7 @@ one_more ps p old new are one =
           ∙ ap (λ xs. flat_map span_row are.0 ++ xs) (append-nil (span_row d))),
     )
 
-pub none_dated : AreDated [] []
-none_dated = ([], tt, refl)
-
 pub next_dated : (ps : List Numbered) (i : ℕ) (p : Numbered) (old new : List Dated) → i < length ps
     → p ≡ get_or ps i p → AreDated (take i ps) old → DrawsOne p old new → AreDated (take (i + 1) ps) new
 next_dated ps i p old new low is are one =
     subst (λ qs. AreDated qs new) (sym (taken_next ps i p low is)) (one_more (take i ps) p old new are one)
-
-pub all_dated : (ps : List Numbered) (i : ℕ) (found : List Dated) → length ps ≤ i → AreDated (take i ps) found
-    → AreDated ps found
-all_dated ps i found past are = subst (λ qs. AreDated qs found) (take_all i ps past) are

@@ -1,10 +1,10 @@
 mod Cleared
-mod Commits
+pub mod Commits
 mod Counting
-mod Cursors
+pub mod Cursors
 mod Drawing
 mod Opening
-mod Seen
+pub mod Seen
 mod Spans
 mod Steps
 mod Thinned

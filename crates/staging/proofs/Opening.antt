@@ -38,7 +38,9 @@ use Rattle.staged_rows.specs.Removing.{AreAside, IsSeenAs, without_batch}
 use Rattle.staged_rows.specs.Staging.{AreAllClosed}
 use Rattle.staged_rows.proofs.Taken.{batches_stay, numbers_unrecorded, taken_out}
 use Rattle.staging.specs.Clearing.{IsCleared}
-use Rattle.staging.proofs.Seen.{seen_same, seen_then}
+use Rattle.list_laws.proofs.Numbers.{same_self, is_apart}
+use Rattle.list_laws.proofs.Lists.{all_then}
+use Rattle.staged_rows.proofs.Alike.{seen_then}
 
 -- ---- batches in the order of their numbers
 abbrev pub Rises : List BatchRow → Type 0
@@ -47,23 +49,12 @@ Rises = IsAscending (λ (a b : BatchRow). a.no < b.no)
 abbrev pub AllClosed : List BatchRow → Type 0
 AllClosed = AllByRecursion (λ (b : BatchRow). not b.is_open ≡ true)
 
-same_no : (n : ℕ) → (n == n) ≡ true
-same_no n = grind (arith, nat_tests)
-
-other_no : (m n : ℕ) → m < n → (m == n) ≡ false
-other_no m n low = grind (arith, nat_tests, low)
-
 later_no : (m n : ℕ) → m < n → (n == m) ≡ false
 later_no m n low = grind (arith, nat_tests, low)
 
 at_middle : {X : Type 0} (P : X → Type 0) (xs : List X) (y : X) (ys : List X) → AllByRecursion P (xs ++ y ∷ ys) → P y
 at_middle P [] y ys all = all.0
 at_middle P (x ∷ xs) y ys all = at_middle P xs y ys all.1
-
-one_behind : {X : Type 0} (P : X → Type 0) (xs : List X) (y : X) → AllByRecursion P xs → P y
-    → AllByRecursion P (xs ++ y ∷ [])
-one_behind P [] y all last = (last, tt)
-one_behind P (x ∷ xs) y all last = (all.0, one_behind P xs y all.1 last)
 
 module _ (b : BatchRow) where
   abbrev stays : BatchRow → Bool
@@ -87,21 +78,21 @@ module _ (b : BatchRow) where
   pub it_goes : (before left : List BatchRow) → Rises (before ++ b ∷ left)
       → filter stays (before ++ b ∷ left) ≡ before ++ left
   it_goes [] left rise =
-      ap (λ t. cond (not t) (b ∷ filter stays left) (filter stays left)) (same_no b.no) ∙ all_stay left rise.0
+      ap (λ t. cond (not t) (b ∷ filter stays left) (filter stays left)) (same_self b.no) ∙ all_stay left rise.0
   it_goes (x ∷ before) left rise =
       let low = at_middle (λ (y : BatchRow). x.no < y.no) before b left rise.0 in
       let rest = filter stays (before ++ b ∷ left) in
-      ap (λ t. cond (not t) (x ∷ rest) rest) (other_no x.no b.no low)
+      ap (λ t. cond (not t) (x ∷ rest) rest) (is_apart x.no b.no low)
       ∙ ap (λ ys. x ∷ ys) (it_goes before left rise.1)
 
   -- an open one is not closed
   pub it_is_open : b.is_open ≡ true → (before left : List BatchRow) → Rises (before ++ b ∷ left)
       → is_closed b.no (before ++ b ∷ left) ≡ false
   it_is_open is [] left rise =
-      ap₂ (λ s t. s || t) (ap₂ (λ s t. s && not t) (same_no b.no) is) (none_is_it left rise.0)
+      ap₂ (λ s t. s || t) (ap₂ (λ s t. s && not t) (same_self b.no) is) (none_is_it left rise.0)
   it_is_open is (x ∷ before) left rise =
       let low = at_middle (λ (y : BatchRow). x.no < y.no) before b left rise.0 in
-      ap₂ (λ s t. (s && not x.is_open) || t) (other_no x.no b.no low) (it_is_open is before left rise.1)
+      ap₂ (λ s t. (s && not x.is_open) || t) (is_apart x.no b.no low) (it_is_open is before left rise.1)
 
 -- numbers of a batch that is not closed have no record
 pub numbers_aside : (s : State) (batch : ℕ) (ns : List ℕ) (rows : Rows) → Settled s rows
@@ -118,21 +109,12 @@ pub record HasCleared (left : List BatchRow) (rows here : Rows) : Type 0 where
   -- where none was open, nothing was done
   pub untouched : AreAllClosed rows → here ≡ rows
 
-none_cleared : (rows : Rows) (left : List BatchRow) → left ≡ rows.batches → HasCleared left rows rows
-none_cleared rows left all = record {
-  seen = seen_same rows;
-  before = [];
-  closed = tt;
-  batches = sym all;
-  untouched = λ closed. refl;
-}
-
 one_closed : (b : BatchRow) (left : List BatchRow) (rows here : Rows) → b.is_open ≡ false
     → HasCleared (b ∷ left) rows here → HasCleared left rows here
 one_closed b left rows here is was = record {
   seen = was.seen;
   before = was.before ++ b ∷ [];
-  closed = one_behind (λ (x : BatchRow). not x.is_open ≡ true) was.before b was.closed (ap not is);
+  closed = all_then (λ (x : BatchRow). not x.is_open ≡ true) was.before b was.closed (ap not is);
   batches = was.batches ∙ sym (append_assoc was.before (b ∷ []) left);
   untouched = was.untouched;
 }
@@ -185,15 +167,6 @@ pub record IsClearing (has_spans : Bool) (old now : State) (left : List BatchRow
 pub left_as : (has_spans : Bool) (old now : State) (left same : List BatchRow) → left ≡ same
     → IsClearing has_spans old now left → IsClearing has_spans old now same
 left_as has_spans old now left same is way = subst (IsClearing has_spans old now) is way
-
-pub begins : (has_spans : Bool) (old now : State) (left : List BatchRow)
-    → (HasCleanDisk now → (rows : Rows) → Settled old rows → left ≡ rows.batches)
-    → (HasCleanDisk now → (rows : Rows) → Settled old rows → Settled now rows)
-    → (HasCleanDisk now → HasCleanDisk old) → IsClearing has_spans old now left
-begins has_spans old now left read same clean = record {
-  leads = λ still rows was fit. (rows, same still rows was, none_cleared rows left (read still rows was));
-  clean = clean;
-}
 
 pub goes_past : (has_spans : Bool) (old now : State) (b : BatchRow) (left : List BatchRow) → b.is_open ≡ false
     → IsClearing has_spans old now (b ∷ left) → IsClearing has_spans old now left

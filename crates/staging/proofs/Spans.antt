@@ -29,18 +29,15 @@ use Rattle.store_rows.specs.Spans.{without_all_spans}
 use Rattle.staged_rows.specs.Removing.{AreAside, IsSeenAs}
 use Rattle.staged_rows.proofs.Taken.{spans_out}
 use Rattle.staging.specs.Clearing.{LeavesEither, LeavesSeen}
-use Rattle.staging.proofs.Thinned.{each_first, each_second}
-use Rattle.staging.proofs.Seen.{seen_same}
+use Rattle.store_rows.proofs.SpansAside.{left_has}
+use Rattle.record_shapes.proofs.Each.{each_front, each_back}
+use Rattle.staged_rows.proofs.Alike.{seen_same}
 
 -- ---- several numbers
 spans_of_two : (ks ms : List ℕ) (rows : Rows)
     → without_all_spans ms (without_all_spans ks rows) ≡ without_all_spans (ks ++ ms) rows
 spans_of_two [] ms rows = refl
 spans_of_two (k ∷ ks) ms rows = spans_of_two ks ms (without_span k rows)
-
-table_stays : (ks : List ℕ) (rows : Rows) → (without_all_spans ks rows).has_spans ≡ rows.has_spans
-table_stays [] rows = refl
-table_stays (k ∷ ks) rows = table_stays ks (without_span k rows)
 
 -- ---- tables without spans
 none_less : (k : ℕ) (rows : Rows) → rows.spans ≡ [] → without_span k rows ≡ rows
@@ -75,7 +72,7 @@ module _ (front ks : List ℕ) (old mid new : State) (way : AreSpansGone front o
   more_gone done = record {
     done = λ ok rows was dated.
         subst (Settled new) (spans_of_two front ks rows)
-        (done ok (without_all_spans front rows) (way.done (clean ok) rows was dated) (table_stays front rows ∙ dated));
+        (done ok (without_all_spans front rows) (way.done (clean ok) rows was dated) (left_has front rows ∙ dated));
     clean = λ ok. way.clean (clean ok);
   }
 
@@ -89,10 +86,10 @@ module _ (front ks : List ℕ) (old mid new : State) (way : AreSpansGone front o
       let less = without_all_spans front rows in
       let none = λ (m : ℕ). has_record m rows ≡ false in
       let apart = subst (λ ms. AreAside ms rows) are aside in
-      let one = spans_out rows front rows (each_first none front (ks ++ behind) apart) (seen_same rows) in
-      let two = spans_out rows ks less (each_first none ks behind (each_second none front (ks ++ behind) apart)) one in
+      let one = spans_out rows front rows (each_front none front (ks ++ behind) apart) (seen_same rows) in
+      let two = spans_out rows ks less (each_front none ks behind (each_back none front (ks ++ behind) apart)) one in
       of_two less one two
-      (crash ok less (way.done (clean ok) rows was dated) (table_stays front rows ∙ dated) t may)
+      (crash ok less (way.done (clean ok) rows was dated) (left_has front rows ∙ dated) t may)
     where
       of_two : (less : Rows) → IsSeenAs rows less → IsSeenAs rows (without_all_spans ks less)
           → Good less t ⊎ Good (without_all_spans ks less) t

@@ -30,17 +30,9 @@ use Rattle.staged_rows.specs.Removing.{AreAside}
 use Rattle.staged_rows.proofs.Taken.{lines_from_out, lines_out, rows_out}
 use Rattle.staging.specs.Clearing.{Clears, IsThinned, LeavesEither}
 use Rattle.staging.proofs.Cleared.{IsOnTheWay, clears_then, one_commit}
-use Rattle.staging.proofs.Seen.{seen_same}
-use Rattle.staging.proofs.Thinned.{
-  each_first,
-  each_second,
-  has_none,
-  lines_of_two,
-  rows_of_two,
-  there,
-  there_from,
-  thinned_from,
-}
+use Rattle.staging.proofs.Thinned.{has_none, lines_of_two, rows_of_two, there, there_from, thinned_from}
+use Rattle.staged_rows.proofs.Alike.{seen_same}
+use Rattle.record_shapes.proofs.Each.{each_front, each_back}
 
 module _ {A E : Type 0} (ns : List ℕ) (old new : State) (result : Result A E)
     (clean : HasCleanDisk new → HasCleanDisk old) where
@@ -62,7 +54,7 @@ module _ {A E : Type 0} (ns : List ℕ) (old new : State) (result : Result A E)
     are_aside : (rows : Rows) → AreAside ns rows → AreAside ks rows
     are_aside rows all =
         let none = λ (m : ℕ). has_record m rows ≡ false in
-        each_first none ks behind (each_second none front (ks ++ behind) (subst (EachOf none) are all))
+        each_front none ks behind (each_back none front (ks ++ behind) (subst (EachOf none) are all))
 
     pub no_lines : Makes (without_all_lines ks) → MayMake (without_all_lines ks)
         → Clears ns (λ rows here. without_all_lines behind here ≡ without_all_lines (ks ++ behind) rows) old new result

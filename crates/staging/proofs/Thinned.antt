@@ -35,6 +35,8 @@ use Rattle.record_shapes.specs.Lists.{EachOf}
 use Rattle.store_tables.specs.Rows.{Rows, LineRow, is_line_from, without_lines, without_lines_from, without_record_row}
 use Rattle.store_rows.specs.Writing.{without_all_lines, without_record_rows}
 use Rattle.staging.specs.Clearing.{IsThinned}
+use Rattle.list_laws.proofs.Booleans.{or_right}
+use Rattle.list_laws.proofs.Numbers.{it}
 
 -- ---- lists of which items are left out twice
 module _ {A : Type 0} (p q : A → Bool) where
@@ -68,9 +70,6 @@ module _ {A : Type 0} (p q : A → Bool) where
 no_line : (a b : Bool) → not (a && b) ≡ false → not a ≡ false
 no_line true b h = refl
 no_line false b h = absurd cc
-
-it : (m n : ℕ) → (m == n) ≡ true → m ≡ n
-it m n e = grind (arith, nat_tests, e)
 
 -- what is left of the lines of a number from a place on, where all lines of it are taken out
 same_lines : (n at k : ℕ) (rows : Rows) → (k == n) ≡ true
@@ -106,16 +105,12 @@ has_none P n (m ∷ ms) has all =
       | false ↦ λ e. has_none P n ms (sym (ap (λ b. b || list_any (λ k. k == n) ms) e) ∙ has) all.1
     ] refl
 
-or_true : (a b : Bool) → b ≡ true → (a || b) ≡ true
-or_true true b h = refl
-or_true false b h = h
-
 pub there : (d at : ℕ) (ns : List ℕ) → at < length ns → list_any (λ m. m == get_or ns at d) ns ≡ true
 there d at [] low = absurd (omega (arith, low))
 there d zero (n ∷ ns) low =
     let same : (n == n) ≡ true = grind (arith, nat_tests) in
     ap (λ b. b || list_any (λ m. m == n) ns) same
-there d (suc at) (n ∷ ns) low = or_true (n == get_or ns at d) _ (there d at ns (omega (arith, low)))
+there d (suc at) (n ∷ ns) low = or_right (n == get_or ns at d) _ (there d at ns (omega (arith, low)))
 
 -- a number is among those from one before it on
 pub there_from : (d first at : ℕ) (ns : List ℕ) → first ≤ at → at < length ns
@@ -125,14 +120,6 @@ there_from d (suc first) at [] le low = absurd (omega (arith, low))
 there_from d (suc first) zero (n ∷ ns) le low = absurd (omega (arith, le))
 there_from d (suc first) (suc at) (n ∷ ns) le low =
     there_from d first at ns (omega (arith, le)) (omega (arith, low))
-
-pub each_first : {A : Type 0} (P : A → Type 0) (xs ys : List A) → EachOf P (xs ++ ys) → EachOf P xs
-each_first P [] ys all = tt
-each_first P (x ∷ xs) ys all = (all.0, each_first P xs ys all.1)
-
-pub each_second : {A : Type 0} (P : A → Type 0) (xs ys : List A) → EachOf P (xs ++ ys) → EachOf P ys
-each_second P [] ys all = all
-each_second P (x ∷ xs) ys all = each_second P xs ys all.1
 
 pub lines_of_two : (ks ms : List ℕ) (rows : Rows)
     → without_all_lines (ks ++ ms) rows ≡ without_all_lines ms (without_all_lines ks rows)

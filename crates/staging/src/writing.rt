@@ -1,13 +1,12 @@
 //! The rows of an import, written inside a transaction.
 
 ghost use Rattle.std.specs.Prelude.{◌≡◌, ◌⊎◌, ◌<◌, [], length, map, take, drop, OnOk, IfErr};
-ghost use Rattle.sqlite.specs.State.{HasCleanDisk, Survives};
 ghost use Rattle.sqlite.specs.Held.{state};
 ghost use Rattle.record_text.specs.declared.refusal.RefusalKind.TheVariants.{OutOfMemory, Storage};
 ghost use Rattle.record_shapes.specs.Lists.{EachOf};
 ghost use Rattle.records.specs.Shallow.{IsShallow};
 ghost use Rattle.records.specs.Stored.{stored};
-ghost use Rattle.store_tables.specs.Calls.{Follows, FollowsDated};
+ghost use Rattle.store_tables.specs.Calls.{LeavesAsBefore, Writes, WritesDated};
 ghost use Rattle.store_tables.specs.Rows.{with_closed, with_next};
 ghost use Rattle.store_rows.specs.Shallow.{IsShallowPut};
 ghost use Rattle.store_rows.specs.Writing.{with_kept_written};
@@ -39,12 +38,11 @@ pub fn stage_rows<S: Alter>(
     import: &mut OpenImport,
 ) -> Result<(), RefusalKind>
     ensures same_reference { tx.new.conn.ghost_name ≡ tx.old.conn.ghost_name }
-    ensures ok { HasCleanDisk (state S.Store tx.new.conn.now)
-        → OnOk result (FollowsDated (state S.Store tx.old.conn.now) (state S.Store tx.new.conn.now)
-        (with_staged (take 256 import.old.left))) }
+    ensures ok { WritesDated (state S.Store tx.old.conn.now) (state S.Store tx.new.conn.now)
+        result (with_staged (take 256 import.old.left)) }
     ensures left { OnOk result (import.new ≡ record import.old { left = drop 256 import.old.left }) }
     ensures kept { IfErr result (λ _. import.new ≡ import.old) }
-    ensures survives { Survives (state S.Store tx.old.conn.now) (state S.Store tx.new.conn.now) (λ _. ⊥) }
+    ensures survives { LeavesAsBefore (state S.Store tx.old.conn.now) (state S.Store tx.new.conn.now) }
     ensures refused { IfErr result (λ kind. (kind ≡ OutOfMemory) ⊎ (kind ≡ Storage)) }
 {
     let (rows, done, place) = (import.cursor.rows, import.cursor.done, import.cursor.place);
@@ -76,10 +74,9 @@ pub fn stage_rows<S: Alter>(
 /// `Err`: a statement failed.
 pub fn publish_rows<S: Alter>(tx: &mut Transaction<'_, S>, import: &OpenImport) -> Result<(), Error>
     ensures same_reference { tx.new.conn.ghost_name ≡ tx.old.conn.ghost_name }
-    ensures ok { HasCleanDisk (state S.Store tx.new.conn.now)
-        → OnOk result (Follows (state S.Store tx.old.conn.now) (state S.Store tx.new.conn.now)
-        (with_published import.now.batch import.now.changes)) }
-    ensures survives { Survives (state S.Store tx.old.conn.now) (state S.Store tx.new.conn.now) (λ _. ⊥) }
+    ensures ok { Writes (state S.Store tx.old.conn.now) (state S.Store tx.new.conn.now)
+        result (with_published import.now.batch import.now.changes) }
+    ensures survives { LeavesAsBefore (state S.Store tx.old.conn.now) (state S.Store tx.new.conn.now) }
     ensures shallow { OnOk result (import.now.left ≡ [] → EachOf IsShallowPut import.now.changes.puts) }
 {
     publish(tx, import.batch, import.changes.next, &import.changes.kept)
@@ -93,10 +90,9 @@ fn publish<S: Alter>(
     kept: &Option<Kept>,
 ) -> Result<(), Error>
     ensures same_reference { tx.new.conn.ghost_name ≡ tx.old.conn.ghost_name }
-    ensures ok { HasCleanDisk (state S.Store tx.new.conn.now)
-        → OnOk result (Follows (state S.Store tx.old.conn.now) (state S.Store tx.new.conn.now)
-        (λ rows. with_kept_written kept.now (with_next next (with_closed batch rows)))) }
-    ensures survives { Survives (state S.Store tx.old.conn.now) (state S.Store tx.new.conn.now) (λ _. ⊥) }
+    ensures ok { Writes (state S.Store tx.old.conn.now) (state S.Store tx.new.conn.now)
+        result (λ rows. with_kept_written kept.now (with_next next (with_closed batch rows))) }
+    ensures survives { LeavesAsBefore (state S.Store tx.old.conn.now) (state S.Store tx.new.conn.now) }
 {
     batches::close_batch(tx, batch)?;
     rows::set_next(tx, next)?;
@@ -114,13 +110,12 @@ fn write_rows<S: Alter>(
 ) -> Result<(), Unwritten>
     requires placed { IsPlaced puts.now cursor.old }
     ensures same_reference { tx.new.conn.ghost_name ≡ tx.old.conn.ghost_name }
-    ensures ok { HasCleanDisk (state S.Store tx.new.conn.now)
-        → OnOk result (FollowsDated (state S.Store tx.old.conn.now) (state S.Store tx.new.conn.now)
-        (with_staged (take 256 (left_of batch puts.now spans.now cursor.old)))) }
+    ensures ok { WritesDated (state S.Store tx.old.conn.now) (state S.Store tx.new.conn.now)
+        result (with_staged (take 256 (left_of batch puts.now spans.now cursor.old))) }
     ensures left { OnOk result (left_of batch puts.now spans.now cursor.new
         ≡ drop 256 (left_of batch puts.now spans.now cursor.old)) }
     ensures placed { OnOk result (IsPlaced puts.now cursor.new) }
-    ensures survives { Survives (state S.Store tx.old.conn.now) (state S.Store tx.new.conn.now) (λ _. ⊥) }
+    ensures survives { LeavesAsBefore (state S.Store tx.old.conn.now) (state S.Store tx.new.conn.now) }
 {
     'rows: for row in 0..STAGE {
         write_next(alloc, tx, batch, puts, spans, cursor)?;
@@ -139,13 +134,12 @@ fn write_next<S: Alter>(
 ) -> Result<(), Unwritten>
     requires placed { IsPlaced puts.now cursor.old }
     ensures same_reference { tx.new.conn.ghost_name ≡ tx.old.conn.ghost_name }
-    ensures ok { HasCleanDisk (state S.Store tx.new.conn.now)
-        → OnOk result (FollowsDated (state S.Store tx.old.conn.now) (state S.Store tx.new.conn.now)
-        (with_staged (take 1 (left_of batch puts.now spans.now cursor.old)))) }
+    ensures ok { WritesDated (state S.Store tx.old.conn.now) (state S.Store tx.new.conn.now)
+        result (with_staged (take 1 (left_of batch puts.now spans.now cursor.old))) }
     ensures left { OnOk result (left_of batch puts.now spans.now cursor.new
         ≡ drop 1 (left_of batch puts.now spans.now cursor.old)) }
     ensures placed { OnOk result (IsPlaced puts.now cursor.new) }
-    ensures survives { Survives (state S.Store tx.old.conn.now) (state S.Store tx.new.conn.now) (λ _. ⊥) }
+    ensures survives { LeavesAsBefore (state S.Store tx.old.conn.now) (state S.Store tx.new.conn.now) }
 {
     if let Some(put) = puts.get(cursor.rows) {
         rows::insert_record(tx, put.number, kind_word(&put.record), batch)?;
@@ -168,13 +162,12 @@ fn write_span<S: Alter>(
     cursor: &mut Cursor,
 ) -> Result<(), Error>
     ensures same_reference { tx.new.conn.ghost_name ≡ tx.old.conn.ghost_name }
-    ensures ok { HasCleanDisk (state S.Store tx.new.conn.now)
-        → OnOk result (FollowsDated (state S.Store tx.old.conn.now) (state S.Store tx.new.conn.now)
-        (with_staged (take 1 (map row_of_span (drop cursor.old.spans spans.now))))) }
+    ensures ok { WritesDated (state S.Store tx.old.conn.now) (state S.Store tx.new.conn.now)
+        result (with_staged (take 1 (map row_of_span (drop cursor.old.spans spans.now)))) }
     ensures left { OnOk result (map row_of_span (drop cursor.new.spans spans.now)
         ≡ drop 1 (map row_of_span (drop cursor.old.spans spans.now))) }
     ensures others { OnOk result (cursor.new ≡ record cursor.old { spans = cursor.new.spans }) }
-    ensures survives { Survives (state S.Store tx.old.conn.now) (state S.Store tx.new.conn.now) (λ _. ⊥) }
+    ensures survives { LeavesAsBefore (state S.Store tx.old.conn.now) (state S.Store tx.new.conn.now) }
 {
     let Some(dated) = spans.get(cursor.spans) else {
         return Ok(());
@@ -195,11 +188,10 @@ fn write_line<S: Alter>(
     requires known { AreKnownOf lines.old.items put.now.«record» }
     requires there { place < length (stored put.now.«record») }
     ensures same_reference { tx.new.conn.ghost_name ≡ tx.old.conn.ghost_name }
-    ensures ok { HasCleanDisk (state S.Store tx.new.conn.now)
-        → OnOk result (Follows (state S.Store tx.old.conn.now) (state S.Store tx.new.conn.now)
-        (with_staged (take 1 (lines_from put.now.number place (drop place (stored put.now.«record»)))))) }
+    ensures ok { Writes (state S.Store tx.old.conn.now) (state S.Store tx.new.conn.now)
+        result (with_staged (take 1 (lines_from put.now.number place (drop place (stored put.now.«record»))))) }
     ensures made { OnOk result ((lines.new.items ≡ stored put.now.«record») × IsShallowPut put.now) }
-    ensures survives { Survives (state S.Store tx.old.conn.now) (state S.Store tx.new.conn.now) (λ _. ⊥) }
+    ensures survives { LeavesAsBefore (state S.Store tx.old.conn.now) (state S.Store tx.new.conn.now) }
 {
     make_lines(alloc, &put.record, lines)?;
     rows::insert_line(tx, put.number, place, &lines[place as usize])?;

@@ -29,10 +29,8 @@ use Rattle.std.specs.Bool.{Decides}
 use Rattle.std.specs.List.{flat_map}
 use Rattle.std.proofs.lemmas.List.{drop_more}
 use Rattle.std.specs.FinMap.{get}
-use Rattle.stored_lines.specs.Tree.{Tree, forest_of}
-use Rattle.stored_lines.specs.Line.{Line}
 use Rattle.record_kinds.specs.declared.record.Record.{Record}
-use Rattle.record_links.specs.Links.{Link, Wanted, is_wanted, line_links, forest_links}
+use Rattle.record_links.specs.Links.{Link, Wanted, is_wanted}
 use Rattle.record_shapes.specs.Lists.{EachOf}
 use Rattle.archive_state.specs.Content.{Records}
 use Rattle.standing_links.specs.declared.demand.Unmet.{Unmet}
@@ -47,11 +45,6 @@ pub first_both : (may_miss : Bool) (m : Records) (ls ks : List Link) → first_u
 first_both may_miss m [] ks = refl
 first_both may_miss m (l ∷ ls) ks = ap (first_of (unmet may_miss m l)) (first_both may_miss m ls ks)
     ∙ first_three (unmet may_miss m l) (first_unmet may_miss m ls) (first_unmet may_miss m ks)
-
--- the links of trees side by side
-pub forest_flat : (ts : List (Tree Line)) → forest_links (forest_of ts) ≡ flat_map line_links ts
-forest_flat [] = refl
-forest_flat (t ∷ ts) = ap (λ ls. line_links t ++ ls) (forest_flat ts)
 
 -- ---- one element more
 module _ {A : Type 0} (f : A → List Link) (may_miss : Bool) (m : Records) where

@@ -60,7 +60,7 @@ fn first_in<T: Linked>(state: &State, may_miss: bool, items: &[T]) -> Option<Unm
 }
 
 /// The first on the line and on those below it.
-#[tactic(auto, using(crate::proofs::Firsts::first_both, crate::proofs::Firsts::forest_flat))]
+#[tactic(auto, using(crate::proofs::Firsts::first_both, record_links::proofs::Links::forest_flat))]
 fn first_on(state: &State, may_miss: bool, line: &Carried) -> Option<Unmet>
     ensures { option_map standing.link_of result
         ≡ standing.first_unmet may_miss state.now.records (line_links line.now) }

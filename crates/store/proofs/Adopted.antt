@@ -62,11 +62,11 @@ use Rattle.store.specs.Archives.{HasArchive, Keeps}
 use Rattle.store.specs.Calls.{Stays}
 use Rattle.store.specs.Earlier.{HadArchive, KeepsOld}
 use Rattle.store.specs.Histories.{has_broken, is_storage}
+use Rattle.staged_rows.proofs.Alike.{seen_same}
+use Rattle.list_laws.proofs.Outcomes.{any_ok, ok_then}
+use Rattle.list_laws.proofs.Booleans.{not_true}
 
 -- ---- results
-pub ok_then : {A E P Q : Type 0} (r : Result A E) → (P → Q) → OnOk r P → OnOk r Q
-ok_then (Ok a) f p = f p
-ok_then (Err e) f p = tt
 
 pub err_then : {A E : Type 0} {P Q : E → Type 0} (r : Result A E) → ((e : E) → P e → Q e) → IfErr r P → IfErr r Q
 err_then (Ok a) f p = tt
@@ -75,10 +75,6 @@ err_then (Err e) f p = f e p
 either_way : {A E P Q R : Type 0} (r : Result A E) → OnOk r P → IfErr r (λ _. Q) → (P → R) → (Q → R) → R
 either_way (Ok a) p q f g = f p
 either_way (Err e) p q f g = g q
-
-pub any_ok : {A E P : Type 0} (r : Result A E) → P → OnOk r P
-any_ok (Ok a) p = p
-any_ok (Err e) p = tt
 
 any_err : {A E : Type 0} {P : E → Type 0} (r : Result A E) → ((e : E) → P e) → IfErr r P
 any_err (Ok a) f = tt
@@ -118,14 +114,10 @@ all_closed (b ∷ bs) none =
     let both = neither b.is_open (list_any is_open bs) none in
     (both.0, all_closed bs both.1)
 
-closed : (a : Bool) → not a ≡ true → a ≡ false
-closed false e = refl
-closed true e = absurd (true≢false (sym e))
-
 none_open : (bs : List BatchRow) → AllByRecursion (λ (b : BatchRow). not b.is_open ≡ true) bs
     → list_any is_open bs ≡ false
 none_open [] all = refl
-none_open (b ∷ bs) all = ap₂ (λ s t. s || t) (closed b.is_open all.0) (none_open bs all.1)
+none_open (b ∷ bs) all = ap₂ (λ s t. s || t) (not_true b.is_open all.0) (none_open bs all.1)
 
 -- all rows of one tree say the same
 no_import : (s : State) (rows : Rows) → Settled s rows → list_any is_open rows.batches ≡ false → HasNoImport s
@@ -147,20 +139,6 @@ not_both true b both none = both ∙ none
 not_both false b both none = both
 
 -- ---- imports are taken out
-seen_itself : (rows : Rows) → IsSeenAs rows rows
-seen_itself rows = record {
-  version = refl;
-  has_spans = refl;
-  next = refl;
-  society = refl;
-  receipts = refl;
-  slips = refl;
-  slip_lines = refl;
-  batch = refl;
-  recorded = λ n. refl;
-  lines = λ n h. refl;
-  spans = λ n h. refl;
-}
 
 pub none_found : (has_spans : Bool) (old new : State) → HasCleanDisk new → Looks Finds old new (Ok false)
     → ClearsImports has_spans old (Ok tt) new
@@ -168,13 +146,13 @@ none_found has_spans old new clean looks = record {
   cleared = λ rows it. (
     rows,
     looks.same clean rows it.settled,
-    seen_itself rows,
+    seen_same rows,
     all_closed rows.batches
         (none_of_two (is_closed 0 rows.batches) (list_any is_open rows.batches) it.batch
         (looks.read clean rows it.settled)),
   );
-  stays = λ sure rows it. (rows, looks.same clean rows it.settled, seen_itself rows);
-  crash = λ rows it t l. (rows, looks.crash clean rows it.settled t l, seen_itself rows);
+  stays = λ sure rows it. (rows, looks.same clean rows it.settled, seen_same rows);
+  crash = λ rows it t l. (rows, looks.crash clean rows it.settled t l, seen_same rows);
   failure = tt;
   untouched = λ rows was all. ((λ sure. looks.same clean rows was), looks.crash clean rows was);
   clean = looks.clean clean;
@@ -187,8 +165,8 @@ pub unknown : (has_spans : Bool) (old mid new : State) (kind result : RefusalKin
     → ClearsImports has_spans old (Err result) new
 unknown has_spans old mid new kind result before looks settled left failure = record {
   cleared = tt;
-  stays = λ sure rows it. (rows, settled sure rows (looks.crash before rows it.settled), seen_itself rows);
-  crash = λ rows it t l. (rows, looks.crash before rows it.settled t (left t l), seen_itself rows);
+  stays = λ sure rows it. (rows, settled sure rows (looks.crash before rows it.settled), seen_same rows);
+  crash = λ rows it t l. (rows, looks.crash before rows it.settled t (left t l), seen_same rows);
   failure = failure;
   untouched = λ rows was all. (
     (λ sure. settled sure rows (looks.crash before rows was)),

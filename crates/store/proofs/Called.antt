@@ -50,11 +50,6 @@ pub unheard_lost : (lost : Bool) (i : Option Import) (calls : List Done) → los
 unheard_lost lost None calls e = ap (λ b. heard b calls) e
 unheard_lost lost (Some i) calls e = refl
 
-pub unheard_open : (lost : Bool) (i : Option Import) (calls : List Done) → is_some i ≡ true
-    → heard (shuts lost i) calls ≡ []
-unheard_open lost None calls e = absurd (true≢false (sym e))
-unheard_open lost (Some i) calls e = refl
-
 -- an archive that takes requests has no import, and is not lost
 pub no_import : (i : Option Import) → is_some i ≡ false → i ≡ None
 no_import None e = refl

@@ -28,7 +28,6 @@ use Rattle.std.proofs.Common.{
 }
 use Rattle.std.specs.Prelude.{MatchOption}
 use Rattle.std.specs.FinMap.{get}
-use Rattle.sqlite.specs.Effect.{Database}
 use Rattle.sqlite.specs.State.{HasCleanDisk, Shows, State}
 use Rattle.sqlite.specs.Tree.{Trees}
 use Rattle.record_text.specs.declared.refusal.Refusal.{Refusal}
@@ -49,12 +48,11 @@ use Rattle.archive_core.specs.Machine.{Does, outcome}
 use Rattle.archive_core.specs.Words.{HasUtf8Words}
 use Rattle.archive_core.specs.declared.request.Request.{Request}
 use Rattle.archive_core.proofs.Serving.{request_sound}
-use Rattle.store_tables.specs.Calls.{Good, Inside, LeavesOnly, Settled}
+use Rattle.store_tables.specs.Calls.{LeavesOnly, Settled}
 use Rattle.store_tables.specs.Rows.{Rows}
-use Rattle.store_rows.specs.Meaning.{AllShallow, Means}
+use Rattle.store_rows.specs.Meaning.{AllShallow}
 use Rattle.store_rows.specs.Spans.{AreDrawn, Drawn, FollowsDrawn, with_dated_changes}
 use Rattle.store_rows.proofs.Meaning.{changes_mean}
-use Rattle.store_rows.proofs.OneContent.{one_content}
 use Rattle.store_rows.proofs.SpansAside.{dated_means, dated_society, spans_kept, stays_dated}
 use Rattle.store.specs.Archives.{HasArchive, IsArchive, Keeps}
 use Rattle.store.specs.Calls.{
@@ -68,11 +66,7 @@ use Rattle.store.specs.Calls.{
 }
 use Rattle.store.specs.Histories.{Accepts, Allows, MayBeFound, has_failed, in_doubt, is_storage}
 use Rattle.store.proofs.Unchanged.{applies_nothing, rows_stay}
-
--- what is decided of one reading of rows is decided of any
-pub decides_same : (P : Content → Type 0) (rows : Rows) (held c : Content) → Means rows held
-    → Means rows c → P held → P c
-decides_same P rows held c p q h = subst P (one_content rows held c p q) h
+use Rattle.staging.proofs.Commits.{committed}
 
 -- ---- a request whose token is kept
 nothing_if_kept : (N : Type 0) (o : Option Receipt) (kept wanted : Option Kept) (k : Kept) → wanted ≡ Some k
@@ -162,15 +156,6 @@ may_be_done c after r o lost did = subst (λ b. Allows c (cond b [] ((r, o) ∷ 
     (sym lost) (c, refl, inr did)
 
 -- ---- calls in a transaction, and its commit
-committed : (mid new : State) (after : Rows) → Inside mid after → Shows mid new mid.now mid.now false
-    → Settled new after
-committed mid new after inside shows = record {
-  is_open = shows.is_open;
-  autocommit = shows.mode;
-  settled = shows.committed_is ∙ sym shows.now_is;
-  schema = ap (λ (d : Database). d.schema) shows.now_is ∙ inside.schema;
-  good = subst (Good after) (sym (ap (λ (d : Database). d.trees) shows.now_is)) inside.good;
-}
 
 pub settles : (old mid new : State) (changes : Changes) (rows : Rows)
     → FollowsDrawn (record old { in_transaction = true }) mid changes → Shows mid new mid.now mid.now false

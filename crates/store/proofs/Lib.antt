@@ -8,7 +8,7 @@ mod Looked
 mod OpenCalls
 pub mod Opened
 mod Recognised
-mod Running
+pub mod Running
 mod Seen
 mod Sessions
 mod Steps

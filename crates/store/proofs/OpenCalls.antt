@@ -29,7 +29,7 @@ use Rattle.std.proofs.Common.{
   subst,
   true≢false,
 }
-use Rattle.std.specs.Prelude.{◌↔◌, IfNone, IfSome, is_none, is_some}
+use Rattle.std.specs.Prelude.{◌↔◌, IfNone, IfSome, is_some}
 use Rattle.sqlite.specs.Held.{Held, state}
 use Rattle.sqlite.specs.State.{HasCleanDisk, State}
 use Rattle.sqlite_trees.specs.declared.store.Store.{Ghosts}
@@ -80,18 +80,6 @@ pub told_refused : (P : Refusal → Type 0) (b : Result (Answer × Option Import
 told_refused P (Ok (a, None)) h = tt
 told_refused P (Ok (a, Some i)) h = tt
 told_refused P (Err e) h = h
-
-pub told_opened : (b : Result (Answer × Option Import) Refusal)
-    → IfOk (begun_told b).0 (λ o. is_some (begun_told b).1 ≡ is_none o)
-told_opened (Ok (a, None)) = refl
-told_opened (Ok (a, Some i)) = refl
-told_opened (Err e) = tt
-
-pub told_alone : (b : Result (Answer × Option Import) Refusal)
-    → IfErr (begun_told b).0 (λ _. (begun_told b).1 ≡ None)
-told_alone (Ok (a, None)) = tt
-told_alone (Ok (a, Some i)) = tt
-told_alone (Err e) = refl
 
 -- ---- a stage on the import that is open
 module _ (old new : State) (o : Option Import) (i j : Import) (is : o ≡ Some i) where

@@ -38,22 +38,10 @@ use Rattle.store_rows.proofs.Got.{got_put, got_removed}
 use Rattle.store_rows.proofs.SpansAside.{dated_lines, dated_records}
 use Rattle.store_rows.proofs.Staying.{others_stay}
 use Rattle.store.specs.Calls.{KeepsRows}
-
-each_both : {A : Type 0} (P Q R : A → Type 0) → ((x : A) → P x → Q x → R x) → (xs : List A) → EachOf P xs
-    → EachOf Q xs → EachOf R xs
-each_both P Q R f [] p q = tt
-each_both P Q R f (x ∷ xs) p q = (f x p.0 q.0, each_both P Q R f xs p.1 q.1)
-
-each_true : {A : Type 0} (P : A → Type 0) → ((x : A) → P x) → (xs : List A) → EachOf P xs
-each_true P f [] = tt
-each_true P f (x ∷ xs) = (f x, each_true P f xs)
+use Rattle.record_shapes.proofs.Each.{each_all, each_zip}
+use Rattle.list_laws.proofs.Numbers.{is_same, not_it}
 
 -- ---- equal numbers
-same_number : (a b : ℕ) → a ≡ b → (a == b) ≡ true
-same_number a b e = grind (arith, e)
-
-other_number : (a b : ℕ) → (a == b) ≡ false → a ≢ b
-other_number a b e same = grind (arith, e, same)
 
 -- ---- what a map has after removals
 left_at : (ns : List ℕ) (m : Records) (n : ℕ) → EachOf (λ k. k ≢ n) ns → get (without m ns) n ≡ get m n
@@ -72,7 +60,7 @@ gone : (ns : List ℕ) (m : Records) → EachOf (λ n. get (without m ns) n ≡ 
 gone [] m = tt
 gone (n ∷ ns) m = (
   none_stays ns (remove m n) n
-      (got_removed m n n ∙ ap (λ b. cond b None (get m n)) (same_number n n refl)),
+      (got_removed m n n ∙ ap (λ b. cond b None (get m n)) (is_same n n refl)),
   gone ns (remove m n),
 )
 
@@ -90,7 +78,7 @@ each_put : (ps : List Numbered) (m : Records) → Ascends (map (λ (p : Numbered
 each_put [] m ascends = tt
 each_put (p ∷ ps) m ascends = (
   put_elsewhere ps (insert m p.number p.«record») p.number ascends.0 ∙ got_put m p.number p.«record» p.number
-      ∙ ap (λ b. cond b (Some p.«record») (get m p.number)) (same_number p.number p.number refl),
+      ∙ ap (λ b. cond b (Some p.«record») (get m p.number)) (is_same p.number p.number refl),
   each_put ps (insert m p.number p.«record») ascends.1,
 )
 
@@ -100,14 +88,14 @@ apart_one : (k : ℕ) (ps : List Numbered) → list_any (λ m. m == k) (map (λ 
 apart_one k [] e = tt
 apart_one k (p ∷ ps) e =
     let parts = or_parts (p.number == k) (list_any (λ m. m == k) (map (λ (q : Numbered). q.number) ps)) e in
-    ((λ same. other_number p.number k parts.0 (sym same)), apart_one k ps parts.1)
+    ((λ same. not_it p.number k parts.0 (sym same)), apart_one k ps parts.1)
 
 apart_all : (ks : List ℕ) (ps : List Numbered)
     → EachOf (λ k. list_any (λ m. m == k) (map (λ (p : Numbered). p.number) ps) ≡ false) ks
     → EachOf (λ (p : Numbered). EachOf (λ k. k ≢ p.number) ks) ps
-apart_all [] ps apart = each_true (λ (p : Numbered). EachOf (λ k. k ≢ p.number) []) (λ p. tt) ps
+apart_all [] ps apart = each_all (λ (p : Numbered). EachOf (λ k. k ≢ p.number) []) (λ p. tt) ps
 apart_all (k ∷ ks) ps apart =
-    each_both (λ (p : Numbered). k ≢ p.number) (λ (p : Numbered). EachOf (λ j. j ≢ p.number) ks)
+    each_zip (λ (p : Numbered). k ≢ p.number) (λ (p : Numbered). EachOf (λ j. j ≢ p.number) ks)
     (λ (p : Numbered). EachOf (λ j. j ≢ p.number) (k ∷ ks))
     (λ p here there. (here, there)) ps (apart_one k ps apart.0) (apart_all ks ps apart.1)
 
@@ -116,7 +104,7 @@ module _ (c : Content) (changes : Changes) (exact : IsExact c changes) where
   put_there : IsSound c → EachOf (λ (p : Numbered). get (applied c changes).records p.number ≡ Some p.«record»)
       changes.puts
   put_there sound =
-      each_both (λ (p : Numbered). get (with_puts c.records changes.puts) p.number ≡ Some p.«record»)
+      each_zip (λ (p : Numbered). get (with_puts c.records changes.puts) p.number ≡ Some p.«record»)
       (λ (p : Numbered). EachOf (λ k. k ≢ p.number) changes.removals)
       (λ (p : Numbered). get (applied c changes).records p.number ≡ Some p.«record»)
       (λ p here others. left_at changes.removals (with_puts c.records changes.puts) p.number others ∙ here)
@@ -126,12 +114,12 @@ module _ (c : Content) (changes : Changes) (exact : IsExact c changes) where
   with_changes_stay : (rows : Rows) → IsSound c → KeepsRows c (applied c changes) rows (with_changes changes rows)
   with_changes_stay rows sound m same =
       others_stay changes rows m
-      (each_both (λ (p : Numbered). get c.records p.number ≢ Some p.«record»)
+      (each_zip (λ (p : Numbered). get c.records p.number ≢ Some p.«record»)
       (λ (p : Numbered). get (applied c changes).records p.number ≡ Some p.«record»)
       (λ (p : Numbered). p.number ≢ m)
       (λ p new there e. new (ap (get c.records) e ∙ same ∙ ap (get (applied c changes).records) (sym e) ∙ there))
       changes.puts (exact.new sound) (put_there sound))
-      (each_both (λ n. get c.records n ≢ None) (λ n. get (applied c changes).records n ≡ None) (λ n. n ≢ m)
+      (each_zip (λ n. get c.records n ≢ None) (λ n. get (applied c changes).records n ≡ None) (λ n. n ≢ m)
       (λ n there none e. there (ap (get c.records) e ∙ same ∙ ap (get (applied c changes).records) (sym e) ∙ none))
       changes.removals exact.there
       (gone changes.removals (with_puts c.records changes.puts)))

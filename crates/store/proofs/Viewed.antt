@@ -22,7 +22,7 @@ use Rattle.std.proofs.Common.{
   subst,
   true≢false,
 }
-use Rattle.std.specs.Prelude.{◌≢◌, Result, OnOk}
+use Rattle.std.specs.Prelude.{◌≢◌}
 use Rattle.sqlite.specs.State.{HasCleanDisk, State}
 use Rattle.sqlite.specs.Tree.{Trees}
 use Rattle.record_text.specs.declared.refusal.Refusal.{Refusal}
@@ -147,8 +147,3 @@ pub none_is_bad : (before after : ℕ) (e : Refusal) → before ≡ 0 → after 
     → (is_failure e.kind ≡ true → Rose before after) → e.kind ≢ BadStored
 none_is_bad before after e first last rose bad =
     not_risen (subst (λ n. Rose n 0) first (subst (λ n. Rose before n) last (rose (ap is_failure bad))))
-
--- what is said of a result
-pub if_done : {A E P : Type 0} (r : Result A E) → P → OnOk r P
-if_done (Ok a) h = h
-if_done (Err e) h = tt

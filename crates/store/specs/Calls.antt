@@ -97,8 +97,8 @@ HasWritten rows changes new = (drawn : Drawn) × AreDrawn changes.puts drawn
     × Settled new (with_dated_changes changes drawn rows)
 
 -- settled tables that have spans: the changes and their spans are written
-abbrev pub Writes : State → Changes → State → Type 0
-Writes old changes new = (rows : Rows) → rows.has_spans ≡ true → Settled old rows → HasWritten rows changes new
+abbrev pub WritesChanges : State → Changes → State → Type 0
+WritesChanges old changes new = (rows : Rows) → rows.has_spans ≡ true → Settled old rows → HasWritten rows changes new
 
 -- whatever a crash may leave has these rows, or those with the changes and their spans written; the latter can be read
 -- again

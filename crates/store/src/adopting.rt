@@ -3,10 +3,10 @@
 
 ghost use Rattle.std.specs.Prelude.{◌≡◌, true, false, IfErr, IsTrue, OnOk};
 ghost use Rattle.std.specs.List.{list_any};
-ghost use Rattle.sqlite.specs.State.{HasCleanDisk, Survives};
+ghost use Rattle.sqlite.specs.State.{HasCleanDisk};
 ghost use Rattle.sqlite.specs.Held.{state};
 ghost use Rattle.store_rows.specs.Meaning.{is_closed};
-ghost use Rattle.store_tables.specs.Calls.{IsAsItWas, LeavesOnly, Settled};
+ghost use Rattle.store_tables.specs.Calls.{IsAsItWas, LeavesAsBefore, LeavesOnly, Settled};
 ghost use Rattle.store_tables.specs.Looking.{IsFailure, Looks};
 ghost use Rattle.store_tables.specs.Rows as rows;
 ghost use Rattle.store_tables.specs.Rows.{Rows};
@@ -187,7 +187,7 @@ fn failure_after<S: Alter>(conn: &mut Connection<S>, kind: RefusalKind) -> Refus
         → LeavesOnly (state S.Store conn.old) rows → Settled (state S.Store conn.new) rows }
     ensures same { is_storage result ≡ false → result ≡ kind }
     ensures failure { IsFailure result }
-    ensures survives { Survives (state S.Store conn.old) (state S.Store conn.new) (λ _. ⊥) }
+    ensures survives { LeavesAsBefore (state S.Store conn.old) (state S.Store conn.new) }
     ensures ended { conn.new.in_transaction ≡ false }
 {
     match kind {
@@ -207,7 +207,7 @@ fn shows_version<S: Alter>(conn: &mut Connection<S>) -> bool
     requires autocommit { conn.old.in_transaction ≡ false }
     ensures settled { HasCleanDisk (state S.Store conn.new) → IsTrue result → (rows : Rows)
         → LeavesOnly (state S.Store conn.old) rows → Settled (state S.Store conn.new) rows }
-    ensures survives { Survives (state S.Store conn.old) (state S.Store conn.new) (λ _. ⊥) }
+    ensures survives { LeavesAsBefore (state S.Store conn.old) (state S.Store conn.new) }
     ensures ended { conn.new.in_transaction ≡ false }
 {
     match check_version(conn) {

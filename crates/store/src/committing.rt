@@ -10,7 +10,7 @@ ghost use Rattle.store_tables.specs.Calls.{Settled, LeavesOnly};
 ghost use Rattle.store_tables.specs.Rows.{Rows};
 ghost use Rattle.store_rows.specs.Meaning.{AllShallow};
 ghost use Rattle.import_commits.specs.Commits.{LeavesEither as LeavesOneOf};
-ghost use Rattle.store.specs.Calls.{LeavesEither, Writes};
+ghost use Rattle.store.specs.Calls.{LeavesEither, WritesChanges};
 ghost use Rattle.store.specs.Histories.{is_storage};
 
 use archive_state::Changes;
@@ -28,7 +28,7 @@ pub(crate) fn commit_changes<S: Alter>(
 ) -> Result<(), RefusalKind>
     requires autocommit { conn.old.in_transaction ≡ false }
     ensures done { HasCleanDisk (state S.Store conn.new)
-        → OnOk result (Writes (state S.Store conn.old) changes.now (state S.Store conn.new)) }
+        → OnOk result (WritesChanges (state S.Store conn.old) changes.now (state S.Store conn.new)) }
     ensures shallow { OnOk result ((c : Content) → AllShallow c → AllShallow (applied c changes.now)) }
     ensures crash { HasCleanDisk (state S.Store conn.new)
         → (rows : Rows) → rows.has_spans ≡ true → Settled (state S.Store conn.old) rows
@@ -56,7 +56,7 @@ fn try_commit<S: Alter>(
 ) -> Result<Result<(), Error>, RefusalKind>
     requires autocommit { conn.old.in_transaction ≡ false }
     ensures done { HasCleanDisk (state S.Store conn.new) → IfOk result (λ committed. OnOk committed
-        (Writes (state S.Store conn.old) changes.now (state S.Store conn.new))) }
+        (WritesChanges (state S.Store conn.old) changes.now (state S.Store conn.new))) }
     ensures shallow { OnOk result ((c : Content) → AllShallow c → AllShallow (applied c changes.now)) }
     ensures crash { HasCleanDisk (state S.Store conn.new)
         → (rows : Rows) → rows.has_spans ≡ true → Settled (state S.Store conn.old) rows

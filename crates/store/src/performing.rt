@@ -2,14 +2,14 @@
 
 ghost use Rattle.std.specs.Prelude.{◌≡◌, ◌≢◌, ◌⊎◌, [], ◌∷◌, false, true, None, Err, IfOk, IfErr, OnOk};
 ghost use Rattle.std.specs.FinMap.{get};
-ghost use Rattle.sqlite.specs.State.{HasCleanDisk, Survives};
+ghost use Rattle.sqlite.specs.State.{HasCleanDisk};
 ghost use Rattle.sqlite.specs.Held.{state};
 ghost use Rattle.record_text.specs.declared.refusal.RefusalKind.TheVariants.{OutOfMemory, Storage};
 ghost use Rattle.archive_state.specs.Applied.{applied};
 ghost use Rattle.archive_state.specs.Content.{Content};
 ghost use Rattle.archive_core.specs.Machine.{Does};
 ghost use Rattle.archive_view.specs.Looks.{is_stop};
-ghost use Rattle.store_tables.specs.Calls.{LeavesOnly, Settled};
+ghost use Rattle.store_tables.specs.Calls.{LeavesAsBefore, LeavesOnly, Settled};
 ghost use Rattle.store_tables.specs.Rows.{Rows};
 ghost use Rattle.store_rows.specs.Meaning.{AllShallow};
 ghost use Rattle.store.specs.Histories.{is_storage};
@@ -19,7 +19,7 @@ ghost use Rattle.store.specs.Calls.{
   LeavesEither,
   OnArchive,
   Performs,
-  Writes,
+  WritesChanges,
 };
 
 use crate::archive::Archive;
@@ -101,7 +101,7 @@ pub(crate) fn refusal_after<S: Alter>(conn: &mut Connection<S>, refusal: Refusal
     ensures same { is_storage result.kind ≡ false → result ≡ refusal }
     ensures placed { (is_stop refusal.kind ≡ true → refusal.at ≡ None) → is_stop result.kind ≡ true
         → result.at ≡ None }
-    ensures survives { Survives (state S.Store conn.old) (state S.Store conn.new) (λ _. ⊥) }
+    ensures survives { LeavesAsBefore (state S.Store conn.old) (state S.Store conn.new) }
     ensures ended { conn.new.in_transaction ≡ false }
 {
     if !is_storage(refusal.kind) && still_answers(conn) {
@@ -157,7 +157,7 @@ fn make_changes<S: Alter>(
     ensures again { changes.kept ≡ None → conn.new ≡ conn.old }
     ensures kept { IfErr result (λ _. changes.kept ≢ None) }
     ensures made { changes.kept ≢ None → HasCleanDisk (state S.Store conn.new)
-        → OnOk result (Writes (state S.Store conn.old) changes (state S.Store conn.new)) }
+        → OnOk result (WritesChanges (state S.Store conn.old) changes (state S.Store conn.new)) }
     ensures shallow { changes.kept ≢ None
         → OnOk result ((c : Content) → AllShallow c → AllShallow (applied c changes)) }
     ensures crash { changes.kept ≢ None → HasCleanDisk (state S.Store conn.new)

@@ -1,9 +1,9 @@
 //! What an archive holds, read of its tables.
 
 ghost use Rattle.std.specs.Prelude.{◌≡◌, true, false, IfErr, IfOk, IsTrue};
-ghost use Rattle.sqlite.specs.State.{HasCleanDisk, IsUnchanged, Survives};
+ghost use Rattle.sqlite.specs.State.{HasCleanDisk, IsUnchanged};
 ghost use Rattle.sqlite.specs.Held.{state};
-ghost use Rattle.store_tables.specs.Calls.{IsAsItWas, LeavesOnly, Settled};
+ghost use Rattle.store_tables.specs.Calls.{IsAsItWas, LeavesAsBefore, LeavesOnly, Settled};
 ghost use Rattle.store_tables.specs.Looking.{IsFailure, Looks, version_number};
 ghost use Rattle.store_tables.specs.Rows.{Rows};
 ghost use Rattle.store.specs.Adopting.{IsOfVersion, LeavesStore, RefusesToAdopt, is_foreign};
@@ -85,7 +85,7 @@ fn look_at_tables<S: Alter>(conn: &mut Connection<S>) -> Result<Version, Refusal
         → IfErr result (RefusesToAdopt S.Store (state S.Store conn.old)) }
     ensures recognised { HasCleanDisk (state S.Store conn.new)
         → IfOk result (IsOfVersion S.Store (state S.Store conn.old)) }
-    ensures survives { Survives (state S.Store conn.old) (state S.Store conn.new) (λ _. ⊥) }
+    ensures survives { LeavesAsBefore (state S.Store conn.old) (state S.Store conn.new) }
     ensures unchanged { HasCleanDisk (state S.Store conn.new) → IfErr result (λ kind. is_foreign kind ≡ true
         → IsUnchanged (state S.Store conn.old) (state S.Store conn.new)) }
     ensures ended { conn.new.in_transaction ≡ false }
@@ -107,7 +107,7 @@ pub(crate) fn refusal_after<S: Alter>(conn: &mut Connection<S>, kind: RefusalKin
     ensures same { is_storage result ≡ false → result ≡ kind }
     ensures kept { HasCleanDisk (state S.Store conn.new) → is_storage result ≡ false
         → IsTrue (state S.Store conn.old).is_open → IsAsItWas (state S.Store conn.old) (state S.Store conn.new) }
-    ensures survives { Survives (state S.Store conn.old) (state S.Store conn.new) (λ _. ⊥) }
+    ensures survives { LeavesAsBefore (state S.Store conn.old) (state S.Store conn.new) }
     ensures ended { conn.new.in_transaction ≡ false }
 {
     if !is_storage(kind) && still_answers(conn) {

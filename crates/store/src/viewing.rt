@@ -1,10 +1,10 @@
 //! An archive as a view: each look reads the rows that it needs, and no others.
 
 ghost use Rattle.std.specs.Prelude.{◌≡◌, ◌||◌, Err, false};
-ghost use Rattle.sqlite.specs.State.{HasCleanDisk, Survives};
+ghost use Rattle.sqlite.specs.State.{HasCleanDisk};
 ghost use Rattle.sqlite.specs.Held.{state};
 ghost use Rattle.archive_view.specs.Looks.{CountsOne, is_failure};
-ghost use Rattle.store_tables.specs.Calls.{LeavesOnly, Settled};
+ghost use Rattle.store_tables.specs.Calls.{LeavesAsBefore, LeavesOnly, Settled};
 ghost use Rattle.store_tables.specs.Rows.{Rows};
 ghost use Rattle.store.specs.Histories.{is_storage};
 ghost use Rattle.store.specs.Viewing as viewing;
@@ -120,7 +120,7 @@ fn fail<S: Alter>(archive: &mut Archive<S>, kind: RefusalKind) -> RefusalKind
         → (rows : Rows) → LeavesOnly (state S.Store archive.old.conn) rows
         → Settled (state S.Store archive.new.conn) rows }
     ensures same { is_storage result ≡ false → result ≡ kind }
-    ensures survives { Survives (state S.Store archive.old.conn) (state S.Store archive.new.conn) (λ _. ⊥) }
+    ensures survives { LeavesAsBefore (state S.Store archive.old.conn) (state S.Store archive.new.conn) }
     ensures lost { archive.new.is_lost ≡ archive.old.is_lost || is_storage result }
     ensures counts { CountsOne {A = Unit {0}} archive.old.failures archive.new.failures (Err result) }
     ensures passed { is_failure result ≡ false → archive.new.failures ≡ archive.old.failures }

@@ -41,9 +41,11 @@ use Rattle.store_tables.specs.Keyed.{lines_naming}
 use Rattle.store_tables.specs.Rows.{Rows}
 use Rattle.store_rows.specs.Meaning.{Means, has_record}
 use Rattle.store_rows.proofs.Naming.{tell_referrers}
-use Rattle.store_rows.proofs.Own.{either_way, it}
-use Rattle.archive_state.proofs.Rising.{first_holds, rest_holds, less_is}
-use Rattle.store_tables.proofs.Coded.{list_any_same}
+use Rattle.store_rows.proofs.Own.{either_way}
+use Rattle.archive_state.proofs.Rising.{less_is}
+use Rattle.list_laws.proofs.Numbers.{it}
+use Rattle.list_laws.proofs.Booleans.{first_holds, rest_holds}
+use Rattle.list_laws.proofs.Lists.{any_alike}
 
 -- ---- the referrers ascend
 below_named : (n x : ℕ) (es : List (ℕ × Record)) → T (below_all nat_cmp x es)
@@ -89,7 +91,7 @@ inserted key n now before is = is ∙ ap (λ b. cond b true before) (unsigned_ti
     go false false = refl
 
 has_it : (ks : List ℕ) (q : ℕ) → set.contains nat_cmp (as_set ks) q ≡ list_any (λ k. k == q) ks
-has_it ks q = list_any_same (λ k. is_eq (nat_cmp q k)) (λ k. k == q) (λ k. unsigned_tied q k ∙ either_way q k) ks
+has_it ks q = any_alike (λ k. is_eq (nat_cmp q k)) (λ k. k == q) (λ k. unsigned_tied q k ∙ either_way q k) ks
 
 -- those of a list that pass a test
 any_passed : (p : ℕ → Bool) (q : ℕ) (ks : List ℕ) → list_any (λ k. k == q) (filter p ks)

@@ -71,9 +71,8 @@ use Rattle.store_rows.specs.declared.finding.Climb.TheVariants as climb
 use Rattle.store_rows.specs.Looking.{Sees}
 use Rattle.store_rows.specs.Meaning.{Means, IsRecordAt}
 use Rattle.store_rows.proofs.Naming.{and_swap}
-use Rattle.store_rows.proofs.Own.{it}
-use Rattle.store_rows.proofs.Seen.{any_kept, any_map}
-use Rattle.store_tables.proofs.Coded.{list_any_same}
+use Rattle.list_laws.proofs.Numbers.{below_is, it}
+use Rattle.list_laws.proofs.Lists.{any_kept, any_mapped, any_alike}
 
 -- ---- one look after another
 pub sees_then : {A B : Type 0} {P : Content → A → Type 0} {Q : Content → B
@@ -118,8 +117,6 @@ sees_after {a = a} result f h k = record {
 }
 
 -- ---- the lowest, one number more
-is_less : (m n : ℕ) → nat_lt m n ≡ true → m < n
-is_less m n h = grind (arith, nat_tests, h)
 
 -- the second numbers are the first with one more
 abbrev pub IsWithOne : List ℕ → ℕ → List ℕ → Type 0
@@ -141,7 +138,7 @@ one_found P ns more n (Some m) grows (there, low) here =
         there,
         λ k among less. elim (or_cases _ _ (sym (grows k) ∙ among)) [
           | inl old ↦ low k old less
-          | inr is ↦ let same : n ≡ k = it n k is in let under : m < n = is_less m n e in
+          | inr is ↦ let same : n ≡ k = it n k is in let under : m < n = below_is m n e in
               absurd (omega (arith, same, less, under))
         ],
       )
@@ -149,7 +146,7 @@ one_found P ns more n (Some m) grows (there, low) here =
         here,
         λ k among less. elim (or_cases _ _ (sym (grows k) ∙ among)) [
           | inl old ↦ λ p. elim (nat_lt k m) as (λ b. nat_lt k m ≡ b → ⊥) [
-            | true ↦ λ f. low k old (is_less k m f) p
+            | true ↦ λ f. low k old (below_is k m f) p
             | false ↦ λ f. grind (arith, nat_tests, e, f, less)
           ] refl
           | inr is ↦ let same : n ≡ k = it n k is in absurd (omega (arith, same, less))
@@ -194,7 +191,7 @@ more_fronts at path rows ns more all h k is n name (inr (rest, e, low)) among =
     ap (list_any (λ j. j == n)) is ∙ list_any-append (λ j. j == n) ns more
     ∙ (elim (nat_lt (length name) at) as (λ b. nat_lt (length name) at ≡ b
     → (list_any (λ j. j == n) ns || list_any (λ j. j == n) more) ≡ true) [
-      | true ↦ λ f. or_left _ _ (h n name (inr (rest, e, is_less (length name) at f)) among)
+      | true ↦ λ f. or_left _ _ (h n name (inr (rest, e, below_is (length name) at f)) among)
       | false ↦ λ f. let same : length name ≡ at = grind (arith, nat_tests, f, low) in
           or_right (list_any (λ j. j == n) ns) _ (k n name rest e same among)
     ] refl)
@@ -219,10 +216,10 @@ pub said_where : (says : Label → Bool) (n : ℕ) (rows : Rows) → list_any (�
 said_where says n rows =
     let told = (λ (l : LineRow). says l.line.1) in
     let own = (λ (l : LineRow). l.no == n) in
-    any_map (λ k. k == n) (λ (l : LineRow). l.no) (filter told rows.lines) ∙ sym (any_kept told own rows.lines)
-    ∙ list_any_same (λ l. told l && own l) (λ l. own l && told l) (λ l. and_swap (told l) (own l)) rows.lines
+    any_mapped (λ k. k == n) (λ (l : LineRow). l.no) (filter told rows.lines) ∙ sym (any_kept told own rows.lines)
+    ∙ any_alike (λ l. told l && own l) (λ l. own l && told l) (λ l. and_swap (told l) (own l)) rows.lines
     ∙ any_kept own told rows.lines
-    ∙ sym (any_map (λ (x : ℕ × Label). says x.1) (λ (l : LineRow). l.line) (filter own rows.lines))
+    ∙ sym (any_mapped (λ (x : ℕ × Label). says x.1) (λ (l : LineRow). l.line) (filter own rows.lines))
 
 pub kept_as : (n : ℕ) (rows : Rows) (c : Content) (r : Record) → Means rows c → get c.records n ≡ Some r
     → lines_of n rows ≡ stored r

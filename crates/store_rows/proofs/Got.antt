@@ -8,8 +8,9 @@ use Rattle.archive_state.specs.Content.{Records, Slips}
 use Rattle.archive_state.specs.Slips.{Slip}
 use Rattle.archive_state.specs.declared.changes.Numbered.{Numbered}
 use Rattle.archive_state.specs.Applied.{with_puts, without, as_undone, put_if}
-use Rattle.store_rows.proofs.Own.{either_way, it}
+use Rattle.store_rows.proofs.Own.{either_way}
 use Rattle.store_rows.proofs.Puts.{last_of}
+use Rattle.list_laws.proofs.Numbers.{it}
 
 module _ {X : Type 0} where
   pub got_put : (m : FinMap nat_cmp X) (k : ℕ) (v : X) (n : ℕ) → get (insert m k v) n ≡ cond (k == n) (Some v) (get m n)

@@ -18,4 +18,4 @@ pub mod StateMeant
 pub mod StateRecords
 pub mod StateSlips
 pub mod Staying
-mod Written
+pub mod Written

@@ -36,9 +36,9 @@ use Rattle.store_tables.specs.Keyed.{is_number, lines_naming}
 use Rattle.store_tables.specs.Rows.{Rows, LineRow, lines_of}
 use Rattle.store_rows.specs.Meaning.{Means, IsRecordAt, has_record}
 use Rattle.store_rows.proofs.Own.{either_way}
-use Rattle.store_rows.proofs.Seen.{any_kept, any_map}
-use Rattle.archive_state.proofs.Rising.{first_holds, rest_holds, not_found}
-use Rattle.store_tables.proofs.Coded.{list_any_same}
+use Rattle.archive_state.proofs.Rising.{not_found}
+use Rattle.list_laws.proofs.Lists.{any_kept, any_mapped, any_alike}
+use Rattle.list_laws.proofs.Booleans.{first_holds, rest_holds}
 
 -- whether a record that may be missing names a number
 abbrev names_at : ℕ → Option Record → Bool
@@ -95,11 +95,11 @@ lines_named : (n m : ℕ) (rows : Rows) → list_any (λ k. k == m) (lines_namin
 lines_named n m rows =
     let names = (λ (l : LineRow). is_number n l.line.1.target) in
     let own = (λ (l : LineRow). l.no == m) in
-    any_map (λ k. k == m) (λ (l : LineRow). l.no) (filter names rows.lines) ∙ sym (any_kept names own rows.lines)
-    ∙ list_any_same (λ l. names l && own l) (λ l. own l && is_target n l.line.1.target)
+    any_mapped (λ k. k == m) (λ (l : LineRow). l.no) (filter names rows.lines) ∙ sym (any_kept names own rows.lines)
+    ∙ any_alike (λ l. names l && own l) (λ l. own l && is_target n l.line.1.target)
     (λ l. and_swap (names l) (own l) ∙ ap (λ b. own l && b) (same_test n l.line.1.target)) rows.lines
     ∙ any_kept own (λ l. is_target n l.line.1.target) rows.lines
-    ∙ sym (any_map (λ x. is_target n x.1.target) (λ (l : LineRow). l.line) (filter own rows.lines))
+    ∙ sym (any_mapped (λ x. is_target n x.1.target) (λ (l : LineRow). l.line) (filter own rows.lines))
 
 pub tell_referrers : (rows : Rows) (c : Content) (n m : ℕ) → Means rows c → list_any (λ k. k == m) (referrers c n)
     ≡ (has_record m rows && list_any (λ k. k == m) (lines_naming n rows))

@@ -26,15 +26,7 @@ use Rattle.std.proofs.lemmas.Bool.Decides.{nat_tests}
 use Rattle.std.proofs.lemmas.List.{append-nil}
 use Rattle.std.proofs.lemmas.List.Elements.{filter-append}
 use Rattle.store_tables.specs.Rows.{put_by}
-
-pub is_not : (m n : ℕ) → m ≢ n → (m == n) ≡ false
-is_not m n off = grind (arith, nat_tests, off)
-
-pub not_it : (m n : ℕ) → (m == n) ≡ false → m ≢ n
-not_it m n e = grind (arith, nat_tests, e)
-
-pub it : (m n : ℕ) → (m == n) ≡ true → m ≡ n
-it m n e = grind (arith, nat_tests, e)
+use Rattle.list_laws.proofs.Numbers.{is_not}
 
 pub either_way : (m n : ℕ) → (m == n) ≡ (n == m)
 either_way m n = grind (arith, nat_tests)

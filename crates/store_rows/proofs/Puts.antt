@@ -47,17 +47,8 @@ use Rattle.store_rows.specs.Writing.{
   without_all_lines,
   without_record_rows,
 }
-use Rattle.store_rows.proofs.Own.{
-  own,
-  it,
-  not_it,
-  put_here,
-  put_elsewhere,
-  none_left,
-  others_left,
-  more_here,
-  more_elsewhere,
-}
+use Rattle.store_rows.proofs.Own.{own, put_here, put_elsewhere, none_left, others_left, more_here, more_elsewhere}
+use Rattle.list_laws.proofs.Numbers.{it, not_it}
 
 -- what the last item of a number says, or what was there
 abbrev pub last_of : {A X : Type 0} → (A → ℕ) → (A → X) → ℕ → List A → X → X

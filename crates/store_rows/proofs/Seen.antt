@@ -17,7 +17,6 @@ use Rattle.std.proofs.Common.{
   refl,
   sym,
   ap,
-  ap₂,
   subst,
   ◌∙◌,
   Result,
@@ -28,7 +27,7 @@ use Rattle.std.proofs.Common.{
   not,
   bytes_eq,
 }
-use Rattle.std.specs.Prelude.{◌==◌, ◌&&◌, ◌||◌, Option, Some, None}
+use Rattle.std.specs.Prelude.{◌==◌, Option, Some, None}
 use Rattle.std.specs.List.{list_any, flat_map}
 use Rattle.std.specs.FinMap.{get, insert, empty, get-insert, get-empty}
 use Rattle.std.specs.Ordering.{nat_cmp}
@@ -76,7 +75,9 @@ use Rattle.store_rows.specs.Meaning.{
 }
 use Rattle.store_rows.specs.Sides.{side_lines_in, NoChanges}
 use Rattle.store_rows.proofs.OneContent.{one_at, one_slip}
-use Rattle.store_rows.proofs.Own.{either_way, it}
+use Rattle.list_laws.proofs.Lists.{any_mapped, any_kept}
+use Rattle.list_laws.proofs.Bytes.{bytes_flip}
+use Rattle.list_laws.proofs.Numbers.{it}
 
 -- ---- one look after another
 -- rows that were read, and what is made of them
@@ -134,19 +135,6 @@ sees_not {Is = Is} {old = old} {new = new} result is h = subst (Sees Is old new)
     (record { read = λ clean. tt; same = λ clean. tt; refused = h.refused; crash = h.crash; clean = h.clean })
 
 -- ---- whether a number has a record
-pub any_kept : {X : Type 0} (p q : X → Bool) (xs : List X) → list_any (λ x. p x && q x) xs ≡ list_any q (filter p xs)
-any_kept p q [] = refl
-any_kept p q (x ∷ xs) =
-    elim (p x) as (λ b. ((b && q x) || list_any (λ y. p y && q y) xs) ≡ list_any q
-    (cond b (x ∷ filter p xs) (filter p xs))) [
-      | true ↦ ap (λ b. q x || b) (any_kept p q xs)
-      | false ↦ any_kept p q xs
-    ]
-
-pub any_map : {X Y : Type 0} (q : Y → Bool) (f : X → Y) (xs : List X) → list_any q (map f xs)
-    ≡ list_any (λ x. q (f x)) xs
-any_map q f [] = refl
-any_map q f (x ∷ xs) = ap (λ b. q (f x) || b) (any_map q f xs)
 
 pub none_closed : (n : ℕ) (bs : List BatchRow) → filter (λ (b : BatchRow). b.no == n) bs ≡ [] → false ≡ is_closed n bs
 none_closed n bs none = sym (any_kept (λ (b : BatchRow). b.no == n) (λ b. not b.is_open) bs
@@ -160,7 +148,7 @@ one_closed n bs b one = sym (any_kept (λ (b : BatchRow). b.no == n) (λ b. not 
 recorded_by : (n : ℕ) (rows : Rows) → has_record n rows ≡ list_any (λ (r : ℕ × ℕ). is_closed r.1 rows.batches)
     (records_at n rows)
 recorded_by n rows = any_kept (λ (r : RecordRow). r.no == n) (λ r. is_closed r.batch rows.batches) rows.records
-    ∙ sym (any_map (λ (r : ℕ × ℕ). is_closed r.1 rows.batches) read_record
+    ∙ sym (any_mapped (λ (r : ℕ × ℕ). is_closed r.1 rows.batches) read_record
     (filter (λ (r : RecordRow). r.no == n) rows.records))
 
 pub none_recorded : (n : ℕ) (rows : Rows) → records_at n rows ≡ [] → false ≡ has_record n rows
@@ -178,16 +166,11 @@ record_some n rows c r means has kept = one_at (has_record n rows) (lines_of n r
     (sym has, kept) (means.records n)
 
 -- ---- what is kept under a token
-bytes_swap : (s t : List ℕ) → bytes_eq s t ≡ bytes_eq t s
-bytes_swap [] [] = refl
-bytes_swap [] (y ∷ ys) = refl
-bytes_swap (x ∷ xs) [] = refl
-bytes_swap (x ∷ xs) (y ∷ ys) = ap₂ (λ a b. a && b) (either_way x y) (bytes_swap xs ys)
 
 kept_more : (token : List ℕ) (r : ReceiptRow) (m : Receipts) → get (insert m r.token r.receipt) token
     ≡ cond (bytes_eq r.token token) (Some r.receipt) (get m token)
 kept_more token r m = get-insert nat_list_cmp_total m r.token r.receipt token
-    ∙ ap (λ b. cond b (Some r.receipt) (get m token)) (is_eq-slice_cmp token r.token ∙ bytes_swap token r.token)
+    ∙ ap (λ b. cond b (Some r.receipt) (get m token)) (is_eq-slice_cmp token r.token ∙ bytes_flip token r.token)
 
 kept_from : (token : List ℕ) (rs : List ReceiptRow) (m : Receipts)
     → get (fold (λ k (r : ReceiptRow). insert k r.token r.receipt) m rs) token ≡ fold

@@ -51,8 +51,6 @@ use Rattle.store_rows.proofs.Got.{got_put, got_undone}
 use Rattle.store_rows.proofs.Own.{
   own,
   either_way,
-  it,
-  not_it,
   put_here,
   put_elsewhere,
   none_left,
@@ -61,6 +59,7 @@ use Rattle.store_rows.proofs.Own.{
   more_here,
   more_elsewhere,
 }
+use Rattle.list_laws.proofs.Numbers.{it, not_it}
 
 -- ---- the row
 abbrev first : List SlipRow → Option SlipRow

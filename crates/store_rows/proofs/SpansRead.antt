@@ -14,8 +14,9 @@ use Rattle.store_rows.specs.Spans.{
   with_span_if,
   without_all_spans,
 }
-use Rattle.store_rows.proofs.Own.{own, it, not_it, put_here, put_elsewhere, none_left, others_left}
+use Rattle.store_rows.proofs.Own.{own, put_here, put_elsewhere, none_left, others_left}
 use Rattle.store_rows.proofs.Puts.{last_of}
+use Rattle.list_laws.proofs.Numbers.{it, not_it}
 
 -- ---- one row
 abbrev span_in : SpanRow → Span

@@ -32,7 +32,7 @@ module _ {X : Type 0} (P : X → Type 0) where
   each_left : (m : FinMap nat_cmp X) (k : ℕ) → EachIn m (λ _. P) → EachIn (remove m k) (λ _. P)
   each_left m k all n x e = all n x (left_of (k == n) (get m n) x (sym (got_removed m k n) ∙ e))
 
-puts_shallow : (ps : List Numbered) (m : Records) → EachOf IsShallowPut ps → EachIn m (λ _. IsShallow)
+pub puts_shallow : (ps : List Numbered) (m : Records) → EachOf IsShallowPut ps → EachIn m (λ _. IsShallow)
     → EachIn (with_puts m ps) (λ _. IsShallow)
 puts_shallow [] m h all = all
 puts_shallow (p ∷ ps) m h all = puts_shallow ps (insert m p.number p.«record») h.1

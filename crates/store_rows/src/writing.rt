@@ -5,9 +5,9 @@ mod slip_rows;
 mod span_rows;
 
 ghost use Rattle.std.specs.Prelude.{◌≡◌, ◌⊎◌, OnOk, IfErr};
-ghost use Rattle.sqlite.specs.State.{HasCleanDisk, Survives};
+ghost use Rattle.sqlite.specs.State.{HasCleanDisk};
 ghost use Rattle.sqlite.specs.Held.{state};
-ghost use Rattle.store_tables.specs.Calls.{Follows};
+ghost use Rattle.store_tables.specs.Calls.{LeavesAsBefore, Writes};
 ghost use Rattle.record_text.specs.declared.refusal.RefusalKind.TheVariants.{OutOfMemory, Storage};
 ghost use Rattle.archive_state.specs.Applied.{applied};
 ghost use Rattle.archive_state.specs.Content.{Content};
@@ -39,7 +39,7 @@ pub fn write_changes<S: Alter>(
     ensures same_reference { tx.new.conn.ghost_name ≡ tx.old.conn.ghost_name }
     ensures ok { HasCleanDisk (state S.Store tx.new.conn.now)
         → OnOk result (FollowsDrawn (state S.Store tx.old.conn.now) (state S.Store tx.new.conn.now) changes.now) }
-    ensures survives { Survives (state S.Store tx.old.conn.now) (state S.Store tx.new.conn.now) (λ _. ⊥) }
+    ensures survives { LeavesAsBefore (state S.Store tx.old.conn.now) (state S.Store tx.new.conn.now) }
     ensures shallow { OnOk result ((c : Content) → AllShallow c → AllShallow (applied c changes.now)) }
     ensures refused { IfErr result (λ kind. (kind ≡ OutOfMemory) ⊎ (kind ≡ Storage)) }
 {
@@ -101,7 +101,7 @@ fn write_dated<S: Alter>(
     ensures same_reference { tx.new.conn.ghost_name ≡ tx.old.conn.ghost_name }
     ensures ok { HasCleanDisk (state S.Store tx.new.conn.now)
         → OnOk result (FollowsDrawn (state S.Store tx.old.conn.now) (state S.Store tx.new.conn.now) changes.now) }
-    ensures survives { Survives (state S.Store tx.old.conn.now) (state S.Store tx.new.conn.now) (λ _. ⊥) }
+    ensures survives { LeavesAsBefore (state S.Store tx.old.conn.now) (state S.Store tx.new.conn.now) }
     ensures shallow { OnOk result (AreShallowChanges changes.now) }
 {
     span_rows::remove_spans(tx, &changes.removals)?;
@@ -116,10 +116,9 @@ fn write_all<S: Alter>(
     changes: &Changes,
 ) -> Result<(), Unwritten>
     ensures same_reference { tx.new.conn.ghost_name ≡ tx.old.conn.ghost_name }
-    ensures ok { HasCleanDisk (state S.Store tx.new.conn.now)
-        → OnOk result (Follows (state S.Store tx.old.conn.now) (state S.Store tx.new.conn.now)
-        (with_changes changes.now)) }
-    ensures survives { Survives (state S.Store tx.old.conn.now) (state S.Store tx.new.conn.now) (λ _. ⊥) }
+    ensures ok { Writes (state S.Store tx.old.conn.now) (state S.Store tx.new.conn.now)
+        result (with_changes changes.now) }
+    ensures survives { LeavesAsBefore (state S.Store tx.old.conn.now) (state S.Store tx.new.conn.now) }
     ensures shallow { OnOk result (AreShallowChanges changes.now) }
 {
     record_rows::write_records(alloc, tx, &changes.puts, &changes.removals)?;
@@ -131,10 +130,9 @@ fn write_all<S: Alter>(
 /// What is kept of the request under its token, where something is.
 pub fn write_kept<S: Alter>(tx: &mut Transaction<'_, S>, kept: &Option<Kept>) -> Result<(), Error>
     ensures same_reference { tx.new.conn.ghost_name ≡ tx.old.conn.ghost_name }
-    ensures ok { HasCleanDisk (state S.Store tx.new.conn.now)
-        → OnOk result (Follows (state S.Store tx.old.conn.now) (state S.Store tx.new.conn.now)
-        (with_kept_written kept.now)) }
-    ensures survives { Survives (state S.Store tx.old.conn.now) (state S.Store tx.new.conn.now) (λ _. ⊥) }
+    ensures ok { Writes (state S.Store tx.old.conn.now) (state S.Store tx.new.conn.now)
+        result (with_kept_written kept.now) }
+    ensures survives { LeavesAsBefore (state S.Store tx.old.conn.now) (state S.Store tx.new.conn.now) }
 {
     match kept {
         Some(kept) => rows::insert_receipt(tx, &kept.token, &kept.receipt),

@@ -83,10 +83,11 @@ use Rattle.store_tables.proofs.BatchTexts.{
 }
 use Rattle.store_tables.proofs.Texts.{with_key}
 use Rattle.store_tables.proofs.Writing.{updates, deletes, cast_int, cast_null, Restrict, restricted_step}
-use Rattle.store_tables.proofs.Finding.{simple, answered, map_twice}
+use Rattle.store_tables.proofs.Finding.{simple, answered}
 use Rattle.store_tables.proofs.Coded.{same_int, int_order, keeps_less, keeps_on}
 use Rattle.store_tables.proofs.Changing.{at_key, none_changed, keeps_changed}
 use Rattle.store_tables.proofs.Statements.{Becomes, becomes, no_work, others_of, spans_on, truth_of}
+use Rattle.list_laws.proofs.Lists.{map_map}
 
 permutation_none : {X : Type 0} (ys : List X) → IsPermutation [] ys → ys ≡ []
 permutation_none [] h = refl
@@ -197,7 +198,7 @@ deletes_batch old new n count b has h =
     let ids : IsPermutation
     (map (λ x. pos ((λ (b : BatchRow). b.no) x)) (filter (λ (x : BatchRow). x.no == n) rows.batches))
     (ids_of found) =
-    subst (λ k. IsPermutation k (ids_of found)) (map_twice _ _ (filter (λ (x : BatchRow). x.no == n) rows.batches))
+    subst (λ k. IsPermutation k (ids_of found)) (map_map _ _ (filter (λ (x : BatchRow). x.no == n) rows.batches))
     (IsPermutation-map (λ r. id_in (rowid r)) _ _ all) in
     record {
       meta = same 0 (omega arith) (omega arith) ∙ was.meta;
@@ -255,7 +256,7 @@ deletes_lines_from old new n at count b has h =
     (overlay db []) rows.lines found was.lines.is (did.2.answer Null) in
     let ids : IsPermutation
     (map (λ x. pos ((λ (l : LineRow). l.id) x)) (filter (is_line_from n at) rows.lines)) (ids_of found) =
-    subst (λ k. IsPermutation k (ids_of found)) (map_twice _ _ (filter (is_line_from n at) rows.lines))
+    subst (λ k. IsPermutation k (ids_of found)) (map_map _ _ (filter (is_line_from n at) rows.lines))
     (IsPermutation-map (λ r. id_in (rowid r)) _ _ all) in
     record {
       meta = same 0 (omega arith) (omega arith) ∙ was.meta;

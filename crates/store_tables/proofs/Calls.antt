@@ -47,10 +47,10 @@ use Rattle.store_tables.specs.Creating.{IsCreate, IsCreateIndex}
 use Rattle.store_tables.specs.Reading.{AreTyped}
 use Rattle.store_tables.specs.Rows.{Rows, bare, words_or_null, number_or_null}
 use Rattle.store_tables.specs.Schema.{archive_schema, all_tables}
-use Rattle.store_tables.proofs.Coded.{all_then}
 use Rattle.store_tables.proofs.Created.{creates, creates_index}
 use Rattle.store_tables.proofs.Statements.{Becomes, inserts_meta}
 use Rattle.store_tables.proofs.Texts.{insert_meta}
+use Rattle.list_laws.proofs.Lists.{all_then}
 
 pub is_inside : (b : Bool) → ¬ (b ≡ false) → IsTrue b
 is_inside true h = refl

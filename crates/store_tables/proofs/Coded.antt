@@ -47,6 +47,7 @@ use Rattle.sqlite.specs.Edit.{without_all, next_rowid, id_in}
 use Rattle.store_tables.specs.Rows.{put_by, next_key, Keeps}
 use Rattle.sqlite_value.proofs.OrderLemmas.{value_cmp-Int}
 use Rattle.sqlite_trees.proofs.ListLemmas.{filter-map}
+use Rattle.list_laws.proofs.Lists.{filter_all, any_mapped, all_then, any_alike}
 
 pub int_order : (m n : ℕ) → value_cmp (Int (pos m)) (Int (pos n)) ≡ nat_cmp m n
 int_order m n = value_cmp-Int (pos m) (pos n) ∙ grind (arith, nat_tests)
@@ -56,10 +57,6 @@ less m n h = grind (arith, nat_tests)
 
 pub same_int : (m n : ℕ) → is_eq (value_cmp (Int (pos m)) (Int (pos n))) ≡ (m == n)
 same_int m n = ap is_eq (int_order m n) ∙ grind (arith, nat_tests)
-
-pub filter_all : {X : Type 0} (xs : List X) → filter (λ _. true) xs ≡ xs
-filter_all [] = refl
-filter_all (x ∷ xs) = ap (λ ys. x ∷ ys) (filter_all xs)
 
 filter_twice : {X : Type 0} (p q : X → Bool) (xs : List X) → filter q (filter p xs) ≡ filter (λ x. p x && q x) xs
 filter_twice p q [] = refl
@@ -126,16 +123,6 @@ module _ {X : Type 0} (key : X → ℕ) where
           go true = let off : (key z == key x) ≡ false = grind (arith, nat_tests, low) in rw off ih
           go false = ih
 
-list_any-map : {X Y : Type 0} (p : Y → Bool) (f : X → Y) (xs : List X) → list_any p (map f xs)
-    ≡ list_any (λ x. p (f x)) xs
-list_any-map p f [] = refl
-list_any-map p f (x ∷ xs) = ap (λ b. p (f x) || b) (list_any-map p f xs)
-
-pub list_any_same : {X : Type 0} (p q : X → Bool) → ((x : X) → p x ≡ q x) → (xs : List X)
-    → list_any p xs ≡ list_any q xs
-list_any_same p q h [] = refl
-list_any_same p q h (x ∷ xs) = rw (h x, list_any_same p q h xs) refl
-
 module _ {X : Type 0} (enc : X → Row) (key : X → ℕ) (keyed : (x : X) → rowid (enc x) ≡ Int (pos (key x))) where
   is_row : (x y : X) → has_rowid (pos (key y)) (enc x) ≡ (key y == key x)
   is_row x y = ap (λ v. is_eq (value_cmp v (Int (pos (key y))))) (keyed x) ∙ same_int (key x) (key y)
@@ -150,7 +137,7 @@ module _ {X : Type 0} (enc : X → Row) (key : X → ℕ) (keyed : (x : X) → r
       ∙ ap (map enc) (filter_same _ _ xs
       (all_both _ (λ _. Unit {0}) _
       (λ x h _. ap not (sym (list_any-IsPermutation (λ id. has_rowid id (enc x)) _ _ found)
-      ∙ list_any-map _ _ (filter q xs) ∙ list_any_same _ _ (is_row x) (filter q xs) ∙ h)) xs
+      ∙ any_mapped _ _ (filter q xs) ∙ any_alike _ _ (is_row x) (filter q xs) ∙ h)) xs
       (key_passes key q xs rise) (all_true _ (λ _. tt) xs)))
 
   -- a row that comes after all others is put last
@@ -189,11 +176,6 @@ still_ascends R p (x ∷ xs) h = go (p x) (still_ascends R p xs h.1)
     go : (b : Bool) → IsAscending R (filter p xs) → IsAscending R (cond b (x ∷ filter p xs) (filter p xs))
     go true more = (kept_by (R x) p xs h.0, more)
     go false more = more
-
-pub all_then : {X : Type 0} (P : X → Type 0) (xs : List X) (x : X) → AllByRecursion P xs → P x
-    → AllByRecursion P (xs ++ x ∷ [])
-all_then P [] x h p = (p, tt)
-all_then P (y ∷ ys) x h p = (h.0, all_then P ys x h.1 p)
 
 rises_then : {X : Type 0} (R : X → X → Type 0) (xs : List X) (x : X) → IsAscending R xs → AllByRecursion (λ y. R y x) xs
     → IsAscending R (xs ++ x ∷ [])

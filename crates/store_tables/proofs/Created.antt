@@ -149,9 +149,6 @@ pub makes_line : IsCreate schema_3 create_line (record lines { tree = 0 })
 unfolding understood everything
 makes_line = record { command = refl; whole = refl; plain = (refl, refl); defined = line_is; counts = refl }
 
-pub after_line : created schema_3 (record lines { tree = 0 }) ≡ schema_4
-after_line = refl
-
 pub makes_receipt : IsCreate schema_4 create_receipt (record receipts { tree = 0 })
 unfolding understood everything
 makes_receipt = record { command = refl; whole = refl; plain = (refl, refl); defined = receipt_is; counts = refl }

@@ -34,10 +34,7 @@ use Rattle.sqlite_sql.proofs.QueryLemmas.{output_cmp_total}
 use Rattle.sqlite.specs.Term.{Term, Env, lit, holds, eval_all}
 use Rattle.sqlite.specs.Query.{Query, inner, end, IsAnswer, Output, output, output_cmp}
 use Rattle.sqlite_value.specs.declared.keys.Key.{Key}
-
-pub map_twice : {X Y Z : Type 0} (f : Y → Z) (g : X → Y) (xs : List X) → map f (map g xs) ≡ map (λ x. f (g x)) xs
-map_twice f g [] = refl
-map_twice f g (x ∷ xs) = ap (λ zs. f (g x) ∷ zs) (map_twice f g xs)
+use Rattle.list_laws.proofs.Lists.{map_map}
 
 all_map : {X Y : Type 0} (P : Y → Type 0) (f : X → Y) (xs : List X) → AllByRecursion (λ x. P (f x)) xs
     → AllByRecursion P (map f xs)
@@ -88,9 +85,9 @@ module _ {X : Type 0} (enc : X → Row) (params : Row) (tests : List Term) (q : 
       let it = simple tree tests project order in
       let staged : a.staged ≡ map env_of (filter q xs) = a.grouped ∙ ap (flat_map each) has ∙ matched xs in
       let kept : a.kept ≡ map (λ x. output it (env_of x)) (filter q xs) = a.distinct ∙ ap (map (output it)) staged
-      ∙ map_twice _ _ (filter q xs) in
+      ∙ map_map _ _ (filter q xs) in
       let both : map (λ (o : Output). o.1) a.kept ≡ map (λ x. eval_all project (env_of x)) (filter q xs) = ap
-      (map (λ (o : Output). o.1)) kept ∙ map_twice _ _ (filter q xs) in
+      (map (λ (o : Output). o.1)) kept ∙ map_map _ _ (filter q xs) in
       let moved : IsPermutation (map (λ (o : Output). o.1) a.kept) (map (λ (o : Output). o.1) a.ordered) =
       IsPermutation-map _ _ _ a.same in
       subst (λ k. IsPermutation k rows) both
@@ -108,9 +105,9 @@ module _ {X : Type 0} (enc : X → Row) (params : Row) (tests : List Term) (q : 
       let it = simple tree tests project order in
       let staged : a.staged ≡ map env_of (filter q xs) = a.grouped ∙ ap (flat_map each) has ∙ matched xs in
       let kept : a.kept ≡ map (λ x. output it (env_of x)) (filter q xs) = a.distinct ∙ ap (map (output it)) staged
-      ∙ map_twice _ _ (filter q xs) in
+      ∙ map_map _ _ (filter q xs) in
       let same : IsPermutation (map (λ x. output it (env_of x)) (filter q xs)) a.ordered = subst
       (λ k. IsPermutation k a.ordered) kept a.same in
       let ordered = sorted_unique (output_cmp it) (output_cmp_total it) (map (λ x. output it (env_of x)) (filter q xs))
       a.ordered (rises_map (λ x y. output_cmp it x y ≡ Less) _ (filter q xs) rise) same a.sorted in
-      a.shown ∙ ap (map (λ (o : Output). o.1)) ordered ∙ map_twice _ _ (filter q xs)
+      a.shown ∙ ap (map (λ (o : Output). o.1)) ordered ∙ map_map _ _ (filter q xs)

@@ -1,5 +1,5 @@
 -- The foreign keys of good tables, said of the rows that they hold.
-use Rattle.std.proofs.Common.{◌≡◌, ◌==◌, ◌&&◌, Bool, true, false, List, [], ◌∷◌, map, Some, refl, sym, ap, subst, ◌∙◌}
+use Rattle.std.proofs.Common.{◌≡◌, ◌==◌, ◌&&◌, Bool, true, false, List, [], ◌∷◌, map, Some, sym, ap, subst, ◌∙◌}
 use Rattle.std.specs.List.{AllByRecursion, list_any}
 use Rattle.sqlite.specs.Order.{Row}
 use Rattle.sqlite.specs.Ops.{is_true, from_truth, binary}
@@ -24,22 +24,15 @@ use Rattle.store_tables.specs.Rows.{
   span_values,
 }
 use Rattle.store_tables.specs.Schema.{archive_schema, later_tables, lines, records, spans}
-use Rattle.store_tables.proofs.Coded.{same_int, list_any_same}
+use Rattle.store_tables.proofs.Coded.{same_int}
 use Rattle.store_tables.proofs.Statements.{truth_of}
-
-any_mapped : {X Y : Type 0} (p : Y → Bool) (f : X → Y) (xs : List X) → list_any p (map f xs)
-    ≡ list_any (λ x. p (f x)) xs
-any_mapped p f [] = refl
-any_mapped p f (x ∷ xs) = rw (any_mapped p f xs) refl
+use Rattle.list_laws.proofs.Lists.{any_mapped, any_alike}
+use Rattle.list_laws.proofs.Booleans.{and_first}
 
 all_mapped : {X Y : Type 0} (P : Y → Type 0) (Q : X → Type 0) (f : X → Y) → ((x : X) → P (f x) → Q x) → (xs : List X)
     → AllByRecursion P (map f xs) → AllByRecursion Q xs
 all_mapped P Q f h [] all = tt
 all_mapped P Q f h (x ∷ xs) all = (h x all.0, all_mapped P Q f h xs all.1)
-
-first_of : (a b : Bool) → (a && b) ≡ true → a ≡ true
-first_of true b h = refl
-first_of false b h = absurd cc
 
 -- a row agrees with what it refers to where the numbers are the same
 agrees_batch : (r : RecordRow) (b : BatchRow) → agree plain (0 ∷ []) (batch_values b) (3 ∷ []) (record_values r)
@@ -61,18 +54,18 @@ record_refers : (b : Bool) (db : Trees) (r : RecordRow)
     → passes ForeignKey (archive_schema b) db records (record_values r) ≡ true
     → list_any (λ parent. agree plain (0 ∷ []) parent (3 ∷ []) (record_values r)) (db 1) ≡ true
 unfolding same_name joined
-record_refers b db r h = first_of _ _ h
+record_refers b db r h = and_first _ _ h
 
 line_refers : (b : Bool) (db : Trees) (l : LineRow)
     → passes ForeignKey (archive_schema b) db lines (line_values l) ≡ true
     → list_any (λ parent. agree plain (0 ∷ []) parent (2 ∷ []) (line_values l)) (db 2) ≡ true
 unfolding same_name joined
-line_refers b db l h = first_of _ _ h
+line_refers b db l h = and_first _ _ h
 
 span_refers : (db : Trees) (s : SpanRow) → passes ForeignKey (archive_schema true) db spans (span_values s) ≡ true
     → list_any (λ parent. agree plain (0 ∷ []) parent (0 ∷ []) (span_values s)) (db 2) ≡ true
 unfolding same_name joined
-span_refers db s h = first_of _ _ h
+span_refers db s h = and_first _ _ h
 
 batch_there : (b : Bool) (db : Trees) (bs : List BatchRow) → db 1 ≡ map batch_values bs → (r : RecordRow)
     → passes ForeignKey (archive_schema b) db records (record_values r) ≡ true
@@ -80,7 +73,7 @@ batch_there : (b : Bool) (db : Trees) (bs : List BatchRow) → db 1 ≡ map batc
 batch_there b db bs is r h =
     let test = (λ (parent : Row). agree plain (0 ∷ []) parent (3 ∷ []) (record_values r)) in
     sym (ap (list_any test) is ∙ any_mapped test batch_values bs
-    ∙ list_any_same (λ b. test (batch_values b)) (λ (b : BatchRow). b.no == r.batch) (agrees_batch r) bs)
+    ∙ any_alike (λ b. test (batch_values b)) (λ (b : BatchRow). b.no == r.batch) (agrees_batch r) bs)
     ∙ record_refers b db r h
 
 record_there : (b : Bool) (db : Trees) (rs : List RecordRow) → db 2 ≡ map record_values rs → (l : LineRow)
@@ -89,7 +82,7 @@ record_there : (b : Bool) (db : Trees) (rs : List RecordRow) → db 2 ≡ map re
 record_there b db rs is l h =
     let test = (λ (parent : Row). agree plain (0 ∷ []) parent (2 ∷ []) (line_values l)) in
     sym (ap (list_any test) is ∙ any_mapped test record_values rs
-    ∙ list_any_same (λ r. test (record_values r)) (λ (r : RecordRow). r.no == l.no) (agrees_record l) rs)
+    ∙ any_alike (λ r. test (record_values r)) (λ (r : RecordRow). r.no == l.no) (agrees_record l) rs)
     ∙ line_refers b db l h
 
 spanned_there : (db : Trees) (rs : List RecordRow) → db 2 ≡ map record_values rs → (s : SpanRow)
@@ -98,7 +91,7 @@ spanned_there : (db : Trees) (rs : List RecordRow) → db 2 ≡ map record_value
 spanned_there db rs is s h =
     let test = (λ (parent : Row). agree plain (0 ∷ []) parent (0 ∷ []) (span_values s)) in
     sym (ap (list_any test) is ∙ any_mapped test record_values rs
-    ∙ list_any_same (λ r. test (record_values r)) (λ (r : RecordRow). r.no == s.no) (agrees_span s) rs)
+    ∙ any_alike (λ r. test (record_values r)) (λ (r : RecordRow). r.no == s.no) (agrees_span s) rs)
     ∙ span_refers db s h
 
 -- the first schema has no spans

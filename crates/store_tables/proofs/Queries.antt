@@ -42,7 +42,7 @@ use Rattle.store_tables.specs.Shown.{
   shown_slip,
   shown_slip_line,
 }
-use Rattle.store_tables.proofs.Coded.{int_order, less, filter_all}
+use Rattle.store_tables.proofs.Coded.{int_order, less}
 use Rattle.store_tables.proofs.Finding.{simple, in_order, answered}
 use Rattle.store_tables.proofs.Texts.{
   by_key,
@@ -75,6 +75,7 @@ use Rattle.store_tables.proofs.Texts.{
   select_slip_lines_plain,
   select_slip_lines_unlisted,
 }
+use Rattle.list_laws.proofs.Lists.{filter_all}
 
 -- a plain query leaves the connection as it was
 pub unchanged_by : (sql : List ℕ) (params : Row) (old new : State) (rows : List Row)

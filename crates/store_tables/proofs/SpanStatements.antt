@@ -93,9 +93,10 @@ use Rattle.store_tables.proofs.SpanTexts.{
   set_version_plain,
 }
 use Rattle.store_tables.proofs.Writing.{inserts, deletes, updates, cast_int, cast_null}
-use Rattle.store_tables.proofs.Finding.{simple, answered, map_twice}
+use Rattle.store_tables.proofs.Finding.{simple, answered}
 use Rattle.store_tables.proofs.Statements.{Becomes, becomes, no_work, others_of, spans_on, truth_of}
 use Rattle.store_tables.proofs.Coded.{same_int, keeps_put, keeps_less, keeps_on}
+use Rattle.list_laws.proofs.Lists.{map_map}
 
 -- what a statement makes of tables that have spans
 pub record BecomesDated (old new : State) (f : Rows → Rows) : Type 0 where
@@ -215,7 +216,7 @@ deletes_span old new n count has h =
           let ids : IsPermutation
           (map (λ x. pos ((λ (s : SpanRow). s.no) x)) (filter (λ (x : SpanRow). x.no == n) rows.spans))
           (ids_of found) =
-          subst (λ k. IsPermutation k (ids_of found)) (map_twice _ _ (filter (λ (x : SpanRow). x.no == n) rows.spans))
+          subst (λ k. IsPermutation k (ids_of found)) (map_map _ _ (filter (λ (x : SpanRow). x.no == n) rows.spans))
           (IsPermutation-map (λ r. id_in (rowid r)) _ _ all) in
           record {
             meta = same 0 (omega arith) (omega arith) ∙ was.meta;

@@ -132,8 +132,9 @@ use Rattle.store_tables.proofs.Texts.{
   insert_slip_line_plain,
 }
 use Rattle.store_tables.proofs.Writing.{inserts, deletes, updates, cast_int, cast_null, Restrict, restricted_step}
-use Rattle.store_tables.proofs.Finding.{simple, answered, map_twice}
+use Rattle.store_tables.proofs.Finding.{simple, answered}
 use Rattle.store_tables.proofs.Coded.{same_int, keeps_put, keeps_last, keeps_less, keeps_on, chosen_key}
+use Rattle.list_laws.proofs.Lists.{map_map}
 
 -- what a statement makes of the tables
 pub record Becomes (b : Bool) (old new : State) (f : Rows → Rows) : Type 0 where
@@ -469,7 +470,7 @@ deletes_lines old new n count b has h =
     (overlay db []) rows.lines found was.lines.is (did.2.answer Null) in
     let ids : IsPermutation
     (map (λ x. pos ((λ (l : LineRow). l.id) x)) (filter (λ (x : LineRow). x.no == n) rows.lines)) (ids_of found) =
-    subst (λ k. IsPermutation k (ids_of found)) (map_twice _ _ (filter (λ (x : LineRow). x.no == n) rows.lines))
+    subst (λ k. IsPermutation k (ids_of found)) (map_map _ _ (filter (λ (x : LineRow). x.no == n) rows.lines))
     (IsPermutation-map (λ r. id_in (rowid r)) _ _ all) in
     record {
       meta = same 0 (omega arith) (omega arith) ∙ was.meta;
@@ -516,7 +517,7 @@ deletes_slip_lines old new n count b has h =
     (map (λ x. pos ((λ (s : SlipLineRow). s.id) x)) (filter (λ (x : SlipLineRow). x.slip == n) rows.slip_lines))
     (ids_of found) =
     subst (λ k. IsPermutation k (ids_of found))
-    (map_twice _ _ (filter (λ (x : SlipLineRow). x.slip == n) rows.slip_lines))
+    (map_map _ _ (filter (λ (x : SlipLineRow). x.slip == n) rows.slip_lines))
     (IsPermutation-map (λ r. id_in (rowid r)) _ _ all) in
     record {
       meta = same 0 (omega arith) (omega arith) ∙ was.meta;
@@ -587,7 +588,7 @@ deletes_record old new n count b has h =
     let ids : IsPermutation
     (map (λ x. pos ((λ (r : RecordRow). r.no) x)) (filter (λ (x : RecordRow). x.no == n) rows.records))
     (ids_of found) =
-    subst (λ k. IsPermutation k (ids_of found)) (map_twice _ _ (filter (λ (x : RecordRow). x.no == n) rows.records))
+    subst (λ k. IsPermutation k (ids_of found)) (map_map _ _ (filter (λ (x : RecordRow). x.no == n) rows.records))
     (IsPermutation-map (λ r. id_in (rowid r)) _ _ all) in
     record {
       meta = same 0 (omega arith) (omega arith) ∙ was.meta;

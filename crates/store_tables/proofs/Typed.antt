@@ -46,7 +46,8 @@ use Rattle.store_tables.specs.Rows.{
   with_slip_line,
   without_slip_lines,
 }
-use Rattle.store_tables.proofs.Coded.{all_then, kept_by}
+use Rattle.store_tables.proofs.Coded.{kept_by}
+use Rattle.list_laws.proofs.Lists.{all_then}
 
 pub put_all : {X : Type 0} (P : X → Type 0) (key : X → ℕ) (p : X) (qs : List X) → P p → AllByRecursion P qs
     → AllByRecursion P (put_by key p qs)

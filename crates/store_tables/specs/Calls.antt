@@ -1,11 +1,11 @@
 -- What a call does to the tables, and what a crash may leave of them.
-use Rattle.std.specs.Prelude.{◌≡◌, true, false, IsTrue, []}
+use Rattle.std.specs.Prelude.{◌≡◌, true, false, IsTrue, [], Result, OnOk}
 use Rattle.std.specs.List.{AllByRecursion}
 use Rattle.sqlite.specs.Schema.{Schema}
 use Rattle.sqlite.specs.Table.{Table}
 use Rattle.sqlite.specs.Tree.{Trees}
 use Rattle.sqlite_catalog.specs.Listing.{IsSound}
-use Rattle.sqlite.specs.State.{State}
+use Rattle.sqlite.specs.State.{HasCleanDisk, State, Survives}
 use Rattle.store_tables.specs.Schema.{archive_schema, no_schema}
 use Rattle.store_tables.specs.Reading.{AreTyped}
 use Rattle.store_tables.specs.Rows.{Rows, Holds}
@@ -48,6 +48,22 @@ FollowsDated old new f = (rows : Rows) → rows.has_spans ≡ true → Inside ol
 abbrev pub FollowsUndated : State → State → (Rows → Rows) → Type 0
 FollowsUndated old new f = (rows : Rows) → rows.has_spans ≡ false → Inside old rows
     → Inside new (f rows) × (new.committed ≡ old.committed)
+
+-- where the disk is clean, a call in a transaction that ends well makes this of the rows
+abbrev pub Writes : {A E : Type 0} → State → State → Result A E → (Rows → Rows) → Type 0
+Writes old new result f = HasCleanDisk new → OnOk result (Follows old new f)
+
+-- the same of tables that have spans
+abbrev pub WritesDated : {A E : Type 0} → State → State → Result A E → (Rows → Rows) → Type 0
+WritesDated old new result f = HasCleanDisk new → OnOk result (FollowsDated old new f)
+
+-- the same of tables that have none
+abbrev pub WritesUndated : {A E : Type 0} → State → State → Result A E → (Rows → Rows) → Type 0
+WritesUndated old new result f = HasCleanDisk new → OnOk result (FollowsUndated old new f)
+
+-- a crash may leave what it might have left before the call, and nothing else
+abbrev pub LeavesAsBefore : State → State → Type 0
+LeavesAsBefore old new = Survives old new (λ _. ⊥)
 
 -- the connection shows what it showed, and has what was committed
 abbrev pub IsAsItWas : State → State → Type 0

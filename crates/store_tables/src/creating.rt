@@ -1,7 +1,7 @@
 //! A new archive.
 
 ghost use Rattle.std.specs.Prelude.{◌≡◌, ◌⊎◌, ℕ, true, false, OnOk};
-ghost use Rattle.sqlite.specs.State.{HasCleanDisk, Survives};
+ghost use Rattle.sqlite.specs.State.{HasCleanDisk};
 ghost use Rattle.sqlite.specs.Held.{state};
 ghost use Rattle.sqlite.specs.Schema.{Schema};
 ghost use Rattle.sqlite.specs.Table.{Table};
@@ -11,7 +11,7 @@ ghost use Rattle.sqlite_catalog.specs.Change.{created, indexed};
 ghost use Rattle.store_tables.specs.Schema.{archive_schema, no_schema, schema_4, schema_7};
 ghost use Rattle.store_tables.specs.Rows.{bare, nothing_yet};
 ghost use Rattle.store_tables.specs.Creating.{IsCreate, IsCreateIndex};
-ghost use Rattle.store_tables.specs.Calls.{Builds, Built, Inside, SettledBlank, IsBlank, Settled, Good};
+ghost use Rattle.store_tables.specs.Calls.{Builds, Built, Good, Inside, IsBlank, LeavesAsBefore, Settled, SettledBlank};
 
 use crate::rows;
 use crate::spans::CREATE_SPANS;
@@ -24,7 +24,7 @@ fn create_table<S: Alter>(tx: &mut Transaction<'_, S>, text: &str) -> Result<(),
     ensures ok { HasCleanDisk (state S.Store tx.new.conn.now)
         → OnOk result ((schema : Schema) (table : Table) → IsCreate schema text.now table
         → Builds (state S.Store tx.old.conn.now) (state S.Store tx.new.conn.now) schema (created schema table)) }
-    ensures survives { Survives (state S.Store tx.old.conn.now) (state S.Store tx.new.conn.now) (λ _. ⊥) }
+    ensures survives { LeavesAsBefore (state S.Store tx.old.conn.now) (state S.Store tx.new.conn.now) }
 {
     tx.execute(text, &[])?;
     Ok(())
@@ -37,7 +37,7 @@ fn create_index<S: Alter>(tx: &mut Transaction<'_, S>, text: &str) -> Result<(),
         → OnOk result ((schema : Schema) (at : ℕ) (table : Table) (index : Index)
         → IsCreateIndex schema text.now at table index
         → Builds (state S.Store tx.old.conn.now) (state S.Store tx.new.conn.now) schema (indexed schema table index)) }
-    ensures survives { Survives (state S.Store tx.old.conn.now) (state S.Store tx.new.conn.now) (λ _. ⊥) }
+    ensures survives { LeavesAsBefore (state S.Store tx.old.conn.now) (state S.Store tx.new.conn.now) }
 {
     tx.execute(text, &[])?;
     Ok(())
@@ -47,7 +47,7 @@ fn create_records<S: Alter>(tx: &mut Transaction<'_, S>) -> Result<(), Error>
     ensures same_reference { tx.new.conn.ghost_name ≡ tx.old.conn.ghost_name }
     ensures ok { HasCleanDisk (state S.Store tx.new.conn.now)
         → OnOk result (Builds (state S.Store tx.old.conn.now) (state S.Store tx.new.conn.now) no_schema schema_4) }
-    ensures survives { Survives (state S.Store tx.old.conn.now) (state S.Store tx.new.conn.now) (λ _. ⊥) }
+    ensures survives { LeavesAsBefore (state S.Store tx.old.conn.now) (state S.Store tx.new.conn.now) }
 {
     create_table(
         tx,
@@ -71,7 +71,7 @@ fn create_receipts<S: Alter>(tx: &mut Transaction<'_, S>) -> Result<(), Error>
     ensures same_reference { tx.new.conn.ghost_name ≡ tx.old.conn.ghost_name }
     ensures ok { HasCleanDisk (state S.Store tx.new.conn.now)
         → OnOk result (Builds (state S.Store tx.old.conn.now) (state S.Store tx.new.conn.now) schema_4 schema_7) }
-    ensures survives { Survives (state S.Store tx.old.conn.now) (state S.Store tx.new.conn.now) (λ _. ⊥) }
+    ensures survives { LeavesAsBefore (state S.Store tx.old.conn.now) (state S.Store tx.new.conn.now) }
 {
     create_table(
         tx,
@@ -92,7 +92,7 @@ fn create_indexes<S: Alter>(tx: &mut Transaction<'_, S>) -> Result<(), Error>
     ensures ok { HasCleanDisk (state S.Store tx.new.conn.now)
         → OnOk result (Builds (state S.Store tx.old.conn.now) (state S.Store tx.new.conn.now) schema_7
         (archive_schema false)) }
-    ensures survives { Survives (state S.Store tx.old.conn.now) (state S.Store tx.new.conn.now) (λ _. ⊥) }
+    ensures survives { LeavesAsBefore (state S.Store tx.old.conn.now) (state S.Store tx.new.conn.now) }
 {
     create_index(tx, "CREATE INDEX line_by_record ON line (no)")?;
     create_index(tx, "CREATE INDEX line_by_target ON line (dst)")?;
@@ -107,7 +107,7 @@ fn insert_meta<S: Alter>(tx: &mut Transaction<'_, S>, society: &Text) -> Result<
         → OnOk result (Built (state S.Store tx.old.conn.now) (archive_schema true)
         → Inside (state S.Store tx.new.conn.now) (bare society.now)
         × ((state S.Store tx.new.conn.now).committed ≡ (state S.Store tx.old.conn.now).committed)) }
-    ensures survives { Survives (state S.Store tx.old.conn.now) (state S.Store tx.new.conn.now) (λ _. ⊥) }
+    ensures survives { LeavesAsBefore (state S.Store tx.old.conn.now) (state S.Store tx.new.conn.now) }
 {
     tx.execute(
         "INSERT INTO meta (one, version, next, society) VALUES (1, 2, 1, ?1)",
@@ -122,7 +122,7 @@ fn create_span_table<S: Alter>(tx: &mut Transaction<'_, S>) -> Result<(), Error>
     ensures ok { HasCleanDisk (state S.Store tx.new.conn.now)
         → OnOk result (Builds (state S.Store tx.old.conn.now) (state S.Store tx.new.conn.now) (archive_schema false)
         (archive_schema true)) }
-    ensures survives { Survives (state S.Store tx.old.conn.now) (state S.Store tx.new.conn.now) (λ _. ⊥) }
+    ensures survives { LeavesAsBefore (state S.Store tx.old.conn.now) (state S.Store tx.new.conn.now) }
 {
     create_table(tx, CREATE_SPANS)
 }
@@ -134,7 +134,7 @@ fn fill<S: Alter>(tx: &mut Transaction<'_, S>, society: &Text) -> Result<(), Err
         → OnOk result (Built (state S.Store tx.old.conn.now) schema_7
         → Inside (state S.Store tx.new.conn.now) (nothing_yet society.now)
         × ((state S.Store tx.new.conn.now).committed ≡ (state S.Store tx.old.conn.now).committed)) }
-    ensures survives { Survives (state S.Store tx.old.conn.now) (state S.Store tx.new.conn.now) (λ _. ⊥) }
+    ensures survives { LeavesAsBefore (state S.Store tx.old.conn.now) (state S.Store tx.new.conn.now) }
 {
     create_indexes(tx)?;
     create_span_table(tx)?;
@@ -149,7 +149,7 @@ fn build<S: Alter>(tx: &mut Transaction<'_, S>, society: &Text) -> Result<(), Er
         → OnOk result (Built (state S.Store tx.old.conn.now) no_schema
         → Inside (state S.Store tx.new.conn.now) (nothing_yet society.now)
         × ((state S.Store tx.new.conn.now).committed ≡ (state S.Store tx.old.conn.now).committed)) }
-    ensures survives { Survives (state S.Store tx.old.conn.now) (state S.Store tx.new.conn.now) (λ _. ⊥) }
+    ensures survives { LeavesAsBefore (state S.Store tx.old.conn.now) (state S.Store tx.new.conn.now) }
 {
     create_records(tx)?;
     create_receipts(tx)?;

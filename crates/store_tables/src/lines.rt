@@ -1,9 +1,8 @@
 //! The lines of a record or of a side of a slip, one row after the other inside a transaction.
 
-ghost use Rattle.std.specs.Prelude.{◌≡◌, ◌+◌, IfOk, OnOk};
-ghost use Rattle.sqlite.specs.State.{HasCleanDisk, Survives};
+ghost use Rattle.std.specs.Prelude.{◌≡◌, ◌+◌, IfOk};
 ghost use Rattle.sqlite.specs.Held.{state};
-ghost use Rattle.store_tables.specs.Calls.{Follows};
+ghost use Rattle.store_tables.specs.Calls.{LeavesAsBefore, Writes};
 ghost use Rattle.store_tables.specs.Rows.{with_lines, with_changed_lines, with_slip_lines};
 
 use crate::rows;
@@ -18,10 +17,9 @@ pub fn change_lines<S: Alter>(
     lines: &[StoredLine],
 ) -> Result<(), Error>
     ensures same_reference { tx.new.conn.ghost_name ≡ tx.old.conn.ghost_name }
-    ensures ok { HasCleanDisk (state S.Store tx.new.conn.now)
-        → OnOk result (Follows (state S.Store tx.old.conn.now) (state S.Store tx.new.conn.now)
-        (with_changed_lines number lines.now)) }
-    ensures survives { Survives (state S.Store tx.old.conn.now) (state S.Store tx.new.conn.now) (λ _. ⊥) }
+    ensures ok { Writes (state S.Store tx.old.conn.now) (state S.Store tx.new.conn.now)
+        result (with_changed_lines number lines.now) }
+    ensures survives { LeavesAsBefore (state S.Store tx.old.conn.now) (state S.Store tx.new.conn.now) }
 {
     rows::delete_lines(tx, number)?;
     insert_lines(tx, number, lines)
@@ -34,10 +32,9 @@ fn insert_lines<S: Alter>(
     lines: &[StoredLine],
 ) -> Result<(), Error>
     ensures same_reference { tx.new.conn.ghost_name ≡ tx.old.conn.ghost_name }
-    ensures ok { HasCleanDisk (state S.Store tx.new.conn.now)
-        → OnOk result (Follows (state S.Store tx.old.conn.now) (state S.Store tx.new.conn.now)
-        (with_lines number 0 lines.now)) }
-    ensures survives { Survives (state S.Store tx.old.conn.now) (state S.Store tx.new.conn.now) (λ _. ⊥) }
+    ensures ok { Writes (state S.Store tx.old.conn.now) (state S.Store tx.new.conn.now)
+        result (with_lines number 0 lines.now) }
+    ensures survives { LeavesAsBefore (state S.Store tx.old.conn.now) (state S.Store tx.new.conn.now) }
 {
     let mut at: u32 = 0;
     'lines: for line in lines {
@@ -57,10 +54,9 @@ pub fn insert_slip_lines<S: Alter>(
     lines: &[StoredLine],
 ) -> Result<(), Error>
     ensures same_reference { tx.new.conn.ghost_name ≡ tx.old.conn.ghost_name }
-    ensures ok { HasCleanDisk (state S.Store tx.new.conn.now)
-        → OnOk result (Follows (state S.Store tx.old.conn.now) (state S.Store tx.new.conn.now)
-        (with_slip_lines slip is_new number 0 lines.now)) }
-    ensures survives { Survives (state S.Store tx.old.conn.now) (state S.Store tx.new.conn.now) (λ _. ⊥) }
+    ensures ok { Writes (state S.Store tx.old.conn.now) (state S.Store tx.new.conn.now)
+        result (with_slip_lines slip is_new number 0 lines.now) }
+    ensures survives { LeavesAsBefore (state S.Store tx.old.conn.now) (state S.Store tx.new.conn.now) }
 {
     let mut at: u32 = 0;
     'lines: for line in lines {

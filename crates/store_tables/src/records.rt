@@ -1,9 +1,9 @@
 //! Rows that are there already, changed.
 
-ghost use Rattle.std.specs.Prelude.{◌≡◌, ◌==◌, OnOk, IfOk, length, filter};
-ghost use Rattle.sqlite.specs.State.{HasCleanDisk, Survives};
+ghost use Rattle.std.specs.Prelude.{◌≡◌, ◌==◌, IfOk, length, filter};
+ghost use Rattle.sqlite.specs.State.{HasCleanDisk};
 ghost use Rattle.sqlite.specs.Held.{state};
-ghost use Rattle.store_tables.specs.Calls.{Follows, Inside};
+ghost use Rattle.store_tables.specs.Calls.{Inside, LeavesAsBefore, Writes};
 ghost use Rattle.store_tables.specs.Rows.{Rows, RecordRow, record_at, with_record_row, with_undone};
 
 use crate::rows;
@@ -17,10 +17,9 @@ pub fn put_record<S: Alter>(
     batch: u32,
 ) -> Result<(), Error>
     ensures same_reference { tx.new.conn.ghost_name ≡ tx.old.conn.ghost_name }
-    ensures ok { HasCleanDisk (state S.Store tx.new.conn.now)
-        → OnOk result (Follows (state S.Store tx.old.conn.now) (state S.Store tx.new.conn.now)
-        (with_record_row number kind.now batch)) }
-    ensures survives { Survives (state S.Store tx.old.conn.now) (state S.Store tx.new.conn.now) (λ _. ⊥) }
+    ensures ok { Writes (state S.Store tx.old.conn.now) (state S.Store tx.new.conn.now)
+        result (with_record_row number kind.now batch) }
+    ensures survives { LeavesAsBefore (state S.Store tx.old.conn.now) (state S.Store tx.new.conn.now) }
 {
     let changed = update_record(tx, number, kind, batch)?;
     if changed == 0 {
@@ -37,13 +36,12 @@ fn update_record<S: Alter>(
     batch: u32,
 ) -> Result<usize, Error>
     ensures same_reference { tx.new.conn.ghost_name ≡ tx.old.conn.ghost_name }
-    ensures ok { HasCleanDisk (state S.Store tx.new.conn.now)
-        → OnOk result (Follows (state S.Store tx.old.conn.now) (state S.Store tx.new.conn.now)
-        (record_at number kind.now batch)) }
+    ensures ok { Writes (state S.Store tx.old.conn.now) (state S.Store tx.new.conn.now)
+        result (record_at number kind.now batch) }
     ensures counts { HasCleanDisk (state S.Store tx.new.conn.now)
         → IfOk result (λ count. (rows : Rows) → Inside (state S.Store tx.old.conn.now) rows
         → count ≡ length (filter (λ (r : RecordRow). r.no == number) rows.records)) }
-    ensures survives { Survives (state S.Store tx.old.conn.now) (state S.Store tx.new.conn.now) (λ _. ⊥) }
+    ensures survives { LeavesAsBefore (state S.Store tx.old.conn.now) (state S.Store tx.new.conn.now) }
 {
     let changed = tx.execute(
         "UPDATE record SET kind = ?2, batch = ?3 WHERE no = ?1",
@@ -55,9 +53,8 @@ fn update_record<S: Alter>(
 /// The slip of a number is undone from now on.
 pub fn undo_slip<S: Alter>(tx: &mut Transaction<'_, S>, number: u32) -> Result<(), Error>
     ensures same_reference { tx.new.conn.ghost_name ≡ tx.old.conn.ghost_name }
-    ensures ok { HasCleanDisk (state S.Store tx.new.conn.now)
-        → OnOk result (Follows (state S.Store tx.old.conn.now) (state S.Store tx.new.conn.now) (with_undone number)) }
-    ensures survives { Survives (state S.Store tx.old.conn.now) (state S.Store tx.new.conn.now) (λ _. ⊥) }
+    ensures ok { Writes (state S.Store tx.old.conn.now) (state S.Store tx.new.conn.now) result (with_undone number) }
+    ensures survives { LeavesAsBefore (state S.Store tx.old.conn.now) (state S.Store tx.new.conn.now) }
 {
     tx.execute("UPDATE slip SET undone = 1 WHERE no = ?1", params![number])?;
     Ok(())

@@ -1,10 +1,9 @@
 //! Single rows, each written by a call of its own inside a transaction.
 
-ghost use Rattle.std.specs.Prelude.{◌≡◌, OnOk, IfSome, option_copied};
-ghost use Rattle.sqlite.specs.State.{HasCleanDisk, Survives};
+ghost use Rattle.std.specs.Prelude.{◌≡◌, IfSome, option_copied};
 ghost use Rattle.sqlite.specs.Held.{state};
 ghost use Rattle.record_text.specs.Text.{IsText};
-ghost use Rattle.store_tables.specs.Calls.{Follows};
+ghost use Rattle.store_tables.specs.Calls.{LeavesAsBefore, Writes};
 ghost use Rattle.store_tables.specs.Reading.{IsU32};
 ghost use Rattle.store_tables.specs.Rows.{
   flag,
@@ -32,10 +31,9 @@ pub fn insert_batch<S: Alter>(
     is_open: bool,
 ) -> Result<(), Error>
     ensures same_reference { tx.new.conn.ghost_name ≡ tx.old.conn.ghost_name }
-    ensures ok { HasCleanDisk (state S.Store tx.new.conn.now)
-        → OnOk result (Follows (state S.Store tx.old.conn.now) (state S.Store tx.new.conn.now)
-        (with_batch number is_open)) }
-    ensures survives { Survives (state S.Store tx.old.conn.now) (state S.Store tx.new.conn.now) (λ _. ⊥) }
+    ensures ok { Writes (state S.Store tx.old.conn.now) (state S.Store tx.new.conn.now)
+        result (with_batch number is_open) }
+    ensures survives { LeavesAsBefore (state S.Store tx.old.conn.now) (state S.Store tx.new.conn.now) }
 {
     let flag = flag(is_open);
     tx.execute(
@@ -55,9 +53,8 @@ fn flag(is_set: bool) -> u32
 /// Sets the next number.
 pub fn set_next<S: Alter>(tx: &mut Transaction<'_, S>, next: u64) -> Result<(), Error>
     ensures same_reference { tx.new.conn.ghost_name ≡ tx.old.conn.ghost_name }
-    ensures ok { HasCleanDisk (state S.Store tx.new.conn.now)
-        → OnOk result (Follows (state S.Store tx.old.conn.now) (state S.Store tx.new.conn.now) (with_next next)) }
-    ensures survives { Survives (state S.Store tx.old.conn.now) (state S.Store tx.new.conn.now) (λ _. ⊥) }
+    ensures ok { Writes (state S.Store tx.old.conn.now) (state S.Store tx.new.conn.now) result (with_next next) }
+    ensures survives { LeavesAsBefore (state S.Store tx.old.conn.now) (state S.Store tx.new.conn.now) }
 {
     // A column of integers has no room for more.
     let Ok(next) = i64::try_from(next) else {
@@ -75,10 +72,9 @@ pub fn insert_record<S: Alter>(
     batch: u32,
 ) -> Result<(), Error>
     ensures same_reference { tx.new.conn.ghost_name ≡ tx.old.conn.ghost_name }
-    ensures ok { HasCleanDisk (state S.Store tx.new.conn.now)
-        → OnOk result (Follows (state S.Store tx.old.conn.now) (state S.Store tx.new.conn.now)
-        (with_record_row number kind.now batch)) }
-    ensures survives { Survives (state S.Store tx.old.conn.now) (state S.Store tx.new.conn.now) (λ _. ⊥) }
+    ensures ok { Writes (state S.Store tx.old.conn.now) (state S.Store tx.new.conn.now)
+        result (with_record_row number kind.now batch) }
+    ensures survives { LeavesAsBefore (state S.Store tx.old.conn.now) (state S.Store tx.new.conn.now) }
 {
     tx.execute(
         "INSERT INTO record (no, kind, batch) VALUES (?1, ?2, ?3)",
@@ -90,10 +86,9 @@ pub fn insert_record<S: Alter>(
 /// Takes the row of a number out of `record`. Its lines go first.
 pub fn delete_record<S: Alter>(tx: &mut Transaction<'_, S>, number: u32) -> Result<(), Error>
     ensures same_reference { tx.new.conn.ghost_name ≡ tx.old.conn.ghost_name }
-    ensures ok { HasCleanDisk (state S.Store tx.new.conn.now)
-        → OnOk result (Follows (state S.Store tx.old.conn.now) (state S.Store tx.new.conn.now)
-        (without_record_row number)) }
-    ensures survives { Survives (state S.Store tx.old.conn.now) (state S.Store tx.new.conn.now) (λ _. ⊥) }
+    ensures ok { Writes (state S.Store tx.old.conn.now) (state S.Store tx.new.conn.now)
+        result (without_record_row number) }
+    ensures survives { LeavesAsBefore (state S.Store tx.old.conn.now) (state S.Store tx.new.conn.now) }
 {
     tx.execute("DELETE FROM record WHERE no = ?1", params![number])?;
     Ok(())
@@ -107,10 +102,9 @@ pub fn insert_line<S: Alter>(
     line: &StoredLine,
 ) -> Result<(), Error>
     ensures same_reference { tx.new.conn.ghost_name ≡ tx.old.conn.ghost_name }
-    ensures ok { HasCleanDisk (state S.Store tx.new.conn.now)
-        → OnOk result (Follows (state S.Store tx.old.conn.now) (state S.Store tx.new.conn.now)
-        (with_line number at line.now)) }
-    ensures survives { Survives (state S.Store tx.old.conn.now) (state S.Store tx.new.conn.now) (λ _. ⊥) }
+    ensures ok { Writes (state S.Store tx.old.conn.now) (state S.Store tx.new.conn.now)
+        result (with_line number at line.now) }
+    ensures survives { LeavesAsBefore (state S.Store tx.old.conn.now) (state S.Store tx.new.conn.now) }
 {
     let (depth, tag, text, target) = (
         line.depth,
@@ -150,9 +144,8 @@ fn named(target: Option<u32>) -> Option<u32>
 /// Takes the lines of a number out.
 pub fn delete_lines<S: Alter>(tx: &mut Transaction<'_, S>, number: u32) -> Result<(), Error>
     ensures same_reference { tx.new.conn.ghost_name ≡ tx.old.conn.ghost_name }
-    ensures ok { HasCleanDisk (state S.Store tx.new.conn.now)
-        → OnOk result (Follows (state S.Store tx.old.conn.now) (state S.Store tx.new.conn.now) (without_lines number)) }
-    ensures survives { Survives (state S.Store tx.old.conn.now) (state S.Store tx.new.conn.now) (λ _. ⊥) }
+    ensures ok { Writes (state S.Store tx.old.conn.now) (state S.Store tx.new.conn.now) result (without_lines number) }
+    ensures survives { LeavesAsBefore (state S.Store tx.old.conn.now) (state S.Store tx.new.conn.now) }
 {
     tx.execute("DELETE FROM line WHERE no = ?1", params![number])?;
     Ok(())
@@ -165,10 +158,9 @@ pub fn insert_receipt<S: Alter>(
     receipt: &Receipt,
 ) -> Result<(), Error>
     ensures same_reference { tx.new.conn.ghost_name ≡ tx.old.conn.ghost_name }
-    ensures ok { HasCleanDisk (state S.Store tx.new.conn.now)
-        → OnOk result (Follows (state S.Store tx.old.conn.now) (state S.Store tx.new.conn.now)
-        (with_receipt token.now receipt.now)) }
-    ensures survives { Survives (state S.Store tx.old.conn.now) (state S.Store tx.new.conn.now) (λ _. ⊥) }
+    ensures ok { Writes (state S.Store tx.old.conn.now) (state S.Store tx.new.conn.now)
+        result (with_receipt token.now receipt.now) }
+    ensures survives { LeavesAsBefore (state S.Store tx.old.conn.now) (state S.Store tx.new.conn.now) }
 {
     let (words, digest) = (token.as_str(), receipt.digest.as_slice());
     let (first, count) = (receipt.answer.first, receipt.answer.count);
@@ -188,10 +180,9 @@ pub fn insert_slip<S: Alter>(
     is_undone: bool,
 ) -> Result<(), Error>
     ensures same_reference { tx.new.conn.ghost_name ≡ tx.old.conn.ghost_name }
-    ensures ok { HasCleanDisk (state S.Store tx.new.conn.now)
-        → OnOk result (Follows (state S.Store tx.old.conn.now) (state S.Store tx.new.conn.now)
-        (with_slip_row number keep gone is_undone)) }
-    ensures survives { Survives (state S.Store tx.old.conn.now) (state S.Store tx.new.conn.now) (λ _. ⊥) }
+    ensures ok { Writes (state S.Store tx.old.conn.now) (state S.Store tx.new.conn.now)
+        result (with_slip_row number keep gone is_undone) }
+    ensures survives { LeavesAsBefore (state S.Store tx.old.conn.now) (state S.Store tx.new.conn.now) }
 {
     let undone = flag(is_undone);
     tx.execute(
@@ -211,10 +202,9 @@ pub(crate) fn insert_slip_line<S: Alter>(
     line: &StoredLine,
 ) -> Result<(), Error>
     ensures same_reference { tx.new.conn.ghost_name ≡ tx.old.conn.ghost_name }
-    ensures ok { HasCleanDisk (state S.Store tx.new.conn.now)
-        → OnOk result (Follows (state S.Store tx.old.conn.now) (state S.Store tx.new.conn.now)
-        (with_slip_line slip is_new number at line.now)) }
-    ensures survives { Survives (state S.Store tx.old.conn.now) (state S.Store tx.new.conn.now) (λ _. ⊥) }
+    ensures ok { Writes (state S.Store tx.old.conn.now) (state S.Store tx.new.conn.now)
+        result (with_slip_line slip is_new number at line.now) }
+    ensures survives { LeavesAsBefore (state S.Store tx.old.conn.now) (state S.Store tx.new.conn.now) }
 {
     let side = flag(is_new);
     let (depth, tag, text, target) = (
@@ -233,10 +223,9 @@ pub(crate) fn insert_slip_line<S: Alter>(
 /// Takes the lines of a slip out.
 pub fn delete_slip_lines<S: Alter>(tx: &mut Transaction<'_, S>, slip: u32) -> Result<(), Error>
     ensures same_reference { tx.new.conn.ghost_name ≡ tx.old.conn.ghost_name }
-    ensures ok { HasCleanDisk (state S.Store tx.new.conn.now)
-        → OnOk result (Follows (state S.Store tx.old.conn.now) (state S.Store tx.new.conn.now)
-        (without_slip_lines slip)) }
-    ensures survives { Survives (state S.Store tx.old.conn.now) (state S.Store tx.new.conn.now) (λ _. ⊥) }
+    ensures ok { Writes (state S.Store tx.old.conn.now) (state S.Store tx.new.conn.now)
+        result (without_slip_lines slip) }
+    ensures survives { LeavesAsBefore (state S.Store tx.old.conn.now) (state S.Store tx.new.conn.now) }
 {
     tx.execute("DELETE FROM slip_line WHERE slip = ?1", params![slip])?;
     Ok(())

@@ -1,9 +1,9 @@
 //! Spans: the days that the dates of records may mean, a row for each record with a date.
 
-ghost use Rattle.std.specs.Prelude.{◌≡◌, false, true, OnOk, IfOk};
-ghost use Rattle.sqlite.specs.State.{HasCleanDisk, Survives};
+ghost use Rattle.std.specs.Prelude.{◌≡◌, false, true, IfOk};
+ghost use Rattle.sqlite.specs.State.{HasCleanDisk};
 ghost use Rattle.sqlite.specs.Held.{state};
-ghost use Rattle.store_tables.specs.Calls.{FollowsDated, FollowsUndated};
+ghost use Rattle.store_tables.specs.Calls.{LeavesAsBefore, WritesDated, WritesUndated};
 ghost use Rattle.store_tables.specs.Looking.{Looks};
 ghost use Rattle.store_tables.specs.Prepared.{span_query};
 ghost use Rattle.store_tables.specs.Rows.{with_span, with_span_table, with_version, without_span};
@@ -27,10 +27,9 @@ pub fn insert_span<S: Alter>(
     hi: Option<i32>,
 ) -> Result<(), Error>
     ensures same_reference { tx.new.conn.ghost_name ≡ tx.old.conn.ghost_name }
-    ensures ok { HasCleanDisk (state S.Store tx.new.conn.now)
-        → OnOk result (FollowsDated (state S.Store tx.old.conn.now) (state S.Store tx.new.conn.now)
-        (with_span number lo hi)) }
-    ensures survives { Survives (state S.Store tx.old.conn.now) (state S.Store tx.new.conn.now) (λ _. ⊥) }
+    ensures ok { WritesDated (state S.Store tx.old.conn.now) (state S.Store tx.new.conn.now)
+        result (with_span number lo hi) }
+    ensures survives { LeavesAsBefore (state S.Store tx.old.conn.now) (state S.Store tx.new.conn.now) }
 {
     tx.execute(
         "INSERT INTO span (no, lo, hi) VALUES (?1, ?2, ?3)",
@@ -42,10 +41,9 @@ pub fn insert_span<S: Alter>(
 /// Takes the span of a number out, where it has one.
 pub fn delete_span<S: Alter>(tx: &mut Transaction<'_, S>, number: u32) -> Result<(), Error>
     ensures same_reference { tx.new.conn.ghost_name ≡ tx.old.conn.ghost_name }
-    ensures ok { HasCleanDisk (state S.Store tx.new.conn.now)
-        → OnOk result (FollowsDated (state S.Store tx.old.conn.now) (state S.Store tx.new.conn.now)
-        (without_span number)) }
-    ensures survives { Survives (state S.Store tx.old.conn.now) (state S.Store tx.new.conn.now) (λ _. ⊥) }
+    ensures ok { WritesDated (state S.Store tx.old.conn.now) (state S.Store tx.new.conn.now)
+        result (without_span number) }
+    ensures survives { LeavesAsBefore (state S.Store tx.old.conn.now) (state S.Store tx.new.conn.now) }
 {
     tx.execute("DELETE FROM span WHERE no = ?1", params![number])?;
     Ok(())
@@ -54,10 +52,8 @@ pub fn delete_span<S: Alter>(tx: &mut Transaction<'_, S>, number: u32) -> Result
 /// The table of spans, without rows, in an archive of the first schema.
 pub fn create_spans<S: Alter>(tx: &mut Transaction<'_, S>) -> Result<(), Error>
     ensures same_reference { tx.new.conn.ghost_name ≡ tx.old.conn.ghost_name }
-    ensures ok { HasCleanDisk (state S.Store tx.new.conn.now)
-        → OnOk result (FollowsUndated (state S.Store tx.old.conn.now) (state S.Store tx.new.conn.now)
-        with_span_table) }
-    ensures survives { Survives (state S.Store tx.old.conn.now) (state S.Store tx.new.conn.now) (λ _. ⊥) }
+    ensures ok { WritesUndated (state S.Store tx.old.conn.now) (state S.Store tx.new.conn.now) result with_span_table }
+    ensures survives { LeavesAsBefore (state S.Store tx.old.conn.now) (state S.Store tx.new.conn.now) }
 {
     tx.execute(CREATE_SPANS, &[])?;
     Ok(())
@@ -70,10 +66,8 @@ pub(crate) const CREATE_SPANS: &str =
 /// An archive with spans shows the version that this program writes.
 pub fn set_version<S: Alter>(tx: &mut Transaction<'_, S>) -> Result<(), Error>
     ensures same_reference { tx.new.conn.ghost_name ≡ tx.old.conn.ghost_name }
-    ensures ok { HasCleanDisk (state S.Store tx.new.conn.now)
-        → OnOk result (FollowsDated (state S.Store tx.old.conn.now) (state S.Store tx.new.conn.now)
-        (with_version 2)) }
-    ensures survives { Survives (state S.Store tx.old.conn.now) (state S.Store tx.new.conn.now) (λ _. ⊥) }
+    ensures ok { WritesDated (state S.Store tx.old.conn.now) (state S.Store tx.new.conn.now) result (with_version 2) }
+    ensures survives { LeavesAsBefore (state S.Store tx.old.conn.now) (state S.Store tx.new.conn.now) }
 {
     tx.execute("UPDATE meta SET version = 2", &[])?;
     Ok(())

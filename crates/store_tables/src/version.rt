@@ -1,10 +1,10 @@
 //! Whether a store is an archive of this program.
 
-ghost use Rattle.std.specs.Prelude.{◌≡◌, ◌≢◌, [], ◌∷◌, ⊤, true, false, IfErr, IfOk, OnOk};
+ghost use Rattle.std.specs.Prelude.{◌≡◌, ◌≢◌, [], ◌∷◌, ⊤, true, false, IfErr, IfOk};
 ghost use Rattle.sqlite.specs.Held.{state};
-ghost use Rattle.sqlite.specs.State.{HasCleanDisk, Survives};
+ghost use Rattle.sqlite.specs.State.{HasCleanDisk};
 ghost use Rattle.record_text.specs.declared.refusal.RefusalKind.TheVariants as refusal;
-ghost use Rattle.store_tables.specs.Calls.{Settled};
+ghost use Rattle.store_tables.specs.Calls.{LeavesAsBefore, Settled};
 ghost use Rattle.store_tables.specs.Looking.{
   Looks,
   HasVersion,
@@ -53,7 +53,7 @@ pub fn check_version<S: Alter>(conn: &mut Connection<S>) -> Result<Version, Refu
         → IsLater (λ v. ShowsVersion v (state S.Store conn.old) (state S.Store conn.new))) }
     ensures told { HasCleanDisk (state S.Store conn.new)
         → IfErr result (IsRefusedStore (state S.Store conn.old) (state S.Store conn.new)) }
-    ensures survives { Survives (state S.Store conn.old) (state S.Store conn.new) (λ _. ⊥) }
+    ensures survives { LeavesAsBefore (state S.Store conn.old) (state S.Store conn.new) }
     ensures ended { conn.new.in_transaction ≡ false }
 {
     match ask(conn, SELECT_META, &[]) {

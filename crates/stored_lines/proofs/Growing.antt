@@ -14,7 +14,6 @@ use Rattle.std.specs.Prelude.{
   true,
   false,
   length,
-  ◌==◌,
   cond,
   Option,
   Some,
@@ -30,9 +29,7 @@ use Rattle.stored_lines.specs.Tree.{Tree, Forest, node, none, more, forest_of, f
 use Rattle.stored_lines.specs.Levels.{IsLow}
 use Rattle.stored_lines.proofs.Levels.{low_tree}
 use Rattle.stored_lines.specs.Growing.{fronts, backs, graft, grown, sole}
-
-at_self : {X : Type 0} (d : ℕ) (x y : X) → cond (d == d) x y ≡ x
-at_self d x y = grind (arith, nat_tests)
+use Rattle.list_laws.proofs.Numbers.{at_self}
 
 module _ {A : Type 0} where
   pub flat_all_push : (d : ℕ) (ts : List (Tree A)) (u : Tree A) → flat_all d (forest_of (ts ++ u ∷ []))
@@ -90,7 +87,7 @@ module _ {A : Type 0} where
         ∙ ap (λ g. (d, node a g) ∷ backs (d + 1) (beside (d + 1) f (grown ls))) (fronts-beside d f (grown ls) h)
         ∙ ap (λ ts. (d, node a f) ∷ ts) (backs-beside d f (grown ls) h)
 
-    grown-flat_all : (d : ℕ) (f : Forest A) (ls : List (ℕ × A)) → Low d (grown ls)
+    pub grown-flat_all : (d : ℕ) (f : Forest A) (ls : List (ℕ × A)) → Low d (grown ls)
         → grown (flat_all d f ++ ls) ≡ beside d f (grown ls)
     grown-flat_all d none ls h = refl
     grown-flat_all d (more t f) ls h =

@@ -2,3 +2,4 @@ pub mod Back
 pub mod Growing
 pub mod Levels
 pub mod Relabel
+pub mod Listed

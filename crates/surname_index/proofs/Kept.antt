@@ -15,7 +15,6 @@ use Rattle.std.proofs.Common.{
   Bool,
   true,
   false,
-  ◌&&◌,
   ◌||◌,
   T,
   cond,
@@ -39,6 +38,7 @@ use Rattle.std.proofs.lemmas.List.Sums.{fold-append}
 use Rattle.std.proofs.lemmas.List.{take_more}
 use Rattle.std.proofs.Math.Seq.{take-suc}
 use Rattle.surname_index.specs.Numbers.{stands_last, with_last}
+use Rattle.list_laws.proofs.Booleans.{rest_holds, first_holds}
 
 -- ---- the last of a list
 last_put : (n : ℕ) (ks : List ℕ) → stands_last n (ks ++ n ∷ []) ≡ true
@@ -104,13 +104,6 @@ then_person f ns i before after less is step =
     ∙ sym (fold-append (put_if f) [] (take i ns) (get_or ns i 0 ∷ [])) ∙ ap (kept f) (sym (take_more ns i 0 less))
 
 -- ---- where numbers ascend, nobody is there already
-both_first : (a b : Bool) → T (a && b) → T a
-both_first true b p = tt
-both_first false b p = p
-
-both_second : (a b : Bool) → T (a && b) → T b
-both_second true b p = p
-both_second false b p = absurd p
 
 irreflexive : (n : ℕ) → T (is_lt (nat_cmp n n)) → ⊥
 irreflexive n h = subst (λ o. T (is_lt o)) (tied_itself nat_cmp_total n) h
@@ -127,12 +120,12 @@ module _ {X : Type 0} (f : ℕ → Bool) (p : ℕ × X → Bool) where
   not_last ks e es low = here (stands_last e.0 ks) refl
     where
       here : (b : Bool) → stands_last e.0 ks ≡ b → stands_last e.0 ks ≡ false
-      here true is = absurd (irreflexive e.0 (both_first (is_lt (nat_cmp e.0 e.0)) (below_all nat_cmp e.0 es)
+      here true is = absurd (irreflexive e.0 (first_holds (is_lt (nat_cmp e.0 e.0)) (below_all nat_cmp e.0 es)
           (low e.0 is)))
       here false is = is
 
   low_tail : (ks : List ℕ) (e : ℕ × X) (es : List (ℕ × X)) → LastBelow ks (e ∷ es) → LastBelow ks es
-  low_tail ks e es low = λ y is. both_second (is_lt (nat_cmp y e.0)) (below_all nat_cmp y es) (low y is)
+  low_tail ks e es low = λ y is. rest_holds (is_lt (nat_cmp y e.0)) (below_all nat_cmp y es) (low y is)
 
   low_next : (ks : List ℕ) (e : ℕ × X) (es : List (ℕ × X)) → T (below_all nat_cmp e.0 es)
       → LastBelow (ks ++ e.0 ∷ []) es
@@ -162,8 +155,8 @@ module _ {X : Type 0} (f : ℕ → Bool) (p : ℕ × X → Bool) where
   each_put : (es : List (ℕ × X)) (ks : List ℕ) → T (is_sorted nat_cmp es) → LastBelow ks es → Puts ks (told es)
   each_put [] ks rise low = sym (append-nil ks)
   each_put (e ∷ es) ks rise low =
-      let below = both_first (below_all nat_cmp e.0 es) (is_sorted nat_cmp es) rise in
-      let rest = both_second (below_all nat_cmp e.0 es) (is_sorted nat_cmp es) rise in
+      let below = first_holds (below_all nat_cmp e.0 es) (is_sorted nat_cmp es) rise in
+      let rest = rest_holds (below_all nat_cmp e.0 es) (is_sorted nat_cmp es) rise in
       put_one e es ks low (each_put es ks rest (low_tail ks e es low))
       (each_put es (ks ++ e.0 ∷ []) rest (low_next ks e es below))
 

@@ -29,15 +29,9 @@ use Rattle.std.proofs.Common.{
 use Rattle.std.specs.Io.KnownBytes.{Appends}
 use Rattle.std.proofs.KnownBytes.{Appends-nil, Appends-trans}
 use Rattle.std.proofs.lemmas.Bool.{false≢true}
-use Rattle.std.proofs.lemmas.List.{take_all}
 use Rattle.std.proofs.Math.Seq.{take-append-add}
 use Rattle.csv.specs.declared.parser.State.{State}
 use Rattle.csv.specs.declared.parser.State.TheVariants as st
-use Rattle.sqlite.specs.State.{HasCleanDisk}
-use Rattle.sqlite.specs.State.{State as DiskState}
-use Rattle.store_tables.specs.Calls.{LeavesOnly, Settled}
-use Rattle.store_tables.specs.Rows.{Rows}
-use Rattle.store.specs.Calls.{Performs}
 use Rattle.sqlite_trees.specs.declared.store.Store.{Ghosts}
 use Rattle.devices.specs.Devices.{AppendsBeginning}
 use Rattle.record_text.specs.declared.refusal.RefusalKind.{RefusalKind}
@@ -63,10 +57,9 @@ use Rattle.batch_reading.specs.Input.{AreRows, Row}
 use Rattle.batch_reading.proofs.Taking.{Took, took_first, took_none}
 use Rattle.tables.proofs.Outcomes.{by_bool}
 use Rattle.tables.proofs.Served.{answers_doubted, answers_sure, certain_more, kept_more, performed_more, served_more}
+use Rattle.devices.proofs.Begun.{all_begins}
 
 -- ---- the answers that were written
-all_written : (a b : Option (List ℕ)) (text : List ℕ) → Appends a b text → AppendsBeginning a b text
-all_written a b text h = (length text, omega arith, rw (take_all (length text) text (omega arith)) h)
 
 part_written : (a b c : Option (List ℕ)) (served : List Served) (s : Served) → is_in_doubt s ≡ false
     → Appends a b (answers served) → AppendsBeginning b c (answer_text s) → AppendsBeginning a c
@@ -82,15 +75,6 @@ not_storage kind (inl e) = ap is_storage e
 not_storage kind (inr e) = ap is_storage e
 
 -- ---- rows applied so far
--- no request
-pub performs_none : (s : DiskState) → ((rows : Rows) → Settled s rows → LeavesOnly s rows) → HasCleanDisk s
-    → Performs s [] s
-performs_none s leaves clean = record {
-  done = λ none society c has. (c, refl, has);
-  rows = λ none society c rows was keeps. (c, rows, (refl, refl), was, keeps);
-  crash = λ society c has t l. (c, refl, (has.0, leaves has.0 has.1 t l, has.2));
-  clean = clean;
-}
 
 pub record OnTheWay {S : Type 0} (g : Ghosts S) (known left : Option (List ℕ)) (at : State)
     (before after : Option (List ℕ)) (old new : Archive S g) : Type 0 where
@@ -172,7 +156,7 @@ module _ {S : Type 0} (g : Ghosts S) (known left : Option (List ℕ)) (at : Stat
   )
 
   ends_unread : (kind : RefusalKind) → (kind ≡ OutOfMemory) ⊎ (kind ≡ ReadFailed) → Ends kind w.served before after
-  ends_unread kind (inl e) = inr (w.certain, inr (inl e, all_written before after _ w.written))
+  ends_unread kind (inl e) = inr (w.certain, inr (inl e, all_begins before after _ w.written))
   ends_unread kind (inr e) = inr (w.certain, inl (e, w.written))
 
   lost_unread : (kind : RefusalKind) → (kind ≡ OutOfMemory) ⊎ (kind ≡ ReadFailed) → is_shut old ≡ false
@@ -260,7 +244,7 @@ blameless_ends : (served : List Served) (before after : Option (List ℕ)) (kind
     → Ends kind served before after → Ends OutOfMemory served before after
 blameless_ends served before after kind is (inl h) = absurd cc
 blameless_ends served before after kind is (inr h) = elim h.1 [
-  | inl all ↦ inr (h.0, inr (inl refl, all_written before after _ all.1))
+  | inl all ↦ inr (h.0, inr (inl refl, all_begins before after _ all.1))
   | inr part ↦ inr (h.0, inr (inl refl, part.1))
 ]
 

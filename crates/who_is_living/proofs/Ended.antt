@@ -1,7 +1,6 @@
 -- The last day of a date.
-use Rattle.std.proofs.Common.{◌≡◌, ◌↔◌, Bool, true, false, refl, sym, ◌∙◌, subst, T, arith}
-use Rattle.std.specs.Prelude.{Option, Some, None, ℤ, ◌≤ℤ◌, ◌<ℤ◌}
-use Rattle.std.proofs.lemmas.Int.{ints}
+use Rattle.std.proofs.Common.{◌≡◌, ◌↔◌, Bool, true, false, refl, sym, ◌∙◌, subst, T}
+use Rattle.std.specs.Prelude.{Option, Some, None, ℤ, ◌≤ℤ◌}
 use Rattle.std.specs.Bool.{IsTrue}
 use Rattle.std.specs.Int.Signed.{le_z, le_z_yes}
 use Rattle.calendar_days.specs.Bounds.{IsGreatest}
@@ -10,12 +9,7 @@ use Rattle.gedcom_date.specs.Days.{IsDayOf}
 use Rattle.record_fields.specs.Dated.{one_said}
 use Rattle.record_fields.specs.declared.date.Date.{Date}
 use Rattle.masking.specs.Life.{HasEnded, IsLastDay}
-
-no_later : (a b : ℤ) → a <ℤ b → b ≤ℤ a → ⊥
-no_later a b less le = omega (arith, ints)
-
-later_still : (a b c : ℤ) → a ≤ℤ b → b ≤ℤ c → a ≤ℤ c
-later_still a b c p q = omega (arith, ints)
+use Rattle.list_laws.proofs.Numbers.{not_both, through}
 
 module _ (date : Date) (day : ℤ) where
   greatest_too : (a b : Option ℤ) (x : IsLastDay date a) → IsLastDay date b → IsGreatest (IsDayOf x.0) b
@@ -26,12 +20,12 @@ module _ (date : Date) (day : ℤ) where
   not_ended none (last, known, le) =
       let most = greatest_too None (Some last) none known in
       let above = none.2 last in
-      no_later last above.0 above.2 (most.1 above.0 above.1)
+      not_both last above.0 above.2 (most.1 above.0 above.1)
 
   pub ended_by : (last : ℤ) → IsLastDay date (Some last) → (last ≤ℤ day) ↔ HasEnded date day
   ended_by last is = (
     λ le. (last, is, le),
-    λ (other, known, le). later_still last other day
+    λ (other, known, le). through last other day
         ((greatest_too (Some last) (Some other) is known).1 last is.2.0) le,
   )
 

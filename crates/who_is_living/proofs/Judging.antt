@@ -1,6 +1,6 @@
 -- What is judged of who is living.
 use Rattle.std.proofs.Common.{◌≡◌, ◌↔◌, ℕ, ◌-◌, true, false, refl, sym, ap, ◌∙◌, subst}
-use Rattle.std.specs.Prelude.{Option, Some, None, IfSome, ℤ}
+use Rattle.std.specs.Prelude.{Option, Some, None, ℤ}
 use Rattle.std.specs.Ordering.{nat_cmp}
 use Rattle.std.specs.BTreeSet as set
 use Rattle.std.specs.BTreeSet.{BTreeSet}
@@ -10,7 +10,6 @@ use Rattle.record_kinds.specs.declared.record.Record.{Record}
 use Rattle.record_kinds.specs.declared.record.Record.TheVariants as kind
 use Rattle.archive_state.specs.Content.{Content, Records}
 use Rattle.archive_state.specs.Sound.{IsSound}
-use Rattle.archive_state.proofs.Each.{each_more}
 use Rattle.masking.specs.Life.{IsLiving}
 use Rattle.masking.specs.Closing.{IsOpen, IsOfNobodyLiving}
 use Rattle.masking.specs.Masking.{is_silent}
@@ -20,10 +19,8 @@ use Rattle.who_is_living.specs.Judged.{IsJudgement, KnowsLiving, KnowsSilent}
 use Rattle.who_is_living.specs.Sets.{IsIn, Has}
 use Rattle.who_is_living.specs.Telling.{IsTold}
 use Rattle.who_is_living.proofs.Life.{told_by}
-
-if_some : {A : Type 0} (P Q : A → Type 0) → ((a : A) → P a → Q a) → (o : Option A) → IfSome o P → IfSome o Q
-if_some P Q f None h = tt
-if_some P Q f (Some a) h = f a h
+use Rattle.list_laws.proofs.Outcomes.{if_some}
+use Rattle.record_shapes.proofs.Each.{each_more}
 
 module _ (c : Content) (today : ℤ) (last : ℕ) (living silent entries : BTreeSet ℕ) (sound : IsSound c)
     (is : last ≡ c.next - 1) (knows : KnowsLiving c.records today living)

@@ -2,10 +2,8 @@
 use Rattle.std.proofs.Common.{
   ◌≡◌,
   ℕ,
-  suc,
   ◌+◌,
   ◌<◌,
-  ◌≤◌,
   ◌^◌,
   true,
   false,
@@ -23,7 +21,6 @@ use Rattle.std.proofs.Common.{
   ◌∙◌,
   subst,
   cond,
-  arith,
   append_assoc,
   append-nil,
   Vec,
@@ -32,30 +29,16 @@ use Rattle.std.specs.Prelude.{◌==◌, Option, Some, None, option_map}
 use Rattle.std.specs.List.{filter}
 use Rattle.std.specs.Vec.{with_items}
 use Rattle.std.proofs.lemmas.List.{length-map, with_items_is}
-use Rattle.std.proofs.Math.ListN.{drop_of_length-le}
-use Rattle.std.proofs.Math.Seq.{drop-cons}
 use Rattle.record_kinds.specs.Model as model
 use Rattle.record_shapes.specs.Picking.{first}
 use Rattle.import_forest.specs.Numbers.{or_else}
 use Rattle.file_roots.specs.Nodes.{FileNode}
 use Rattle.family_sides.specs.declared.sides.Side.{Side}
 use Rattle.whole_families.specs.Carried.{late_sides, late_told, late_told_if, line_among, line_on, AreFew}
-
-pub dropped : {A : Type 0} (xs : List A) (i : ℕ) (x : A) → i < length xs → drop i xs ≡ get_or xs i x ∷ drop (i + 1) xs
-dropped xs i x h =
-    let one : suc i ≡ i + 1 = omega arith in drop-cons xs i x h ∙ ap (λ k. get_or xs i x ∷ drop k xs) one
-
-pub none_left : {A : Type 0} (xs : List A) (i : ℕ) → length xs ≤ i → drop i xs ≡ []
-none_left xs i h = drop_of_length-le xs h
+use Rattle.import_forest.proofs.Firsts.{or_else-assoc, or_else-none}
+use Rattle.list_laws.proofs.Lists.{from_here}
 
 -- ---- which line it is of each person
-or_else-assoc : {A : Type 0} (a b c : Option A) → or_else (or_else a b) c ≡ or_else a (or_else b c)
-or_else-assoc None b c = refl
-or_else-assoc (Some a) b c = refl
-
-or_else-none : {A : Type 0} (a : Option A) → or_else a None ≡ a
-or_else-none None = refl
-or_else-none (Some a) = refl
 
 among_first : (s : Side) (ss : List Side) (n : ℕ) → line_among (s ∷ ss) n ≡ or_else (line_on s n) (line_among ss n)
 among_first s ss n = elim (s.person == n) as (λ b. option_map (λ (x : Side). x.line)
@@ -112,7 +95,7 @@ abbrev pub side_at : List Side → ℕ → Side
 side_at ss i = get_or ss i (record { family = 0; person = 0; line = 0; is_late = false })
 
 pub front_at : (ss : List Side) (i : ℕ) → i < length ss → drop i ss ≡ side_at ss i ∷ drop (i + 1) ss
-front_at ss i h = dropped ss i (record { family = 0; person = 0; line = 0; is_late = false }) h
+front_at ss i h = from_here ss i (record { family = 0; person = 0; line = 0; is_late = false }) h
 
 -- ---- items changed through a slice of them
 pub refilled : {X Z : Type 0} (v : Vec X Z) (ws old : List X) (f : X → X) → ws ≡ map f old → old ≡ v.items

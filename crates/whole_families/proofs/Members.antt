@@ -31,13 +31,10 @@ use Rattle.record_shapes.specs.Picking.{all_of}
 use Rattle.record_shapes.specs.Reading.{child_from, family_from, is_child_line, once, once_behind, partner_from}
 use Rattle.import_forest.specs.Numbers.{or_else}
 use Rattle.family_sides.proofs.Partners.{line_as, line_first}
+use Rattle.list_laws.proofs.Booleans.{neither}
 
 abbrev has : List ℕ → ℕ → Bool
 has seen n = list_any (λ m. m == n) seen
-
-or_false : (a b : Bool) → (a || b) ≡ false → (a ≡ false) × (b ≡ false)
-or_false true b h = absurd cc
-or_false false b h = (refl, h)
 
 true_false : {A : Type 0} → true ≡ false → A
 true_false e = absurd cc
@@ -62,7 +59,7 @@ module _ (k : Known) where
     -- of persons other than that of the line
     behind_line : (t : Tree Line) (ts : Lines) (seen : List ℕ) → Same seen (t ∷ ts) → Same (number_of t ∷ seen) ts
     behind_line t ts seen h u free e =
-        let p = or_false (number_of t == number_of u) (has seen (number_of u)) free in
+        let p = neither (number_of t == number_of u) (has seen (number_of u)) free in
         h u p.1 (ap (λ o. or_else o (line_first k (number_of u) ts)) (none_as p.0) ∙ e)
       where
         none_as : (number_of t == number_of u) ≡ false → line_as k (number_of u) t ≡ None

@@ -46,6 +46,7 @@ use Rattle.family_sides.proofs.Found.{side_is}
 use Rattle.whole_families.specs.Carried.{carried_at, late_sides, line_among, node_at, AreFew}
 use Rattle.family_sides.proofs.OfNode.{of_node}
 use Rattle.family_sides.proofs.Once.{IsOne, one_is}
+use Rattle.list_laws.proofs.Numbers.{is_apart}
 
 -- ---- lists
 if_yes : {A : Type 0} (b : Bool) (x y : A) → b ≡ true → cond b x y ≡ x
@@ -72,19 +73,13 @@ two_tests {A} p q (x ∷ xs) =
       ]
     ] refl
 
-apart : (a b : ℕ) → a < b → (a == b) ≡ false
-apart a b h = elim (a == b) as (λ x. (a == b) ≡ x → x ≡ false) [
-  | true ↦ λ e. absurd (let same : a ≡ b = eqb-true a b e in omega (arith, h, same))
-  | false ↦ λ e. refl
-] refl
-
 module _ (ks : List FileNode) (member : ℕ → ℕ → Option Bool) where
   -- none behind is of a position before
   none_behind : (ts : List FileNode) (j n : ℕ) → n < j
       → filter (λ (s : Side). s.person == n) (sides_from ks member j ts) ≡ []
   none_behind [] j n h = refl
   none_behind (t ∷ ts) j n h =
-      let other : (j == n) ≡ false = turned j n (apart n j h) in
+      let other : (j == n) ≡ false = turned j n (is_apart n j h) in
       filter-append (λ (s : Side). s.person == n) (sides_by_members ks member j t) (sides_from ks member (j + 1) ts)
       ∙ ap (λ us. us ++ filter (λ (s : Side). s.person == n) (sides_from ks member (j + 1) ts))
       (of_node ks (λ p. p == n) member j t ∙ if_no (j == n) (sides_by_members ks member j t) [] other)
@@ -113,7 +108,7 @@ module _ (ks : List FileNode) (member : ℕ → ℕ → Option Bool) where
       filter-append (λ (s : Side). s.person == n) (sides_by_members ks member j u) (sides_from ks member (j + 1) ts)
       ∙ ap (λ us. us ++ filter (λ (s : Side). s.person == n) (sides_from ks member (j + 1) ts))
       (of_node ks (λ p. p == n) member j u
-      ∙ if_no (j == n) (sides_by_members ks member j u) [] (apart j n (omega (arith, at))))
+      ∙ if_no (j == n) (sides_by_members ks member j u) [] (is_apart j n (omega (arith, at))))
       ∙ at_position ts i (j + 1) n t e (omega (arith, at))
 
 -- ---- each position has 32 bits

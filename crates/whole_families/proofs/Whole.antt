@@ -73,10 +73,7 @@ use Rattle.whole_families.specs.Carried.{
 }
 use Rattle.whole_families.proofs.Members.{each_same, is_member}
 use Rattle.whole_families.proofs.Sides.{carried_is, is_late, late_are, sides_of}
-
-map_map : {A B C : Type 0} (f : B → C) (g : A → B) (xs : List A) → map f (map g xs) ≡ map (λ x. f (g x)) xs
-map_map f g [] = refl
-map_map f g (x ∷ xs) = ap (λ us. f (g x) ∷ us) (map_map f g xs)
+use Rattle.list_laws.proofs.Lists.{map_map}
 
 map_picked : {A B : Type 0} (p : A → Bool) (f g : A → B) → ((x : A) → p x ≡ true → f x ≡ g x) → (xs : List A)
     → map f (filter p xs) ≡ map g (filter p xs)

@@ -1,9 +1,8 @@
 //! The rows of records: of those that are put, and of those that are taken out.
 
 ghost use Rattle.std.specs.Prelude.{◌≡◌, OnOk};
-ghost use Rattle.sqlite.specs.State.{HasCleanDisk, Survives};
 ghost use Rattle.sqlite.specs.Held.{state};
-ghost use Rattle.store_tables.specs.Calls.{Follows};
+ghost use Rattle.store_tables.specs.Calls.{LeavesAsBefore, Writes};
 ghost use Rattle.store_tables.specs.Rows.{with_changed_lines};
 ghost use Rattle.record_shapes.specs.Lists.{EachOf};
 ghost use Rattle.records.specs.Shallow.{IsShallow};
@@ -39,10 +38,9 @@ pub(crate) fn write_records<S: Alter>(
     removals: &[u32],
 ) -> Result<(), Unwritten>
     ensures same_reference { tx.new.conn.ghost_name ≡ tx.old.conn.ghost_name }
-    ensures ok { HasCleanDisk (state S.Store tx.new.conn.now)
-        → OnOk result (Follows (state S.Store tx.old.conn.now) (state S.Store tx.new.conn.now)
-        (λ rows. without_records removals.now (with_puts_written puts.now rows))) }
-    ensures survives { Survives (state S.Store tx.old.conn.now) (state S.Store tx.new.conn.now) (λ _. ⊥) }
+    ensures ok { Writes (state S.Store tx.old.conn.now) (state S.Store tx.new.conn.now)
+        result (λ rows. without_records removals.now (with_puts_written puts.now rows)) }
+    ensures survives { LeavesAsBefore (state S.Store tx.old.conn.now) (state S.Store tx.new.conn.now) }
     ensures shallow { OnOk result (EachOf IsShallowPut puts.now) }
 {
     put_rows(tx, puts)?;
@@ -55,10 +53,9 @@ pub(crate) fn write_records<S: Alter>(
 /// A row in `record` for each number. All of them come before any line, since a line may name each.
 fn put_rows<S: Alter>(tx: &mut Transaction<'_, S>, puts: &[Numbered]) -> Result<(), Error>
     ensures same_reference { tx.new.conn.ghost_name ≡ tx.old.conn.ghost_name }
-    ensures ok { HasCleanDisk (state S.Store tx.new.conn.now)
-        → OnOk result (Follows (state S.Store tx.old.conn.now) (state S.Store tx.new.conn.now)
-        (with_record_rows puts.now)) }
-    ensures survives { Survives (state S.Store tx.old.conn.now) (state S.Store tx.new.conn.now) (λ _. ⊥) }
+    ensures ok { Writes (state S.Store tx.old.conn.now) (state S.Store tx.new.conn.now)
+        result (with_record_rows puts.now) }
+    ensures survives { LeavesAsBefore (state S.Store tx.old.conn.now) (state S.Store tx.new.conn.now) }
 {
     'puts: for put in puts {
         put_record(tx, put.number, kind_word(&put.record), COMMANDS)?;
@@ -90,10 +87,9 @@ fn put_lines<S: Alter>(
     puts: &[Numbered],
 ) -> Result<(), Unwritten>
     ensures same_reference { tx.new.conn.ghost_name ≡ tx.old.conn.ghost_name }
-    ensures ok { HasCleanDisk (state S.Store tx.new.conn.now)
-        → OnOk result (Follows (state S.Store tx.old.conn.now) (state S.Store tx.new.conn.now)
-        (with_all_lines puts.now)) }
-    ensures survives { Survives (state S.Store tx.old.conn.now) (state S.Store tx.new.conn.now) (λ _. ⊥) }
+    ensures ok { Writes (state S.Store tx.old.conn.now) (state S.Store tx.new.conn.now)
+        result (with_all_lines puts.now) }
+    ensures survives { LeavesAsBefore (state S.Store tx.old.conn.now) (state S.Store tx.new.conn.now) }
     ensures shallow { OnOk result (EachOf IsShallowPut puts.now) }
 {
     'puts: for put in puts {
@@ -110,10 +106,9 @@ fn put_lines_of<S: Alter>(
     record: &Record,
 ) -> Result<(), Unwritten>
     ensures same_reference { tx.new.conn.ghost_name ≡ tx.old.conn.ghost_name }
-    ensures ok { HasCleanDisk (state S.Store tx.new.conn.now)
-        → OnOk result (Follows (state S.Store tx.old.conn.now) (state S.Store tx.new.conn.now)
-        (with_changed_lines number (stored «record».now))) }
-    ensures survives { Survives (state S.Store tx.old.conn.now) (state S.Store tx.new.conn.now) (λ _. ⊥) }
+    ensures ok { Writes (state S.Store tx.old.conn.now) (state S.Store tx.new.conn.now)
+        result (with_changed_lines number (stored «record».now)) }
+    ensures survives { LeavesAsBefore (state S.Store tx.old.conn.now) (state S.Store tx.new.conn.now) }
     ensures shallow { OnOk result (IsShallow «record».now) }
 {
     let lines = lines_of(alloc, record)?;
@@ -124,10 +119,9 @@ fn put_lines_of<S: Alter>(
 /// Takes the lines of these numbers out. All of them go before any row in `record`, since a line may name each.
 pub fn remove_lines<S: Alter>(tx: &mut Transaction<'_, S>, numbers: &[u32]) -> Result<(), Error>
     ensures same_reference { tx.new.conn.ghost_name ≡ tx.old.conn.ghost_name }
-    ensures ok { HasCleanDisk (state S.Store tx.new.conn.now)
-        → OnOk result (Follows (state S.Store tx.old.conn.now) (state S.Store tx.new.conn.now)
-        (without_all_lines numbers.now)) }
-    ensures survives { Survives (state S.Store tx.old.conn.now) (state S.Store tx.new.conn.now) (λ _. ⊥) }
+    ensures ok { Writes (state S.Store tx.old.conn.now) (state S.Store tx.new.conn.now)
+        result (without_all_lines numbers.now) }
+    ensures survives { LeavesAsBefore (state S.Store tx.old.conn.now) (state S.Store tx.new.conn.now) }
 {
     'numbers: for number in numbers {
         rows::delete_lines(tx, *number)?;
@@ -138,10 +132,9 @@ pub fn remove_lines<S: Alter>(tx: &mut Transaction<'_, S>, numbers: &[u32]) -> R
 /// Takes the rows of these numbers out of `record`.
 pub fn remove_rows<S: Alter>(tx: &mut Transaction<'_, S>, numbers: &[u32]) -> Result<(), Error>
     ensures same_reference { tx.new.conn.ghost_name ≡ tx.old.conn.ghost_name }
-    ensures ok { HasCleanDisk (state S.Store tx.new.conn.now)
-        → OnOk result (Follows (state S.Store tx.old.conn.now) (state S.Store tx.new.conn.now)
-        (without_record_rows numbers.now)) }
-    ensures survives { Survives (state S.Store tx.old.conn.now) (state S.Store tx.new.conn.now) (λ _. ⊥) }
+    ensures ok { Writes (state S.Store tx.old.conn.now) (state S.Store tx.new.conn.now)
+        result (without_record_rows numbers.now) }
+    ensures survives { LeavesAsBefore (state S.Store tx.old.conn.now) (state S.Store tx.new.conn.now) }
 {
     'numbers: for number in numbers {
         rows::delete_record(tx, *number)?;

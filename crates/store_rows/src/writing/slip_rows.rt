@@ -1,9 +1,8 @@
 //! The rows of a slip: its own, and the lines of its changes.
 
 ghost use Rattle.std.specs.Prelude.{◌≡◌, OnOk};
-ghost use Rattle.sqlite.specs.State.{HasCleanDisk, Survives};
 ghost use Rattle.sqlite.specs.Held.{state};
-ghost use Rattle.store_tables.specs.Calls.{Follows};
+ghost use Rattle.store_tables.specs.Calls.{LeavesAsBefore, Writes};
 ghost use Rattle.store_tables.specs.Rows.{with_slip_row, without_slip_lines, with_slip_lines};
 ghost use Rattle.record_shapes.specs.Lists.{EachOf};
 ghost use Rattle.records.specs.Shallow.{IsShallow};
@@ -34,10 +33,9 @@ pub(crate) fn write_slip<S: Alter>(
     slip: &Option<SlipChange>,
 ) -> Result<(), Unwritten>
     ensures same_reference { tx.new.conn.ghost_name ≡ tx.old.conn.ghost_name }
-    ensures ok { HasCleanDisk (state S.Store tx.new.conn.now)
-        → OnOk result (Follows (state S.Store tx.old.conn.now) (state S.Store tx.new.conn.now)
-        (with_slip_written slip.now)) }
-    ensures survives { Survives (state S.Store tx.old.conn.now) (state S.Store tx.new.conn.now) (λ _. ⊥) }
+    ensures ok { Writes (state S.Store tx.old.conn.now) (state S.Store tx.new.conn.now)
+        result (with_slip_written slip.now) }
+    ensures survives { LeavesAsBefore (state S.Store tx.old.conn.now) (state S.Store tx.new.conn.now) }
     ensures shallow { OnOk result (IsShallowSlipChange slip.now) }
 {
     match slip {
@@ -55,10 +53,9 @@ fn make_slip<S: Alter>(
     slip: &Slip,
 ) -> Result<(), Unwritten>
     ensures same_reference { tx.new.conn.ghost_name ≡ tx.old.conn.ghost_name }
-    ensures ok { HasCleanDisk (state S.Store tx.new.conn.now)
-        → OnOk result (Follows (state S.Store tx.old.conn.now) (state S.Store tx.new.conn.now)
-        (with_slip_made number slip.now)) }
-    ensures survives { Survives (state S.Store tx.old.conn.now) (state S.Store tx.new.conn.now) (λ _. ⊥) }
+    ensures ok { Writes (state S.Store tx.old.conn.now) (state S.Store tx.new.conn.now)
+        result (with_slip_made number slip.now) }
+    ensures survives { LeavesAsBefore (state S.Store tx.old.conn.now) (state S.Store tx.new.conn.now) }
     ensures shallow { OnOk result (IsShallowSlip slip.now) }
 {
     rows::insert_slip(tx, number, slip.keep, slip.gone, slip.is_undone)?;
@@ -74,10 +71,9 @@ fn insert_changes<S: Alter>(
     changes: &[Change],
 ) -> Result<(), Unwritten>
     ensures same_reference { tx.new.conn.ghost_name ≡ tx.old.conn.ghost_name }
-    ensures ok { HasCleanDisk (state S.Store tx.new.conn.now)
-        → OnOk result (Follows (state S.Store tx.old.conn.now) (state S.Store tx.new.conn.now)
-        (with_slip_changes slip changes.now)) }
-    ensures survives { Survives (state S.Store tx.old.conn.now) (state S.Store tx.new.conn.now) (λ _. ⊥) }
+    ensures ok { Writes (state S.Store tx.old.conn.now) (state S.Store tx.new.conn.now)
+        result (with_slip_changes slip changes.now) }
+    ensures survives { LeavesAsBefore (state S.Store tx.old.conn.now) (state S.Store tx.new.conn.now) }
     ensures shallow { OnOk result (EachOf IsShallowChange changes.now) }
 {
     'changes: for change in changes {
@@ -94,10 +90,9 @@ fn insert_change<S: Alter>(
     change: &Change,
 ) -> Result<(), Unwritten>
     ensures same_reference { tx.new.conn.ghost_name ≡ tx.old.conn.ghost_name }
-    ensures ok { HasCleanDisk (state S.Store tx.new.conn.now)
-        → OnOk result (Follows (state S.Store tx.old.conn.now) (state S.Store tx.new.conn.now)
-        (with_change slip change.now)) }
-    ensures survives { Survives (state S.Store tx.old.conn.now) (state S.Store tx.new.conn.now) (λ _. ⊥) }
+    ensures ok { Writes (state S.Store tx.old.conn.now) (state S.Store tx.new.conn.now)
+        result (with_change slip change.now) }
+    ensures survives { LeavesAsBefore (state S.Store tx.old.conn.now) (state S.Store tx.new.conn.now) }
     ensures shallow { OnOk result (IsShallowChange change.now) }
 {
     insert_side(alloc, tx, slip, false, change.number, &change.old)?;
@@ -113,10 +108,9 @@ fn insert_new_side<S: Alter>(
     record: &Option<Record>,
 ) -> Result<(), Unwritten>
     ensures same_reference { tx.new.conn.ghost_name ≡ tx.old.conn.ghost_name }
-    ensures ok { HasCleanDisk (state S.Store tx.new.conn.now)
-        → OnOk result (Follows (state S.Store tx.old.conn.now) (state S.Store tx.new.conn.now)
-        (with_new_side slip number «record».now)) }
-    ensures survives { Survives (state S.Store tx.old.conn.now) (state S.Store tx.new.conn.now) (λ _. ⊥) }
+    ensures ok { Writes (state S.Store tx.old.conn.now) (state S.Store tx.new.conn.now)
+        result (with_new_side slip number «record».now) }
+    ensures survives { LeavesAsBefore (state S.Store tx.old.conn.now) (state S.Store tx.new.conn.now) }
     ensures shallow { OnOk result (IsShallowOption «record».now) }
 {
     match record {
@@ -135,10 +129,9 @@ fn insert_side<S: Alter>(
     record: &Record,
 ) -> Result<(), Unwritten>
     ensures same_reference { tx.new.conn.ghost_name ≡ tx.old.conn.ghost_name }
-    ensures ok { HasCleanDisk (state S.Store tx.new.conn.now)
-        → OnOk result (Follows (state S.Store tx.old.conn.now) (state S.Store tx.new.conn.now)
-        (with_slip_lines slip is_new number 0 (stored «record».now))) }
-    ensures survives { Survives (state S.Store tx.old.conn.now) (state S.Store tx.new.conn.now) (λ _. ⊥) }
+    ensures ok { Writes (state S.Store tx.old.conn.now) (state S.Store tx.new.conn.now)
+        result (with_slip_lines slip is_new number 0 (stored «record».now)) }
+    ensures survives { LeavesAsBefore (state S.Store tx.old.conn.now) (state S.Store tx.new.conn.now) }
     ensures shallow { OnOk result (IsShallow «record».now) }
 {
     let lines = lines_of(alloc, record)?;

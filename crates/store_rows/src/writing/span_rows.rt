@@ -1,9 +1,9 @@
 //! The rows of spans: of the records that are put, and of those that are taken out.
 
 ghost use Rattle.std.specs.Prelude.{◌≡◌, ◌∷◌, [], true, OnOk};
-ghost use Rattle.sqlite.specs.State.{HasCleanDisk, Survives};
+ghost use Rattle.sqlite.specs.State.{HasCleanDisk};
 ghost use Rattle.sqlite.specs.Held.{state};
-ghost use Rattle.store_tables.specs.Calls.{FollowsDated, Inside};
+ghost use Rattle.store_tables.specs.Calls.{FollowsDated, Inside, LeavesAsBefore, WritesDated};
 ghost use Rattle.store_tables.specs.Rows.{Rows};
 ghost use Rattle.store_rows.specs.Spans.{AreDrawn, Drawn, with_drawn, with_span_if, without_all_spans};
 
@@ -25,7 +25,7 @@ pub(crate) fn put_spans<S: Alter>(
     ensures ok { HasCleanDisk (state S.Store tx.new.conn.now)
         → OnOk result ((drawn : Drawn) × AreDrawn puts.now drawn
         × FollowsDated (state S.Store tx.old.conn.now) (state S.Store tx.new.conn.now) (with_drawn drawn)) }
-    ensures survives { Survives (state S.Store tx.old.conn.now) (state S.Store tx.new.conn.now) (λ _. ⊥) }
+    ensures survives { LeavesAsBefore (state S.Store tx.old.conn.now) (state S.Store tx.new.conn.now) }
 {
     'puts: for put in puts {
         put_span(alloc, tx, put)?;
@@ -43,7 +43,7 @@ fn put_span<S: Alter>(
     ensures ok { HasCleanDisk (state S.Store tx.new.conn.now)
         → OnOk result ((drawn : Drawn) × AreDrawn (put.now ∷ []) drawn
         × FollowsDated (state S.Store tx.old.conn.now) (state S.Store tx.new.conn.now) (with_drawn drawn)) }
-    ensures survives { Survives (state S.Store tx.old.conn.now) (state S.Store tx.new.conn.now) (λ _. ⊥) }
+    ensures survives { LeavesAsBefore (state S.Store tx.old.conn.now) (state S.Store tx.new.conn.now) }
 {
     let span = span_of(alloc, &put.record)?;
     spans::delete_span(tx, put.number)?;
@@ -58,10 +58,9 @@ fn insert_if<S: Alter>(
     span: Option<Span>,
 ) -> Result<(), Error>
     ensures same_reference { tx.new.conn.ghost_name ≡ tx.old.conn.ghost_name }
-    ensures ok { HasCleanDisk (state S.Store tx.new.conn.now)
-        → OnOk result (FollowsDated (state S.Store tx.old.conn.now) (state S.Store tx.new.conn.now)
-        (with_span_if number span)) }
-    ensures survives { Survives (state S.Store tx.old.conn.now) (state S.Store tx.new.conn.now) (λ _. ⊥) }
+    ensures ok { WritesDated (state S.Store tx.old.conn.now) (state S.Store tx.new.conn.now)
+        result (with_span_if number span) }
+    ensures survives { LeavesAsBefore (state S.Store tx.old.conn.now) (state S.Store tx.new.conn.now) }
 {
     match span {
         Some(span) => spans::insert_span(tx, number, span.lo, span.hi),
@@ -72,10 +71,9 @@ fn insert_if<S: Alter>(
 /// Takes the spans of these numbers out. They go before the rows in `record`, which they are of.
 pub fn remove_spans<S: Alter>(tx: &mut Transaction<'_, S>, numbers: &[u32]) -> Result<(), Error>
     ensures same_reference { tx.new.conn.ghost_name ≡ tx.old.conn.ghost_name }
-    ensures ok { HasCleanDisk (state S.Store tx.new.conn.now)
-        → OnOk result (FollowsDated (state S.Store tx.old.conn.now) (state S.Store tx.new.conn.now)
-        (without_all_spans numbers.now)) }
-    ensures survives { Survives (state S.Store tx.old.conn.now) (state S.Store tx.new.conn.now) (λ _. ⊥) }
+    ensures ok { WritesDated (state S.Store tx.old.conn.now) (state S.Store tx.new.conn.now)
+        result (without_all_spans numbers.now) }
+    ensures survives { LeavesAsBefore (state S.Store tx.old.conn.now) (state S.Store tx.new.conn.now) }
 {
     'numbers: for number in numbers {
         spans::delete_span(tx, *number)?;

@@ -2,9 +2,9 @@ use Rattle.std.proofs.Common.{inl}
 use Rattle.sqlite_wal.specs.Files.{image_at}
 use Rattle.archive_exports.specs.Exporting.{IsPart, export_text}
 use Rattle.gedcom_export.specs.Ends.{IsWhole}
-use Rattle.archive_commands.proofs.Answering.{keeps}
 use Rattle.archive_commands.proofs.Exported.{all_written, part_written}
 use Rattle.archive_commands.proofs.exporting.export.Goals as goal
+use Rattle.list_laws.proofs.Outcomes.{keeps}
 
 pub returns-in-Ok-clause-exported : goal.returns-in-Ok-clause-exported
 returns-in-Ok-clause-exported g c =

@@ -1,8 +1,9 @@
 use Rattle.sqlite.specs.Files.{file_state}
 use Rattle.sqlite_wal.specs.Files.{image_at}
-use Rattle.archive_commands.proofs.Opened.{opened_blank, was_blank}
+use Rattle.archive_commands.proofs.Opened.{was_blank}
 use Rattle.archive_commands.proofs.Refusing.{unmade}
 use Rattle.archive_commands.proofs.opening.create_named.Goals as goal
+use Rattle.store.proofs.Opened.{opened_blank}
 
 pub returns-in-Ok-create-clause-created : goal.returns-in-Ok-create-clause-created
 returns-in-Ok-create-clause-created g c =

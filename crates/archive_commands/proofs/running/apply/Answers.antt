@@ -1,6 +1,7 @@
 use Rattle.std.proofs.Common.{inl}
-use Rattle.archive_commands.proofs.Answering.{all_answered, keeps, part_answered}
+use Rattle.archive_commands.proofs.Answering.{all_answered, part_answered}
 use Rattle.archive_commands.proofs.running.apply.Goals as goal
+use Rattle.list_laws.proofs.Outcomes.{keeps}
 
 pub returns-in-Ok-clause-answered : goal.returns-in-Ok-clause-answered
 returns-in-Ok-clause-answered g c =

@@ -4,8 +4,10 @@ use Rattle.std.specs.Prelude.{IfOk, false}
 use Rattle.sqlite.specs.Held.{state}
 use Rattle.archive_exports.specs.Reading.{OnOpen}
 use Rattle.day_commands.specs.Ends.{OnFound}
-use Rattle.day_commands.proofs.Finds.{in_days, numbers_are, want_fails, want_stops}
+use Rattle.day_commands.proofs.Finds.{in_days, numbers_are}
 use Rattle.day_commands.proofs.finding.numbers_of.Goals as goal
+use Rattle.archive_exports.proofs.Stopped.{want_fails}
+use Rattle.archive_view.proofs.Stops.{want_stops}
 
 pub returns-in-Ok-clause-found : goal.returns-in-Ok-clause-found
 returns-in-Ok-clause-found g c =

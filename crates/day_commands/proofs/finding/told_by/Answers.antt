@@ -1,8 +1,10 @@
 use Rattle.std.proofs.Common.{◌≡◌, string_bytes}
 use Rattle.sqlite.specs.Held.{state}
 use Rattle.archive_exports.proofs.Asked.{unread_as}
-use Rattle.day_commands.proofs.Finds.{read, told_of_held, want_fails, want_stops}
+use Rattle.day_commands.proofs.Finds.{read, told_of_held}
 use Rattle.day_commands.proofs.finding.told_by.Goals as goal
+use Rattle.archive_exports.proofs.Stopped.{want_fails}
+use Rattle.archive_view.proofs.Stops.{want_stops}
 
 pub returns-in-Ok-clause-told : goal.returns-in-Ok-clause-told
 returns-in-Ok-clause-told g c =

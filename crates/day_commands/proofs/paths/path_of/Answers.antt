@@ -2,8 +2,9 @@ use Rattle.std.proofs.Common.{◌≡◌, ◌++◌, sym, ap, ◌∙◌, arith}
 use Rattle.std.specs.Prelude.{Some, None, codes, string_bytes}
 use Rattle.archive_state.specs.Known.{path_of}
 use Rattle.record_kinds.specs.Model as model
-use Rattle.day_commands.proofs.Climbing.{so_far, starts, ends_here, lost_above, climbs}
+use Rattle.day_commands.proofs.Climbing.{ends_here, lost_above, climbs}
 use Rattle.day_commands.proofs.paths.path_of.Goals as goal
+use Rattle.record_shapes.proofs.Climbed.{so_far, starts}
 
 pub above-init : goal.above-init
 above-init c = sym (starts (string_bytes c.new-path.result) (path_of c.args.state.now.records c.args.place)

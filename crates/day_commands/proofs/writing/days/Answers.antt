@@ -4,9 +4,10 @@ use Rattle.std.specs.Prelude.{IfErr, OnOk, Some}
 use Rattle.sqlite_wal.specs.Files.{image_at}
 use Rattle.devices.specs.Devices.{Rose}
 use Rattle.day_commands.specs.Ends.{DaysTold, DaysUntold}
-use Rattle.day_commands.proofs.Finds.{in_days, keeps}
+use Rattle.day_commands.proofs.Finds.{in_days}
 use Rattle.day_commands.proofs.OnFile.{told, untold}
 use Rattle.day_commands.proofs.writing.days.Goals as goal
+use Rattle.list_laws.proofs.Outcomes.{keeps}
 
 pub returns-in-Ok-clause-told : goal.returns-in-Ok-clause-told
 returns-in-Ok-clause-told g c =

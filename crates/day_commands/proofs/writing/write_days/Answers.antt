@@ -4,8 +4,9 @@ use Rattle.std.specs.Prelude.{IfErr, OnOk}
 use Rattle.sqlite.specs.Held.{state}
 use Rattle.archive_exports.specs.Reading.{OnOpen}
 use Rattle.day_commands.specs.Ends.{AreCut, AreReversed, AreWritten}
-use Rattle.day_commands.proofs.Finds.{all_in_order, in_days, keeps, part_in_order}
+use Rattle.day_commands.proofs.Finds.{all_in_order, in_days, part_in_order}
 use Rattle.day_commands.proofs.writing.write_days.Goals as goal
+use Rattle.list_laws.proofs.Outcomes.{keeps}
 
 pub returns-then-first-last-clause-cut : goal.returns-then-first-last-clause-cut
 returns-then-first-last-clause-cut g c =

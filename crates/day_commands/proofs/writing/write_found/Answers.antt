@@ -5,8 +5,9 @@ use Rattle.sqlite.specs.Held.{state}
 use Rattle.archive_exports.proofs.Named.{not_blamed}
 use Rattle.archive_exports.specs.Reading.{OnOpen}
 use Rattle.day_commands.specs.Ends.{AreCut, AreWritten}
-use Rattle.day_commands.proofs.Finds.{all_written, in_days, keeps, none_written, part_written}
+use Rattle.day_commands.proofs.Finds.{all_written, in_days, none_written, part_written}
 use Rattle.day_commands.proofs.writing.write_found.Goals as goal
+use Rattle.list_laws.proofs.Outcomes.{keeps}
 
 pub returns-in-Ok-clause-written : goal.returns-in-Ok-clause-written
 returns-in-Ok-clause-written g c =

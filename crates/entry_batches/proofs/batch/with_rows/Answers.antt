@@ -1,8 +1,9 @@
 use Rattle.std.proofs.Common.{rules, ◌≡◌, ℕ, ◌+◌, ◌∷◌, drop, ap, sym, arith}
 use Rattle.std.proofs.lemmas.List.{drop_all}
 use Rattle.entry_batches.specs.Batches.{with_rows}
-use Rattle.entry_batches.proofs.Rows.{LeadsOn, item_here, turn_made, turn_refused, turns_over, view_same}
+use Rattle.entry_batches.proofs.Rows.{LeadsOn, turn_made, turn_refused, turns_over, view_same}
 use Rattle.entry_batches.proofs.batch.with_rows.Goals as goal
+use Rattle.list_laws.proofs.Lists.{item_here}
 
 pub rows-init : goal.rows-init
 rows-init g c = record {

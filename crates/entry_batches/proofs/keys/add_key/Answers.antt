@@ -4,8 +4,8 @@ use Rattle.std.specs.Str.{bytes_eq}
 use Rattle.std.specs.Prelude.{string_bytes}
 use Rattle.std.proofs.lemmas.Map.Text.{btree_set_updates_text}
 use Rattle.entry_batches.specs.Keys.{key_words}
-use Rattle.entry_batches.proofs.Keyed.{added}
 use Rattle.entry_batches.proofs.keys.add_key.Goals as goal
+use Rattle.list_laws.proofs.Bytes.{added}
 
 pub returns : goal.returns
 returns c = λ x. added x (key_words c.args.entry.now) (contains_text c.insert.new.self x)

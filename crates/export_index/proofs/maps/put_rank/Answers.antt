@@ -1,4 +1,4 @@
-use Rattle.export_index.proofs.KeyedMaps.{one_set}
+use Rattle.archive_state.proofs.Maps.{one_set}
 use Rattle.export_index.proofs.maps.put_rank.Goals as goal
 
 pub returns : goal.returns

@@ -6,8 +6,8 @@ use Rattle.std.proofs.lemmas.List.Sorted.{
   IsNonDecreasingBy-drop,
 }
 use Rattle.export_index.specs.declared.membership.Membership.{Membership}
-use Rattle.export_index.proofs.Arranged.{part_is, rest_is}
 use Rattle.export_index.proofs.membership.memberships_of.Goals as goal
+use Rattle.list_laws.proofs.Sorted.{part_is, rest_is}
 
 pub returns : goal.returns
 returns c = λ up.

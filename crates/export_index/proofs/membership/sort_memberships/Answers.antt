@@ -1,8 +1,8 @@
 use Rattle.std.proofs.Common.{rules}
 use Rattle.std.proofs.lemmas.List.Sorted.{IsNonDecreasingBy-from_sort_by_key, answers_always}
 use Rattle.export_index.specs.declared.membership.Membership.{Membership}
-use Rattle.export_index.proofs.Arranged.{stable_is}
 use Rattle.export_index.proofs.membership.sort_memberships.Goals as goal
+use Rattle.list_laws.proofs.Sorted.{stable_is}
 
 pub returns : goal.returns
 returns c = record {

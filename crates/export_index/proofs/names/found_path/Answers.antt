@@ -2,8 +2,9 @@ use Rattle.std.proofs.Common.{◌≡◌, ◌++◌, sym, ap, ◌∙◌, arith}
 use Rattle.std.specs.FinMap as map
 use Rattle.std.specs.Prelude.{Some, None, codes, string_bytes}
 use Rattle.export_index.specs.Paths.{path_at}
-use Rattle.export_index.proofs.Places.{so_far, starts, ends_here, lost_above, climbs}
+use Rattle.export_index.proofs.Places.{ends_here, lost_above, climbs}
 use Rattle.export_index.proofs.names.found_path.Goals as goal
+use Rattle.record_shapes.proofs.Climbed.{so_far, starts}
 
 pub above-init : goal.above-init
 above-init c = sym (starts (string_bytes c.new-path.result) (path_at (map.get c.args.index.now.names) c.args.place)

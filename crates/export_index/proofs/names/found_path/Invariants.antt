@@ -2,8 +2,8 @@ use Rattle.std.proofs.Common.{◌≡◌}
 use Rattle.std.specs.FinMap as map
 use Rattle.std.specs.Prelude.{string_bytes}
 use Rattle.export_index.specs.Paths.{path_at}
-use Rattle.export_index.proofs.Places.{so_far}
 use Rattle.export_index.proofs.names.found_path.Given as goal
+use Rattle.record_shapes.proofs.Climbed.{so_far}
 
 abbrev pub invariant-above : goal.invariant-above
 invariant-above l = path_at (map.get l.index.names) l.place

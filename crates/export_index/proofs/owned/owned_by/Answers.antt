@@ -6,8 +6,8 @@ use Rattle.std.proofs.lemmas.List.Sorted.{
   IsNonDecreasingBy-drop,
 }
 use Rattle.export_index.specs.declared.owned.Owned.{Owned}
-use Rattle.export_index.proofs.Arranged.{part_is, rest_is}
 use Rattle.export_index.proofs.owned.owned_by.Goals as goal
+use Rattle.list_laws.proofs.Sorted.{part_is, rest_is}
 
 pub returns : goal.returns
 returns c = λ up.

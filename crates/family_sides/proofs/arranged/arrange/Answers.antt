@@ -1,8 +1,8 @@
 use Rattle.std.proofs.Common.{rules}
 use Rattle.std.proofs.lemmas.List.Sorted.{IsNonDecreasingBy-from_sort_by_key, answers_always}
 use Rattle.family_sides.specs.declared.sides.Side.{Side}
-use Rattle.family_sides.proofs.Sorted.{stable_is}
 use Rattle.family_sides.proofs.arranged.arrange.Goals as goal
+use Rattle.list_laws.proofs.Sorted.{stable_is}
 
 pub returns : goal.returns
 returns c = record {

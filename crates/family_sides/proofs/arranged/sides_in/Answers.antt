@@ -6,8 +6,8 @@ use Rattle.std.proofs.lemmas.List.Sorted.{
   IsNonDecreasingBy-drop,
 }
 use Rattle.family_sides.specs.declared.sides.Side.{Side}
-use Rattle.family_sides.proofs.Sorted.{part_is, rest_is}
 use Rattle.family_sides.proofs.arranged.sides_in.Goals as goal
+use Rattle.list_laws.proofs.Sorted.{part_is, rest_is}
 
 pub returns : goal.returns
 returns c = λ up.

@@ -2,8 +2,9 @@ use Rattle.std.proofs.Common.{◌≡◌, ◌++◌, ap, sym, ◌∙◌, true}
 use Rattle.std.specs.Prelude.{bytes_eq, codes}
 use Rattle.stored_lines.specs.Tree.{label}
 use Rattle.file_roots.specs.Nodes.{tree_of, trees_of}
-use Rattle.family_sides.proofs.Below.{family_doubled, family_members, ok_more, on_ok_more}
+use Rattle.family_sides.proofs.Below.{family_doubled, family_members}
 use Rattle.family_sides.proofs.members.members_of.Goals as goal
+use Rattle.list_laws.proofs.Outcomes.{ok_more, on_ok_more}
 
 pub returns-then-is_family-clause-members : goal.returns-then-is_family-clause-members
 returns-then-is_family-clause-members c =

@@ -2,16 +2,16 @@ use Rattle.std.proofs.Common.{◌+◌, ◌≤◌, ◌++◌, drop, length, map, a
 use Rattle.file_roots.specs.Nodes.{tree_of, trees_at}
 use Rattle.family_sides.specs.Members.{membership_of}
 use Rattle.family_sides.specs.Views.{member_at}
-use Rattle.family_sides.proofs.Below.{none_left}
-use Rattle.family_sides.proofs.Fronts.{front_at}
 use Rattle.family_sides.proofs.Naming.{are_named, maps_step, said_step}
 use Rattle.family_sides.proofs.members.members_of_all.Goals as goal
+use Rattle.list_laws.proofs.Lists.{none_left}
+use Rattle.file_roots.proofs.Places.{trees_less}
 
 pub loop-node-preserved : goal.loop-node-preserved
 loop-node-preserved c =
     let ns = c.nodes-node-items.result.now in
     let i = c.loop-node.node-index in
-    let front = front_at ns i c.node-item.result c.loop-node-test.true c.node-item.is in
+    let front = trees_less ns i c.node-item.result c.loop-node-test.true c.node-item.is in
     record {
       members = ap (λ ms. map member_at ms ++ map (membership_of c.args.roots.now) (trees_at (drop (i + 1) ns)))
           c.in_ok-push.ensures.items

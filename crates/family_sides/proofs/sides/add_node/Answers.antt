@@ -3,8 +3,9 @@ use Rattle.std.specs.Prelude.{bytes_eq, codes}
 use Rattle.stored_lines.specs.Tree.{label}
 use Rattle.file_roots.specs.Nodes.{tree_of, trees_of}
 use Rattle.family_sides.specs.Views.{member_in}
-use Rattle.family_sides.proofs.Below.{on_ok_more, person_said, person_sides}
+use Rattle.family_sides.proofs.Below.{person_said, person_sides}
 use Rattle.family_sides.proofs.sides.add_node.Goals as goal
+use Rattle.list_laws.proofs.Outcomes.{on_ok_more}
 
 pub returns-then-is_person-clause-sides : goal.returns-then-is_person-clause-sides
 returns-then-is_person-clause-sides c =

@@ -1,15 +1,15 @@
 use Rattle.std.proofs.Common.{◌+◌, drop, refl, arith}
 use Rattle.file_roots.specs.Nodes.{tree_of, trees_at}
 use Rattle.family_sides.specs.Views.{member_in}
-use Rattle.family_sides.proofs.Fronts.{front_at}
 use Rattle.family_sides.proofs.Taking.{said_more, sides_more}
 use Rattle.family_sides.proofs.sides.sides_of_all.Goals as goal
+use Rattle.file_roots.proofs.Places.{trees_less}
 
 pub loop-node-preserved : goal.loop-node-preserved
 loop-node-preserved c =
     let ns = c.nodes-node-items.result.now in
     let i = c.loop-node.node-index in
-    let front = front_at ns i c.node-item.result c.loop-node-test.true c.node-item.is in
+    let front = trees_less ns i c.node-item.result c.loop-node-test.true c.node-item.is in
     record {
       count = omega (arith, c.loop-node.invariant.count);
       sides = sides_more c.args.roots.now (member_in c.args.members.now) (tree_of c.node-item.result.now)

@@ -1,7 +1,7 @@
 use Rattle.std.proofs.Common.{◌∙◌}
 use Rattle.file_roots.specs.Lines.{place_in}
-use Rattle.file_paths.proofs.Behind.{below_fits, below_lines}
 use Rattle.file_paths.proofs.reading.lines_below.Goals as goal
+use Rattle.file_roots.proofs.Below.{below_fits, below_lines}
 
 pub lines_of-requires : goal.lines_of-requires
 lines_of-requires c =

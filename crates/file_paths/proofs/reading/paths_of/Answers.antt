@@ -5,8 +5,9 @@ use Rattle.file_roots.specs.Views.{AreInFile}
 use Rattle.import_forest.specs.Positions.{path_behind}
 use Rattle.known_roots.specs.Views.{path_said}
 use Rattle.file_paths.specs.Views.{as_line}
-use Rattle.file_paths.proofs.Behind.{begun, ended, front_at, step}
+use Rattle.file_paths.proofs.Behind.{begun, ended, step}
 use Rattle.file_paths.proofs.reading.paths_of.Goals as goal
+use Rattle.file_roots.proofs.Places.{trees_less}
 
 pub loop-node-init : goal.loop-node-init
 loop-node-init c = record {
@@ -17,7 +18,7 @@ loop-node-init c = record {
 
 pub path_of-requires : goal.path_of-requires
 path_of-requires c =
-    let front = front_at c.nodes-node-items.result.now c.loop-node.node-index c.node-item.result c.loop-node-test.true
+    let front = trees_less c.nodes-node-items.result.now c.loop-node.node-index c.node-item.result c.loop-node-test.true
     c.node-item.is in
     (subst AreInFile front c.loop-node.invariant.in_file).0
 
@@ -25,7 +26,7 @@ pub loop-node-preserved : goal.loop-node-preserved
 loop-node-preserved c =
     let ns = c.nodes-node-items.result.now in
     let i = c.loop-node.node-index in
-    let front = front_at ns i c.node-item.result c.loop-node-test.true c.node-item.is in
+    let front = trees_less ns i c.node-item.result c.loop-node-test.true c.node-item.is in
     record {
       in_file = (subst AreInFile front c.loop-node.invariant.in_file).1;
       paths = step c.args.roots.now (tree_of c.node-item.result.now) (trees_at (drop (i + 1) ns)) (trees_at (drop i ns))

@@ -5,9 +5,9 @@ use Rattle.record_kinds.specs.Model as model
 use Rattle.record_shapes.specs.Shapes.{line}
 use Rattle.record_nodes.specs.Pages.{record_page}
 use Rattle.export_index.specs.Shown.{names_in}
-use Rattle.node_writing.proofs.Appending.{on_ok}
 use Rattle.gedcom_export.proofs.Parted.{simple_page}
 use Rattle.gedcom_export.proofs.page.push_entry_page.Goals as goal
+use Rattle.list_laws.proofs.Outcomes.{ok_then}
 
 pub returns : goal.returns
 returns c =
@@ -16,4 +16,4 @@ returns c =
     ∙ ap (λ (w : List ℕ). string_bytes c.args.text.now
     ++ record_page names c.args.number (line (codes "_REG") (value.Text w) []))
     (c.as_str.ensures ∙ ap (λ (e : model.Entry). entry_kind_word e.kind) c.entry.view_is) in
-    on_ok c.push_entry.result (λ e. simple_page names c.args.number _ _ _ _ _ _ head e) c.push_entry.ensures
+    ok_then c.push_entry.result (λ e. simple_page names c.args.number _ _ _ _ _ _ head e) c.push_entry.ensures

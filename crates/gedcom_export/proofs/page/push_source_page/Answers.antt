@@ -1,9 +1,9 @@
 use Rattle.export_index.specs.Shown.{names_in}
-use Rattle.node_writing.proofs.Appending.{on_ok}
 use Rattle.gedcom_export.proofs.Parted.{simple_page}
 use Rattle.gedcom_export.proofs.page.push_source_page.Goals as goal
+use Rattle.list_laws.proofs.Outcomes.{ok_then}
 
 pub returns : goal.returns
-returns c = on_ok c.push_source.result
+returns c = ok_then c.push_source.result
     (λ e. simple_page (names_in c.args.index.now) c.args.number _ _ _ _ _ _ c.in_ok-push_head.ensures e)
     c.push_source.ensures

@@ -3,8 +3,9 @@ use Rattle.gedcom_tree.specs.Text.{text}
 use Rattle.export_forest.specs.Forest.{exported}
 use Rattle.gedcom_export.specs.Pieces.{whole_text}
 use Rattle.gedcom_export.proofs.Households.{whole_same}
-use Rattle.gedcom_export.proofs.Moving.{begins_none, same_ends}
+use Rattle.gedcom_export.proofs.Moving.{same_ends}
 use Rattle.gedcom_export.proofs.writing.write_all.Goals as goal
+use Rattle.devices.proofs.Begun.{begins_none}
 
 pub returns-in-Ok-clause-written : goal.returns-in-Ok-clause-written
 returns-in-Ok-clause-written g c = λ honest.

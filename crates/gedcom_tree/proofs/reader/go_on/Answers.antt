@@ -5,9 +5,9 @@ use Rattle.gedcom_rules.specs.Faults.{max_line}
 use Rattle.gedcom_rules.specs.Views.{fault_view}
 use Rattle.gedcom_rules.proofs.Walks.{or_err}
 use Rattle.gedcom_tree.specs.Lines.{Leads, Refuses}
-use Rattle.gedcom_tree.proofs.Results.{on_ok}
 use Rattle.gedcom_tree.proofs.Behind.{leads_on, refuses_first, refuses_last, refuses_long, blames_open}
 use Rattle.gedcom_tree.proofs.reader.go_on.Goals as goal
+use Rattle.list_laws.proofs.Outcomes.{any_ok}
 
 pub returns-in-Err-clause-fault : goal.returns-in-Err-clause-fault
 returns-in-Err-clause-fault c =
@@ -27,7 +27,7 @@ returns-in-Err-add-clause-fault c =
 pub returns-in-Ok-add_all-clause-led : goal.returns-in-Ok-add_all-clause-led
 returns-in-Ok-add_all-clause-led c =
     let x = from_start c.args.is_start (c.args.rest.now.items ++ c.args.head.now) in
-    on_ok c.hold-in-Ok-add_all.result (leads_on c.args.lines.now c.add.new.self c.add_all.new.self (x ∷ [])
+    any_ok c.hold-in-Ok-add_all.result (leads_on c.args.lines.now c.add.new.self c.add_all.new.self (x ∷ [])
     (pieces c.args.bytes.now).ended
     (subst (λ (p : List ℕ). Leads c.args.lines.now c.add.new.self (p ∷ []))
     (c.deref.ensures.value ∙ c.in-Ok.ensures.held) c.in-Ok-add.ensures.led)

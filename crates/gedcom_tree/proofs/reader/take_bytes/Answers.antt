@@ -6,9 +6,9 @@ use Rattle.gedcom_rules.specs.Views.{fault_view}
 use Rattle.gedcom_rules.proofs.Walks.{or_err}
 use Rattle.gedcom_rules.proofs.Resumed.{piece-append, start_piece, piece_open, resumed_first}
 use Rattle.gedcom_tree.specs.Lines.{Leads}
-use Rattle.gedcom_tree.proofs.Results.{on_ok, ok_then}
 use Rattle.gedcom_tree.proofs.Behind.{leads_none, blames_open}
 use Rattle.gedcom_tree.proofs.reader.take_bytes.Goals as goal
+use Rattle.list_laws.proofs.Outcomes.{any_ok, ok_then}
 
 pub go_on-requires-clause-piece : goal.go_on-requires-clause-piece
 go_on-requires-clause-piece c = start_piece c.args.is_start (c.args.rest.now.items ++ c.in-Some.head.now)
@@ -20,7 +20,7 @@ returns-in-None-clause-led c =
     let o = piece_open (from_start c.args.is_start b)
     (start_piece c.args.is_start b
     (piece-append c.args.rest.now.items c.args.bytes.now c.requires.piece c.in-None.ensures.piece)) in
-    on_ok c.hold.result (subst (Leads c.args.lines.now c.args.lines.now) (sym o.0)
+    any_ok c.hold.result (subst (Leads c.args.lines.now c.args.lines.now) (sym o.0)
     (leads_none c.args.lines.now c.requires.sound))
 
 pub returns-in-None-clause-open_ : goal.returns-in-None-clause-open_

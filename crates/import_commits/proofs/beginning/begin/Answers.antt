@@ -1,6 +1,6 @@
 use Rattle.std.proofs.Common.{inl, inr}
-use Rattle.import_commits.proofs.Settling.{if_err}
 use Rattle.import_commits.proofs.beginning.begin.Goals as goal
+use Rattle.list_laws.proofs.Outcomes.{if_err}
 
 pub returns-in_err-batch-clause-crash : goal.returns-in_err-batch-clause-crash
 returns-in_err-batch-clause-crash g c clean rows was t l =

@@ -1,9 +1,9 @@
 use Rattle.std.proofs.Common.{rules}
 use Rattle.std.proofs.lemmas.List.Sorted.{IsNonDecreasingBy-from_sort_by_key, answers_always}
 use Rattle.receipts.specs.declared.report.ReportLine.{ReportLine}
-use Rattle.family_sides.proofs.Sorted.{stable_is}
 use Rattle.interchange.proofs.Ordered.{arranged_is}
 use Rattle.interchange.proofs.reports.put_in_order.Goals as goal
+use Rattle.list_laws.proofs.Sorted.{stable_is}
 
 pub returns : goal.returns
 returns c =

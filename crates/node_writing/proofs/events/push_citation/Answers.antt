@@ -1,9 +1,10 @@
 use Rattle.std.proofs.Common.{◌∙◌, ◌+◌, sym}
-use Rattle.node_writing.proofs.Appending.{on_ok, then_below, then_page}
+use Rattle.node_writing.proofs.Appending.{then_below, then_page}
 use Rattle.node_writing.proofs.events.push_citation.Goals as goal
+use Rattle.list_laws.proofs.Outcomes.{ok_then}
 
 pub returns : goal.returns
-returns g c = rw (sym c.citation.view_is, sym c.deref.ensures.value) (on_ok c.push_carried.result (λ e. e
+returns g c = rw (sym c.citation.view_is, sym c.deref.ensures.value) (ok_then c.push_carried.result (λ e. e
     ∙ then_page (g.N.Named.names c.args.index.now) (c.args.level + 1) _ _ _ _ c.in_ok-push_quality.ensures
     ∙ then_page (g.N.Named.names c.args.index.now) (c.args.level + 1) _ _ _ _ c.in_ok-push_maybe.ensures
     ∙ then_below (g.N.Named.names c.args.index.now) c.args.level _ _ _ _ _ c.in_ok-push_pointer.ensures)

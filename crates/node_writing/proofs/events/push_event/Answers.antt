@@ -1,6 +1,7 @@
 use Rattle.std.proofs.Common.{◌∙◌, sym}
-use Rattle.node_writing.proofs.Appending.{on_ok, then_below, then_page}
+use Rattle.node_writing.proofs.Appending.{then_below, then_page}
 use Rattle.node_writing.proofs.events.push_event.Goals as goal
+use Rattle.list_laws.proofs.Outcomes.{ok_then}
 
 pub returns : goal.returns
 returns g c = rw (
@@ -8,7 +9,7 @@ returns g c = rw (
   sym c.as_str.ensures.same,
   sym c.as_str-2.ensures.same,
   sym c.deref.ensures.value,
-) (on_ok c.push_participants.result (λ e. e
+) (ok_then c.push_participants.result (λ e. e
     ∙ then_page (g.N.Named.names c.args.index.now) 2 _ _ _ _ c.in_ok-push_event_place.ensures
     ∙ then_page (g.N.Named.names c.args.index.now) 2 _ _ _ _ c.in_ok-push_date.ensures
     ∙ then_below (g.N.Named.names c.args.index.now) 1 _ _ _ _ _ c.in_ok-push_words.ensures)

@@ -1,6 +1,7 @@
 use Rattle.std.proofs.Common.{◌∙◌, sym}
-use Rattle.node_writing.proofs.Appending.{on_ok, then_page}
+use Rattle.node_writing.proofs.Appending.{then_page}
 use Rattle.node_writing.proofs.registers.push_entry.Goals as goal
+use Rattle.list_laws.proofs.Outcomes.{ok_then}
 
 pub returns : goal.returns
 returns g c = rw (
@@ -8,7 +9,7 @@ returns g c = rw (
   sym c.as_str.ensures.same,
   sym c.as_str-2.ensures.same,
   sym c.deref.ensures.value,
-) (on_ok c.push_mentions.result (λ e. e
+) (ok_then c.push_mentions.result (λ e. e
     ∙ then_page (g.N.Named.names c.args.index.now) 1 _ _ _ _ c.in_ok-push_words-2.ensures
     ∙ then_page (g.N.Named.names c.args.index.now) 1 _ _ _ _ c.in_ok-push_entry_place.ensures
     ∙ then_page (g.N.Named.names c.args.index.now) 1 _ _ _ _ c.in_ok-push_date.ensures

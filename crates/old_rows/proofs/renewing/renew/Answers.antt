@@ -1,8 +1,9 @@
 use Rattle.std.proofs.Common.{inl, inr, sym}
 use Rattle.std.proofs.lemmas.Result.{err_from_is_err_and}
 use Rattle.sqlite.specs.Held.{state}
-use Rattle.old_rows.proofs.Settling.{if_err, left, no_spans}
+use Rattle.old_rows.proofs.Settling.{left, no_spans}
 use Rattle.old_rows.proofs.renewing.renew.Goals as goal
+use Rattle.list_laws.proofs.Outcomes.{if_err}
 
 pub returns-in_err-read-clause-undone : goal.returns-in_err-read-clause-undone
 returns-in_err-read-clause-undone g c clean =

@@ -3,8 +3,8 @@ use Rattle.std.proofs.Common.{drop, ap, ◌∙◌, ◌+◌}
 use Rattle.store_tables.proofs.Loops.{item_left}
 use Rattle.old_rows.specs.Renewing.{with_record_anew, with_records_anew}
 use Rattle.old_rows.proofs.Rest.{record_keeps}
-use Rattle.old_rows.proofs.Steps.{goes_on}
 use Rattle.old_rows.proofs.writing.write_records.Goals as goal
+use Rattle.store_rows.proofs.Dated.{goes_on}
 
 pub records-preserved : goal.records-preserved
 records-preserved g c =

@@ -2,8 +2,8 @@
 use Rattle.std.proofs.Common.{◌≡◌, drop}
 use Rattle.sqlite.specs.Held.{state}
 use Rattle.old_rows.specs.Renewing.{with_records_anew}
-use Rattle.old_rows.proofs.Steps.{IsOnItsWay}
 use Rattle.old_rows.proofs.writing.write_records.Given as goal
+use Rattle.store_rows.proofs.Dated.{IsOnItsWay}
 
 abbrev pub invariant-records : goal.invariant-records
 invariant-records g l =

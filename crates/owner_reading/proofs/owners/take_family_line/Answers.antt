@@ -5,8 +5,9 @@ use Rattle.record_kinds.specs.Model as model
 use Rattle.record_shapes.specs.Forms.{number_of}
 use Rattle.record_shapes.specs.Fields.{a_citation, a_member, an_event, family_field, is_same}
 use Rattle.owner_reading.specs.Owners.{family_with}
-use Rattle.owner_reading.proofs.Families.{family_carried, family_joined, not_seen, ok_then}
+use Rattle.owner_reading.proofs.Families.{family_carried, family_joined, ok_then}
 use Rattle.owner_reading.proofs.owners.take_family_line.Goals as goal
+use Rattle.list_laws.proofs.Booleans.{not_true}
 
 pub returns-then-not-is_same : goal.returns-then-not-is_same
 returns-then-not-is_same c = λ known ts e owned.
@@ -34,5 +35,5 @@ returns c = ok_then c.take_member.result c.take_member.ensures (λ made known ts
     ap (λ (f : model.Family). family_with known after f ts) made
     ∙ family_joined known before c.args.family.now c.args.line after
     (λ n. c.in_ok-is_new.ensures.seen n ∙ ap (λ k. k == n || before n) named)
-    member (ap before (sym named) ∙ not_seen (before c.number_of.result)
+    member (ap before (sym named) ∙ not_true (before c.number_of.result)
     (sym c.in_ok-is_new.ensures.new ∙ c.if-not-branch.false)) ts)

@@ -1,13 +1,14 @@
 use Rattle.std.proofs.Common.{◌≡◌, refl, rules}
-use Rattle.place_paths.proofs.PartByPart.{goes_on, spaces_at_ends, no_space_behind, last_part, same_no}
+use Rattle.place_paths.proofs.PartByPart.{goes_on, spaces_at_ends, no_space_behind, last_part}
 use Rattle.place_paths.proofs.normal.is_normal.Goals as goal
+use Rattle.list_laws.proofs.Booleans.{never}
 
 pub returns-then-not-is_trimmed : goal.returns-then-not-is_trimmed
 returns-then-not-is_trimmed c = (
-  λ t. absurd (same_no t),
+  λ t. absurd (never t),
   λ n. absurd (spaces_at_ends c.loop-part.rest.now c.in-Some.part.now c.in-Some.after.now c.in-Some.ensures.0
       c.in-Some.ensures.1
-      (λ same. same_no (c.if-not-is_trimmed.ensures.1 same)) (c.loop-part.invariant.1.0 n)),
+      (λ same. never (c.if-not-is_trimmed.ensures.1 same)) (c.loop-part.invariant.1.0 n)),
 )
 
 pub loop-part-preserved : goal.loop-part-preserved
@@ -18,7 +19,7 @@ loop-part-preserved c =
 
 pub returns-in-None : goal.returns-in-None
 returns-in-None c = (
-  λ t. absurd (same_no t),
+  λ t. absurd (never t),
   λ n. absurd (no_space_behind c.loop-part.rest.now c.in-Some.part.now c.in-Some.after.now c.in-Some.ensures.0
       c.in-Some.ensures.1
       (c.if-not-is_trimmed.ensures.0 refl) c.in-None.ensures (c.loop-part.invariant.1.0 n)),

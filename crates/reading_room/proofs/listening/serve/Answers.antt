@@ -1,6 +1,6 @@
 use Rattle.std.proofs.Common.{rules}
-use Rattle.reading_room.proofs.Begun.{all_begins}
 use Rattle.reading_room.proofs.listening.serve.Goals as goal
+use Rattle.devices.proofs.Begun.{all_begins}
 
 pub returns-in-Ok-say_listening-clause-err : goal.returns-in-Ok-say_listening-clause-err
 returns-in-Ok-say_listening-clause-err g c =

@@ -1,8 +1,9 @@
 use Rattle.std.proofs.Common.{◌+◌, ◌++◌, ap, drop, refl, subst, sym, arith}
 use Rattle.file_roots.specs.Nodes.{tree_of, trees_at}
 use Rattle.file_roots.specs.Views.{AreInFile}
-use Rattle.root_drafts.proofs.Nodes.{begun, draft_end, draft_step, front_at, here, report_end, report_step, said_of}
+use Rattle.root_drafts.proofs.Nodes.{begun, draft_end, draft_step, here, report_end, report_step, said_of}
 use Rattle.root_drafts.proofs.drafts.drafts_of.Goals as goal
+use Rattle.file_roots.proofs.Places.{trees_less}
 
 pub loop-node-init : goal.loop-node-init
 loop-node-init c = record {
@@ -15,7 +16,7 @@ loop-node-init c = record {
 
 pub draft_of_root-requires-clause-in_file : goal.draft_of_root-requires-clause-in_file
 draft_of_root-requires-clause-in_file c =
-    let front = front_at c.nodes-node-items.result.now c.loop-node.node-index c.node-item.result c.loop-node-test.true
+    let front = trees_less c.nodes-node-items.result.now c.loop-node.node-index c.node-item.result c.loop-node-test.true
     c.node-item.is in
     (subst AreInFile front c.loop-node.invariant.in_file).0
 
@@ -28,7 +29,7 @@ pub loop-node-preserved : goal.loop-node-preserved
 loop-node-preserved c =
     let ns = c.nodes-node-items.result.now in
     let i = c.loop-node.node-index in
-    let front = front_at ns i c.node-item.result c.loop-node-test.true c.node-item.is in
+    let front = trees_less ns i c.node-item.result c.loop-node-test.true c.node-item.is in
     record {
       count = omega (arith, c.loop-node.invariant.count);
       in_file = (subst AreInFile front c.loop-node.invariant.in_file).1;

@@ -2,8 +2,9 @@ use Rattle.std.proofs.Common.{◌∙◌}
 use Rattle.stored_lines.specs.Tree.{forest_of}
 use Rattle.file_roots.specs.Lines.{place_in}
 use Rattle.file_roots.specs.Nodes.{trees_of}
-use Rattle.root_drafts.proofs.Nodes.{below_fits, line_is, lines_low}
+use Rattle.root_drafts.proofs.Nodes.{line_is, lines_low}
 use Rattle.root_drafts.proofs.lines.line_of.Goals as goal
+use Rattle.file_roots.proofs.Below.{below_fits}
 
 pub invariant_of-result : goal.invariant_of-result
 invariant_of-result c = lines_low (place_in c.args.roots.now) (forest_of (trees_of c.deref.result.now))

@@ -4,8 +4,8 @@ use Rattle.std.specs.Str.{bytes_eq}
 use Rattle.std.specs.Prelude.{string_bytes}
 use Rattle.std.proofs.lemmas.Map.Text.{btree_set_updates_text}
 use Rattle.second_entries.specs.Keys.{key_words}
-use Rattle.second_entries.proofs.Keyed.{added}
 use Rattle.second_entries.proofs.keys.see.Goals as goal
+use Rattle.list_laws.proofs.Bytes.{added}
 
 pub returns-clause-keys : goal.returns-clause-keys
 returns-clause-keys c = λ x. added x (key_words c.args.entry.now) (contains_text c.insert.new.self x)

@@ -1,8 +1,8 @@
 use Rattle.std.proofs.Common.{rules, ◌≡◌, OnOk, ◌++◌, ◌∷◌, [], string_bytes, ◌∙◌}
 use Rattle.record_text.proofs.Cuts.{turn, last_turn}
 use Rattle.sheet_lines.specs.Words as words
-use Rattle.sheet_lines.proofs.Appending.{on_ok}
 use Rattle.sheet_lines.proofs.words.push_printed.Goals as goal
+use Rattle.list_laws.proofs.Outcomes.{ok_then}
 
 pub front-preserved : goal.front-preserved
 front-preserved c = (
@@ -17,5 +17,5 @@ pub returns : goal.returns
 returns c =
     let e : OnOk c.push_str-2.result (string_bytes c.push_str-2.new.self ≡ string_bytes c.front.out ++ c.front.rest.now)
     = search rules in
-    on_ok c.push_str-2.result (λ e. e ∙ last_turn 10 (32 ∷ []) (string_bytes c.front.out) c.front.rest.now
+    ok_then c.push_str-2.result (λ e. e ∙ last_turn 10 (32 ∷ []) (string_bytes c.front.out) c.front.rest.now
     (string_bytes c.args.out.now ++ words.printed c.args.text.now) c.in_default.ensures c.front.invariant.1) e

@@ -1,12 +1,12 @@
 use Rattle.std.proofs.Common.{◌++◌, ◌∙◌, ap, List, ℕ, string_bytes}
 use Rattle.std.specs.FinMap as map
-use Rattle.node_writing.proofs.Appending.{on_ok}
 use Rattle.sheets.specs.Owned as texts
 use Rattle.sheets.proofs.Appending.{owned_text}
 use Rattle.sheets.proofs.events.push_citations_of.Goals as goal
+use Rattle.list_laws.proofs.Outcomes.{ok_then}
 
 pub returns : goal.returns
-returns c = on_ok c.push_citations.result (λ e. e ∙ ap (λ (t : List ℕ). string_bytes c.args.out.now ++ t)
+returns c = ok_then c.push_citations.result (λ e. e ∙ ap (λ (t : List ℕ). string_bytes c.args.out.now ++ t)
     (owned_text (λ k. texts.citation_in c.args.word.now (map.get c.args.state.now.records k)) c.args.owner
     c.citations_of.result.now c.args.index.now.citations (c.citations_of.ensures c.requires)))
     c.push_citations.ensures

@@ -5,8 +5,9 @@ use Rattle.gedcom_export.specs.Ends.{IsWhole}
 use Rattle.archive_exports.specs.Exporting.{export_text}
 use Rattle.archive_exports.proofs.Named.{not_blamed}
 use Rattle.shown_archives.specs.Writing.{IsCut, IsNotBegun}
-use Rattle.shown_archives.proofs.Masked.{all_of_shown, keeps, none_of_shown, not_begun, of_day}
+use Rattle.shown_archives.proofs.Masked.{all_of_shown, none_of_shown, not_begun, of_day}
 use Rattle.shown_archives.proofs.publishing.write_named.Goals as goal
+use Rattle.list_laws.proofs.Outcomes.{keeps}
 
 pub returns-in-Ok-clause-written : goal.returns-in-Ok-clause-written
 returns-in-Ok-clause-written g c =

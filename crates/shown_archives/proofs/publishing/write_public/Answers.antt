@@ -5,8 +5,9 @@ use Rattle.sqlite.specs.Held.{state}
 use Rattle.archive_exports.specs.Reading.{OnOpen}
 use Rattle.archive_exports.proofs.Named.{not_blamed, part_of_named, whole_of_named}
 use Rattle.shown_archives.specs.Writing.{IsPartPublished, IsPublished}
-use Rattle.shown_archives.proofs.Masked.{keeps, not_begun}
+use Rattle.shown_archives.proofs.Masked.{not_begun}
 use Rattle.shown_archives.proofs.publishing.write_public.Goals as goal
+use Rattle.list_laws.proofs.Outcomes.{keeps}
 
 pub returns-in-Ok-clause-written : goal.returns-in-Ok-clause-written
 returns-in-Ok-clause-written g c =

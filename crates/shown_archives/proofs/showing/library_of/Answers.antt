@@ -5,8 +5,10 @@ use Rattle.archive_state.specs.Content.{Content}
 use Rattle.store.specs.Archives.{HasArchive}
 use Rattle.archive_exports.specs.Reading.{OnOpen}
 use Rattle.shown_archives.specs.Showing.{IsShown}
-use Rattle.shown_archives.proofs.Masked.{of_day, same_of, want_fails, want_stops}
+use Rattle.shown_archives.proofs.Masked.{of_day, same_of}
 use Rattle.shown_archives.proofs.showing.library_of.Goals as goal
+use Rattle.archive_exports.proofs.Stopped.{want_fails}
+use Rattle.archive_view.proofs.Stops.{want_stops}
 
 pub returns-in-Ok-clause-shown : goal.returns-in-Ok-clause-shown
 returns-in-Ok-clause-shown g c =

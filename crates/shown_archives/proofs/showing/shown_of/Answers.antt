@@ -2,8 +2,10 @@ use Rattle.std.proofs.Common.{◌≡◌, w32}
 use Rattle.std.proofs.lemmas.Int.{to_z-of_z}
 use Rattle.sqlite.specs.Held.{state}
 use Rattle.archive_exports.proofs.Asked.{unread_as}
-use Rattle.shown_archives.proofs.Masked.{read, shown_as, want_fails, want_stops}
+use Rattle.shown_archives.proofs.Masked.{read, shown_as}
 use Rattle.shown_archives.proofs.showing.shown_of.Goals as goal
+use Rattle.archive_exports.proofs.Stopped.{want_fails}
+use Rattle.archive_view.proofs.Stops.{want_stops}
 
 pub returns-in-Ok-clause-shown : goal.returns-in-Ok-clause-shown
 returns-in-Ok-clause-shown g c =

@@ -4,8 +4,9 @@ use Rattle.sqlite.specs.Held.{state}
 use Rattle.archive_exports.proofs.Named.{not_blamed}
 use Rattle.shown_archives.specs.Sheets.{sheet_text}
 use Rattle.shown_archives.specs.Writing.{GotNoText, GotText, IsNotBegun}
-use Rattle.shown_archives.proofs.Masked.{all_of_shown, keeps, none_of_shown, not_begun, of_day}
+use Rattle.shown_archives.proofs.Masked.{all_of_shown, none_of_shown, not_begun, of_day}
 use Rattle.shown_archives.proofs.writing.write_sheet.Goals as goal
+use Rattle.list_laws.proofs.Outcomes.{keeps}
 
 pub returns-in-Ok-clause-written : goal.returns-in-Ok-clause-written
 returns-in-Ok-clause-written g c =

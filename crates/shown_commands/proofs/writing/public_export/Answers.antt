@@ -6,8 +6,8 @@ use Rattle.devices.specs.Devices.{Rose}
 use Rattle.archive_commands.proofs.Exported.{all_written, part_written}
 use Rattle.shown_archives.specs.Writing.{IsPartPublished, IsPublished}
 use Rattle.shown_commands.specs.Ends.{Published, Unpublished}
-use Rattle.shown_archives.proofs.Masked.{keeps}
 use Rattle.shown_commands.proofs.writing.public_export.Goals as goal
+use Rattle.list_laws.proofs.Outcomes.{keeps}
 
 pub returns-in-Ok-clause-published : goal.returns-in-Ok-clause-published
 returns-in-Ok-clause-published g c =

@@ -6,8 +6,8 @@ use Rattle.devices.specs.Devices.{Rose}
 use Rattle.archive_commands.proofs.Exported.{all_written, part_written}
 use Rattle.shown_archives.specs.Writing.{IsSheetRefused, IsSheetWritten}
 use Rattle.shown_commands.specs.Ends.{SheetTold, SheetUntold}
-use Rattle.shown_archives.proofs.Masked.{keeps}
 use Rattle.shown_commands.proofs.writing.sheet.Goals as goal
+use Rattle.list_laws.proofs.Outcomes.{keeps}
 
 pub returns-in-Ok-clause-told : goal.returns-in-Ok-clause-told
 returns-in-Ok-clause-told g c =

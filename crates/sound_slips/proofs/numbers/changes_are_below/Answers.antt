@@ -1,6 +1,6 @@
 use Rattle.archive_state.specs.Sound.{IsNumber, change_names}
-use Rattle.sound_slips.proofs.Loops.{each_flat, each_of_flat}
 use Rattle.sound_slips.proofs.numbers.changes_are_below.Goals as goal
+use Rattle.record_shapes.proofs.Each.{each_flat, each_of_flat}
 
 pub returns : goal.returns
 returns c = (

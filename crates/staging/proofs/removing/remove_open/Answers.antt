@@ -14,9 +14,9 @@ use Rattle.staging.proofs.Opening.{
   takes_out,
   touches_nothing,
 }
-use Rattle.staging.proofs.Seen.{seen_same}
 use Rattle.staging.proofs.removing.remove_open.Goals as goal
 use Rattle.staging.proofs.removing.remove_open.Goals.{then-batch+in_ok-remove_found, else-batch}
+use Rattle.staged_rows.proofs.Alike.{seen_same}
 
 pub returns-in_err-batches-clause-crash : goal.returns-in_err-batches-clause-crash
 returns-in_err-batches-clause-crash g c clean rows was has =

@@ -1,8 +1,9 @@
 use Rattle.std.proofs.Common.{◌∙◌, ap, inr}
 use Rattle.sqlite.specs.Held.{state}
 use Rattle.store_tables.specs.Looking.{version_number}
-use Rattle.store.proofs.Adopted.{any_ok, err_then, first_taken, not_recognised, second_taken}
+use Rattle.store.proofs.Adopted.{err_then, first_taken, not_recognised, second_taken}
 use Rattle.store.proofs.adopting.take_up.Goals as goal
+use Rattle.list_laws.proofs.Outcomes.{any_ok}
 
 pub returns-in-Ok-Second-clause-takes : goal.returns-in-Ok-Second-clause-takes
 returns-in-Ok-Second-clause-takes g c clean =

@@ -2,8 +2,9 @@ use Rattle.std.proofs.Common.{refl}
 use Rattle.std.proofs.lemmas.Result.{IfErr-weaker}
 use Rattle.sqlite.specs.Held.{state}
 use Rattle.store_tables.proofs.Queries.{only_committed}
-use Rattle.store.proofs.Viewed.{if_done, kept_of, none_is_bad, shown_of}
+use Rattle.store.proofs.Viewed.{kept_of, none_is_bad, shown_of}
 use Rattle.store.proofs.deciding.decide_on.Goals as goal
+use Rattle.list_laws.proofs.Outcomes.{any_ok}
 
 pub returns-then-archive-clause-crash : goal.returns-then-archive-clause-crash
 returns-then-archive-clause-crash g c clean rows content was means shallow =
@@ -61,7 +62,7 @@ returns-clause-same g c clean rows content was means shallow =
     let shown = shown_of old archive.is_lost kept was
     (λ t l. only_committed old rows t was (g.met.S.Store.settled archive.conn.store t was.is_open l)) in
     let still = ((c.decide-decided.ensures.decides clean).1 kept shown).0 in
-    if_done c.decide-decided.result (still.settled c.if-archive.false, still.none c.if-archive.false)
+    any_ok c.decide-decided.result (still.settled c.if-archive.false, still.none c.if-archive.false)
 
 pub returns-clause-placed : goal.returns-clause-placed
 returns-clause-placed g c =

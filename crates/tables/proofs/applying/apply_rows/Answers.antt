@@ -8,18 +8,10 @@ use Rattle.record_text.specs.declared.refusal.RefusalKind.TheVariants as refusal
 use Rattle.tables.specs.Answers.{Served}
 use Rattle.tables.specs.RowByRow.{ServesAll, ServesUpTo}
 use Rattle.tables.proofs.InTurn.{InTurn, turn_more, turn_none, up_to, up_to_last}
-use Rattle.tables.proofs.OnTheWay.{
-  OnTheWayWith,
-  all_applied,
-  at_start,
-  ended_row,
-  ended_same,
-  ended_unread,
-  one_more,
-  performs_none,
-}
+use Rattle.tables.proofs.OnTheWay.{OnTheWayWith, all_applied, at_start, ended_row, ended_same, ended_unread, one_more}
 use Rattle.batch_reading.proofs.Taking.{took_all, took_more}
 use Rattle.tables.proofs.applying.apply_rows.Goals as goal
+use Rattle.store.proofs.Running.{performs_none}
 
 pub rows-init : goal.rows-init
 rows-init g c =

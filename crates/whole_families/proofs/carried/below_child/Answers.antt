@@ -4,8 +4,10 @@ use Rattle.std.specs.List.{slice_get}
 use Rattle.std.proofs.lemmas.Bool.{ltb-true}
 use Rattle.std.proofs.lemmas.Option.{slice_get_past, slice_get_read}
 use Rattle.family_sides.specs.Lookups.{lines_of}
-use Rattle.whole_families.proofs.Nodes.{below_is, child_at, child_in_file, ok_more}
+use Rattle.whole_families.proofs.Nodes.{child_at, child_in_file}
 use Rattle.whole_families.proofs.carried.below_child.Goals as goal
+use Rattle.file_roots.proofs.Below.{below_is}
+use Rattle.list_laws.proofs.Outcomes.{ok_more}
 
 pub lines_below-requires : goal.lines_below-requires
 lines_below-requires c =

@@ -5,8 +5,9 @@ use Rattle.std.proofs.lemmas.Bool.{ltb-true}
 use Rattle.std.proofs.lemmas.Option.{slice_get_past, slice_get_read}
 use Rattle.file_roots.specs.Views.{AreInFile}
 use Rattle.family_sides.specs.Lookups.{lines_of, nodes_below}
-use Rattle.whole_families.proofs.Nodes.{node_at_position, node_in_file, ok_more}
+use Rattle.whole_families.proofs.Nodes.{node_at_position, node_in_file}
 use Rattle.whole_families.proofs.carried.below_line.Goals as goal
+use Rattle.list_laws.proofs.Outcomes.{ok_more}
 
 pub below_child-requires : goal.below_child-requires
 below_child-requires c =

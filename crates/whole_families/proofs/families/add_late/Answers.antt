@@ -1,7 +1,8 @@
 use Rattle.std.proofs.Common.{drop, ◌+◌}
 use Rattle.whole_families.specs.Carried.{line_kept}
-use Rattle.whole_families.proofs.Loops.{few_front, front_at, late_end, late_step, none_left, side_at}
+use Rattle.whole_families.proofs.Loops.{few_front, front_at, late_end, late_step, side_at}
 use Rattle.whole_families.proofs.families.add_late.Goals as goal
+use Rattle.list_laws.proofs.Lists.{none_left}
 
 pub add_if_late-requires : goal.add_if_late-requires
 add_if_late-requires c =

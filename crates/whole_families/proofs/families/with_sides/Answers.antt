@@ -3,10 +3,10 @@ use Rattle.std.specs.Vec.{with_items}
 use Rattle.record_kinds.specs.Model as model
 use Rattle.whole_families.specs.Carried.{child_told, line_kept, partner_told, AreFew}
 use Rattle.whole_families.proofs.Loops.{refilled}
-use Rattle.whole_families.proofs.Nodes.{on_ok_more}
 use Rattle.whole_families.proofs.Sides.{few_sides, sides_of}
 use Rattle.whole_families.proofs.Whole.{whole_told}
 use Rattle.whole_families.proofs.families.with_sides.Goals as goal
+use Rattle.list_laws.proofs.Outcomes.{on_ok_more}
 
 pub add_late-requires : goal.add_late-requires
 add_late-requires c =

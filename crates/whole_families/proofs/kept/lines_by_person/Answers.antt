@@ -1,7 +1,8 @@
 use Rattle.std.proofs.Common.{drop, ◌+◌, arith}
 use Rattle.whole_families.specs.Carried.{line_among, line_kept}
-use Rattle.whole_families.proofs.Loops.{front_at, line_end, line_step, none_left, side_at}
+use Rattle.whole_families.proofs.Loops.{front_at, line_end, line_step, side_at}
 use Rattle.whole_families.proofs.kept.lines_by_person.Goals as goal
+use Rattle.list_laws.proofs.Lists.{none_left}
 
 pub loop-side-preserved : goal.loop-side-preserved
 loop-side-preserved c =

@@ -2,10 +2,10 @@ use Rattle.std.proofs.Common.{ℕ, ◌∷◌, subst}
 use Rattle.std.specs.Prelude.{IsTrue}
 use Rattle.archive_state.specs.Content.{Content, Records}
 use Rattle.archive_state.specs.Entries.{IsEntryAt}
-use Rattle.archive_state.proofs.Climbing.{same_false}
 use Rattle.archive_state.proofs.Keyed.{entry_there, entry_is, entry_is_not}
 use Rattle.archive_state.proofs.Lowest.{Ahead, ahead_of_all, ahead_first, ahead_past, ahead_found, ahead_none}
 use Rattle.archive_state.proofs.state.State.entry_at.Goals as goal
+use Rattle.list_laws.proofs.Booleans.{never}
 
 pub records-init : goal.records-init
 records-init c =
@@ -33,7 +33,7 @@ records-preserved c =
     (Ahead m P) c.in-Some.ensures.steps c.records.invariant in
     ahead_past m P (c.in-Some.number.now, c.in-Some.record.now) c.next.new.self here
     (entry_is_not m _ _ _ _ c.in-Some.number.now c.in-Some.record.now (ahead_first m P _ _ here)
-    (λ e. same_false (subst IsTrue c.if-is_entry_of.false (c.is_entry_of.ensures.1 e))))
+    (λ e. never (subst IsTrue c.if-is_entry_of.false (c.is_entry_of.ensures.1 e))))
 
 pub returns : goal.returns
 returns c =

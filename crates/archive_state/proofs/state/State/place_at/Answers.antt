@@ -2,9 +2,10 @@ use Rattle.std.proofs.Common.{ℕ, sym, subst, ◌∙◌}
 use Rattle.std.specs.Prelude.{IsTrue}
 use Rattle.archive_state.specs.Content.{Content, Records}
 use Rattle.archive_state.specs.Paths.{HasPath}
-use Rattle.archive_state.proofs.Climbing.{same_false, stands_there}
+use Rattle.archive_state.proofs.Climbing.{stands_there}
 use Rattle.archive_state.proofs.Lowest.{Ahead, ahead_of_all, ahead_found, ahead_none, ahead_past}
 use Rattle.archive_state.proofs.state.State.place_at.Goals as goal
+use Rattle.list_laws.proofs.Booleans.{never}
 
 pub records-init : goal.records-init
 records-init c =
@@ -35,6 +36,6 @@ records-preserved c =
     let P : ℕ → Type 0 = λ n. HasPath m n c.args.path.now in
     ahead_past m P (c.in-Some.at.now, c.in-Some._record.now) c.next.new.self
     (subst (Ahead m P) c.in-Some.ensures.steps c.records.invariant)
-    (λ p. same_false (subst IsTrue c.if-has_path.false
+    (λ p. never (subst IsTrue c.if-has_path.false
     (c.has_path.ensures.1
     (subst (HasPath m c.in-Some.at.now) (sym (c.as_bytes.ensures.value ∙ c.as_str.ensures.same)) p))))

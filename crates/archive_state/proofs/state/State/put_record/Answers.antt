@@ -2,8 +2,9 @@ use Rattle.std.proofs.Common.{sym, ap, ◌∙◌}
 use Rattle.std.specs.FinMap as map
 use Rattle.std.specs.FinMap.{from_entries}
 use Rattle.archive_state.specs.Content.{Content, receipts_of}
-use Rattle.archive_state.proofs.Maps.{get_lookup, one_set, on_err}
+use Rattle.archive_state.proofs.Maps.{get_lookup, one_set}
 use Rattle.archive_state.proofs.state.State.put_record.Goals as goal
+use Rattle.list_laws.proofs.Outcomes.{on_err}
 
 pub returns-clause-ok : goal.returns-clause-ok
 returns-clause-ok c =

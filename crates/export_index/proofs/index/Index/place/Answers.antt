@@ -1,7 +1,7 @@
 use Rattle.std.proofs.Common.{sym, ap, ◌∙◌}
 use Rattle.std.specs.FinMap as map
 use Rattle.export_index.specs.Index.{Index}
-use Rattle.export_index.proofs.KeyedMaps.{get_lookup}
+use Rattle.archive_state.proofs.Maps.{get_lookup}
 use Rattle.export_index.proofs.index.Index.place.Goals as goal
 
 pub returns : goal.returns

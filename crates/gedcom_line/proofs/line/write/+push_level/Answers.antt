@@ -1,7 +1,8 @@
 use Rattle.std.proofs.lemmas.Fmt.{decimal_digit}
 use Rattle.std.proofs.lemmas.Result.{on_err_weaker, on_ok_weaker}
-use Rattle.gedcom_line.proofs.Beginnings.{on_err, level_begun, level_ends, level_stops}
+use Rattle.gedcom_line.proofs.Beginnings.{level_begun, level_ends, level_stops}
 use Rattle.gedcom_line.proofs.line.write.+push_level.Goals as goal
+use Rattle.list_laws.proofs.Outcomes.{on_err}
 
 pub returns-then-level-lt10-clause-ok : goal.returns-then-level-lt10-clause-ok
 returns-then-level-lt10-clause-ok t c = rw (decimal_digit c.args.level c.if-level-lt10.true) c.push_digit.ensures.ok

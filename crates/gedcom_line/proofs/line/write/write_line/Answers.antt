@@ -2,11 +2,9 @@ use Rattle.std.proofs.Common.{ℕ, List, [], ◌∷◌, ◌++◌, Option, Bor, o
 use Rattle.std.specs.Fmt.{decimal}
 use Rattle.gedcom_line.specs.Spelling.{xref_text, raw_text, spelling}
 use Rattle.gedcom_line.proofs.Beginnings.{
-  on_err,
   err_keeps,
   begun_same,
   begun_part,
-  behind,
   from_level,
   from_xref,
   from_tag,
@@ -14,6 +12,8 @@ use Rattle.gedcom_line.proofs.Beginnings.{
   from_end,
 }
 use Rattle.gedcom_line.proofs.line.write.write_line.Goals as goal
+use Rattle.list_laws.proofs.Outcomes.{on_err}
+use Rattle.list_laws.proofs.Lists.{behind}
 
 -- a cross reference, as the definition has it
 abbrev name : Option (Bor (List ℕ)) → Option (List ℕ)

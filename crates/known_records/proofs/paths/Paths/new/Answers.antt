@@ -2,7 +2,7 @@ use Rattle.std.proofs.Common.{ap, ◌∙◌}
 use Rattle.std.specs.Ordering.{nat_cmp}
 use Rattle.std.specs.Map.{lookup}
 use Rattle.std.specs.BTreeMap.{is_at}
-use Rattle.known_records.proofs.Maps.{get_lookup}
+use Rattle.archive_state.proofs.Maps.{get_lookup}
 use Rattle.known_records.proofs.paths.Paths.new.Goals as goal
 
 pub returns : goal.returns

@@ -1,7 +1,7 @@
 use Rattle.std.proofs.Common.{sym, ap, ◌∙◌}
 use Rattle.std.specs.Prelude.{Some}
 use Rattle.std.specs.FinMap as map
-use Rattle.known_records.proofs.Maps.{get_lookup}
+use Rattle.archive_state.proofs.Maps.{get_lookup}
 use Rattle.known_records.proofs.paths.Paths.path.Goals as goal
 
 pub returns-in-Some : goal.returns-in-Some

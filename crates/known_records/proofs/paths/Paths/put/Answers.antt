@@ -1,7 +1,7 @@
 use Rattle.std.proofs.Common.{ap, ◌∙◌}
 use Rattle.std.specs.FinMap as map
 use Rattle.std.specs.Prelude.{string_bytes}
-use Rattle.known_records.proofs.Maps.{one_set}
+use Rattle.archive_state.proofs.Maps.{one_set}
 use Rattle.known_records.proofs.paths.Paths.put.Goals as goal
 
 pub returns : goal.returns

@@ -1,7 +1,8 @@
 use Rattle.std.proofs.Common.{arith, sym, ◌∙◌}
-use Rattle.staging.proofs.Cursors.{at_end, lines_more, rows_more, some_first, some_spans, there}
+use Rattle.staging.proofs.Cursors.{at_end, lines_more, rows_more, some_first, some_spans}
 use Rattle.staging.proofs.cursor.Cursor.has_more.Goals.{else-self-puts, then-self-puts}
 use Rattle.staging.proofs.cursor.Cursor.has_more.Goals as goal
+use Rattle.list_laws.proofs.Numbers.{below_is}
 
 pub returns-then-self-puts-2 : goal.returns-then-self-puts-2
 returns-then-self-puts-2 c batch =
@@ -13,7 +14,7 @@ returns-then-self-puts-2 c batch =
       | then-self-puts w ↦ some_first batch ps ds cursor c.if-self-puts.value on
           (rows_more batch ps ds cursor (omega (arith, w.if-self-puts.true)))
       | else-self-puts w ↦ some_first batch ps ds cursor c.if-self-puts.value on
-          (lines_more batch ps ds cursor c.requires.placed (there cursor.done _ (sym w.value-is ∙ on)))
+          (lines_more batch ps ds cursor c.requires.placed (below_is cursor.done _ (sym w.value-is ∙ on)))
     ]
 
 pub returns-else-self-puts-2 : goal.returns-else-self-puts-2

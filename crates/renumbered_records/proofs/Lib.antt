@@ -1,0 +1,4 @@
+pub mod Links
+pub mod Texts
+pub mod Untaken
+pub mod Entries
