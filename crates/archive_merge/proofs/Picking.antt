@@ -1,6 +1,6 @@
 -- Entries that rise, filtered, and what is found among them.
 use Rattle.std.proofs.Common.{◌≡◌, ℕ, ◌<◌, List, [], ◌∷◌, Bool, true, false, cond, refl, sym, ap, ◌∙◌, subst, arith}
-use Rattle.std.specs.Prelude.{Option, Some, None, map, T, ◌&&◌}
+use Rattle.std.specs.Prelude.{Option, Some, None, map, T}
 use Rattle.std.specs.List.{filter}
 use Rattle.std.specs.FinMap.{FinMap, find, is_sorted, entries, entries_sorted}
 use Rattle.std.specs.FinMap.Entries.{below_all}

@@ -1,6 +1,6 @@
 -- A record that does not name the one that is gone is not changed.
 use Rattle.std.proofs.Common.{◌≡◌, ℕ, List, [], ◌∷◌, ◌++◌, true, false, refl, ap, ◌∙◌, subst}
-use Rattle.std.specs.Prelude.{map, Option, Some, None, option_map, ◌||◌, ◌==◌, if◌then◌else◌}
+use Rattle.std.specs.Prelude.{map, Option, Some, None, option_map, ◌==◌, if◌then◌else◌}
 use Rattle.std.specs.List.{flat_map, list_any}
 use Rattle.std.proofs.lemmas.Bool.{or_parts, eqb-true}
 use Rattle.stored_lines.specs.Tree.{Tree, Forest, node, none, more, relabel, relabel_all}

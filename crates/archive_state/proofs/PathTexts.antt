@@ -26,8 +26,6 @@ use Rattle.record_shapes.specs.Paths.{joined, trimmed, parts, normal, IsWithinLi
 use Rattle.record_shapes.specs.Fields.{path_below}
 use Rattle.record_shapes.proofs.PathTexts.{parts_both, parts_behind_space, parts_some}
 
--- ---- what is cut at commas
-
 -- ---- joined again
 joined_more : (x : List ℕ) (xs : List (List ℕ)) (y : List ℕ) (ys : List (List ℕ))
     → joined ((x ∷ xs) ++ (y ∷ ys)) ≡ joined (x ∷ xs) ++ (codes ", " ++ joined (y ∷ ys))

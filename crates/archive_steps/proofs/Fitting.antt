@@ -148,8 +148,6 @@ over c n r new at alike old e = subst (λ x. IsAlike x new) (it_is c n r old at 
 pub anew : (c : Content) (new : Record) → IsSound c → (old : Record) → get c.records c.next ≡ Some old → IsAlike old new
 anew c new sound old e = absurd (none_at_next c sound old e)
 
--- ---- carried lines
-
 -- ---- texts
 -- those of a record in the place of one with the same carried lines
 still_written : (c : Content) (n : ℕ) (old new : Record) → IsSound c → get c.records n ≡ Some old

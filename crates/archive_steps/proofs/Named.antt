@@ -1,23 +1,5 @@
 -- A record that no other names may be taken out.
-use Rattle.std.proofs.Common.{
-  ◌≡◌,
-  ℕ,
-  List,
-  [],
-  ◌∷◌,
-  Bool,
-  true,
-  false,
-  not,
-  ◌||◌,
-  ◌==◌,
-  refl,
-  sym,
-  ap,
-  ◌∙◌,
-  cond,
-  arith,
-}
+use Rattle.std.proofs.Common.{◌≡◌, ℕ, List, [], ◌∷◌, Bool, true, false, not, ◌==◌, refl, sym, ap, ◌∙◌, cond, arith}
 use Rattle.std.specs.Prelude.{Option, Some, None, map}
 use Rattle.std.specs.Cmp.{nat_cmp_total, ranked}
 use Rattle.std.specs.FinMap.{find, get, remove, entries, get-entries, get-remove}

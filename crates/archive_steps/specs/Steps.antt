@@ -44,7 +44,6 @@ use Rattle.record_fields.specs.declared.words.Partnership.TheVariants.{Husband, 
 use Rattle.record_kinds.specs.Model as model
 use Rattle.record_kinds.specs.declared.record.Record.{Record}
 use Rattle.record_kinds.specs.declared.record.Record.TheVariants as kind
-use Rattle.receipts.specs.declared.answer.Answer.{Answer}
 use Rattle.archive_state.specs.Content.{Content}
 use Rattle.commands.specs.Given.{GivenDate}
 use Rattle.commands.specs.Rows.{and_then}

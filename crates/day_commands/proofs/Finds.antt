@@ -32,8 +32,6 @@ pub part_in_order : {A Q : Type 0} (r : Result A RefusalKind) (N P : RefusalKind
 part_in_order (Ok a) N P order did = tt
 part_in_order (Err kind) N P order did = inr (order, did)
 
--- ---- want of memory
-
 -- ---- what was read, as it is said of an archive
 pub found_as : {A : Type 0} {Is : List ℕ → Content → A → Type 0} (old new : State) (a : A)
     → (HasCleanDisk new → Reads Is old (Ok a) new)

@@ -1,8 +1,7 @@
 -- Drafts as trees: a record, with what it owns below it.
-use Rattle.std.specs.Prelude.{ℕ, List, Option, Some, None, map, codes, bytes_eq, if◌then◌else◌}
-use Rattle.std.specs.List.{flat_map}
+use Rattle.std.specs.Prelude.{ℕ, List, None, map, codes, bytes_eq, if◌then◌else◌}
 use Rattle.stored_lines.specs.Tree.{Tree, node, none, forest_of}
-use Rattle.stored_lines.specs.Line.{Line, Lines}
+use Rattle.stored_lines.specs.Line.{Lines}
 use Rattle.stored_lines.specs.declared.carried.Value.{Value}
 use Rattle.record_kinds.specs.declared.record.Record.TheVariants as kind
 use Rattle.record_shapes.specs.Forms.{Known}

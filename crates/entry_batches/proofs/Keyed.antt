@@ -43,8 +43,6 @@ use Rattle.list_laws.proofs.Bytes.{parted}
 use Rattle.record_fields.proofs.WordTexts.{item_plain, kind_plain}
 use Rattle.list_laws.proofs.Booleans.{one_test}
 
--- ---- what stands before the first zero, and behind it
-
 -- ---- no zero is in a kind and in an item
 
 same_number : (i j : Item) → decimal i.number ≡ decimal j.number → i.number ≡ j.number

@@ -33,7 +33,7 @@ use Rattle.record_links.specs.Links.{Link, carried_links, forest_links, value_li
 use Rattle.record_text.specs.Text.{IsText}
 use Rattle.record_shapes.specs.Lists.{EachOf, IsOnce}
 use Rattle.archive_state.specs.Content.{Content, Records}
-use Rattle.archive_state.specs.Sound.{IsNumber, IsSound}
+use Rattle.archive_state.specs.Sound.{IsSound}
 use Rattle.archive_state.specs.Sound as sound
 use Rattle.gedcom_line.specs.Spelling.{IsXref}
 use Rattle.gedcom_line.specs.Split.{char_count}

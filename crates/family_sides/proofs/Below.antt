@@ -6,8 +6,6 @@ use Rattle.file_roots.specs.Nodes.{FileNode}
 use Rattle.family_sides.specs.Members.{doubled, doubled_in, first_as, members_told, membership_of}
 use Rattle.family_sides.specs.Taken.{said_by_members, said_on, sides_by_members, sides_on}
 
--- ---- clauses of a call that are handed on
-
 -- ---- where a node is a family or a person, its lines count
 if_true : {A : Type 0} (b : Bool) (x y : A) → b ≡ true → x ≡ cond b x y
 if_true b x y e = ap (λ c. cond c x y) (sym e)

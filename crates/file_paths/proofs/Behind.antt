@@ -16,8 +16,6 @@ use Rattle.import_forest.specs.Positions.{known_by, path_behind, paths, paths_be
 use Rattle.known_roots.specs.Views.{path_said}
 use Rattle.file_paths.specs.Views.{as_line, as_lines}
 
--- ---- the nodes below a node
-
 -- ---- the path of a node
 pub place_is : (rs : Lines) (ps : List (Option (List ℕ))) (place : List ℕ → Option ℕ) (t : FileNode) (path : List ℕ)
     → bytes_eq (label t).tag (codes "_LOC") ≡ true

@@ -30,7 +30,7 @@ use Rattle.std.specs.Prelude.{is_some, if◌then◌else◌}
 use Rattle.std.proofs.Math.Seq.{drop-cons}
 use Rattle.receipts.specs.declared.report.ReportLine.{ReportLine}
 use Rattle.stored_lines.specs.Tree.{Forest, node, none, more, forest_of, list_of, relabel_all}
-use Rattle.stored_lines.specs.Levels.{levels, forest_levels}
+use Rattle.stored_lines.specs.Levels.{forest_levels}
 use Rattle.stored_lines.specs.Line.{Line, Lines}
 use Rattle.stored_lines.specs.declared.carried.Value.{Value}
 use Rattle.gedcom_tree.specs.Flat.{value_said}

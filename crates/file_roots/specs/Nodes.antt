@@ -1,6 +1,6 @@
 -- The nodes of a file, each with those below it (The GEDCOM Standard Release 5.5.1, chapter 1, level: a line stands
 -- below the nearest one in front of it whose level is one less).
-use Rattle.std.specs.Prelude.{ℕ, ◌≡◌, ◌≤◌, ◌⊎◌, refl, List, ◌∷◌, map, Option, option_map, string_bytes}
+use Rattle.std.specs.Prelude.{ℕ, ◌≡◌, ◌≤◌, ◌⊎◌, refl, List, map, Option, option_map, string_bytes}
 use Rattle.std.proofs.Common.{inl, inr}
 use Rattle.std.specs.Coded.{Coded, code_by, coded×, coded⊎, coded_ℕ, coded_list, coded_option}
 use Rattle.std.specs.Borrow.{Bor}

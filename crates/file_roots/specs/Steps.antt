@@ -1,5 +1,5 @@
 -- Where chains of pointers at level 0 lead, over positions of nodes.
-use Rattle.std.specs.Prelude.{◌≡◌, ◌≢◌, ℕ, zero, suc, Bool, true, false, List, slice_index_or, Option, Some, None}
+use Rattle.std.specs.Prelude.{ℕ, zero, suc, Bool, true, false, List, slice_index_or, Option, Some, None}
 use Rattle.stored_lines.specs.Tree.{label}
 use Rattle.file_roots.specs.Nodes.{FileNode}
 use Rattle.file_roots.specs.Roots.{name_in}

@@ -35,7 +35,6 @@ use Rattle.std.proofs.Common.{
   ◌⊎◌,
   arith,
   Option,
-  Some,
 }
 use Rattle.std.specs.Prelude.{unwrap_or}
 use Rattle.std.proofs.lemmas.List.{take_all}

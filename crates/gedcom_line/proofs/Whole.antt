@@ -455,9 +455,3 @@ line_same b l m x y =
     let p = line_reading b l x in
     let q = line_reading b m y in
     cc
-
-pub not_both : (b : List ℕ) (l : Parts) → IsBlank b → Line b l → ⊥
-not_both b l x y =
-    let p = blank_reading b x in
-    let q = line_reading b l y in
-    absurd cc

@@ -6,7 +6,6 @@ use Rattle.std.proofs.Common.{
   ◌+◌,
   ◌<◌,
   ◌≤◌,
-  Bool,
   true,
   false,
   not,
@@ -25,7 +24,6 @@ use Rattle.std.proofs.Common.{
   arith,
   inl,
   inr,
-  ◌⊎◌,
 }
 use Rattle.std.proofs.lemmas.Bool.{not-true, and_parts, cases_Bool}
 use Rattle.std.specs.List.{prefix_len, list_all}

@@ -1,13 +1,12 @@
 -- A line that breaks no rule finds a place among the open lines.
-use Rattle.std.proofs.Common.{◌≡◌, ℕ, ◌+◌, ◌≤◌, true, false, eqb, not, List, refl, inl, inr, arith, Some, Ok}
+use Rattle.std.proofs.Common.{◌≡◌, ℕ, ◌+◌, ◌≤◌, true, false, eqb, not, List, inl, inr, arith, Some, Ok}
 use Rattle.std.proofs.lemmas.Bool.{eqb-true, ltb-false, not-false, and_parts, cases_Bool}
 use Rattle.gedcom_line.specs.Reading.{Parts}
 use Rattle.gedcom_rules.specs.Rules.{Progress, is_head}
-use Rattle.gedcom_rules.specs.Judging.{after, judge}
+use Rattle.gedcom_rules.specs.Judging.{judge}
 use Rattle.gedcom_rules.specs.Depth.{depth}
 use Rattle.gedcom_rules.proofs.Judged.{judge_some}
 use Rattle.gedcom_rules.proofs.Unbroken.{Unbroken, unbroken}
-use Rattle.gedcom_rules.proofs.Bools.{counted}
 
 head_level : (l : Parts) → is_head l ≡ true → l.level ≡ 0
 head_level l h = eqb-true l.level 0 (and_parts (eqb l.level 0) _ h).0

@@ -61,17 +61,7 @@ use Rattle.gedcom_rules.specs.Rules.{
 }
 use Rattle.gedcom_rules.specs.Continuing.{belongs, adds}
 use Rattle.gedcom_rules.specs.Faults.{max_line, Clean, Fault, FaultIn, Judged}
-use Rattle.gedcom_rules.specs.Judging.{
-  continue_at,
-  above_after,
-  after,
-  next,
-  judge,
-  advance,
-  then_run,
-  run,
-  fault_behind,
-}
+use Rattle.gedcom_rules.specs.Judging.{continue_at, above_after, after, judge, advance, then_run, run, fault_behind}
 use Rattle.gedcom_rules.proofs.Cuts.{AllPieces}
 use Rattle.gedcom_rules.proofs.Judged.{judge_blank, judge_keeps, judge_faulty, judged}
 use Rattle.std.proofs.Math.Bool.{and-false, and-true, or-false}

@@ -2,24 +2,16 @@
 use Rattle.std.proofs.Common.{
   ◌≡◌,
   ℕ,
-  suc,
   ◌+◌,
-  ◌<◌,
   Bool,
   true,
   false,
   eqb,
-  ◌&&◌,
   cond,
   List,
   [],
   ◌∷◌,
   length,
-  map,
-  get_or,
-  take,
-  drop,
-  drop-cons,
   refl,
   sym,
   ap,
@@ -28,21 +20,13 @@ use Rattle.std.proofs.Common.{
   inl,
   inr,
   arith,
-  add-one,
 }
 use Rattle.std.specs.List.{count_by, fold, list_any}
-use Rattle.std.specs.Str.{bytes_eq}
-use Rattle.std.specs.Char.{to_ascii_lowercase}
 use Rattle.std.proofs.lemmas.Bool.{eqb-true, or_parts, cases_Bool}
-use Rattle.std.proofs.lemmas.List.{length-take, length-map}
-use Rattle.std.proofs.lemmas.Slice.Eq.{bytes_eq-Decides}
-use Rattle.gedcom_line.specs.Words.{is_space}
-use Rattle.gedcom_line.specs.Reading.{skip}
 use Rattle.gedcom_line.specs.Split.{begins_char, char_count}
 use Rattle.gedcom_line.specs.Escape.{unescaped, past_pair}
 use Rattle.gedcom_line.proofs.Steps.{eqb_no}
 use Rattle.gedcom_line.proofs.Doubled.{unescaped_cons, unescaped_at}
-use Rattle.gedcom_rules.specs.Rules.{is_set}
 
 -- the text of what is left of a value; second: the byte before it is the first @ of what may be a pair
 abbrev pub left : Bool → List ℕ → List ℕ
@@ -51,9 +35,6 @@ left false bs = unescaped bs
 
 past_other : (b : ℕ) (bs : List ℕ) → eqb b 64 ≡ false → past_pair (b ∷ bs) ≡ b ∷ bs
 past_other b bs h = rw h refl
-
-left_at : (bs : List ℕ) → length (left false (64 ∷ bs)) ≡ 1 + length (left (eqb 64 64) bs)
-left_at bs = ap length (unescaped_at bs) ∙ omega arith
 
 -- characters: each @ of a pair is one
 counted_from : (bs : List ℕ) (n : ℕ) → fold (λ a x. a + cond (begins_char x) 1 0) n bs ≡ n + count_by begins_char bs

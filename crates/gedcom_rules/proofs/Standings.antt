@@ -22,8 +22,6 @@ use Rattle.std.proofs.Common.{
   length,
   length-append,
   take,
-  set,
-  get_or,
   refl,
   sym,
   ap,
@@ -36,17 +34,15 @@ use Rattle.std.proofs.Common.{
   None,
 }
 use Rattle.std.specs.Prelude.{option_map, slice_get}
-use Rattle.std.proofs.lemmas.Bool.{eqb-true, ltb-true, ltb-false, eq-eqb, cases_Bool}
+use Rattle.std.proofs.lemmas.Bool.{eqb-true, ltb-true, ltb-false, cases_Bool}
 use Rattle.std.proofs.lemmas.Option.{slice_get_past}
 use Rattle.std.specs.Str.{bytes_eq}
 use Rattle.gedcom_line.specs.Reading.{Parts, is_continuation}
-use Rattle.gedcom_line.proofs.Steps.{eqb_no, eqb_false}
+use Rattle.gedcom_line.proofs.Steps.{eqb_no}
 use Rattle.gedcom_rules.specs.declared.standing.Standing as code
-use Rattle.gedcom_rules.specs.Continuing.{adds}
 use Rattle.gedcom_rules.specs.Rules.{Standing, standing}
 use Rattle.gedcom_rules.specs.Judging.{continue_at, above_after}
 use Rattle.gedcom_rules.specs.Views.{standing_view, standings}
-use Rattle.std.proofs.Math.Bool.{and-false}
 use Rattle.list_laws.proofs.Bytes.{bytes_flip}
 
 get_front : (xs : List code.Standing) (k n : ℕ) → n < k → slice_get (take k xs) n ≡ slice_get xs n
@@ -73,11 +69,6 @@ same_option f (Some s) h = ap Some (h s)
 pub kept_above : (l : Parts) (stack : List code.Standing) (n : ℕ) → is_continuation l.tag ≡ false
     → standings stack n ≡ option_map (continue_at n l) (standings stack n)
 kept_above l stack n h = sym (same_option (continue_at n l) (standings stack n) (λ s. rw h refl))
-
-pub none_above : (l : Parts) (stack : List code.Standing) (n : ℕ) → length stack ≡ 0
-    → standings stack n ≡ option_map (continue_at n l) (standings stack n)
-none_above l [] n h = refl
-none_above l (x ∷ xs) n h = absurd (omega arith)
 
 -- the line itself is the last one then
 pub stands : (l : Parts) (stack front kept new : List code.Standing) (own : code.Standing) → l.level ≤ length stack

@@ -1,5 +1,5 @@
 -- Lines are read as what they compute to, and as nothing else.
-use Rattle.std.proofs.Common.{◌≡◌, ℕ, ◌+◌, List, [], ◌∷◌, refl, sym, ap, ◌∙◌, inl, inr, Some, None}
+use Rattle.std.proofs.Common.{◌≡◌, ℕ, ◌+◌, List, [], ◌∷◌, refl, sym, ap, inl, inr, Some, None}
 use Rattle.gedcom_line.specs.Reading.{Parts}
 use Rattle.gedcom_line.specs.Value.{Meaning, Text, Pointer, meaning, IsPointer, pointer_in}
 use Rattle.gedcom_line.proofs.Pointers.{pointer_is, is_pointer}

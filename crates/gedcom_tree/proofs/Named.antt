@@ -6,7 +6,6 @@ use Rattle.std.proofs.Common.{
   ◌≤◌,
   true,
   false,
-  ◌||◌,
   List,
   [],
   ◌∷◌,

@@ -2,10 +2,7 @@
 use Rattle.std.proofs.Common.{
   ◌≡◌,
   ℕ,
-  zero,
-  suc,
   ◌+◌,
-  ◌<◌,
   ◌≤◌,
   List,
   [],
@@ -13,11 +10,9 @@ use Rattle.std.proofs.Common.{
   ◌++◌,
   length,
   length-append,
-  take,
   refl,
   sym,
   ap,
-  ◌∙◌,
   subst,
   inl,
   inr,
@@ -112,12 +107,6 @@ fed_small known mid left old new total more piece h n t = omega (
   length-append h.bytes piece,
   decided_small (h.bytes ++ piece) (open_undecided (h.bytes ++ piece) (t h.bytes h.holds).1),
 )
-
--- no byte is left
-at_end : (n : ℕ) (left : List ℕ) → 0 < n → [] ≡ take n left → left ≡ []
-at_end n [] h e = refl
-at_end zero (x ∷ xs) h e = absurd (omega (arith, h))
-at_end (suc n) (x ∷ xs) h e = absurd cc
 
 -- a reader that was fed all answers what the file is
 pub forest_read : (known : Option (List ℕ)) (bytes : List ℕ) (r : Result (List Item) TreeFault)

@@ -3,7 +3,7 @@ use Rattle.std.proofs.Common.{◌≡◌, ℕ, Bool, true, false, List, [], ◌�
 use Rattle.std.specs.Prelude.{Option, Some, None, T, ◌&&◌, map}
 use Rattle.std.specs.List.{filter}
 use Rattle.std.specs.Ordering.{nat_cmp, is_lt, is_eq}
-use Rattle.std.specs.Cmp.{nat_cmp_total, nat_cmp_is, ranked}
+use Rattle.std.specs.Cmp.{nat_cmp_total, ranked}
 use Rattle.std.specs.declared.cmp.Ordering.TheVariants.{Less, Equal, Greater}
 use Rattle.std.specs.FinMap.Entries.{below_all}
 use Rattle.std.specs.FinMap.{entries, entries_sorted, find, get, get-entries, is_sorted}

@@ -16,7 +16,6 @@ use Rattle.std.specs.Prelude.{
   Option,
   Some,
   None,
-  bytes_eq,
   if◌then◌else◌,
 }
 use Rattle.std.specs.List.{flat_map, list_any}

@@ -19,10 +19,9 @@ use Rattle.std.proofs.Common.{
   sym,
   ap,
   ◌∙◌,
-  subst,
   arith,
 }
-use Rattle.std.specs.Prelude.{◌==◌, ◌||◌, codes, nat_le}
+use Rattle.std.specs.Prelude.{◌==◌, ◌||◌, nat_le}
 use Rattle.std.specs.List.{list_any}
 use Rattle.std.proofs.lemmas.Bool.Decides.{nat_tests}
 use Rattle.record_text.specs.Text.{IsPlain}
@@ -35,8 +34,6 @@ use Rattle.import_forest.specs.Numbers.{names_of}
 use Rattle.import_places.specs.Settling.{IsPathText}
 use Rattle.list_laws.proofs.Booleans.{or_second, or_first, both_true}
 use Rattle.record_shapes.proofs.PathTexts.{parts_some}
-
--- ---- parts
 
 -- ---- names
 pub names_cut : (t part after : List ℕ) → t ≡ part ++ (44 ∷ after) → Without 44 part

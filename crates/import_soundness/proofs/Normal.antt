@@ -36,10 +36,6 @@ use Rattle.record_shapes.proofs.Limits.{limits_are}
 use Rattle.record_shapes.proofs.Trimmed.{twice}
 use Rattle.record_shapes.proofs.Each.{each_more, each_mapped}
 
--- ---- spaces at the ends
-
--- ---- no comma
-
 -- ---- names joined
 
 pub joined_normal : (n : List ℕ) (ns : List (List ℕ)) → EachOf IsName (n ∷ ns)

@@ -105,7 +105,6 @@ spelt_twice text =
     ap spelling (one_said (spelt text) (some_value (spelt text)).0 said.0 (some_value (spelt text)).1
     (says_again text said.0 said.1))
 
--- ---- it is a text
 -- ---- numbers, years, months
 byte_plain : (b : ℕ) → 48 ≤ b → b ≤ 57 → is_plain b ≡ true
 byte_plain b low high = grind (arith, nat_tests)

@@ -23,8 +23,6 @@ use Rattle.import_soundness.proofs.ReadPlaces.{place_name_within}
 use Rattle.import_soundness.proofs.Lists.{filter_holds, if_first}
 use Rattle.record_shapes.proofs.PathTexts.{path_has}
 
--- ---- lists
-
 -- ---- the places of the archive
 pub lowest_has : (m : Records) (q : List ℕ) (n : ℕ) → lowest_place m q ≡ Some n → path_of m n ≡ Some q
 unfolding lowest_place

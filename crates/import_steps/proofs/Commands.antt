@@ -1,6 +1,6 @@
 -- What an accepted import leaves beside its records: receipts and the next number; and that it is sound.
-use Rattle.std.proofs.Common.{◌≡◌, ◌≤◌, ◌-◌, List, [], Bool, true, false, refl, sym, ap, ◌∙◌, inl, subst, arith}
-use Rattle.std.specs.Prelude.{None, Result, Ok, Err, if◌then◌else◌, nat_le}
+use Rattle.std.proofs.Common.{◌≡◌, ◌≤◌, ◌-◌, List, [], Bool, true, false, refl, ◌∙◌, inl, subst, arith}
+use Rattle.std.specs.Prelude.{None, Ok, Err, if◌then◌else◌, nat_le}
 use Rattle.record_text.specs.declared.refusal.Refusal.{Refusal}
 use Rattle.record_text.specs.declared.refusal.RefusalKind.TheVariants.{Full}
 use Rattle.receipts.specs.declared.answer.Answer.{Answer}

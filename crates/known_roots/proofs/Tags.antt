@@ -1,9 +1,6 @@
 -- The tag at a position, of the nodes of a file and of the lines that they are.
-use Rattle.std.proofs.Common.{◌≡◌, ℕ, zero, suc, List, [], ◌∷◌, refl, sym, ap, ◌∙◌}
-use Rattle.std.specs.Prelude.{bytes_eq, map, Option, Some, None, option_map, string_bytes}
-use Rattle.std.specs.declared.string.String.{String}
-use Rattle.std.specs.Global.{Global}
-use Rattle.std.specs.Borrow.{Bor}
+use Rattle.std.proofs.Common.{◌≡◌, ℕ, List, [], refl, sym, ap, ◌∙◌}
+use Rattle.std.specs.Prelude.{bytes_eq, map, Option, Some, None, option_map}
 use Rattle.std.specs.List.{slice_get}
 use Rattle.std.specs.Option.{unwrap_or}
 use Rattle.std.proofs.lemmas.Option.{slice_get-map}
@@ -17,8 +14,8 @@ use Rattle.file_roots.specs.declared.kinds.RootKind.{RootKind}
 use Rattle.field_rows.specs.Named.{named_tag}
 use Rattle.field_rows.specs.declared.known.Named.{Named}
 use Rattle.field_rows.specs.declared.known.Named.TheVariants as named
-use Rattle.import_forest.specs.Positions.{path_at, tag_at}
-use Rattle.known_roots.specs.Views.{is_kind, is_kind_at, path_said}
+use Rattle.import_forest.specs.Positions.{tag_at}
+use Rattle.known_roots.specs.Views.{is_kind_at}
 use Rattle.known_roots.proofs.KindTags.{kind_is}
 
 -- the tag of a node, where there is one

@@ -28,15 +28,7 @@ use Rattle.record_shapes.specs.Untaken.{
 use Rattle.record_shapes.specs.Fields.{holding_field, participant_field}
 use Rattle.archive_state.specs.Content.{Content, Records}
 use Rattle.archive_state.specs.Paths.{Climbs, HasPath, IsPlaceAt}
-use Rattle.archive_state.specs.Sound.{
-  EachIn,
-  HasEventTag,
-  HasSaidPlace,
-  IsOfRecords,
-  Stands,
-  place_of,
-  own_tags,
-}
+use Rattle.archive_state.specs.Sound.{HasEventTag, HasSaidPlace, IsOfRecords, Stands, place_of, own_tags}
 use Rattle.archive_state.specs.Known.{known_before, known_of}
 use Rattle.archive_state.specs.Texts.{there, date_texts, own_texts, carried_texts, line_texts}
 use Rattle.archive_state.specs.Sound as sound_rules

@@ -56,8 +56,6 @@ use Rattle.record_reading.proofs.Picked.{
 }
 use Rattle.list_laws.proofs.Booleans.{or_second, or_first}
 
--- ---- what is owned
-
 -- ---- persons
 is_of_person : Field → Bool
 is_of_person x = is_left (a_sex ∷ []) x || (is_same x a_name || (is_same x an_event || (is_same x a_side

@@ -34,7 +34,6 @@ use Rattle.std.proofs.Common.{
   length-append,
   append_assoc,
   ◌||◌,
-  ℤ,
   Option,
   Some,
   None,

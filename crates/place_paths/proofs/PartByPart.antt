@@ -4,7 +4,6 @@ use Rattle.std.proofs.Common.{
   ◌≢◌,
   ℕ,
   suc,
-  ◌≤◌,
   ◌<◌,
   List,
   [],

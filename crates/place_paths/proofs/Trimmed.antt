@@ -19,7 +19,6 @@ use Rattle.std.proofs.Common.{
   sym,
   ap,
   ◌∙◌,
-  ◌↔◌,
   inl,
   inr,
   arith,

@@ -70,8 +70,6 @@ too_long k b name None h = refl
 too_long k b name (Some above) h = within_measure k b name above ∙ over_two (length (parts name)) (length (parts above))
     (length name) (length above) k b h
 
--- ---- the path of a place
-
 -- ---- what is measured
 found_place : (o : Option Record) (me : Measure) → measured o ≡ Some me
     → (p : model.Place) × (o ≡ Some (kind.Place p))

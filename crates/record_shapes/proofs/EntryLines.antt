@@ -1,6 +1,6 @@
 -- An entry is known from its lines: what is read of them, and which lines an entry has.
 use Rattle.std.proofs.lemmas.Bool.{eqb-true, and_parts}
-use Rattle.std.proofs.Common.{ap, ◌≡◌, true, refl, ◌∷◌, [], ◌∙◌, sym, List, ℕ, Bool, false, subst}
+use Rattle.std.proofs.Common.{ap, ◌≡◌, true, refl, [], ◌∙◌, sym, List, ℕ, Bool, false, subst}
 use Rattle.std.specs.Prelude.{◌&&◌, bytes_eq, None, Some, Option, codes}
 use Rattle.std.specs.Option.{unwrap_or}
 use Rattle.record_shapes.specs.Entries.{

@@ -8,7 +8,6 @@ use Rattle.std.specs.Prelude.{
   ◌∷◌,
   ◌++◌,
   map,
-  Bool,
   true,
   false,
   not,
@@ -25,7 +24,7 @@ use Rattle.std.proofs.lemmas.List.{map-append}
 use Rattle.std.proofs.lemmas.List.Elements.{filter-append}
 use Rattle.std.proofs.lemmas.Bool.{or_parts}
 use Rattle.stored_lines.specs.Tree.{Tree}
-use Rattle.stored_lines.specs.Line.{Line, Lines}
+use Rattle.stored_lines.specs.Line.{Lines}
 use Rattle.stored_lines.specs.declared.carried.Value.TheVariants as value
 use Rattle.stored_lines.proofs.Back.{list_of_forest_of}
 use Rattle.record_kinds.specs.Model as model

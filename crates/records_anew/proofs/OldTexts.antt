@@ -33,5 +33,3 @@ written_was text written form says = was_said text written form says
 pub fitted_is_written : (text : List ℕ) (form : Form) → FitsBefore text form → WasWritten text → IsWritten text
 fitted_is_written text form fits was g says = was form (inl fits) ∙ ap spelling
     (one_said text form g (inl fits.0) says)
-
--- ---- what a spelling of today says

@@ -28,8 +28,6 @@ use Rattle.archive_state.specs.Merging.{value_with, line_with, lines_with, link_
 use Rattle.renumbered_records.proofs.Untaken.{through}
 use Rattle.record_shapes.proofs.EntryLines.{of_lines, none_of_number, is_of}
 
--- ---- lines that are found the same are the same
-
 -- ---- what is an entry
 
 module _ (f : ℕ → ℕ) where

@@ -14,8 +14,6 @@ use Rattle.list_laws.proofs.Bytes.{parted, digits_plain}
 use Rattle.list_laws.proofs.Booleans.{one_test}
 use Rattle.record_fields.proofs.WordTexts.{kind_plain}
 
--- ---- what stands before the first zero, and behind it
-
 -- ---- no zero is in a number and in a kind
 
 number_plain : (n : ℕ) → n < 2 ^ 64 → list_any (λ x. x == 0) (decimal n) ≡ false

@@ -14,8 +14,6 @@ use Rattle.shown_archives.specs.Showing.{IsShown, OnShown}
 use Rattle.shown_archives.specs.Writing.{IsNotBegun}
 use Rattle.list_laws.proofs.Outcomes.{keeps}
 
--- ---- want of memory
-
 -- ---- what was read, masked
 module _ (old new : State) (held : Content)
     (reads : HasCleanDisk new → Reads (λ _ c found. found ≡ c) old (Ok held) new) where

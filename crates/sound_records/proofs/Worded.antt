@@ -14,8 +14,6 @@ use Rattle.sound_records.specs.Keys.{key_words}
 use Rattle.list_laws.proofs.Bytes.{parted, digits_plain}
 use Rattle.record_fields.proofs.WordTexts.{item_plain, same_kind, kind_plain}
 
--- ---- what stands before the first zero, and behind it
-
 -- ---- no zero is in a number, in a kind and in an item
 
 word_fits : (n : ℕ) → n < 4294967296 → n < 2 ^ 64

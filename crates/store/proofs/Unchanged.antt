@@ -41,8 +41,6 @@ use Rattle.store.specs.Calls.{KeepsRows}
 use Rattle.record_shapes.proofs.Each.{each_all, each_zip}
 use Rattle.list_laws.proofs.Numbers.{is_same, not_it}
 
--- ---- equal numbers
-
 -- ---- what a map has after removals
 left_at : (ns : List ℕ) (m : Records) (n : ℕ) → EachOf (λ k. k ≢ n) ns → get (without m ns) n ≡ get m n
 left_at [] m n others = refl

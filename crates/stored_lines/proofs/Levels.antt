@@ -20,7 +20,6 @@ use Rattle.std.specs.Prelude.{
   length,
   true,
   false,
-  ◌||◌,
 }
 use Rattle.std.specs.List.{list_any}
 use Rattle.std.proofs.Common.{ap, sym, ◌∙◌, ◌<◌, take, get_or, arith, zero, suc}

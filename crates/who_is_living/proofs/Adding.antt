@@ -29,9 +29,3 @@ module _ (before after : BTreeSet ℕ) (k : ℕ)
 
   pub gets_one : Gets before after (λ n. k ≡ n)
   gets_one = λ q. one_by q (is_at (nat_cmp k) q) refl
-
--- ---- none, and some in other words
-
--- ---- some, and then some more
-
--- ---- numbers that are found in a list

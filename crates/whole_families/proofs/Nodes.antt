@@ -12,8 +12,6 @@ use Rattle.file_roots.specs.Nodes.{HaveLines, IsInFile, tree_of, trees_at, trees
 use Rattle.file_roots.specs.Views.{AreInFile}
 use Rattle.file_roots.proofs.Below.{below_fits}
 
--- ---- the nodes below a node
-
 -- ---- one of them
 pub child_at : (ns : List Node) (i : ℕ) (o : Option Node) → slice_get ns i ≡ o
     → slice_get (trees_of ns) i ≡ option_map tree_of o

@@ -1,4 +1,4 @@
-use Rattle.std.proofs.Common.{◌≡◌, sym, ◌∙◌}
+use Rattle.std.proofs.Common.{sym, ◌∙◌}
 use Rattle.stored_lines.specs.Line.{Line}
 use Rattle.record_shapes.specs.Reading.{draft_of}
 use Rattle.draft_reading.specs.declared.kinds.NodeKind.TheVariants as node_kind

@@ -1,4 +1,4 @@
-use Rattle.std.proofs.Common.{rules, string_bytes, ◌∙◌}
+use Rattle.std.proofs.Common.{rules, string_bytes}
 use Rattle.record_shapes.specs.Paths.{normal}
 use Rattle.field_rows.proofs.Parted.{turn, last_turn}
 use Rattle.field_rows.proofs.normal.made_normal.Goals as goal

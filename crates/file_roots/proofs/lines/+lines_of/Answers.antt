@@ -1,4 +1,4 @@
-use Rattle.std.proofs.Common.{◌≡◌, ◌+◌, ◌<◌, ◌≤◌, ◌∙◌, arith, sym, ap, subst, ◌++◌}
+use Rattle.std.proofs.Common.{◌+◌, ◌∙◌, arith, sym, ap, subst, ◌++◌}
 use Rattle.std.specs.Prelude.{List}
 use Rattle.gedcom_tree.specs.declared.node.Node.{Node}
 use Rattle.stored_lines.specs.Levels.{forest_levels}

@@ -1,4 +1,3 @@
-use Rattle.std.proofs.Common.{◌∙◌}
 use Rattle.std.proofs.lemmas.Map.Text.{btree_map_updates_text}
 use Rattle.std.specs.Prelude.{string_bytes, Some}
 use Rattle.file_roots.specs.Views.{kept_at}

@@ -1,4 +1,4 @@
-use Rattle.std.proofs.Common.{arith, ◌∙◌}
+use Rattle.std.proofs.Common.{arith}
 use Rattle.file_roots.specs.Nodes.{trees_at}
 use Rattle.file_roots.proofs.Sifted.{ends_length, end_kept, kept_step, said_step}
 use Rattle.file_roots.proofs.roots.sift.Goals as goal

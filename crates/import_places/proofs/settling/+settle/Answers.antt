@@ -1,8 +1,6 @@
-use Rattle.std.proofs.Common.{◌≡◌, ℕ, rules, List, sym, ap, ◌∙◌, arith}
-use Rattle.std.specs.Prelude.{Option, Some, None, Err, option_map}
-use Rattle.archive_view.specs.Looks.{is_failure}
+use Rattle.std.proofs.Common.{◌≡◌, rules, sym, ap, ◌∙◌, arith}
+use Rattle.std.specs.Prelude.{Some, None, option_map}
 use Rattle.record_shapes.specs.Paths.{normal}
-use Rattle.import_forest.specs.Numbers as numbers
 use Rattle.import_forest.specs.Numbers.{find, made_within, names_of, settle}
 use Rattle.import_places.specs.Settling.{IsPathText}
 use Rattle.import_places.specs.Views.{drawing_said, found_said, places_of, under}

@@ -1,4 +1,4 @@
-use Rattle.std.proofs.Common.{◌≡◌, map, refl, ap, ◌∙◌}
+use Rattle.std.proofs.Common.{map, refl, ap, ◌∙◌}
 use Rattle.stored_lines.specs.Tree.{label}
 use Rattle.file_roots.specs.Kinds.{kind_named}
 use Rattle.file_roots.specs.Nodes.{FileNode}

@@ -1,4 +1,4 @@
-use Rattle.std.proofs.Common.{◌≡◌, refl, rules}
+use Rattle.std.proofs.Common.{refl, rules}
 use Rattle.place_paths.proofs.PartByPart.{goes_on, spaces_at_ends, no_space_behind, last_part}
 use Rattle.place_paths.proofs.normal.is_normal.Goals as goal
 use Rattle.list_laws.proofs.Booleans.{never}

@@ -1,5 +1,4 @@
-use Rattle.std.proofs.Common.{◌≡◌, ◌∙◌}
-use Rattle.record_kinds.specs.Model as model
+use Rattle.std.proofs.Common.{◌∙◌}
 use Rattle.record_reading.proofs.Placed.{path_read, place_read}
 use Rattle.record_reading.proofs.places.place_of.Goals as goal
 

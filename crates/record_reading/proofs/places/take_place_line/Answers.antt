@@ -1,4 +1,4 @@
-use Rattle.std.proofs.Common.{◌≡◌, ◌∷◌, ◌++◌, false, sym, ap, ◌∙◌}
+use Rattle.std.proofs.Common.{◌≡◌, ◌∷◌, false, sym, ap, ◌∙◌}
 use Rattle.record_kinds.specs.Model as model
 use Rattle.record_shapes.specs.Fields.{a_parent, parent_field}
 use Rattle.record_reading.specs.Partly.{place_with}
