@@ -18,26 +18,23 @@ from dataclasses import dataclass
 from harness import ROOT, Case, Failed, Outcome, demand, expect, run, shown
 
 # All that the two commands may call beside rt.
-NEEDED = "bash dirname env grep mktemp nproc python3 readlink rm sed sh tail tee".split()
+NEEDED = "bash cp dirname env grep mkdir mktemp mv python3 readlink rm sed sh tail tee".split()
 # What their stand-ins call.
-NEEDED_HERE = "cat chmod cp mkdir mv sleep".split()
+NEEDED_HERE = "cat chmod find sleep sort".split()
 TRIES = 20
 
 RT = """#!/bin/sh
-# Stands in for the toolchain: $RT_SAYS has what each call does.
-echo "$*" >>"$RT_CALLS"
+# Stands in for the toolchain.
+here=here
+[ "$PWD" = "$COPY" ] || here=apart
+echo "$* $here" >>"$RT_CALLS"
 case $1 in
 version) echo "kit ${KIT:-1}" ;;
-run)
-    [ "$PWD" = "$COPY/crates/parish" ] || exit 9
-    cat # must find nothing: standard input is the program's
-    [ ! -e "$COPY/fails" ] || { echo 'rt: not proved' >&2; exit 1; }
-    sleep 0.2
-    mkdir -p out && cat src/main.rt >out/new && chmod +x out/new && mv out/new out/parish
-    echo 'parish 1'
-    ;;
 ci)
+    cat # must find nothing: standard input is the program's
     [ ! -e "$COPY/fails" ] || { echo '3 passed, 1 failed'; exit 1; }
+    find . -type f | sort >"$RT_CALLS.$here"
+    sleep 0.2
     out=crates/parish/out
     rm -rf $out && mkdir $out && cp crates/parish/src/main.rt $out/parish && chmod +x $out/parish
     echo 'rt: ok'
@@ -87,11 +84,11 @@ class Copy:
                 time.sleep(0.1)
         raise Failed(f"{name} could not be started {TRIES} times")
 
-    def calls(self, verb):
-        """How often rt was called so."""
+    def made(self):
+        """How often ./parish has made the program: `rt ci`, in a folder of its own."""
         try:
             with open(self.env["RT_CALLS"], encoding="utf-8") as calls:
-                return sum(line.split()[0] == verb for line in calls)
+                return sum(line == "ci apart\n" for line in calls)
         except FileNotFoundError:
             return 0
 
@@ -150,9 +147,9 @@ def last_line(got):
 def made_once(copy):
     err = passes_on(copy)
     demand(b"minutes" in err.splitlines()[0], f"it does not say how long it takes: {shown(err)}")
-    demand(b"parish 1\n" in err, "what rt writes does not go to standard error")
+    demand(b"rt: ok\n" in err, "what rt writes does not go to standard error")
     demand_silent(passes_on(copy))
-    demand(copy.calls("run") == 1, "it was made again")
+    demand(copy.made() == 1, "it was made again")
 
 
 def made_again_after_an_edit(copy):
@@ -168,22 +165,27 @@ def made_again_after_an_edit(copy):
         copy.write(file, text)
         passes_on(copy)
         made += 1
-        demand(copy.calls("run") == made, f"not made again after an edit of {file}")
+        demand(copy.made() == made, f"not made again after an edit of {file}")
     os.rename(copy.path("crates/low/specs/New.antt"), copy.path("crates/low/specs/Old.antt"))
     passes_on(copy)
-    demand(copy.calls("run") == made + 1, "not made again after a file has another name")
+    demand(copy.made() == made + 1, "not made again after a file has another name")
     copy.env["KIT"] = "2"
     passes_on(copy)
-    demand(copy.calls("run") == made + 2, "not made again for another kit")
+    demand(copy.made() == made + 2, "not made again for another kit")
 
 
-def all_processors(copy):
+def made_apart(copy):
+    copy.write("HANDLES", "Handles allowed: Net.\n")
+    copy.write("crates/low/must-fail/a.edit", "")
+    copy.write("crates/low/proofs/Lib.antt", "")
+    copy.write("crates/parish/args", "norm\n")
     passes_on(copy)
-    with open(copy.env["RT_CALLS"], encoding="utf-8") as calls:
-        made = [line.split() for line in calls if line.startswith("run ")]
-    demand(made[0][:2] == ["run", "--jobs"], f"rt is called as {made}")
-    demand(1 <= int(made[0][2]) <= (os.cpu_count() or 1), f"rt gets {made[0][2]} processors")
-    demand(made[0][3:] == ["--", "--version"], f"rt is called as {made}")
+    with open(copy.env["RT_CALLS"] + ".apart", encoding="utf-8") as listed:
+        found = listed.read().split()
+    wanted = ("HANDLES", "crates.txt", "crates/low/proofs/Lib.antt", "crates/low/src/lib.rt", "crates/parish/args")
+    demand(found == [f"./{name}" for name in (*wanted, "crates/parish/src/main.rt")], f"rt is given {found}")
+    left = [name for name in os.listdir(copy.env["TMPDIR"]) if name.startswith("tmp.")]
+    demand(not left, f"a folder is left: {left}")
 
 
 def not_made_again(copy):
@@ -191,7 +193,7 @@ def not_made_again(copy):
     for file in ("crates/other/src/lib.rt", "crates/low/must-fail/a.edit", "README.md"):
         copy.write(file, "new")
         demand_silent(passes_on(copy))
-    demand(copy.calls("run") == 1, "made again though nothing of it has changed")
+    demand(copy.made() == 1, "made again though nothing of it has changed")
 
 
 def made_again_where_another_build_left_it(copy):
@@ -200,7 +202,7 @@ def made_again_where_another_build_left_it(copy):
     passes_on(copy)
     os.remove(copy.path("crates/parish/out/parish"))
     passes_on(copy)
-    demand(copy.calls("run") == 3, "an executable of other sources was run")
+    demand(copy.made() == 3, "an executable of other sources was run")
 
 
 def not_proved(copy):
@@ -261,7 +263,7 @@ def all_tests(copy):
     demand(got.status == 0, f"status: wanted 0, got {got.status}, {shown(got.out)}")
     demand(last_line(got) == [b"5 passed, 0 failed"], f"the last line: {last_line(got)}")
     demand_silent(passes_on(copy))
-    demand(copy.calls("run") == 0, "./parish made again what ./test had left")
+    demand(copy.made() == 0, "./parish made again what ./test had left")
 
 
 def all_tests_with(copy, crate, *folders):
@@ -319,7 +321,7 @@ def proofs_that_fail(copy):
 SCRIPTS = (
     ("./parish makes the program once and passes all on", made_once),
     ("./parish makes the program again after an edit", made_again_after_an_edit),
-    ("./parish shares the work among processors", all_processors),
+    ("./parish makes the program of its crates alone, in a folder that goes", made_apart),
     ("./parish makes nothing again where the program is the same", not_made_again),
     ("./parish runs no executable of other sources", made_again_where_another_build_left_it),
     ("./parish ends with 3 where the program is not proved", not_proved),

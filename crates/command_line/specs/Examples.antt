@@ -1,5 +1,5 @@
 -- The examples in the help of the commands, under any name of the program.
-use Rattle.std.specs.Prelude.{List, ◌∷◌, codes}
+use Rattle.std.specs.Prelude.{List, [], ◌∷◌, codes}
 use Rattle.clap.specs.Words.{Text}
 
 abbrev pub batch_words : Text → List Text
