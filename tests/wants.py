@@ -3,7 +3,7 @@
 A run that wanted memory says 1, or 80 where the database wanted it, or answers its row so, or does without; the archive
 is as it was or as it is when the command is done, and the same command with memory then answers and leaves what it does
 where none is refused. `./test` refuses growths that lie further and further apart, and more of those with which a batch
-is written; tests/long_stops.py refuses each.
+is written; tests/long_stops.py refuses each. Where the system bounds the memory of a run, a row that needs more ends it.
 """
 
 from __future__ import annotations
@@ -11,9 +11,10 @@ from __future__ import annotations
 import os
 from collections.abc import Iterable, Iterator
 
+from archives import Folder, answered
 from earlier import ANEW
 from exports import ARCHIVES
-from harness import Case, Failed, Outcome, Tools, demand, expect, refused, tally, written
+from harness import REFUSALS, Case, Failed, Outcome, Tools, demand, expect, refused, run, tally, written
 from imports import LEE, LEE_TOLD
 from memory import MOST, apart
 from refusing import built, refusing
@@ -23,6 +24,12 @@ from visits import request
 
 LEAST = 100  # growths that a command makes at least
 APART = 30  # of the last fifth of a batch's growths each so many-th is refused: there its records are written
+MOST_KB = 150_000  # what the system gives a run that it bounds
+# A row of many fields, and one of a long field, with what refuses it where there is memory.
+ROWS_BEYOND = (
+    ("many fields", b"b,person" + b"," * 30_000_000 + b"\n", 92),
+    ("a long field", b"b,person," + b"x" * 120_000_000 + b",M\n", 58),
+)
 TODAY = "2024-01-01"
 COUPLE = ("p,person,John /Smith/,M", "f,family,1,", "m,event,2,MARR,,1960,")
 GIVEN = request("/person/1")
@@ -142,6 +149,15 @@ def each_growth_of_a_room(tools: Tools, numbers: Iterable[int]) -> int:
     raise Failed("the growths have no end")
 
 
+def a_row_beyond_memory(tools: Tools, row: bytes, number: int) -> None:
+    """The rows before it are done, it is not answered, and the run ends with 1; with memory all three are answered."""
+    rows = b"a,person,Ann /Lee/,F\n" + row + b"c,person,Carl /Lee/,M\n"
+    with Folder(tools) as at:
+        bounded = ("sh", "-c", f'ulimit -v {MOST_KB}; exec "$@"', "sh", *at.made().parish)
+        expect(run(bounded, ("apply", at.file), rows), Outcome(b"a,ok,1,1\n", refused(1).err, 1))
+        answered(at.apply(rows), f"a,ok,1,1\nb,refused,{number},{REFUSALS[number]}\nc,ok,2,1\n".encode())
+
+
 def case_of(tools: Tools, command: Command, every: bool) -> Case:
     numbers = range(1, MOST) if every else apart()
     return Case(
@@ -160,6 +176,11 @@ def cases(tools: Tools, every: bool = False) -> Iterator[Case]:
         yield case_of(tools, command, every)
     if not every:
         yield last_of(tools, BATCH)
+    for name, row, number in ROWS_BEYOND:
+        yield Case(
+            f"refused memory: a row of {name}, where the system bounds it",
+            lambda row=row, number=number: a_row_beyond_memory(tools, row, number),
+        )
     numbers = range(1, MOST) if every else apart()
     yield Case(
         "refused memory: a room",

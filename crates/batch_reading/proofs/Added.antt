@@ -8,14 +8,21 @@ use Rattle.record_text.specs.declared.refusal.RefusalKind.TheVariants.{OutOfMemo
 use Rattle.commands.specs.Rows.{Decided, ReadsEntry, is_want}
 use Rattle.commands.specs.declared.entry_row.EntryRow.{EntryRow}
 use Rattle.batch_reading.specs.Batches.{ReadsRow, placeless}
-use Rattle.batch_reading.specs.Input.{Row}
+use Rattle.batch_reading.specs.Input.{Row, first_fields}
+use Rattle.batch_reading.proofs.Wide.{reads_entry}
 
 module _ (row : Row) where
-  -- the fields are texts
-  pub of_texts : (fields : Row) (r : Result EntryRow RefusalKind) → AllText row → fields ≡ row
+  -- the first fields are texts, as all are
+  pub of_texts : (fields : Row) (r : Result EntryRow RefusalKind) → AllText row → fields ≡ first_fields row
       → Decided r (ReadsEntry fields) → Decided r (ReadsRow row)
-  of_texts fields (Ok entry) all same h = inl (all, subst (λ (fs : Row). ReadsEntry fs (Ok entry)) same h)
-  of_texts fields (Err kind) all same h = λ w. inl (all, subst (λ (fs : Row). ReadsEntry fs (Err kind)) same (h w))
+  of_texts fields (Ok entry) all same h = inl (
+    all,
+    reads_entry row (Ok entry) (subst (λ (fs : Row). ReadsEntry fs (Ok entry)) same h),
+  )
+  of_texts fields (Err kind) all same h = λ w. inl (
+    all,
+    reads_entry row (Err kind) (subst (λ (fs : Row). ReadsEntry fs (Err kind)) same (h w)),
+  )
 
   module _ (kind : RefusalKind) (number : ℕ) (e : Refusal) where
     told_by : (b : Bool) → (b ≡ false → ReadsRow row (Err kind))

@@ -1,4 +1,6 @@
 mod Added
+mod Firsts
 mod OnTheWay
 mod OneBatch
 pub mod Taking
+pub mod Wide

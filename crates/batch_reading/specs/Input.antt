@@ -1,5 +1,5 @@
 -- The rows of an input, where its bytes are known: as `csv` reads them, without a byte order mark before them.
-use Rattle.std.specs.Prelude.{ℕ, List, Option, Some, None, option_map}
+use Rattle.std.specs.Prelude.{ℕ, List, take, Option, Some, None, option_map}
 use Rattle.csv.specs.Reading.{AreRecords, Reached, default_config, strip_bom}
 use Rattle.csv.specs.declared.parser.State.{State}
 use Rattle.csv.specs.declared.parser.State.TheVariants as state
@@ -7,6 +7,14 @@ use Rattle.csv.specs.declared.parser.State.TheVariants as state
 -- a row, as the bytes of its fields
 abbrev pub Row : Type 0
 Row = List (List ℕ)
+
+-- one more than the longest row has, that of an `entry` with 100 mentions
+abbrev pub kept_fields : ℕ
+kept_fields = 210
+
+-- by these a row is refused as it is by all, where it has more
+abbrev pub first_fields : Row → Row
+first_fields row = take kept_fields row
 
 -- the bytes that are read as rows
 abbrev pub row_bytes : Option (List ℕ) → Option (List ℕ)

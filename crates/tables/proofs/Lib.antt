@@ -1,4 +1,5 @@
 mod Entered
+mod Firsts
 pub mod InTurn
 mod OnTheWay
 mod One
