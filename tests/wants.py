@@ -3,7 +3,8 @@
 A run that wanted memory says 1, or 80 where the database wanted it, or answers its row so, or does without; the archive
 is as it was or as it is when the command is done, and the same command with memory then answers and leaves what it does
 where none is refused. `./test` refuses growths that lie further and further apart, and more of those with which a batch
-is written; tests/long_stops.py refuses each. Where the system bounds the memory of a run, a row that needs more ends it.
+is written; tests/long_stops.py refuses each. Where the system bounds the memory of a run, a row that needs more ends
+it.
 """
 
 from __future__ import annotations

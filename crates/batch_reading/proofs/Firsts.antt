@@ -37,7 +37,10 @@ module _ {A : Type 0} where
   reaches zero i xs few inside = absurd (omega (arith, few))
   reaches (suc n) i [] few inside = absurd (omega (arith, inside))
   reaches (suc n) zero (x ∷ xs) few inside = omega arith
-  reaches (suc n) (suc i) (x ∷ xs) few inside = omega (arith, reaches n i xs (omega (arith, few)) (omega (arith, inside)))
+  reaches (suc n) (suc i) (x ∷ xs) few inside = omega (
+    arith,
+    reaches n i xs (omega (arith, few)) (omega (arith, inside)),
+  )
 
 module _ (row : Row) (i : ℕ) where
   -- one that is kept is the next of them

@@ -29,7 +29,8 @@ fields-preserved c =
             ∙ ap (λ fs. fs ++ c.in-Some.text.now ∷ []) v.1
             ∙ ap (λ (f : List ℕ). take c.fields.i (first_fields row) ++ f ∷ []) c.in-Some.ensures.0
             ∙ sym (next_kept row c.fields.i lt few)
-        | inr behind ↦ ap (map now) (c.in_ok-keep_at-in-Some.ensures.left behind) ∙ v.1 ∙ sym (none_kept row c.fields.i behind)
+        | inr behind ↦
+            ap (map now) (c.in_ok-keep_at-in-Some.ensures.left behind) ∙ v.1 ∙ sym (none_kept row c.fields.i behind)
       ],
     )
 
