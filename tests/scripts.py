@@ -1,15 +1,19 @@
 """The commands `./parish` and `./test`, in a small copy with an `rt` that proves nothing.
 
-The copy has the two commands, their sum of the sources, and crates of one file each.  Its `rt`
+The copy has the two commands, what they call in tests/, and crates of one file each.  Its `rt`
 "builds" by copying a script, and notes each call.
 """
 
 from __future__ import annotations
 
+import contextlib
 import errno
 import os
+import pty
 import shutil
+import signal
 import stat
+import subprocess
 import tempfile
 import threading
 import time
@@ -34,9 +38,15 @@ ci)
     cat # must find nothing: standard input is the program's
     [ ! -e "$COPY/fails" ] || { echo '3 passed, 1 failed'; exit 1; }
     find . -type f | sort >"$RT_CALLS.$here"
+    if [ -e "$COPY/waits" ]; then
+        echo $$ >"$RT_CALLS.pid"
+        exec sleep 60
+    fi
     sleep 0.2
+    echo 'rt: low proved'
     out=crates/parish/out
     rm -rf $out && mkdir $out && cp crates/parish/src/main.rt $out/parish && chmod +x $out/parish
+    echo 'rt: parish proved'
     echo 'rt: ok'
     echo '3 passed, 0 failed'
     [ ! -e "$COPY/lies" ] || exit 1
@@ -111,7 +121,7 @@ def copied(folder):
         },
     )
     os.makedirs(copy.path("tests"))
-    for name in ("parish", "test", "tests/sources_sum"):
+    for name in ("parish", "test", "tests/sources_sum", "tests/how_far"):
         shutil.copy(os.path.join(ROOT, name), copy.path(name))
     copy.write("crates.txt", "# a comment: here\nlow:\nother: low\nparish: low clap\n")
     for crate in ("low", "other"):
@@ -144,12 +154,76 @@ def last_line(got):
     return got.out.splitlines()[-1:]
 
 
+PROVED = b"parish: 2 of 2 crates proved, 0 minutes\n"
+LOG = "crates/parish/out/made.log"
+
+
+def demand_log(copy, err, has):
+    """What rt said is in a file that standard error names."""
+    named = f"parish: what the kit said is in {copy.path(LOG)}\n".encode()
+    demand(named in err, f"it does not say where the kit's words are: {shown(err)}")
+    with open(copy.path(LOG), "rb") as log:
+        said = log.read()
+    demand(has in said, f"the log: {shown(said)}")
+    out = os.listdir(os.path.dirname(copy.path(LOG)))
+    demand(sum(name.endswith(".log") for name in out) == 1, f"more than one log: {out}")
+
+
 def made_once(copy):
     err = passes_on(copy)
-    demand(b"minutes" in err.splitlines()[0], f"it does not say how long it takes: {shown(err)}")
-    demand(b"rt: ok\n" in err, "what rt writes does not go to standard error")
+    lines = err.splitlines(keepends=True)
+    demand(b"minutes" in lines[0], f"it does not say how long it takes: {shown(err)}")
+    demand(lines[1] == PROVED, f"it does not say how far it is: {shown(err)}")
+    demand(lines[3:] == [b"told\n"], f"it says more: {shown(err)}")
+    demand_log(copy, err, b"rt: parish proved\nrt: ok\n3 passed, 0 failed\n")
     demand_silent(passes_on(copy))
     demand(copy.made() == 1, "it was made again")
+
+
+def on_a_terminal(copy):
+    ours, theirs = pty.openpty()
+    os.set_blocking(ours, False)
+    told = b""
+    try:
+        passes_on(copy, stderr=theirs)
+        with contextlib.suppress(BlockingIOError):
+            while True:
+                told += os.read(ours, 65_536)
+    finally:
+        os.close(theirs)
+        os.close(ours)
+    at_first = PROVED.replace(b"2 of", b"0 of")
+    demand(told.count(b"\n") == 4, f"it is not on one line: {shown(told)}")
+    one_line = told.split(b"\n")[1].split(b"\r")
+    demand([one_line[1], one_line[-2]] == [at_first[:-1], PROVED[:-1]], f"how far it is: {one_line}")
+
+
+def interrupted(copy, number, to_all):
+    """A signal while rt works: nothing of it goes on, nothing is made, and it is made the next time."""
+    copy.write("waits", "")
+    how = {"stdin": subprocess.DEVNULL, "stdout": subprocess.PIPE, "stderr": subprocess.PIPE}
+    ran = subprocess.Popen([copy.path("parish"), "norm"], env=copy.env, start_new_session=True, **how)
+    pid = copy.env["RT_CALLS"] + ".pid"
+    while ran.poll() is None and not (os.path.exists(pid) and os.path.getsize(pid)):
+        time.sleep(0.01)
+    (os.killpg if to_all else os.kill)(ran.pid, number)
+    out, err = ran.communicate(timeout=30)
+    demand((ran.returncode, out) == (3, b""), f"wanted status 3 and no output, got {ran.returncode}, {shown(out)}")
+    demand_log(copy, err, b"")
+    with open(pid, encoding="utf-8") as file:
+        demand(not os.path.exists(f"/proc/{int(file.read())}"), "rt goes on")
+    left = [name for name in os.listdir(copy.env["TMPDIR"]) if name.startswith("tmp.")]
+    demand(not left, f"a folder is left: {left}")
+    os.remove(copy.path("waits"))
+    os.remove(pid)
+    passes_on(copy)
+
+
+def interrupted_each_way(copy):
+    for number in (signal.SIGINT, signal.SIGTERM, signal.SIGHUP):
+        for to_all in (False, True):
+            interrupted(copy, number, to_all)
+            copy.write("crates/low/src/lib.rt", f"// {number} {to_all}")
 
 
 def made_again_after_an_edit(copy):
@@ -213,7 +287,9 @@ def not_proved(copy):
         got = copy.run("parish", "norm", given=b"input")
         demand(got.status == 3, f"status: wanted 3, got {got.status}")
         demand(got.out == b"", f"standard output: wanted nothing, got {shown(got.out)}")
-        demand(got.err.endswith(b"as said above\n"), f"standard error: {shown(got.err)}")
+        lines = (b"3 passed, 1 failed\n", b"parish: the program is not made: rt ci failed\n")
+        demand(b"".join(lines) in got.err, f"standard error: {shown(got.err)}")
+        demand_log(copy, got.err, lines[0])
     os.remove(copy.path("fails"))
     passes_on(copy)
 
@@ -320,6 +396,8 @@ def proofs_that_fail(copy):
 
 SCRIPTS = (
     ("./parish makes the program once and passes all on", made_once),
+    ("./parish tells on one line of a terminal how far it is", on_a_terminal),
+    ("./parish is interrupted", interrupted_each_way),
     ("./parish makes the program again after an edit", made_again_after_an_edit),
     ("./parish makes the program of its crates alone, in a folder that goes", made_apart),
     ("./parish makes nothing again where the program is the same", not_made_again),
