@@ -42,6 +42,8 @@ import sheet_commands  # noqa: E402
 import sizes  # noqa: E402
 import stops  # noqa: E402
 import streams  # noqa: E402
+import unsound  # noqa: E402
+import untouched  # noqa: E402
 import visitors  # noqa: E402
 import visits  # noqa: E402
 import wants  # noqa: E402
@@ -60,6 +62,7 @@ PARTS = (
     sheet_commands,
     rooms,
     audits,
+    unsound,
     days,
     earlier,
     merges,
@@ -68,6 +71,7 @@ PARTS = (
     memory,
     properties,
     streams,
+    untouched,
     visits,
     scripts,
     documents,
