@@ -32,7 +32,7 @@ SHOWN = {
     "sheet register": ("register", "4", *TODAY),
     "serve": (),
 }
-TARGETS = ("/", "/person/16", "/person/5", "/family/8", "/pedigree/5?generations=12", "/register/4", "/surname?name=lee")
+TARGETS = ("/", "/person/16", "/person/5", "/family/8", "/pedigree/5", "/register/4", "/surname?name=lee")
 # Commands that write: the words behind FILE, and what they are given.
 WRITTEN = {
     "apply": ((), b"z,person,Kit /Lee/,M\n"),
