@@ -27,16 +27,10 @@ use Rattle.request_heads.specs.Parts.{Head}
 use Rattle.request_heads.specs.declared.head.HeadRead.{HeadRead}
 use Rattle.request_heads.specs.declared.head.HeadRead.TheVariants as read
 use Rattle.request_heads.proofs.Decided.{front_begins}
-
--- a head is longer than one byte
-longer : (h : RequestHead) → 1 < length (print_request h)
-unfolding print_request
-longer h = grind (arith, length-append)
+use Rattle.request_heads.proofs.Undecided.{empty_has_no_head, longer}
 
 empty_has_none : (h : RequestHead) → ¬ (BeginsWith [] h)
-empty_has_none h begins =
-    let size = ap length begins.reads.1 in
-    omega (arith, longer h, size, length-append (print_request h) begins.rest)
+empty_has_none h begins = empty_has_no_head h begins.rest begins.reads
 
 empty_has_few : ¬ (HasManyLines [])
 empty_has_few many =

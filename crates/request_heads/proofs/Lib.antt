@@ -2,3 +2,4 @@ pub mod Alone
 pub mod Counts
 pub mod Decided
 pub mod Filled
+pub mod Undecided

@@ -1,8 +1,8 @@
 -- What the bytes that were read so far show, and what is left of the input behind them.
-use Rattle.std.specs.Prelude.{ℕ, ◌≡◌, ◌<◌, ◌≤◌, ◌⊎◌, Bool, List, [], length, codes, Option}
+use Rattle.std.specs.Prelude.{ℕ, ◌≡◌, ◌<◌, ◌≤◌, ◌-◌, ◌⊎◌, Bool, List, [], take, length, codes, Option}
 use Rattle.std.specs.Str.{str_eq_ignore_ascii_case}
 use Rattle.std.specs.Io.KnownBytes.{Consumes, IsAtEnd}
-use Rattle.httparse.specs.Grammar.{RequestHead, HasNoRequest, NeverHasRequest}
+use Rattle.httparse.specs.Grammar.{RequestHead, HasNoRequest, MayBecomeRequest, NeverHasRequest}
 use Rattle.httparse.specs.Spans.{
   span_bytes,
   IsRequestWithin,
@@ -18,9 +18,18 @@ use Rattle.request_heads.specs.Parts.{Head}
 use Rattle.request_heads.specs.declared.reading.Found.{Found}
 use Rattle.request_heads.specs.declared.reading.Found.TheVariants as found
 
--- at most 8,192 bytes were taken of an input
+-- no head ends within the bytes, and more bytes may make them one
+abbrev pub IsUndecided : List ℕ → Type 0
+IsUndecided front = HasNoRequest front × MayBecomeRequest front
+
+-- the bytes without their last one
+abbrev pub before_last : List ℕ → List ℕ
+before_last front = take (length front - 1) front
+
+-- at most 8,192 bytes were taken of an input, the last of them only since those before it decided nothing
 abbrev pub TakesHead : Option (List ℕ) → Option (List ℕ) → Type 0
-TakesHead old new = (front : List ℕ) × (length front ≤ head_limit) × Consumes old new front
+TakesHead old new =
+    (front : List ℕ) × (length front ≤ head_limit) × IsUndecided (before_last front) × Consumes old new front
 
 -- no bytes that follow make it a head, or it ends within one
 abbrev pub IsRuledOut : List ℕ → Option (List ℕ) → Type 0

@@ -4,10 +4,9 @@ ghost use Rattle.std.specs.Prelude.{◌≡◌, ◌≤◌, ◌<◌, Err, take, le
 ghost use Rattle.std.specs.Prelude.{IfOk, IfSome, MatchOption, IsUtf8, count_by, string_bytes};
 ghost use Rattle.std.specs.Io.KnownBytes.{Consumes};
 ghost use Rattle.devices.specs.Devices.{Rose};
-ghost use Rattle.httparse.specs.Grammar.{HasNoRequest};
 ghost use Rattle.httparse.specs.Spans.{IsHeaderWithin, IsRequestOf, IsRequestWithin};
 ghost use Rattle.request_heads.specs.Heads.{Begins};
-ghost use Rattle.request_heads.specs.Reading.{Shows, IsJudged, IsCopied, TakesHead, is_host_at};
+ghost use Rattle.request_heads.specs.Reading.{Shows, IsJudged, IsCopied, IsUndecided, TakesHead, before_last, is_host_at};
 ghost use Rattle.request_heads.specs.declared.reading.Found.TheVariants as found;
 
 use crate::head::{Head, HeadRead};
@@ -33,7 +32,8 @@ pub(crate) enum Found {
     Whole(RequestSpans),
 }
 
-/// Reads as far as the bytes show what they begin with, and at most 8,192 of them.
+/// Reads as far as the bytes show what they begin with, and at most 8,192 of them. It reads a byte at a time, so that it
+/// takes none after the one that decides: a reader of sockets is to be buffered.
 ///
 /// `before` is the count of failures at the start of the call that asks, and `Failed` says that it has risen
 /// since. `OutOfMemory`: memory was refused, here or to the reader, or the reader did not count its error.
@@ -75,13 +75,14 @@ fn find_head<R: Read + Device>(
     ensures within { IfOk result (λ r. r.0 ≤ length buffer.new) }
     ensures front { IfOk result (λ r. Consumes (R.remaining reader.old)
         (R.remaining reader.new) (take r.0 buffer.new)) }
+    ensures undecided { IfOk result (λ r. IsUndecided (before_last (take r.0 buffer.new))) }
     ensures shows { IfOk result (λ r. Shows (take r.0 buffer.new) (R.remaining reader.new)
         lines.new r.1) }
     ensures failed { result ≡ Err TransferError.Failed → Rose before (R.failed reader.new) }
 {
     let mut filled = 0usize;
-    'pieces: while filled < HEAD_LIMIT {
-        let n = match reader.read(&mut buffer[filled..]) {
+    'bytes: while filled < HEAD_LIMIT {
+        let n = match reader.read(&mut buffer[filled..filled + 1]) {
             Ok(n) => n,
             Err(e) => return Err(meaning(e, before, reader.failures())),
         };
@@ -108,11 +109,11 @@ fn at_end(filled: usize) -> Found
     }
 }
 
-/// What bytes show, whatever follows. `None`: no head ends within them, and more have to be read.
+/// What bytes show, whatever follows. `None`: no head ends within them, and one may come.
 fn judge(front: &[u8], lines: &mut [HeaderSpan]) -> Option<Found>
     requires { length lines.old ≡ 64 }
     ensures room { length lines.new ≡ length lines.old }
-    ensures judged { MatchOption result (HasNoRequest front.now) (IsJudged front.now lines.new) }
+    ensures judged { MatchOption result (IsUndecided front.now) (IsJudged front.now lines.new) }
 {
     match parse_request(front, lines) {
         Ok(Status::Complete(spans)) => Some(Found::Whole(spans)),
