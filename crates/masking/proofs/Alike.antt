@@ -23,7 +23,7 @@ use Rattle.masking.specs.Masking.{
   unless,
 }
 use Rattle.masking.specs.Hidden.{IsHiddenAt, AreAlike}
-use Rattle.masking.proofs.Once.{same_at, same_shown}
+use Rattle.masking.proofs.Once.{same_at, same_records}
 
 -- ---- whether a record is silent is told by what is shown of it
 partners_same : (living : ℕ → Bool) (ps : List model.Partner)
@@ -200,11 +200,10 @@ module _ (a b : Content) (today : ℤ) (sound_a : IsSound a) (sound_b : IsSound 
         ∙ ap (λ x. unless x (shown_of j n s)) gone ∙ sym (ap (shown_at j right n) bt)
   ]
 
-  pub alike_shown : (s t : Content) → IsMasked a today s → IsMasked b today t → s ≡ t
-  alike_shown s t k l = same_shown a b today s t k l
+  pub alike_shown : (s t : Content) → IsMasked a today s → IsMasked b today t → s.records ≡ t.records
+  alike_shown s t k l = same_records s t
       (λ n. k.records n
       ∙ same_at a.records today k.judged j left n (left n) k.judges h.first refl
       ∙ alike_at n
       ∙ sym (same_at b.records today l.judged j right n (right n) l.judges h.second refl)
       ∙ sym (l.records n))
-      h.next

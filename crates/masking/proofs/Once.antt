@@ -50,19 +50,18 @@ same_at m today j k look n (Some (kind.Event p)) h i is = by_living m today j k 
 same_at m today j k look n (Some (kind.Entry e)) h i is = at_entry m today j k look n e h i is
 same_at m today j k look n (Some (kind.Other p)) h i is = refl
 
--- two masked states that show the same at each number
-pub same_shown : (a b : Content) (today : ℤ) (s t : Content) → IsMasked a today s → IsMasked b today t
-    → ((n : ℕ) → get s.records n ≡ get t.records n) → a.next ≡ b.next → s ≡ t
-same_shown a b today s t h k same next = λ i. record {
-  records = same_map nat_cmp_total nat_cmp-IsAntisymmetric s.records t.records same i;
-  next = (h.next ∙ next ∙ sym k.next) i;
-  receipts = (h.receipts ∙ sym k.receipts) i;
-  slips = (h.slips ∙ sym k.slips) i;
-}
+-- two masked states that show the same at each number have the same records
+pub same_records : (s t : Content) → ((n : ℕ) → get s.records n ≡ get t.records n) → s.records ≡ t.records
+same_records s t same = same_map nat_cmp_total nat_cmp-IsAntisymmetric s.records t.records same
 
 pub one_masked : (c : Content) (today : ℤ) (s t : Content) → IsMasked c today s → IsMasked c today t → s ≡ t
-one_masked c today s t h k = same_shown c c today s t h k
-    (λ n. h.records n
+one_masked c today s t h k =
+    let same = same_records s t (λ n. h.records n
     ∙ same_at c.records today h.judged k.judged (get c.records) n (get c.records n) h.judges k.judges refl
-    ∙ sym (k.records n))
-    refl
+    ∙ sym (k.records n)) in
+    λ i. record {
+      records = same i;
+      next = (h.next ∙ sym k.next) i;
+      receipts = (h.receipts ∙ sym k.receipts) i;
+      slips = (h.slips ∙ sym k.slips) i;
+    }

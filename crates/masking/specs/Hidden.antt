@@ -17,11 +17,11 @@ abbrev pub DifferInHidden : Judged → Looks → Looks → ℕ → Type 0
 DifferInHidden j a b n = (r : Record) × (s : Record) × (a n ≡ Some r) × (b n ≡ Some s)
     × (shown_of j n r ≡ shown_of j n s)
 
--- the same persons are living, the same entries are open, and at each number the archives differ in what is hidden
+-- the same persons are living, the same entries are open, and at each number the archives differ in what is hidden:
+-- one may have more numbers than the other, and other receipts and slips
 pub record AreAlike (a b : Content) (today : ℤ) : Type 0 where
   pub judged : Judged
   pub first : Judges a.records today judged
   pub second : Judges b.records today judged
   pub alike : (n : ℕ) → (IsHiddenAt judged (get a.records) n × IsHiddenAt judged (get b.records) n)
       ⊎ DifferInHidden judged (get a.records) (get b.records) n
-  pub next : a.next ≡ b.next

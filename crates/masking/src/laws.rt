@@ -57,9 +57,9 @@ pub fn open_entries_are_shown()
         → get c.records n ≡ Some (kind.Entry e) → ¬ (IsOpen c.records today e) → get s.records n ≡ None }
 {}
 
-/// What is hidden of a sound archive changes nothing that is shown: two that differ in what is hidden alone have the
-/// same masked state.
+/// What is hidden of a sound archive changes nothing that is shown: of two that differ in what is hidden alone the same
+/// records are shown.
 pub fn what_is_hidden_changes_nothing()
     ensures { (a b : Content) (today : ℤ) (s t : Content) → IsSound a → IsSound b → AreAlike a b today
-        → IsMasked a today s → IsMasked b today t → s ≡ t }
+        → IsMasked a today s → IsMasked b today t → s.records ≡ t.records }
 {}

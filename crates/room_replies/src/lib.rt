@@ -11,4 +11,4 @@ mod replies;
 mod sending;
 
 pub use replies::{refusal, reply};
-pub use sending::{SendError, send};
+pub use sending::send;

@@ -1,40 +1,28 @@
 //! An answer on its way to a visitor.
 
-ghost use Rattle.std.specs.Prelude.{◌≡◌, Err, OnErr, OnOk};
+ghost use Rattle.std.specs.Prelude.{◌≡◌, OnErr, OnOk};
 ghost use Rattle.std.specs.Io.KnownBytes.{Appends};
+ghost use Rattle.devices.specs.Counts.{failures_of, inner_of};
 ghost use Rattle.devices.specs.Devices.{Rose, AppendsBeginning};
 
-use devices::{Device, has_risen, write_bytes};
+use devices::Counted;
+use std::io;
 use std::io::Write;
 
-/// Why an answer was not written whole.
-#[derive(Clone, Copy, Debug, PartialEq, Eq)]
-pub enum SendError {
-    /// The writer failed in this call, by its count.
-    Failed,
-    /// The writer took no more bytes and did not count it, which breaks the rule of `Device`.
-    Uncounted,
-}
-
-/// Writes an answer. Takes no memory. At an error the writer has taken a beginning of it.
-///
-/// `before` is the count of failures at the start of the call that asks, and `Failed` says that it has risen since,
-/// whatever the writer says of its reason.
-pub fn send<W: Write + Device>(writer: &mut W, before: u64, bytes: &[u8]) -> Result<(), SendError>
-    ensures ok { OnOk result (Appends (W.contents writer.old) (W.contents writer.new) bytes.now) }
+/// Writes an answer. Takes no memory. With an error, which is that of the writer, it has taken a beginning of the answer.
+pub fn send<W: Write>(writer: &mut Counted<W>, bytes: &[u8]) -> io::Result<()>
+    ensures ok { OnOk result
+        (Appends (W.contents (inner_of writer.old)) (W.contents (inner_of writer.new)) bytes.now) }
     ensures err { OnErr result
-        (AppendsBeginning (W.contents writer.old) (W.contents writer.new) bytes.now) }
-    ensures failed { result ≡ Err SendError.Failed → Rose before (W.failed writer.new) }
-    ensures uncounted { result ≡ Err SendError.Uncounted → ¬ (Rose before (W.failed writer.new)) }
+        (AppendsBeginning (W.contents (inner_of writer.old)) (W.contents (inner_of writer.new)) bytes.now) }
+    ensures failed { OnErr result (Rose (failures_of writer.old) (failures_of writer.new)) }
 {
-    match write_bytes(writer, before, bytes) {
-        Ok(()) => Ok(()),
-        Err(_) => {
-            if has_risen(before, writer.failures()) {
-                Err(SendError::Failed)
-            } else {
-                Err(SendError::Uncounted)
-            }
+    let mut at = 0usize;
+    'pieces: while at < bytes.len() {
+        match writer.write(&bytes[at..]) {
+            Ok(n) => at += n,
+            Err(e) => return Err(e),
         }
     }
+    Ok(())
 }
