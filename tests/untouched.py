@@ -43,7 +43,6 @@ WRONG = (
     ("FILE",),
     ("help",),
     ("--frobnicate",),
-    ("--help", "--frobnicate"),
     ("sheet", "FILE", "person", "1", "--tody", "2024-01-01"),
     ("sheet", "FILE", "person", "1", "--today", "2024-01-01", "--generation", "3"),
     ("sheet", "FILE", "person", "1", "--today=", "2024-01-01"),
@@ -180,27 +179,48 @@ OTHERS = (
 )
 
 
+def without_log(at) -> dict[str, bytes]:
+    """The files of a folder but the log, which may be made beside a file that is a database (docs/KEEPING.md)."""
+    return {name: data for name, data in files_of(at).items() if not name.endswith("-wal")}
+
+
 def is_left_alone(at, number, word, words, given):
     """The refusal, with nothing on standard output, nothing read, and FILE and its folder as they were."""
-    before = None if os.path.isdir(at.file) else files_of(at)
+    before = None if os.path.isdir(at.file) else without_log(at)
     got, read = ended(at.parish, (word, at.file, *words), given)
     expect(got, refused(number))
     demand(read == 0, f"{word}: {read} bytes of standard input are gone")
     if before is None:
         demand(os.listdir(at.path) == [os.path.basename(at.file)], f"{word}: something is new: {os.listdir(at.path)}")
         return
-    after = files_of(at)
+    after = without_log(at)
     demand(list(after) == list(before), f"{word}: there is {list(after)}, and was {list(before)}")
     demand(after == before, f"{word}: the file is another")
+
+
+def each_command(at, number):
+    for word, words, given in READERS:
+        is_left_alone(at, number, word, words, given)
+    for word, words in OTHERS:
+        is_left_alone(at, number, word, words, b"x\n")
 
 
 def a_file_that_is_refused(tools, make, number):
     with Folder(tools) as at:
         make(at)
-        for word, words, given in READERS:
-            is_left_alone(at, number, word, words, given)
-        for word, words in OTHERS:
-            is_left_alone(at, number, word, words, b"x\n")
+        each_command(at, number)
+
+
+def no_log_beside_what_is_no_archive(tools):
+    """Behind an 82 there is no log, also where FILE has no bytes."""
+    for name, make, number in FILES:
+        with Folder(tools) as at:
+            make(at)
+            logs = [name for name in os.listdir(at.path) if name.endswith("-wal")]
+            if number == 82 and not logs:
+                each_command(at, number)
+                left = [name for name in os.listdir(at.path) if name.endswith("-wal")]
+                demand(not left, f"{name}: there is {left}")
 
 
 def init_of_a_file_that_is_refused(tools):
@@ -239,7 +259,12 @@ def a_pipe_is_not_read(tools):
                 demand(left == b"a,person,Ann,F\n", f"{word}: {left!r} is left")
 
 
-TESTS = (init_of_a_file_that_is_refused, a_token_that_is_none, a_pipe_is_not_read)
+TESTS = (
+    init_of_a_file_that_is_refused,
+    no_log_beside_what_is_no_archive,
+    a_token_that_is_none,
+    a_pipe_is_not_read,
+)
 
 
 def cases(tools: Tools):
