@@ -2,15 +2,16 @@
 
 ghost use Rattle.std.specs.Prelude.{◌≡◌, Err, OnOk, IfOk, IfSome, not};
 ghost use Rattle.std.specs.Io.KnownBytes.{Keeps};
+ghost use Rattle.devices.specs.Counts.{failures_of, inner_of};
 ghost use Rattle.devices.specs.Devices.{Rose};
 ghost use Rattle.room_routes.specs.Asked.{asked_by, is_head as is_head_of};
 ghost use Rattle.room_visits.specs.Visits.{Answers, Served, BeginsToServe, answer_to, answer_of, page_answer};
 
 use crate::pages::{PageFound, Pages};
-use devices::{Device, TransferError};
+use devices::{Counted, Device, TransferError};
 use http::StatusCode;
 use request_heads::{Head, HeadRead, read_head};
-use room_replies::{SendError, refusal, reply, send};
+use room_replies::{refusal, reply, send};
 use room_routes::{Asked, is_head, read_request};
 use std::alloc::{AllocError, Global};
 use std::io::{Read, Write};
@@ -24,40 +25,34 @@ pub enum VisitError {
     ReadFailed,
     /// The writer failed in this call, by its count. It has got a beginning of an answer.
     WriteFailed,
-    /// The writer took no more bytes and did not count it, which breaks the rule of `Device`. It has got a beginning of
-    /// an answer.
-    WriterStopped,
 }
 
 /// Reads one request and writes its answer. Where the input ends before its first byte nothing is written.
-pub fn answer_one<P: Pages, R: Read + Device, W: Write + Device>(
+pub fn answer_one<P: Pages, R: Read + Device, W: Write>(
     alloc: Global,
     pages: &P,
     reader: &mut R,
-    writer: &mut W,
+    writer: &mut Counted<W>,
 ) -> Result<(), VisitError>
     ensures ok { P.is_honest pages.now → OnOk result (Served (P.shows pages.now) (R.remaining reader.old)
-        (W.contents writer.old) (W.contents writer.new)) }
-    ensures want { result ≡ Err VisitError.OutOfMemory → Keeps (W.contents writer.old) (W.contents writer.new) }
-    ensures read { result ≡ Err VisitError.ReadFailed → Keeps (W.contents writer.old) (W.contents writer.new) }
+        (W.contents (inner_of writer.old)) (W.contents (inner_of writer.new))) }
+    ensures want { result ≡ Err VisitError.OutOfMemory
+        → Keeps (W.contents (inner_of writer.old)) (W.contents (inner_of writer.new)) }
+    ensures read { result ≡ Err VisitError.ReadFailed
+        → Keeps (W.contents (inner_of writer.old)) (W.contents (inner_of writer.new)) }
     ensures blamed { result ≡ Err VisitError.ReadFailed → Rose (R.failed reader.old) (R.failed reader.new) }
     ensures write { P.is_honest pages.now → result ≡ Err VisitError.WriteFailed → BeginsToServe (P.shows pages.now)
-        (R.remaining reader.old) (W.contents writer.old) (W.contents writer.new) }
-    ensures counted { result ≡ Err VisitError.WriteFailed → Rose (W.failed writer.old) (W.failed writer.new) }
-    ensures stopped { P.is_honest pages.now → result ≡ Err VisitError.WriterStopped → BeginsToServe (P.shows pages.now)
-        (R.remaining reader.old) (W.contents writer.old) (W.contents writer.new) }
-    ensures uncounted { result ≡ Err VisitError.WriterStopped → ¬ (Rose (W.failed writer.old) (W.failed writer.new)) }
+        (R.remaining reader.old) (W.contents (inner_of writer.old)) (W.contents (inner_of writer.new)) }
+    ensures counted { result ≡ Err VisitError.WriteFailed → Rose (failures_of writer.old) (failures_of writer.new) }
 {
-    let before = writer.failures();
     let answer = match make_answer(alloc, pages, reader) {
         Ok(answer) => answer,
         Err(TransferError::OutOfMemory) => return Err(VisitError::OutOfMemory),
         Err(TransferError::Failed) => return Err(VisitError::ReadFailed),
     };
-    match send(writer, before, &answer) {
+    match send(writer, &answer) {
         Ok(()) => Ok(()),
-        Err(SendError::Failed) => Err(VisitError::WriteFailed),
-        Err(SendError::Uncounted) => Err(VisitError::WriterStopped),
+        Err(_) => Err(VisitError::WriteFailed),
     }
 }
 
