@@ -1,5 +1,5 @@
-"""Visitors of the reading room of all manners: who leave, send a byte at a time, say nothing, come too late; and how
-the room is opened and ends."""
+"""Visitors of the reading room of all manners: who leave, send a byte at a time, say nothing, do not read, do not
+close, come too late, or from elsewhere; and how the room is opened and ends."""
 
 from __future__ import annotations
 
@@ -15,7 +15,25 @@ from sheet_commands import SMITHS, TODAY, Shown
 from visits import HOST, answer, request
 
 LONGEST = 30  # seconds of a visit, from docs/READING-ROOM.md
+LEAVING = 2  # seconds until a visitor who has the answer and does not close is left, from the same
 A_LITTLE = 10  # what a busy machine may add
+
+FAMILY = answer(200, "Family 3\nHusband: 1 John Smith\nWife: 2 Living\n")
+
+
+def answered_within(one: socket.socket, seconds: int) -> bytes:
+    """All that is answered until the room closes its side, by that time."""
+    end, got = time.monotonic() + seconds, b""
+    while (left := end - time.monotonic()) > 0:
+        one.settimeout(left)
+        try:
+            piece = one.recv(65_536)
+        except TimeoutError:
+            break
+        if not piece:
+            return got
+        got += piece
+    demand(False, f"no end of the answer after {seconds} s: {got[:80]!r}")
 
 
 def so_many_visits(tools):
@@ -54,6 +72,23 @@ def byte_by_byte(tools):
         at.with_rows(SMITHS)
         with Room(at, 2) as room:
             demand(room.asked(request("/person/2"), 1) == room.asked(request("/person/2")), "they differ")
+
+
+def a_head_that_has_ended(tools):
+    """It is answered after its last byte, though the visitor neither closes nor says more, or says more at once."""
+    given = request("/family/3")
+    with Shown(tools) as at:
+        at.with_rows(SMITHS)
+        pieces = [given[place : place + 1] for place in range(len(given))]
+        visits = ([given], pieces, [given + b"GET /", b"x"])
+        with Room(at, len(visits)) as room:
+            for said in visits:
+                with room.visit() as one:
+                    one.setsockopt(socket.IPPROTO_TCP, socket.TCP_NODELAY, 1)
+                    for piece in said:
+                        one.sendall(piece)
+                    got = answered_within(one, A_LITTLE)
+                    demand(got == FAMILY, f"{len(said)} pieces: {difference(FAMILY, got)}")
 
 
 def one_after_the_other(tools):
@@ -103,6 +138,68 @@ def who_says_nothing(tools):
                 other.close()
 
 
+def who_does_not_read(tools):
+    """A visitor who asks for a page of 10 MB and reads none of it is let go after half a minute; who waited is
+    answered."""
+    with Shown(tools) as at:
+        at.with_rows([*SMITHS, *(f"n{n},name,1,{'x' * 100_000}" for n in range(100))])
+        with Room(at, 2) as room, socket.socket() as idle:
+            idle.setsockopt(socket.SOL_SOCKET, socket.SO_RCVBUF, 4_096)  # the less is on its way
+            idle.settimeout(60)
+            idle.connect(("127.0.0.1", room.port))
+            idle.sendall(request("/person/1"))
+            begun = time.monotonic()
+            with room.visit() as other:
+                other.sendall(request("/family/3"))
+                got = answered_within(other, LONGEST + A_LITTLE)
+            took = time.monotonic() - begun
+            demand(got == FAMILY, f"after {took:.0f} s: {difference(FAMILY, got)}")
+            demand(took > LONGEST - A_LITTLE, f"after {took:.0f} s: the page was on its way before anybody read it")
+
+
+def who_does_not_close(tools):
+    """A visitor who has the answer, and neither closes nor shuts down, is left after two seconds."""
+    with Shown(tools) as at:
+        at.with_rows(SMITHS)
+        with Room(at, 3) as room, room.visit() as first, room.visit() as second:
+            for stays in (first, second):
+                stays.sendall(request("/family/3"))
+                got = answered_within(stays, LEAVING + A_LITTLE)
+                demand(got == FAMILY, difference(FAMILY, got))
+            with room.visit() as other:
+                other.sendall(request("/family/3"))
+                got = answered_within(other, LEAVING + A_LITTLE)
+                demand(got == FAMILY, difference(FAMILY, got))
+
+
+def elsewhere() -> list[str]:
+    """Addresses of this machine other than 127.0.0.1."""
+    found = {"127.0.0.2"}
+    with contextlib.suppress(OSError):
+        found.update(socket.gethostbyname_ex(socket.gethostname())[2])
+    with socket.socket(socket.AF_INET, socket.SOCK_DGRAM) as probe, contextlib.suppress(OSError):
+        probe.connect(("192.0.2.1", 9))  # it sends nothing, and shows by which address this would go
+        found.add(probe.getsockname()[0])
+    return sorted(found - {"127.0.0.1", "0.0.0.0"})
+
+
+def by_another_address(tools):
+    """Nobody is let in but at 127.0.0.1."""
+    with Shown(tools) as at:
+        at.with_rows(SMITHS)
+        with Room(at, 1) as room:
+            for address in elsewhere():
+                try:
+                    socket.create_connection((address, room.port), timeout=A_LITTLE).close()
+                except ConnectionRefusedError:
+                    continue
+                demand(False, f"somebody was let in at {address}")
+            with contextlib.suppress(OSError):  # a machine may have no IPv6
+                socket.create_connection(("::1", room.port), timeout=A_LITTLE).close()
+                demand(False, "somebody was let in at ::1")
+            demand(room.asked(request("/family/3")) == FAMILY, "another answer")
+
+
 def a_port_that_is_taken(tools):
     with Shown(tools) as at:
         at.with_rows(SMITHS)
@@ -139,10 +236,14 @@ def the_file_is_free(tools):
 
 TESTS = (
     who_says_nothing,
+    who_does_not_read,
     so_many_visits,
     visitors_who_leave,
     byte_by_byte,
+    a_head_that_has_ended,
     one_after_the_other,
+    who_does_not_close,
+    by_another_address,
     a_port_that_is_taken,
     words_that_are_refused,
     the_file_is_free,

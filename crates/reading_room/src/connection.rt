@@ -1,5 +1,8 @@
 //! The connection of a visitor, whose reads and writes end in time.
 
+ghost use Rattle.std.specs.Prelude.{◌≡◌, ◌*◌, ◌<◌, ◌≤◌, IfOk};
+ghost use Rattle.std.specs.Duration.{as_nanos};
+
 use std::io;
 use std::io::{ErrorKind, Read, Write};
 use std::net::{Shutdown, TcpStream};
@@ -8,7 +11,7 @@ use std::time::{Clock, Duration, Instant};
 /// How many seconds the request may take to come and its answer to go, together.
 const VISIT_SECONDS: u64 = 30;
 
-/// For how many seconds what comes behind a request is read, and in how many pieces at most.
+/// For how many seconds what comes after a request is read, and in how many pieces at most.
 const LEAVE_SECONDS: u64 = 2;
 
 const LEAVE_PIECES: u32 = 256;
@@ -25,7 +28,9 @@ pub(crate) struct Timed<'a, C> {
 
 impl<'a, C: Clock> Timed<'a, C> {
     /// A connection with so many seconds from now.
-    fn new(stream: &'a TcpStream, clock: &'a C, seconds: u64) -> io::Result<Self> {
+    fn new(stream: &'a TcpStream, clock: &'a C, seconds: u64) -> io::Result<Self>
+        ensures { IfOk result (λ timed. as_nanos timed.limit ≡ seconds * 1_000_000_000) }
+    {
         Ok(Timed {
             stream,
             clock,
@@ -35,12 +40,23 @@ impl<'a, C: Clock> Timed<'a, C> {
     }
 
     /// A connection for a visit that begins now.
-    pub(crate) fn visit(stream: &'a TcpStream, clock: &'a C) -> io::Result<Self> {
+    pub(crate) fn visit(stream: &'a TcpStream, clock: &'a C) -> io::Result<Self>
+        ensures { IfOk result (λ timed. as_nanos timed.limit ≡ 30 * 1_000_000_000) }
+    {
         Timed::new(stream, clock, VISIT_SECONDS)
     }
 
+    /// A connection that is left now.
+    fn leave(stream: &'a TcpStream, clock: &'a C) -> io::Result<Self>
+        ensures { IfOk result (λ timed. as_nanos timed.limit ≡ 2 * 1_000_000_000) }
+    {
+        Timed::new(stream, clock, LEAVE_SECONDS)
+    }
+
     /// What is left of the time. `TimedOut`: none.
-    fn left(&self) -> io::Result<Duration> {
+    fn left(&self) -> io::Result<Duration>
+        ensures { IfOk result (λ left. (0 < as_nanos left) × (as_nanos left ≤ as_nanos self.now.limit)) }
+    {
         let left = self.limit.saturating_sub(self.begun.elapsed(self.clock)?);
         if left.is_zero() {
             Err(io::Error::from(ErrorKind::TimedOut))
@@ -76,7 +92,7 @@ impl<'a, C: Clock> Write for Timed<'a, C> {
 /// 2 seconds and 256 pieces at most.
 pub(crate) fn take_leave<C: Clock>(stream: &TcpStream, clock: &C) -> io::Result<()> {
     stream.shutdown(Shutdown::Write)?;
-    let mut rest = Timed::new(stream, clock, LEAVE_SECONDS)?;
+    let mut rest = Timed::leave(stream, clock)?;
     let mut piece = [0u8; 4_096];
     for _ in 0..LEAVE_PIECES {
         if rest.read(&mut piece)? == 0 {

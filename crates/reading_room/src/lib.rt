@@ -12,6 +12,7 @@ pub mod laws;
 mod listening;
 mod room;
 mod visit;
+mod visits;
 
 pub use listening::serve;
 pub use room::Room;

@@ -4,15 +4,13 @@ ghost use Rattle.std.specs.Prelude.{◌≡◌, Err, IfErr, IfOk, OnErr, OnOk, st
 ghost use Rattle.std.specs.Io.KnownBytes.{Appends};
 ghost use Rattle.devices.specs.Devices.{AppendsBeginning, Rose};
 ghost use Rattle.record_text.specs.declared.refusal.RefusalKind.TheVariants as refusal;
-ghost use Rattle.reading_room.specs.Listening.{listening_line};
+ghost use Rattle.reading_room.specs.Listening.{IsRoomAddress, IsRoomRefusal, listening_line, visits_of};
 
-use crate::connection::{Timed, take_leave};
 use crate::room::Room;
-use crate::visit::serve_one;
-use devices::{Counted, Device, TransferError, write_flushed};
+use crate::visits::Visits;
+use devices::{Device, TransferError, write_flushed};
 use record_text::RefusalKind;
 use std::alloc::{AllocError, Global};
-use std::io;
 use std::io::Write;
 use std::net::{Net, SocketAddr, TcpListener, TcpStream};
 use std::time::Clock;
@@ -33,52 +31,66 @@ pub fn serve<N: Net<Listener = TcpListener, Stream = TcpStream> + Clock, W: Writ
     ensures err { OnErr result
         (AppendsBeginning (W.contents output.old) (W.contents output.new) (listening_line port)) }
     ensures failed { result ≡ Err refusal.WriteFailed → Rose (W.failed output.old) (W.failed output.new) }
+    ensures listed { IfErr result IsRoomRefusal }
 {
-    let listener = match TcpListener::bind(net, SocketAddr::from(([127, 0, 0, 1], port))) {
-        Ok(listener) => listener,
-        Err(_) => return Err(RefusalKind::ReadFailed),
-    };
-    match say_listening(alloc, port, output) {
-        Ok(()) => serve_visits(alloc, net, room, &listener, count),
+    match serve_visits(alloc, net, room, port, count, output) {
+        Ok(_) => Ok(()),
         Err(kind) => Err(kind),
     }
 }
 
-/// Serves so many connections. 94: accepting failed.
-fn serve_visits<C: Clock>(
+/// The same, with the visits that there were: so many as are asked for.
+fn serve_visits<N: Net<Listener = TcpListener, Stream = TcpStream> + Clock, W: Write + Device>(
+    alloc: Global,
+    net: &N,
+    room: &Room,
+    port: u16,
+    count: u32,
+    output: &mut W,
+) -> Result<Visits, RefusalKind>
+    ensures visits { IfOk result (λ visits. visits_of visits ≡ count) }
+    ensures ok { OnOk result (Appends (W.contents output.old) (W.contents output.new) (listening_line port)) }
+    ensures err { OnErr result
+        (AppendsBeginning (W.contents output.old) (W.contents output.new) (listening_line port)) }
+    ensures failed { result ≡ Err refusal.WriteFailed → Rose (W.failed output.old) (W.failed output.new) }
+    ensures listed { IfErr result IsRoomRefusal }
+{
+    let listener = match TcpListener::bind(net, room_address(port)) {
+        Ok(listener) => listener,
+        Err(_) => return Err(RefusalKind::ReadFailed),
+    };
+    match say_listening(alloc, port, output) {
+        Ok(()) => serve_on(alloc, net, room, &listener, count),
+        Err(kind) => Err(kind),
+    }
+}
+
+/// The address of a room: a port of 127.0.0.1, which only this machine reaches.
+fn room_address(port: u16) -> SocketAddr
+    ensures { IsRoomAddress port result }
+{
+    SocketAddr::from(([127, 0, 0, 1], port))
+}
+
+/// Serves so many connections of a listener. 94: accepting failed.
+fn serve_on<C: Clock>(
     alloc: Global,
     clock: &C,
     room: &Room,
     listener: &TcpListener,
     count: u32,
-) -> Result<(), RefusalKind>
-    ensures { IfErr result (λ kind. kind ≡ refusal.ReadFailed) }
+) -> Result<Visits, RefusalKind>
+    ensures visits { IfOk result (λ visits. visits_of visits ≡ count) }
+    ensures refused { IfErr result (λ kind. kind ≡ refusal.ReadFailed) }
 {
-    for _ in 0..count {
-        match listener.accept() {
-            // A visit that fails is no matter of the next.
-            Ok((stream, _)) => {
-                let _ = serve_visit(alloc, clock, room, &stream);
-            }
+    let mut visits = Visits::none();
+    'visits: while visits.count() < count {
+        match visits.serve_next(alloc, clock, room, listener) {
+            Ok(()) => {}
             Err(_) => return Err(RefusalKind::ReadFailed),
         }
     }
-    Ok(())
-}
-
-/// Serves one connection, and leaves it so that the visitor can read all of the answer.
-fn serve_visit<C: Clock>(
-    alloc: Global,
-    clock: &C,
-    room: &Room,
-    stream: &TcpStream,
-) -> io::Result<()> {
-    let mut reader = Counted::new(Timed::visit(stream, clock)?);
-    let mut writer = Counted::new(Timed::visit(stream, clock)?);
-    match serve_one(alloc, room, &mut reader, &mut writer) {
-        Ok(()) => take_leave(stream, clock),
-        Err(_) => Ok(()),
-    }
+    Ok(visits)
 }
 
 /// Says on an output that a room listens, and flushes it.
@@ -91,6 +103,7 @@ fn say_listening<W: Write + Device>(
     ensures err { OnErr result
         (AppendsBeginning (W.contents output.old) (W.contents output.new) (listening_line port)) }
     ensures failed { result ≡ Err refusal.WriteFailed → Rose (W.failed output.old) (W.failed output.new) }
+    ensures listed { IfErr result IsRoomRefusal }
 {
     let before = output.failures();
     let line = match listening_line(alloc, port) {

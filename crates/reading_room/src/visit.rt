@@ -2,36 +2,37 @@
 
 ghost use Rattle.std.specs.Prelude.{◌≡◌, Err, OnOk};
 ghost use Rattle.std.specs.Io.KnownBytes.{Keeps};
+ghost use Rattle.devices.specs.Counts.{failures_of, inner_of};
 ghost use Rattle.devices.specs.Devices.{Rose};
 ghost use Rattle.archive_state.specs.Sound.{IsSound};
 ghost use Rattle.room_visits.specs.Visits.{Served, BeginsToServe};
 ghost use Rattle.reading_room.specs.Room as shows;
 
 use crate::room::Room;
-use devices::Device;
+use devices::{Counted, Device};
 use room_visits::{VisitError, answer_one};
 use std::alloc::Global;
 use std::io::{Read, Write};
 
 /// Reads one request and writes its answer, by what the room shows. Where the input ends before its first byte nothing
 /// is written.
-pub fn serve_one<R: Read + Device, W: Write + Device>(
+pub fn serve_one<R: Read + Device, W: Write>(
     alloc: Global,
     room: &Room,
     reader: &mut R,
-    writer: &mut W,
+    writer: &mut Counted<W>,
 ) -> Result<(), VisitError>
     ensures ok { IsSound room.now → OnOk result (Served (shows.room room.now.records)
-        (R.remaining reader.old) (W.contents writer.old) (W.contents writer.new)) }
-    ensures want { result ≡ Err VisitError.OutOfMemory → Keeps (W.contents writer.old) (W.contents writer.new) }
-    ensures read { result ≡ Err VisitError.ReadFailed → Keeps (W.contents writer.old) (W.contents writer.new) }
+        (R.remaining reader.old) (W.contents (inner_of writer.old)) (W.contents (inner_of writer.new))) }
+    ensures want { result ≡ Err VisitError.OutOfMemory
+        → Keeps (W.contents (inner_of writer.old)) (W.contents (inner_of writer.new)) }
+    ensures read { result ≡ Err VisitError.ReadFailed
+        → Keeps (W.contents (inner_of writer.old)) (W.contents (inner_of writer.new)) }
     ensures blamed { result ≡ Err VisitError.ReadFailed → Rose (R.failed reader.old) (R.failed reader.new) }
-    ensures write { IsSound room.now → result ≡ Err VisitError.WriteFailed → BeginsToServe
-        (shows.room room.now.records) (R.remaining reader.old) (W.contents writer.old) (W.contents writer.new) }
-    ensures counted { result ≡ Err VisitError.WriteFailed → Rose (W.failed writer.old) (W.failed writer.new) }
-    ensures stopped { IsSound room.now → result ≡ Err VisitError.WriterStopped → BeginsToServe
-        (shows.room room.now.records) (R.remaining reader.old) (W.contents writer.old) (W.contents writer.new) }
-    ensures uncounted { result ≡ Err VisitError.WriterStopped → ¬ (Rose (W.failed writer.old) (W.failed writer.new)) }
+    ensures write { IsSound room.now → result ≡ Err VisitError.WriteFailed
+        → BeginsToServe (shows.room room.now.records) (R.remaining reader.old)
+        (W.contents (inner_of writer.old)) (W.contents (inner_of writer.new)) }
+    ensures counted { result ≡ Err VisitError.WriteFailed → Rose (failures_of writer.old) (failures_of writer.new) }
 {
     answer_one(alloc, room, reader, writer)
 }

@@ -57,6 +57,6 @@ fn refusal_of(end: VisitError, nothing_written: bool) -> RefusalKind {
         VisitError::OutOfMemory if nothing_written => RefusalKind::OutOfMemory,
         VisitError::OutOfMemory => RefusalKind::BadRow,
         VisitError::ReadFailed => RefusalKind::ReadFailed,
-        VisitError::WriteFailed | VisitError::WriterStopped => RefusalKind::WriteFailed,
+        VisitError::WriteFailed => RefusalKind::WriteFailed,
     }
 }

@@ -67,6 +67,5 @@ fn word(end: Result<(), VisitError>) -> &'static str {
         Err(VisitError::OutOfMemory) => "OutOfMemory",
         Err(VisitError::ReadFailed) => "ReadFailed",
         Err(VisitError::WriteFailed) => "WriteFailed",
-        Err(VisitError::WriterStopped) => "WriterStopped",
     }
 }

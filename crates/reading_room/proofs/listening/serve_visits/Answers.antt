@@ -1,5 +1,5 @@
 use Rattle.std.proofs.Common.{rules}
-use Rattle.reading_room.proofs.listening.serve.Goals as goal
+use Rattle.reading_room.proofs.listening.serve_visits.Goals as goal
 use Rattle.devices.proofs.Begun.{all_begins}
 
 pub returns-in-Ok-say_listening-clause-err : goal.returns-in-Ok-say_listening-clause-err
