@@ -4,4 +4,5 @@ pub mod InTurn
 mod OnTheWay
 mod One
 mod Outcomes
+pub mod Refused
 mod Served

@@ -47,6 +47,7 @@ use Rattle.tables.specs.Applying.{
   Ends,
   IsServed,
   PerformsAll,
+  RefusesAll,
   Steps,
   WritesPart,
   answers,
@@ -56,7 +57,15 @@ use Rattle.tables.specs.Applying.{
 use Rattle.batch_reading.specs.Input.{AreRows, Row}
 use Rattle.batch_reading.proofs.Taking.{Took, took_first, took_none}
 use Rattle.tables.proofs.Outcomes.{by_bool}
-use Rattle.tables.proofs.Served.{answers_doubted, answers_sure, certain_more, kept_more, performed_more, served_more}
+use Rattle.tables.proofs.Served.{
+  answers_doubted,
+  answers_sure,
+  certain_more,
+  kept_more,
+  performed_more,
+  refused_more,
+  served_more,
+}
 use Rattle.devices.proofs.Begun.{all_begins}
 
 -- ---- the answers that were written
@@ -85,6 +94,7 @@ pub record OnTheWay {S : Type 0} (g : Ghosts S) (known left : Option (List ℕ))
   pub certain : in_doubt (calls_of served) ≡ None
   pub kept : is_shut old ≡ false → is_shut new ≡ false
   pub performed : PerformsAll g old (calls_of served) new
+  pub refused : RefusesAll g old (calls_of served) new
   pub written : Appends before after (answers served)
 
 -- of the rows that were served P is said beside it
@@ -112,6 +122,7 @@ at_start g known out archive P none p = (
     certain = refl;
     kept = λ was. was;
     performed = none;
+    refused = λ shut. (tt, refl);
     written = Appends-nil out;
   },
   p,
@@ -133,6 +144,7 @@ module _ {S : Type 0} (g : Ghosts S) (known left : Option (List ℕ)) (at : Stat
       certain = certain_more w.served s w.certain sure;
       kept = kept_more g old now next w.served s steps sure w.kept;
       performed = performed_more g old now next w.served s w.certain w.kept w.performed steps;
+      refused = refused_more g old now next w.served s w.refused steps;
       written = subst (Appends before out) (sym (answers_sure w.served s sure))
           (Appends-trans before after out _ _ w.written wrote);
     },
@@ -150,6 +162,7 @@ module _ {S : Type 0} (g : Ghosts S) (known left : Option (List ℕ)) (at : Stat
       certain = w.certain;
       kept = w.kept;
       performed = w.performed;
+      refused = w.refused;
       written = w.written;
     },
     p,
@@ -174,6 +187,7 @@ module _ {S : Type 0} (g : Ghosts S) (known left : Option (List ℕ)) (at : Stat
       first = took_first known left w.rows at w.took;
       each = w.each;
       performed = w.performed;
+      refused = w.refused;
       lost = lost_unread kind why;
       written = ends_unread kind why;
     },
@@ -233,6 +247,7 @@ module _ {S : Type 0} (g : Ghosts S) (known left : Option (List ℕ)) (at : Stat
       first = took_first known rest (w.rows ++ row ∷ []) to took;
       each = served_more w.rows w.served row s w.each is;
       performed = performed_more g old now next w.served s w.certain w.kept w.performed steps;
+      refused = refused_more g old now next w.served s w.refused steps;
       lost = lost_row kind next out s steps h;
       written = ends_row kind s out h;
     },
@@ -262,6 +277,7 @@ told_so g kind told known before after old new P (inr h) e =
         first = e.0.first;
         each = e.0.each;
         performed = e.0.performed;
+        refused = e.0.refused;
         lost = λ was. e.0.lost was ∙ ap is_storage h.0;
         written = blameless_ends e.0.served before after kind h.0 e.0.written;
       },

@@ -19,7 +19,9 @@ use Rattle.std.proofs.Common.{
   ap,
   subst,
 }
+use Rattle.std.specs.List.{AllByRecursion}
 use Rattle.std.proofs.lemmas.List.{flat_map_more, append-nil}
+use Rattle.list_laws.proofs.Lists.{all_then}
 use Rattle.sqlite.specs.Held.{state}
 use Rattle.sqlite.specs.State.{HasCleanDisk}
 use Rattle.sqlite_trees.specs.declared.store.Store.{Ghosts}
@@ -30,7 +32,18 @@ use Rattle.store.specs.Shut.{is_shut}
 use Rattle.store.specs.declared.archive.Archive.{Archive}
 use Rattle.store.proofs.Histories.{doubt_after, performs_then}
 use Rattle.tables.specs.Answers.{Served, answer_text}
-use Rattle.tables.specs.Applying.{AreServed, IsServed, PerformsAll, Steps, answer_to, answers, calls_of, is_in_doubt}
+use Rattle.tables.specs.Applying.{
+  AreServed,
+  IsServed,
+  PerformsAll,
+  RefusesAll,
+  Steps,
+  answer_to,
+  answers,
+  calls_of,
+  is_in_doubt,
+  outcome_when_shut,
+}
 use Rattle.batch_reading.specs.Input.{Row}
 use Rattle.tables.specs.declared.bad_request.BadRequest.{BadRequest}
 
@@ -89,3 +102,21 @@ module _ {S : Type 0} (g : Ghosts S) (old now next : Archive S g) (served : List
       subst (λ (calls : List Done). Performs (state g old.conn) calls (state g next.conn)) (sym (calls_bad served bad))
       (subst (λ (a : Archive S g). Performs (state g old.conn) (calls_of served) (state g a.conn)) (sym same)
       (first (subst (λ (a : Archive S g). HasCleanDisk (state g a.conn)) same clean) was))
+
+  pub refused_more : (s : Served) → RefusesAll g old (calls_of served) now → Steps g s now next
+      → RefusesAll g old (calls_of (served ++ s ∷ [])) next
+  refused_more (Ok done) first steps = λ shut.
+      let Is : Done → Type 0 = λ call. call.1 ≡ outcome_when_shut old in
+      let before = first shut in
+      let did = steps.2 (subst (λ (a : Archive S g). is_shut a ≡ true) (sym before.1) shut) in (
+        subst (AllByRecursion Is) (sym (calls_ok served done))
+            (all_then Is (calls_of served) done before.0
+            (did.0.0 ∙ ap (λ (a : Archive S g). outcome_when_shut a) before.1)),
+        did.1 ∙ before.1,
+      )
+  refused_more (Err bad) first same = λ shut.
+      let Is : Done → Type 0 = λ call. call.1 ≡ outcome_when_shut old in
+      let before = first shut in (
+        subst (AllByRecursion Is) (sym (calls_bad served bad)) before.0,
+        same ∙ before.1,
+      )

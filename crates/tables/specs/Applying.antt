@@ -1,6 +1,6 @@
 -- What applying rows does: each is served as it asks, and its answer is written, one after the other. Rules of our own.
 use Rattle.std.specs.Prelude.{◌≡◌, ◌⊎◌, ℕ, Bool, true, false, List, [], ◌∷◌, ◌++◌, Option, None, Ok, Err, cond}
-use Rattle.std.specs.List.{flat_map}
+use Rattle.std.specs.List.{AllByRecursion, flat_map}
 use Rattle.std.specs.Io.KnownBytes.{Appends}
 use Rattle.sqlite.specs.Held.{state}
 use Rattle.sqlite.specs.State.{HasCleanDisk}
@@ -10,8 +10,9 @@ use Rattle.record_text.specs.declared.refusal.RefusalKind.{RefusalKind}
 use Rattle.record_text.specs.declared.refusal.RefusalKind.TheVariants.{OutOfMemory, ReadFailed, Storage, WriteFailed}
 use Rattle.archive_core.specs.Machine.{Done}
 use Rattle.store.specs.Calls.{Performs}
-use Rattle.store.specs.Histories.{has_failed, in_doubt, is_storage}
+use Rattle.store.specs.Histories.{Outcome, has_failed, in_doubt, is_storage, must_reopen}
 use Rattle.store.specs.Shut.{is_shut}
+use Rattle.store.specs.Standing.{must_wait}
 use Rattle.store.specs.declared.archive.Archive.{Archive}
 use Rattle.tables.specs.Answers.{Served, answer_text}
 use Rattle.batch_reading.specs.Input.{AreFirstRows, AreRows, Row}
@@ -54,10 +55,21 @@ abbrev pub PerformsAll : {S : Type 0} → (g : Ghosts S) → Archive S g → Lis
 PerformsAll g old calls new =
     HasCleanDisk (state g new.conn) → is_shut old ≡ false → Performs (state g old.conn) calls (state g new.conn)
 
--- what one row does to an archive: its request is performed, which shuts the archive where it is in doubt; else nothing
+-- the outcome of each request on an archive that takes none: 81 where the database has failed, else 84
+abbrev pub outcome_when_shut : {S : Type 0} {g : Ghosts S} → Archive S g → Outcome
+outcome_when_shut a = cond a.is_lost must_reopen must_wait
+
+-- requests on an archive that takes none: each has that outcome, and the archive stays as it is
+abbrev pub RefusesAll : {S : Type 0} → (g : Ghosts S) → Archive S g → List Done → Archive S g → Type 0
+RefusesAll g old calls new = is_shut old ≡ true
+    → AllByRecursion (λ (call : Done). call.1 ≡ outcome_when_shut old) calls × (new ≡ old)
+
+-- what one row does to an archive: its request is performed, which shuts the archive where it is in doubt, or refused
+-- where the archive takes none; else nothing
 abbrev pub Steps : {S : Type 0} → (g : Ghosts S) → Served → Archive S g → Archive S g → Type 0
 Steps g (Ok done) old new =
     PerformsAll g old (done ∷ []) new × (is_shut old ≡ false → is_shut new ≡ has_failed done.1)
+    × RefusesAll g old (done ∷ []) new
 Steps g (Err bad) old new = new ≡ old
 
 -- a beginning of an answer was written: memory was refused, or the writer failed
@@ -78,7 +90,7 @@ Ends kind served before after =
     ⊎ ((in_doubt (calls_of served) ≡ None) × (((kind ≡ ReadFailed) × Appends before after (answers served))
     ⊎ WritesPart kind before after (answers served)))
 
--- all rows were served and answered, and the archive goes on
+-- all rows were served and answered; an archive that took requests still takes them
 pub record Applied {S : Type 0} (g : Ghosts S) (input before after : Option (List ℕ))
     (old new : Archive S g) : Type 0 where
   pub rows : List Row
@@ -88,6 +100,7 @@ pub record Applied {S : Type 0} (g : Ghosts S) (input before after : Option (Lis
   pub certain : in_doubt (calls_of served) ≡ None
   pub kept : is_shut old ≡ false → is_shut new ≡ false
   pub performed : PerformsAll g old (calls_of served) new
+  pub refused : RefusesAll g old (calls_of served) new
   pub written : Appends before after (answers served)
 
 -- the first rows were served, and then the call ended early; 80 loses the archive, and nothing else does
@@ -98,5 +111,6 @@ pub record Ended {S : Type 0} (g : Ghosts S) (kind : RefusalKind) (input before 
   pub first : AreFirstRows input rows
   pub each : AreServed rows served
   pub performed : PerformsAll g old (calls_of served) new
+  pub refused : RefusesAll g old (calls_of served) new
   pub lost : is_shut old ≡ false → is_shut new ≡ is_storage kind
   pub written : Ends kind served before after
