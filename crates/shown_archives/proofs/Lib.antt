@@ -1,1 +1,2 @@
 pub mod Masked
+mod Sound

@@ -12,3 +12,7 @@ pub record IsShown (c : Content) (today : ℤ) (shown : Content) : Type 0 where
 -- P of what is shown
 abbrev pub OnShown : Content → ℤ → (Content → Type 0) → Type 0
 OnShown c today P = (shown : Content) × IsShown c today shown × P shown
+
+-- a sound archive was read, and P of it
+abbrev pub OfSound : (Content → Type 0) → Type 0
+OfSound P = (read : Content) × IsSound read × P read

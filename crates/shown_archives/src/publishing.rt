@@ -1,6 +1,6 @@
 //! What is shown of an archive that is open, written as a GEDCOM file.
 
-ghost use Rattle.std.specs.Prelude.{◌≡◌, ◌⊎◌, false, true, IfErr, OnOk};
+ghost use Rattle.std.specs.Prelude.{◌≡◌, ◌⊎◌, ℕ, List, false, true, IfErr, OnOk};
 ghost use Rattle.std.specs.Io.KnownBytes.{Keeps};
 ghost use Rattle.sqlite.specs.Held.{state};
 ghost use Rattle.archive_state.specs.Sound.{IsSound};
@@ -10,6 +10,7 @@ ghost use Rattle.gedcom_export.specs.Ends.{IsWhole};
 ghost use Rattle.record_text.specs.declared.refusal.RefusalKind.TheVariants.{WriteFailed};
 ghost use Rattle.archive_exports.specs.Exporting.{export_text};
 ghost use Rattle.archive_exports.specs.Reading.{OnOpen};
+ghost use Rattle.shown_archives.specs.Showing.{OfSound};
 ghost use Rattle.shown_archives.specs.Writing.{IsCut, IsNotBegun, IsPartPublished, IsPublished};
 
 use crate::showing::shown_of;
@@ -26,9 +27,9 @@ use store::Archive;
 /// Writes what is shown of an archive on a day as a GEDCOM file under the name of its society. The archive is read
 /// whole, and not changed.
 ///
-/// 1: memory was refused. 40: somebody else has spoilt what is stored. 80: the database failed. 70: the text would have
-/// more than 67,108,864 bytes. 95: the writer failed. Nothing is written at 40 and 80; at the others a beginning of the
-/// text may be.
+/// 1: memory was refused. 40: somebody else has spoilt what is stored, which cannot be read or is not sound. 80: the
+/// database failed. 70: the text would have more than 67,108,864 bytes. 95: the writer failed. Nothing is written at 40
+/// and 80; at the others a beginning of the text may be.
 pub fn write_public<S: Alter, W: Write + Device>(
     alloc: Global,
     archive: &mut Archive<S>,
@@ -43,6 +44,9 @@ pub fn write_public<S: Alter, W: Write + Device>(
     ensures unread { IfErr result
         (λ kind. is_failure kind ≡ true → Keeps (W.contents writer.old) (W.contents writer.new)) }
     ensures writer { IfErr result (λ kind. kind ≡ WriteFailed → Rose (W.failed writer.old) (W.failed writer.new)) }
+    // Whether the tables are good or not.
+    ensures sound { OnOk result (OfSound (λ c. (society : List ℕ)
+        × IsPublished (W.contents writer.old) (W.contents writer.new) today society c)) }
 {
     match society_of(alloc, archive) {
         Ok(society) => write_named(alloc, archive, society.as_str(), today, writer),
@@ -66,6 +70,8 @@ fn write_named<S: Alter, W: Write + Device>(
     ensures unread { IfErr result
         (λ kind. is_failure kind ≡ true → Keeps (W.contents writer.old) (W.contents writer.new)) }
     ensures writer { IfErr result (λ kind. kind ≡ WriteFailed → Rose (W.failed writer.old) (W.failed writer.new)) }
+    ensures sound { OnOk result (OfSound
+        (λ c. IsPublished (W.contents writer.old) (W.contents writer.new) today society.now c)) }
 {
     match shown_of(alloc, archive, today) {
         Ok(shown) => write_shown(alloc, &shown, society, writer),

@@ -1,17 +1,18 @@
 //! An archive that is open, masked for a day.
 
-ghost use Rattle.std.specs.Prelude.{◌≡◌, false, true, IfErr, IfOk};
+ghost use Rattle.std.specs.Prelude.{◌≡◌, ◌⊎◌, false, true, IfErr, IfOk};
 ghost use Rattle.sqlite.specs.Held.{state};
 ghost use Rattle.archive_state.specs.Sound.{IsSound};
 ghost use Rattle.archive_view.specs.Looks.{is_stop};
-ghost use Rattle.record_text.specs.declared.refusal.RefusalKind.TheVariants.{OutOfMemory};
+ghost use Rattle.record_text.specs.declared.refusal.RefusalKind.TheVariants.{BadStored, OutOfMemory};
 ghost use Rattle.store.specs.Archives.{HasArchive};
 ghost use Rattle.store_tables.specs.Looking.{IsFailure};
 ghost use Rattle.archive_exports.specs.Reading.{OnOpen};
-ghost use Rattle.shown_archives.specs.Showing.{IsShown};
+ghost use Rattle.shown_archives.specs.Showing.{IsShown, OfSound};
 
 use archive_exports::read_refusal;
 use archive_state::State;
+use audit::sound;
 use record_text::RefusalKind;
 use sheets::Library;
 use shown_state::{Shown, shown};
@@ -20,7 +21,8 @@ use std::alloc::Global;
 use store::Archive;
 
 /// What may be shown of an archive on a day, counted from 1970-01-01, day 0. The archive is read whole, and not
-/// changed. 1: memory was refused. 40: somebody else has spoilt what is stored. 80: the database failed.
+/// changed. 1: memory was refused. 40: somebody else has spoilt what is stored, which cannot be read or is not sound.
+/// 80: the database failed.
 pub fn shown_of<S: Alter>(
     alloc: Global,
     archive: &mut Archive<S>,
@@ -32,10 +34,24 @@ pub fn shown_of<S: Alter>(
     ensures unshown { IfErr result (λ kind. OnOpen (state S.Store archive.old.conn) (state S.Store archive.new.conn)
         (λ _ _. IsFailure kind)) }
     ensures stops { IfErr result (λ kind. is_stop kind ≡ true) }
+    // Whether the tables are good or not.
+    ensures sound { IfOk result (λ s. OfSound (λ c. IsShown c today s)) }
 {
     match archive.state(alloc) {
-        Ok(state) => masked(alloc, &state, today),
+        Ok(state) => masked_if_sound(alloc, &state, today),
         Err(kind) => Err(read_refusal(kind)),
+    }
+}
+
+/// What may be shown of a state. 40: it is not sound, so that no rule says who of it is living. 1: memory was refused.
+fn masked_if_sound(alloc: Global, state: &State, today: i32) -> Result<Shown, RefusalKind>
+    ensures shown { IfOk result (λ s. IsSound state.now × IsShown state.now today s) }
+    ensures refused { IfErr result (λ kind. (kind ≡ OutOfMemory) ⊎ ((kind ≡ BadStored) × ¬ (IsSound state.now))) }
+{
+    match sound(alloc, state) {
+        Ok(true) => masked(alloc, state, today),
+        Ok(false) => Err(RefusalKind::BadStored),
+        Err(refusal) => Err(refusal.kind),
     }
 }
 
@@ -62,6 +78,7 @@ pub fn library_of<S: Alter>(
     ensures unshown { IfErr result (λ kind. OnOpen (state S.Store archive.old.conn) (state S.Store archive.new.conn)
         (λ _ _. IsFailure kind)) }
     ensures stops { IfErr result (λ kind. is_stop kind ≡ true) }
+    ensures sound { IfOk result (λ l. OfSound (λ c. IsShown c today l)) }
 {
     match shown_of(alloc, archive, today) {
         Ok(shown) => shelved(alloc, shown),

@@ -9,6 +9,7 @@ ghost use Rattle.devices.specs.Devices.{Rose};
 ghost use Rattle.record_text.specs.declared.refusal.RefusalKind.TheVariants.{WriteFailed};
 ghost use Rattle.archive_exports.specs.Reading.{OnOpen};
 ghost use Rattle.shown_archives.specs.Sheets.{sheet_text};
+ghost use Rattle.shown_archives.specs.Showing.{OfSound};
 ghost use Rattle.shown_archives.specs.Writing.{GotNoText, GotText, IsNotBegun, IsSheetRefused, IsSheetWritten};
 
 use crate::sheet::{Sheet, sheet_of};
@@ -24,9 +25,9 @@ use store::Archive;
 
 /// Writes a sheet of what is shown of an archive on a day. The archive is read whole, and not changed.
 ///
-/// 1: memory was refused. 40: somebody else has spoilt what is stored. 80: the database failed. 50: no record that is
-/// shown has the number. 51: it is of another kind. 95: the writer failed. Nothing is written but at 95 and at 1, where
-/// a beginning of the text may be.
+/// 1: memory was refused. 40: somebody else has spoilt what is stored, which cannot be read or is not sound. 80: the
+/// database failed. 50: no record that is shown has the number. 51: it is of another kind. 95: the writer failed.
+/// Nothing is written but at 95 and at 1, where a beginning of the text may be.
 pub fn write_sheet<S: Alter, W: Write + Device>(
     alloc: Global,
     archive: &mut Archive<S>,
@@ -42,6 +43,9 @@ pub fn write_sheet<S: Alter, W: Write + Device>(
     ensures unread { IfErr result
         (λ kind. is_failure kind ≡ true → Keeps (W.contents writer.old) (W.contents writer.new)) }
     ensures writer { IfErr result (λ kind. kind ≡ WriteFailed → Rose (W.failed writer.old) (W.failed writer.new)) }
+    // Whether the tables are good or not.
+    ensures sound { OnOk result (OfSound
+        (λ c. IsSheetWritten (W.contents writer.old) (W.contents writer.new) sheet.now today c)) }
 {
     match shown_of(alloc, archive, today) {
         Ok(shown) => write_shown(alloc, &shown, sheet, writer),

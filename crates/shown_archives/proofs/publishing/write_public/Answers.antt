@@ -1,10 +1,12 @@
-use Rattle.std.proofs.Common.{ℤ, subst, w32}
+use Rattle.std.proofs.Common.{ℕ, ℤ, List, subst, w32}
 use Rattle.std.proofs.lemmas.Int.{to_z-of_z}
 use Rattle.std.specs.Prelude.{IfErr, OnOk}
 use Rattle.sqlite.specs.Held.{state}
 use Rattle.archive_exports.specs.Reading.{OnOpen}
 use Rattle.archive_exports.proofs.Named.{not_blamed, part_of_named, whole_of_named}
 use Rattle.shown_archives.specs.Writing.{IsPartPublished, IsPublished}
+use Rattle.shown_archives.specs.Showing.{OfSound}
+use Rattle.shown_archives.proofs.Sound.{all_under}
 use Rattle.shown_archives.proofs.Masked.{not_begun}
 use Rattle.shown_archives.proofs.publishing.write_public.Goals as goal
 use Rattle.list_laws.proofs.Outcomes.{keeps}
@@ -43,3 +45,12 @@ returns-in-Err-clause-writer g c = not_blamed c.in-Err.kind _ c.in-Err.ensures.s
 
 pub returns-in-Err-clause-unread : goal.returns-in-Err-clause-unread
 returns-in-Err-clause-unread g c = λ _. keeps (g.W.Write.contents c.args.writer.now)
+
+pub returns-in-Ok-clause-sound : goal.returns-in-Ok-clause-sound
+returns-in-Ok-clause-sound g c =
+    let before = g.W.Write.contents c.args.writer.now in
+    let after = g.W.Write.contents c.write_named.new.writer in
+    subst (λ (t : ℤ). OnOk c.write_named.result
+    (OfSound (λ of. (society : List ℕ) × IsPublished before after t society of)))
+    (to_z-of_z w32 c.args.today c.ranges.today)
+    (all_under c.write_named.result c.as_str.result.now (IsPublished before after _) c.write_named.ensures.sound)

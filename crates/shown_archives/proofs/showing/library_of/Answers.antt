@@ -4,8 +4,9 @@ use Rattle.sqlite.specs.Held.{state}
 use Rattle.archive_state.specs.Content.{Content}
 use Rattle.store.specs.Archives.{HasArchive}
 use Rattle.archive_exports.specs.Reading.{OnOpen}
-use Rattle.shown_archives.specs.Showing.{IsShown}
+use Rattle.shown_archives.specs.Showing.{IsShown, OfSound}
 use Rattle.shown_archives.proofs.Masked.{of_day, same_of}
+use Rattle.shown_archives.proofs.Sound.{day_sound}
 use Rattle.shown_archives.proofs.showing.library_of.Goals as goal
 use Rattle.archive_exports.proofs.Stopped.{want_fails}
 use Rattle.archive_view.proofs.Stops.{want_stops}
@@ -26,3 +27,9 @@ returns-in-Ok-clause-unshown g c =
 
 pub returns-in-Ok-clause-stops : goal.returns-in-Ok-clause-stops
 returns-in-Ok-clause-stops g c = want_stops c.shelved.result c.shelved.ensures.refused
+
+pub returns-in-Ok-clause-sound : goal.returns-in-Ok-clause-sound
+returns-in-Ok-clause-sound g c =
+    same_of c.shelved.result c.in-Ok.shown (λ (l : Content). OfSound (λ of. IsShown of c.args.today l))
+    c.shelved.ensures.same
+    (day_sound _ c.args.today c.in-Ok.shown (to_z-of_z w32 c.args.today c.ranges.today) c.in-Ok.ensures.sound)

@@ -4,6 +4,7 @@ use Rattle.sqlite.specs.Held.{state}
 use Rattle.archive_exports.proofs.Named.{not_blamed}
 use Rattle.shown_archives.specs.Sheets.{sheet_text}
 use Rattle.shown_archives.specs.Writing.{GotNoText, GotText, IsNotBegun}
+use Rattle.shown_archives.proofs.Sound.{all_of_sound, day_sound}
 use Rattle.shown_archives.proofs.Masked.{all_of_shown, none_of_shown, not_begun, of_day}
 use Rattle.shown_archives.proofs.writing.write_sheet.Goals as goal
 use Rattle.list_laws.proofs.Outcomes.{keeps}
@@ -40,3 +41,12 @@ returns-in-Err-clause-writer g c = not_blamed c.in-Err.kind _ c.in-Err.ensures.s
 
 pub returns-in-Err-clause-unread : goal.returns-in-Err-clause-unread
 returns-in-Err-clause-unread g c = λ _. keeps (g.W.Write.contents c.args.writer.now)
+
+pub returns-in-Ok-clause-sound : goal.returns-in-Ok-clause-sound
+returns-in-Ok-clause-sound g c =
+    let before = g.W.Write.contents c.args.writer.now in
+    let after = g.W.Write.contents c.write_shown.new.writer in
+    all_of_sound c.args.today c.in-Ok.shown
+    (day_sound _ c.args.today c.in-Ok.shown (to_z-of_z w32 c.args.today c.ranges.today) c.in-Ok.ensures.sound)
+    c.write_shown.result
+    (λ s. GotText before after (sheet_text s.records c.args.sheet.now)) c.write_shown.ensures.written
