@@ -1,6 +1,7 @@
 -- What a command line asks for, by the command that it names and the words that this is given.
 use Rattle.std.specs.Prelude.{
   ◌≡◌,
+  ◌⊎◌,
   ◌&&◌,
   ℕ,
   ℤ,
@@ -32,7 +33,9 @@ use Rattle.std.specs.Option.{option_map_or}
 use Rattle.std.specs.Str.{bytes_eq}
 use Rattle.std.specs.Str.Parse.{digits_value, without_leading_plus}
 use Rattle.clap.specs.Words.{Row, Text, fault_of, first_of, subcommand_of}
+use Rattle.clap.specs.Kinds.{IsAmong}
 use Rattle.clap.specs.ValueTests.{is_unsigned_in}
+use Rattle.clap.specs.declared.error.kind.ErrorKind.TheVariants.{DisplayHelp, DisplayVersion}
 use Rattle.command_line.specs.Commands.{program}
 use Rattle.command_line.specs.Days.{day_read}
 use Rattle.command_line.specs.declared.tasks.Asked.{Asked}
@@ -206,3 +209,9 @@ Asks words asked = IfSome (name_of asked) (λ name. IsTaken words × (command_na
 -- work is asked for, unless memory is wanting
 abbrev pub AsksForWork : Result Asked Refused → Type 0
 AsksForWork result = MatchResult result (λ asked. IsSome (name_of asked)) (λ refused. refused ≡ OutOfMemory)
+
+-- ---- help
+
+-- the words ask for help or for the version: the grammar of the program finds that in them before all else
+abbrev pub AsksForHelp : List Text → Type 0
+AsksForHelp words = IsAmong DisplayHelp (fault_of program words) ⊎ IsAmong DisplayVersion (fault_of program words)

@@ -1,8 +1,9 @@
 //! What a command line asks for.
 
-ghost use Rattle.std.specs.Prelude.{◌≡◌, Err, IfOk, IfSome, None, OnOk, Some, map, string_bytes, true};
+ghost use Rattle.std.specs.Prelude.{◌≡◌, ◌⊎◌, Err, IfOk, IfSome, IsSome, None, OnOk, Some, map, string_bytes, true};
 ghost use Rattle.clap.specs.Words.{found_of, kind_of, rows_of, subcommand_name_of, subcommand_rows_of};
 ghost use Rattle.command_line.specs.Asking.{
+  AsksForHelp,
   AsksForWork,
   Asks,
   HasWords,
@@ -23,10 +24,11 @@ use std::alloc::Global;
 /// What the words ask for. The first word is the program's own name, and is not looked at.
 ///
 /// `Words` comes where they are no command or one with words that it does not take, and `OutOfMemory` where
-/// memory is refused.
+/// memory is refused. A text is to be shown only where they ask for help or for the version.
 pub fn read_words<'a>(alloc: Global, words: &'a [String]) -> Result<Asked<'a>, Refused>
     ensures asked { IfOk result (Asks (map string_bytes words.now)) }
     ensures taken { IsTaken (map string_bytes words.now) → AsksForWork result }
+    ensures shown { IfOk result (λ a. name_of a ≡ None → AsksForHelp (map string_bytes words.now)) }
 {
     let command = parish_command(alloc)?;
     match command.try_get_matches_from(words) {
@@ -39,6 +41,7 @@ pub fn read_words<'a>(alloc: Global, words: &'a [String]) -> Result<Asked<'a>, R
 fn command_found<'a>(alloc: Global, found: &ArgMatches<'a>) -> Result<Asked<'a>, Refused>
     ensures asked { IfOk result (λ a. IfSome (name_of a)
         (λ name. subcommand_name_of found.now ≡ Some name)) }
+    ensures named { IfOk result (λ a. IsSome (name_of a)) }
     ensures words { IfOk result (HasWords (subcommand_rows_of found.now)) }
     ensures taken { is_of_program (subcommand_rows_of found.now) ≡ true → is_fit (subcommand_rows_of found.now) ≡ true
         → AsksForWork result }
@@ -56,6 +59,7 @@ fn command_named<'a>(
     given: &ArgMatches<'a>,
 ) -> Result<Asked<'a>, Refused>
     ensures asked { IfOk result (λ a. IfSome (name_of a) (λ n. name.now ≡ n)) }
+    ensures named { IfOk result (λ a. IsSome (name_of a)) }
     ensures words { IfOk result (HasWords (Some (name.now, rows_of (found_of given.now)))) }
     ensures taken { is_of_program (Some (name.now, rows_of (found_of given.now))) ≡ true
         → is_fit (Some (name.now, rows_of (found_of given.now))) ≡ true → AsksForWork result }
@@ -102,15 +106,16 @@ fn no_such_command<'a>(alloc: Global) -> Result<Asked<'a>, Refused>
 /// The text of what `clap` calls an error: help, a version or refused words.
 fn text_shown<'a>(alloc: Global, error: &Error) -> Result<Asked<'a>, Refused>
     ensures asked { IfOk result (λ a. (name_of a ≡ None) × ((found : _) → HasWords found a)) }
+    ensures shown { OnOk result
+        ((kind_of error.now ≡ ErrorKind.DisplayHelp) ⊎ (kind_of error.now ≡ ErrorKind.DisplayVersion)) }
     ensures memory { kind_of error.now ≡ ErrorKind.OutOfMemory → result ≡ Err Refused.OutOfMemory }
 {
     if error.kind() == ErrorKind::OutOfMemory {
         return Err(Refused::OutOfMemory);
     }
     let text = format!(in alloc; "{error}")?;
-    if error.use_stderr() {
-        Err(Refused::Words { text })
-    } else {
-        Ok(Asked::Show { text })
+    match error.kind() {
+        ErrorKind::DisplayHelp | ErrorKind::DisplayVersion => Ok(Asked::Show { text }),
+        _ => Err(Refused::Words { text }),
     }
 }

@@ -1,5 +1,21 @@
-use Rattle.std.proofs.Common.{◌≡◌, ◌⊎◌, ◌∙◌, [], inl, inr, ap, refl, subst, sym, true, option_map, map, string_bytes}
-use Rattle.std.specs.Prelude.{List, Option, Some, IfSome, IfOk}
+use Rattle.std.proofs.Common.{
+  ◌≡◌,
+  ◌⊎◌,
+  ◌∙◌,
+  [],
+  inl,
+  inr,
+  ap,
+  refl,
+  subst,
+  sym,
+  true,
+  true≢false,
+  option_map,
+  map,
+  string_bytes,
+}
+use Rattle.std.specs.Prelude.{List, Option, Some, None, Result, Ok, Err, IfSome, IfOk, IsSome, OnOk}
 use Rattle.clap.specs.Words.{
   App,
   Row,
@@ -11,11 +27,13 @@ use Rattle.clap.specs.Words.{
   subcommand_of,
   subcommand_rows_of,
 }
-use Rattle.clap.specs.Kinds.{IsAmong, Kinds}
+use Rattle.clap.specs.Kinds.{HasKind, IsAmong, Kinds}
 use Rattle.clap.specs.declared.error.kind.ErrorKind.{ErrorKind}
 use Rattle.clap.specs.declared.error.kind.ErrorKind.TheVariants as kind
-use Rattle.command_line.specs.Asking.{HasWords, command_named, is_fit, is_of_program, name_of}
+use Rattle.command_line.specs.Asking.{AsksForHelp, HasWords, command_named, is_fit, is_of_program, name_of}
 use Rattle.command_line.specs.Commands.{program}
+use Rattle.command_line.specs.declared.tasks.Asked.{Asked}
+use Rattle.command_line.specs.declared.tasks.Refused.{Refused}
 use Rattle.command_line.proofs.Fitting.{asks_if}
 use Rattle.command_line.proofs.Taken.{taken_names, name_of_rows}
 use Rattle.command_line.proofs.reading.read_words.Goals as goal
@@ -58,3 +76,32 @@ returns-in-Err-clause-taken c = λ taken.
     let fails = c.in-Err.ensures.kinds (ap is_simple_and_free is) in
     let none = ap (λ (a : App). fault_of a words) is ∙ taken.0 in
     rw (c.text_shown.ensures.memory (wanting _ _ none fails)) refl
+
+-- help and the version are asked for by words of which the grammar says so
+shown_by : (k : ErrorKind) (words : List Text) → (k ≡ kind.OutOfMemory) ⊎ IsAmong k (fault_of program words)
+    → (k ≡ kind.DisplayHelp) ⊎ (k ≡ kind.DisplayVersion) → AsksForHelp words
+shown_by k words (inl want) (inl help) = absurd cc
+shown_by k words (inl want) (inr version) = absurd cc
+shown_by k words (inr among) (inl help) = inl (subst (λ x. IsAmong x (fault_of program words)) help among)
+shown_by k words (inr among) (inr version) = inr (subst (λ x. IsAmong x (fault_of program words)) version among)
+
+none_named : (o : Result Asked Refused) → IfOk o (λ a. IsSome (name_of a)) → (P : Type 0)
+    → IfOk o (λ a. name_of a ≡ None → P)
+none_named (Ok a) some P = λ none. absurd (true≢false (sym (subst IsSome none some)))
+none_named (Err e) some P = tt
+
+any_ok : (o : Result Asked Refused) (P Q : Type 0) → OnOk o P → (P → Q) → IfOk o (λ a. name_of a ≡ None → Q)
+any_ok (Ok a) P Q p f = λ none. f p
+any_ok (Err e) P Q p f = tt
+
+pub returns-in-Ok-clause-shown : goal.returns-in-Ok-clause-shown
+returns-in-Ok-clause-shown c = none_named c.command_found.result c.command_found.ensures.named _
+
+pub returns-in-Err-clause-shown : goal.returns-in-Err-clause-shown
+returns-in-Err-clause-shown c =
+    let words = map string_bytes c.args.words.now in
+    let is = c.in_ok-command.ensures in
+    let fails = c.in-Err.ensures.kinds (ap is_simple_and_free is) in
+    any_ok c.text_shown.result _ _ c.text_shown.ensures.shown
+    (shown_by _ words
+    (subst (λ (a : App). HasKind (fault_of a words) c.in-Err.error) is fails))
