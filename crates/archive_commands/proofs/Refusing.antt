@@ -9,12 +9,12 @@ use Rattle.sqlite_store.specs.declared.store.FileStore.{FileStore}
 use Rattle.sqlite_wal.specs.Recovery.{Image}
 use Rattle.record_text.specs.declared.refusal.RefusalKind.{RefusalKind}
 use Rattle.record_text.specs.declared.refusal.RefusalKind.TheVariants.{BadText, OutOfMemory}
-use Rattle.store.specs.Archives.{HasArchive}
 use Rattle.store.specs.Creating.{IsSociety, RefusesToCreate}
 use Rattle.store.specs.Histories.{is_storage}
-use Rattle.store.proofs.Opened.{opened_over, opened_blank}
+use Rattle.store.specs.Lives.{IsOpenedOver}
+use Rattle.store.proofs.Opened.{opened_over, opened_over_old, opened_blank}
 use Rattle.archive_commands.specs.Made.{IsUnmade, IsUnmadeIn, WasThere}
-use Rattle.archive_commands.specs.Opening.{WhereHeld}
+use Rattle.archive_commands.specs.Opening.{OfTables}
 use Rattle.archive_commands.proofs.Opened.{was_blank}
 
 -- what a society's name is refused with, before a file is opened
@@ -34,10 +34,13 @@ pub unmade : {D : Type 0} {g : disk.Ghosts D} (image : Image) (society : List �
 unmade image society kind opened left is (inl bad) back honest found = absurd (bad.1 is)
 unmade {D} {g} image society kind opened left is (inr (named, inl made)) back honest found =
     let same = back (ap is_storage made.0) in
-    let held : HasCleanDisk (file_state opened) → WhereHeld image (λ it c. HasArchive it c (file_state opened)) =
-    λ clean it c t holds was.
+    let held : HasCleanDisk (file_state opened) → OfTables image (λ t. IsOpenedOver t (file_state opened)) =
+    λ clean t holds.
     let o = found clean in
-    opened_over (file_state opened) t it c o.0.0 o.0.1 (o.1.holds t holds) was in
+    record {
+      has = λ it c is. opened_over (file_state opened) t it c o.0.0 o.0.1 (o.1.holds t holds) is;
+      had = λ it c was. opened_over_old (file_state opened) t it c o.0.0 o.0.1 (o.1.holds t holds) was;
+    } in
     (is, inl (made.0, subst (λ (x : Held (FileStore D g)). WasThere image (file_state x)) (sym same) (made.1, held)))
 unmade image society kind opened left is (inr (named, inr failed)) back honest found = (
   is,

@@ -14,7 +14,8 @@ use Rattle.store_tables.specs.Calls.{IsBlank}
 use Rattle.store_tables.specs.Schema.{no_schema}
 use Rattle.store.specs.Archives.{HasArchive, IsArchive, LeavesArchive}
 use Rattle.store.specs.Creating.{IsSociety}
-use Rattle.archive_commands.specs.Opening.{WhereHeld}
+use Rattle.store.specs.Lives.{IsOpenedOver}
+use Rattle.archive_commands.specs.Opening.{OfTables}
 
 -- nothing was made in the file before
 abbrev pub WasBlank : Image → State → Type 0
@@ -25,9 +26,9 @@ abbrev pub IsMadeFor : Image → List ℕ → State → Type 0
 IsMadeFor image society s = IsSociety society × WasBlank image s
     × (HasCleanDisk s → HasArchive society nothing s × LeavesArchive s society (λ found. found ≡ nothing))
 
--- something was made in the file before; an archive that it held is as it was
+-- something was made in the file before; an archive that it held, of either version, is as it was
 abbrev pub WasThere : Image → State → Type 0
-WasThere image s = (s.now.schema ≢ no_schema) × (HasCleanDisk s → WhereHeld image (λ society c. HasArchive society c s))
+WasThere image s = (s.now.schema ≢ no_schema) × (HasCleanDisk s → OfTables image (λ t. IsOpenedOver t s))
 
 -- the database failed: nothing was made in the file before, and a crash leaves it so, or with the new archive
 abbrev pub IsHalfMade : Image → List ℕ → State → Type 0

@@ -1,101 +1,137 @@
--- How `init`, `apply` and `export` end.
-use Rattle.std.proofs.Common.{◌≡◌, ℕ, List, sym, subst, arith, Ok, Err}
-use Rattle.std.specs.Prelude.{Option, Result, IfErr, OnOk, is_ok, if◌then◌else◌}
+-- The status of what was asked for, and what is said on the faults where it is 0.
+use Rattle.std.proofs.Common.{◌≡◌, ◌≤◌, ℕ, List, true, false, arith, inl, inr, refl, subst, ap, Ok, Err, true≢false}
+use Rattle.std.specs.Prelude.{Option, Result, OnErr, OnOk, is_ok, if◌then◌else◌}
+use Rattle.std.specs.Io.KnownBytes.{Appends}
+use Rattle.std.specs.declared.io.Read as read
+use Rattle.std.specs.declared.io.Write as write
 use Rattle.sqlite.specs.Held.{Held}
 use Rattle.sqlite_disk.specs.declared.Disk as disk
 use Rattle.sqlite_store.specs.declared.store.FileStore.{FileStore}
 use Rattle.sqlite_wal.specs.Recovery.{Image}
-use Rattle.archive_commands.specs.Applying.{Answered, Unanswered}
-use Rattle.archive_commands.specs.Exporting.{Exported, Unexported}
-use Rattle.archive_commands.specs.Made.{IsMadeIn, Unmade}
+use Rattle.sqlite.specs.Files.{over_files}
+use Rattle.archive_commands.specs.Tasks.{EndsOnFile}
+use Rattle.archive_state.specs.Content.{Content}
+use Rattle.command_line.specs.declared.tasks.Asked.{Asked}
+use Rattle.command_line.specs.declared.tasks.Asked.TheVariants as asked
+use Rattle.devices.specs.Devices.{AppendsBeginning}
+use Rattle.devices.specs.declared.device.Device as device
+use Rattle.parish.specs.Doing.{Does, DoesTask, DoesUnder, Finished, tells}
+use Rattle.parish.specs.Rooms.{VisitsEnd}
+use Rattle.parish.specs.declared.visits.Visits.{Visits}
+use Rattle.reading_room.specs.Listening.{listening_line}
 use Rattle.record_text.specs.declared.refusal.RefusalKind.{RefusalKind}
-use Rattle.parish.specs.Ends.{ApplyEnds, ExportEnds, InitEnds}
+use Rattle.record_text.specs.declared.refusal.RefusalKind.TheVariants.{WriteFailed}
+use Rattle.tasks.proofs.Quiet.{at_most_1, done_quiet, ends_at_most_1, ends_quietly, says}
+use Rattle.tasks.specs.Moments.{Streams, at}
+use Rattle.tasks.specs.Status.{Finishes, Outcome, Plain, as_text, placeless_text}
+use Rattle.tasks.specs.declared.task.Task.{Task}
+use Rattle.tasks.specs.declared.task.Task.TheVariants as task
 
-module _ {D : Type 0} {g : disk.Ghosts D} (image : Image) where
-  init_by : {A : Type 0} (r : Result A RefusalKind) (society : List ℕ) (status : ℕ)
-      (left : Option (Held (FileStore D g))) → status ≡ (if is_ok r then 0 else 1)
-      → OnOk r (IsMadeIn image society left) → IfErr r (λ kind. Unmade image society kind left)
-      → InitEnds image society status left
-  init_by (Ok a) society status left e made unmade = record {
-    bound = omega (arith, e);
-    done = λ zero. made;
-    refused = λ one. absurd (omega (arith, e, one));
-  }
-  init_by (Err kind) society status left e made unmade = record {
-    bound = omega (arith, e);
-    done = λ zero. absurd (omega (arith, e, zero));
-    refused = λ one. (kind, unmade);
-  }
+on_ok : {A E P : Type 0} (r : Result A E) → P → OnOk r P
+on_ok (Ok a) p = p
+on_ok (Err e) p = tt
 
-  apply_by : {A : Type 0} (r : Result A RefusalKind) (status : ℕ) (input old new quiet told : Option (List ℕ))
-      (ReaderFailed WriterFailed : Type 0) (left : Option (Held (FileStore D g)))
-      → status ≡ (if is_ok r then 0 else 1) → OnOk r (Answered image input old new quiet told left)
-      → IfErr r (λ kind. Unanswered image kind input old new ReaderFailed WriterFailed left)
-      → ApplyEnds image status input old new quiet told ReaderFailed WriterFailed left
-  apply_by (Ok a) status input old new quiet told ReaderFailed WriterFailed left e all part = record {
-    bound = omega (arith, e);
-    done = λ zero. all;
-    refused = λ one. absurd (omega (arith, e, one));
-  }
-  apply_by (Err kind) status input old new quiet told ReaderFailed WriterFailed left e all part = record {
-    bound = omega (arith, e);
-    done = λ zero. absurd (omega (arith, e, zero));
-    refused = λ one. (kind, part);
-  }
+module _ {D R W F : Type 0} {g : disk.Ghosts D} (reader : read.Ghosts R) (reads : device.Ghosts R)
+    (writer : write.Ghosts W) (writes : device.Ghosts W) (faulter : write.Ghosts F) (image : Image) (status : ℕ)
+    (x y : Streams R W F) (left : Option (Held (FileStore D g))) (room : Option Visits) where
+  -- ---- the status is 0 or 1
+  finished_at_most_1 : (P : Outcome → Type 0)
+      → Finished reader reads writer writes faulter image status x y left room P → status ≤ 1
+  finished_at_most_1 P did = at_most_1 faulter.contents did.0 status x.faults y.faults did.2
 
-  -- the same of the connection as it is handed on
-  pub init_ends : {A : Type 0} (r : Result A RefusalKind) (society : List ℕ) (status : ℕ)
-      (left back : Option (Held (FileStore D g))) → back ≡ left
-      → status ≡ (if is_ok r then 0 else 1) → OnOk r (IsMadeIn image society left)
-      → IfErr r (λ kind. Unmade image society kind left) → InitEnds image society status back
-  init_ends r society status left back same e made unmade =
-      subst (λ (x : Option (Held (FileStore D g))). InitEnds image society status x) (sym same)
-      (init_by r society status left e made unmade)
+  file_at_most_1 : (t : Task) (shown : Option Content)
+      → EndsOnFile reader reads writer writes faulter image t x y status shown left → status ≤ 1
+  file_at_most_1 t shown (inl un) =
+      at_most_1 faulter.contents (Err (placeless_text un.kind)) status x.faults y.faults un.finishes
+  file_at_most_1 t shown (inr on) =
+      ends_at_most_1 over_files reader reads writer writes faulter t (at on.taken x) (at on.new y) status shown on.ends
 
-  -- what ends with 0 tells no more
-  still_told : {A F : Type 0} (r : Result A RefusalKind) (input old new : Option (List ℕ)) (told : F → Option (List ℕ))
-      (quiet between after : F) (left : Option (Held (FileStore D g))) → OnOk r (after ≡ between)
-      → OnOk r (Answered image input old new (told quiet) (told between) left)
-      → OnOk r (Answered image input old new (told quiet) (told after) left)
-  still_told {F = F} (Ok a) input old new told quiet between after left kept all =
-      subst (λ (f : F). Answered image input old new (told quiet) (told f) left) (sym kept) all
-  still_told (Err kind) input old new told quiet between after left kept all = tt
+  under_at_most_1 : (word : List ℕ) (t : Task)
+      → DoesUnder reader reads writer writes faulter image status x y left room word t → status ≤ 1
+  under_at_most_1 word t (inl none) = finished_at_most_1 _ none.0
+  under_at_most_1 word t (inr did) = file_at_most_1 t did.1.0 did.1.1
 
-  pub apply_ends : {A F : Type 0} (r : Result A RefusalKind) (status : ℕ) (input old new : Option (List ℕ))
-      (told : F → Option (List ℕ)) (quiet between after : F)
-      (ReaderFailed WriterFailed : Type 0) (left back : Option (Held (FileStore D g)))
-      → back ≡ left → OnOk r (after ≡ between) → status ≡ (if is_ok r then 0 else 1)
-      → OnOk r (Answered image input old new (told quiet) (told between) left)
-      → IfErr r (λ kind. Unanswered image kind input old new ReaderFailed WriterFailed left)
-      → ApplyEnds image status input old new (told quiet) (told after) ReaderFailed WriterFailed back
-  apply_ends r status input old new told quiet between after ReaderFailed WriterFailed left back same kept e all part =
-      subst (λ (x : Option (Held (FileStore D g))). ApplyEnds image status input old new (told quiet) (told after)
-      ReaderFailed WriterFailed x)
-      (sym same)
-      (apply_by r status input old new (told quiet) (told after) ReaderFailed WriterFailed left e
-      (still_told r input old new told quiet between after left kept all) part)
+  pub does_at_most_1 : (a : Asked) → Does reader reads writer writes faulter image status x y left room a → status ≤ 1
+  does_at_most_1 asked.Norm did = finished_at_most_1 _ did.0
+  does_at_most_1 asked.Check did = finished_at_most_1 _ did.0
+  does_at_most_1 (asked.Init file society) did = finished_at_most_1 _ did.0
+  does_at_most_1 (asked.Apply file) did =
+      file_at_most_1 task.Apply did.0 did.1
+  does_at_most_1 (asked.Entries file source token) did =
+      under_at_most_1 token.now (task.Entries token.now source) did
+  does_at_most_1 (asked.Import file token progress) did =
+      under_at_most_1 token.now (task.Import token.now progress) did
+  does_at_most_1 (asked.Export file) did =
+      file_at_most_1 task.Export did.0 did.1
+  does_at_most_1 (asked.ExportPublic file today) did =
+      file_at_most_1 (task.ExportPublic today) did.0 did.1
+  does_at_most_1 (asked.Sheet file which number generations today) did =
+      file_at_most_1 (task.Sheet did.0 today) did.2.0 did.2.1
+  does_at_most_1 (asked.Serve file port count today) did =
+      file_at_most_1 (task.Library today) did.0 did.1
+  does_at_most_1 (asked.Audit file) did =
+      file_at_most_1 task.Audit did.0 did.1
+  does_at_most_1 (asked.Days file first last words) did =
+      file_at_most_1 (task.Days first last words) did.0 did.1
+  does_at_most_1 (asked.Show text) did = finished_at_most_1 _ did.0
 
-  export_by : {A : Type 0} (r : Result A RefusalKind) (status : ℕ) (old new : Option (List ℕ)) (WriterFailed : Type 0)
-      (left : Option (Held (FileStore D g)))
-      → status ≡ (if is_ok r then 0 else 1) → OnOk r (Exported image old new left)
-      → IfErr r (λ kind. Unexported image kind old new WriterFailed left)
-      → ExportEnds image status old new WriterFailed left
-  export_by (Ok a) status old new WriterFailed left e whole part = record {
-    bound = omega (arith, e);
-    done = λ zero. whole;
-    refused = λ one. absurd (omega (arith, e, one));
-  }
-  export_by (Err kind) status old new WriterFailed left e whole part = record {
-    bound = omega (arith, e);
-    done = λ zero. absurd (omega (arith, e, zero));
-    refused = λ one. (kind, part);
-  }
+  -- ---- what is done says nothing on the faults, but for rows and the progress of an import
+  finished_quietly : (P : Outcome → Type 0)
+      → Finished reader reads writer writes faulter image status x y left room P → status ≡ 0 → y.faults ≡ x.faults
+  finished_quietly P did zero =
+      done_quiet faulter.contents did.0 status x.faults x.faults y.faults did.2 (on_ok did.0 refl) zero
 
-  pub export_ends : {A : Type 0} (r : Result A RefusalKind) (status : ℕ) (old new : Option (List ℕ))
-      (WriterFailed : Type 0) (left back : Option (Held (FileStore D g)))
-      → back ≡ left → status ≡ (if is_ok r then 0 else 1) → OnOk r (Exported image old new left)
-      → IfErr r (λ kind. Unexported image kind old new WriterFailed left)
-      → ExportEnds image status old new WriterFailed back
-  export_ends r status old new WriterFailed left back same e whole part =
-      subst (λ (x : Option (Held (FileStore D g))). ExportEnds image status old new WriterFailed x) (sym same)
-      (export_by r status old new WriterFailed left e whole part)
+  file_quietly : (t : Task) (shown : Option Content)
+      → EndsOnFile reader reads writer writes faulter image t x y status shown left → says t ≡ false → status ≡ 0
+      → y.faults ≡ x.faults
+  file_quietly t shown (inl un) is zero =
+      done_quiet faulter.contents (Err (placeless_text un.kind)) status x.faults x.faults y.faults un.finishes tt zero
+  file_quietly t shown (inr on) is zero =
+      ends_quietly over_files reader reads writer writes faulter t (at on.taken x) (at on.new y) status shown on.ends is
+      zero
+
+  under_quietly : (word : List ℕ) (t : Task)
+      → DoesUnder reader reads writer writes faulter image status x y left room word t → says t ≡ false → status ≡ 0
+      → y.faults ≡ x.faults
+  under_quietly word t (inl none) is zero = finished_quietly _ none.0 zero
+  under_quietly word t (inr did) is zero = file_quietly t did.1.0 did.1.1 is zero
+
+  pub does_quietly : (a : Asked) → Does reader reads writer writes faulter image status x y left room a
+      → tells a ≡ false → status ≡ 0 → y.faults ≡ x.faults
+  does_quietly asked.Norm did is zero = finished_quietly _ did.0 zero
+  does_quietly asked.Check did is zero = finished_quietly _ did.0 zero
+  does_quietly (asked.Init file society) did is zero = finished_quietly _ did.0 zero
+  does_quietly (asked.Apply file) did is zero = absurd (true≢false is)
+  does_quietly (asked.Entries file source token) did is zero =
+      under_quietly token.now (task.Entries token.now source) did refl zero
+  does_quietly (asked.Import file token progress) did is zero =
+      under_quietly token.now (task.Import token.now progress) did is zero
+  does_quietly (asked.Export file) did is zero =
+      file_quietly task.Export did.0 did.1 refl zero
+  does_quietly (asked.ExportPublic file today) did is zero =
+      file_quietly (task.ExportPublic today) did.0 did.1 refl zero
+  does_quietly (asked.Sheet file which number generations today) did is zero =
+      file_quietly (task.Sheet did.0 today) did.2.0 did.2.1 refl zero
+  does_quietly (asked.Serve file port count today) did is zero =
+      file_quietly (task.Library today) did.0 did.1 refl zero
+  does_quietly (asked.Audit file) did is zero =
+      file_quietly task.Audit did.0 did.1 refl zero
+  does_quietly (asked.Days file first last words) did is zero =
+      file_quietly (task.Days first last words) did.0 did.1 refl zero
+  does_quietly (asked.Show text) did is zero = finished_quietly _ did.0 zero
+
+-- ---- a room, once the file is closed
+pub visits_end : (r : Plain) (port status : ℕ) (old new : Option (List ℕ)) (WriterFailed : Type 0) {F : Type 0}
+    (said : F → Option (List ℕ)) (quiet loud : F) → Finishes said (as_text r) status quiet loud
+    → OnOk r (Appends old new (listening_line port)) → OnErr r (AppendsBeginning old new (listening_line port))
+    → (r ≡ Err WriteFailed → WriterFailed) → VisitsEnd port status old new WriterFailed
+visits_end (Ok done) port status old new WriterFailed said quiet loud f listens begun blamed = record {
+  bound = omega (arith, f.0);
+  done = λ zero. listens;
+  refused = λ one. absurd (omega (arith, f.0, one));
+}
+visits_end (Err why) port status old new WriterFailed said quiet loud f listens begun blamed = record {
+  bound = omega (arith, f.0);
+  done = λ zero. absurd (omega (arith, f.0, zero));
+  refused = λ one. (why, begun, λ is. blamed (ap Err is));
+}

@@ -1,7 +1,3 @@
-mod Audited
 mod Ending
-mod Entered
-mod Imported
-mod Listed
-mod Showing
+mod Same
 mod Untaken

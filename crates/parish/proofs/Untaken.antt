@@ -1,6 +1,6 @@
--- Words that are not taken open nothing.
-use Rattle.std.proofs.Common.{◌≡◌, ℕ, List, Option, Some, None}
-use Rattle.std.specs.Prelude.{IfSome}
+-- Words that are not taken ask for no work: nothing is read, and nothing opened.
+use Rattle.std.proofs.Common.{◌≡◌, ◌⊎◌, ℕ, List, inr, refl}
+use Rattle.std.specs.Prelude.{Option, None, Some, IfSome}
 use Rattle.std.specs.declared.io.Read as read
 use Rattle.std.specs.declared.io.Write as write
 use Rattle.sqlite.specs.Held.{Held}
@@ -13,24 +13,25 @@ use Rattle.command_line.specs.declared.tasks.Asked.TheVariants as asked
 use Rattle.devices.specs.declared.device.Device as device
 use Rattle.parish.specs.Doing.{Does}
 use Rattle.parish.specs.declared.visits.Visits.{Visits}
+use Rattle.tasks.specs.Moments.{Streams}
 
-module _ {R W D : Type 0} {g : disk.Ghosts D} (reader : read.Ghosts R) (reads : device.Ghosts R)
-    (writer : write.Ghosts W) (writes : device.Ghosts W) (image : Image) (status : ℕ) (input rest : R)
-    (output written : W) (quiet told : Option (List ℕ)) (left : Option (Held (FileStore D g)))
-    (room : Option Visits) (words : List (List ℕ)) (none : ¬ (IsTaken words)) where
+module _ {R W F D : Type 0} {g : disk.Ghosts D} (reader : read.Ghosts R) (reads : device.Ghosts R)
+    (writer : write.Ghosts W) (writes : device.Ghosts W) (faulter : write.Ghosts F) (image : Image) (status : ℕ)
+    (x y : Streams R W F) (left : Option (Held (FileStore D g)))
+    (room : Option Visits) (words : List (List ℕ)) (none : ¬ (IsTaken words)) (Help : Type 0) where
   pub untaken : (a : Asked) → IfSome (name_of a) (λ n. IsTaken words × (command_named words ≡ Some n))
-      → Does reader reads writer writes image status input rest output written quiet told left room a
-      → (rest ≡ input) × (left ≡ None) × (room ≡ None)
-  untaken asked.Norm is did = absurd (none is.0)
-  untaken asked.Check is did = absurd (none is.0)
-  untaken (asked.Init file society) is did = absurd (none is.0)
-  untaken (asked.Apply file) is did = absurd (none is.0)
-  untaken (asked.Entries file source token) is did = absurd (none is.0)
-  untaken (asked.Import file token progress) is did = absurd (none is.0)
-  untaken (asked.Export file) is did = absurd (none is.0)
-  untaken (asked.ExportPublic file today) is did = absurd (none is.0)
-  untaken (asked.Sheet file which number generations today) is did = absurd (none is.0)
-  untaken (asked.Serve file port count today) is did = absurd (none is.0)
-  untaken (asked.Audit file) is did = absurd (none is.0)
-  untaken (asked.Days file first last told_words) is did = absurd (none is.0)
-  untaken (asked.Show text) is did = (did.0, did.1.0, did.1.1)
+      → Does reader reads writer writes faulter image status x y left room a → (name_of a ≡ None → Help)
+      → (y.input ≡ x.input) × (left ≡ None) × (room ≡ None) × ((y.output ≡ x.output) ⊎ Help)
+  untaken asked.Norm is did help = absurd (none is.0)
+  untaken asked.Check is did help = absurd (none is.0)
+  untaken (asked.Init file society) is did help = absurd (none is.0)
+  untaken (asked.Apply file) is did help = absurd (none is.0)
+  untaken (asked.Entries file source token) is did help = absurd (none is.0)
+  untaken (asked.Import file token progress) is did help = absurd (none is.0)
+  untaken (asked.Export file) is did help = absurd (none is.0)
+  untaken (asked.ExportPublic file today) is did help = absurd (none is.0)
+  untaken (asked.Sheet file which number generations today) is did help = absurd (none is.0)
+  untaken (asked.Serve file port count today) is did help = absurd (none is.0)
+  untaken (asked.Audit file) is did help = absurd (none is.0)
+  untaken (asked.Days file first last told_words) is did help = absurd (none is.0)
+  untaken (asked.Show text) is did help = (did.1, did.2.0, did.2.1, inr (help refl))

@@ -1,16 +1,31 @@
--- How the commands end on their streams: by the bytes of the reader and of the writer before and after, and by their
--- counts of failures.
-use Rattle.std.specs.Prelude.{◌≡◌, ℕ, ℤ, Bool, true, false, List, Option, None}
+-- What the program does, by what its words ask for: on the file of an archive, on the three streams, and on a room that
+-- is to be served.
+use Rattle.std.specs.Prelude.{
+  ◌≡◌,
+  ◌⊎◌,
+  ℕ,
+  Bool,
+  true,
+  false,
+  List,
+  Option,
+  None,
+  Err,
+  IfErr,
+  OnOk,
+  IsSome,
+  string_bytes,
+}
 use Rattle.std.specs.declared.io.Read as read
 use Rattle.std.specs.declared.io.Write as write
 use Rattle.sqlite.specs.Held.{Held}
 use Rattle.sqlite_disk.specs.declared.Disk as disk
 use Rattle.sqlite_store.specs.declared.store.FileStore.{FileStore}
 use Rattle.sqlite_wal.specs.Recovery.{Image}
-use Rattle.devices.specs.Devices.{Rose}
-use Rattle.devices.specs.declared.device.Device as device
-use Rattle.batch_reading.specs.Input.{row_bytes}
-use Rattle.command_line.specs.Asking.{Asks}
+use Rattle.archive_commands.specs.Made.{IsMadeIn, Unmade}
+use Rattle.archive_commands.specs.Tasks.{EndsOnFile}
+use Rattle.archive_state.specs.Content.{Content}
+use Rattle.command_line.specs.Asking.{Asks, name_of}
 use Rattle.command_line.specs.declared.tasks.Asked.{Asked}
 use Rattle.command_line.specs.declared.tasks.Asked.TheVariants.{
   Apply,
@@ -27,124 +42,102 @@ use Rattle.command_line.specs.declared.tasks.Asked.TheVariants.{
   Sheet,
   Show,
 }
-use Rattle.command_line.specs.declared.tasks.SheetKind.{SheetKind}
-use Rattle.parish.specs.Auditing.{AuditEnds}
-use Rattle.parish.specs.Days.{DaysEnds}
-use Rattle.parish.specs.Ends.{ApplyEnds, CheckEnds, EntriesEnds, ExportEnds, ImportEnds, InitEnds, NormEnds}
-use Rattle.parish.specs.Shown.{PublicEnds, RoomEnds, SheetEnds}
+use Rattle.devices.specs.Devices.{Rose}
+use Rattle.devices.specs.declared.device.Device as device
+use Rattle.parish.specs.Ends.{Checks, Normalises, Shows}
+use Rattle.parish.specs.Rooms.{IsRoomOf, IsSheetOf}
 use Rattle.parish.specs.declared.visits.Visits.{Visits}
+use Rattle.receipts.specs.Tokens.{IsToken}
+use Rattle.record_text.specs.declared.refusal.RefusalKind.{RefusalKind}
+use Rattle.record_text.specs.declared.refusal.RefusalKind.TheVariants.{BadToken, OutOfMemory}
+use Rattle.shown_archives.specs.declared.sheet.Sheet.{Sheet as Page}
+use Rattle.tasks.specs.Moments.{Streams}
+use Rattle.tasks.specs.Status.{Finishes, Outcome, Plain, as_text, placeless_text}
+use Rattle.tasks.specs.declared.task.Task.{Task}
+use Rattle.tasks.specs.declared.task.Task.TheVariants as task
 
--- something may be told on the stream of faults though the work is done
+-- something may be said on the faults though the work is done
 abbrev pub tells : Asked → Bool
 tells (Apply file) = true
 tells (Import file token progress) = progress
 tells _ = false
 
-module _ {R W : Type 0} (reader : read.Ghosts R) (reads : device.Ghosts R) (writer : write.Ghosts W)
-    (writes : device.Ghosts W) where
-  -- the reader failed between the two, by its count; the writer did
-  abbrev pub HasReadFailed : R → R → Type 0
-  HasReadFailed input rest = Rose (reads.failed input) (reads.failed rest)
+module _ {D : Type 0} {g : disk.Ghosts D} (image : Image) (left : Option (Held (FileStore D g))) where
+  -- a new archive of the society was made; or there is a reason why not
+  abbrev pub Makes : List ℕ → Outcome → Type 0
+  Makes society outcome = (r : Plain) × (outcome ≡ as_text r) × OnOk r (IsMadeIn image society left)
+      × IfErr r (λ kind. Unmade image society kind left)
 
-  abbrev pub HasWriteFailed : W → W → Type 0
-  HasWriteFailed output written = Rose (writes.failed output) (writes.failed written)
+module _ {D R W F : Type 0} {g : disk.Ghosts D} (reader : read.Ghosts R) (reads : device.Ghosts R)
+    (writer : write.Ghosts W) (writes : device.Ghosts W) (faulter : write.Ghosts F) (image : Image) (status : ℕ)
+    (x y : Streams R W F) (left : Option (Held (FileStore D g))) (room : Option Visits) where
+  -- ---- the streams, the file and the room
+  abbrev pub HasReadFailed : Type 0
+  HasReadFailed = Rose (reads.failed x.input) (reads.failed y.input)
 
-  abbrev pub Normalises : ℕ → R → R → W → W → Type 0
-  Normalises status input rest output written =
-      NormEnds status (reader.remaining input) (writer.contents output) (writer.contents written)
-      (HasReadFailed input rest) (HasWriteFailed output written)
+  abbrev pub HasWriteFailed : Type 0
+  HasWriteFailed = Rose (writes.failed x.output) (writes.failed y.output)
 
-  abbrev pub Checks : ℕ → R → R → W → W → Type 0
-  Checks status input rest output written =
-      CheckEnds status (reader.remaining input) (writer.contents output) (writer.contents written)
-      (HasReadFailed input rest) (HasWriteFailed output written)
+  abbrev pub IsUnread : Type 0
+  IsUnread = y.input ≡ x.input
 
-  -- the last two texts are what the faults had before and have after
-  abbrev pub Applies : {D : Type 0} {g : disk.Ghosts D} → Image → ℕ → R → R → W → W → Option (List ℕ)
-      → Option (List ℕ) → Option (Held (FileStore D g)) → Type 0
-  Applies image status input rest output written quiet told left =
-      ApplyEnds image status (row_bytes (reader.remaining input)) (writer.contents output) (writer.contents written)
-      quiet told (HasReadFailed input rest) (HasWriteFailed output written) left
+  abbrev pub IsUnwritten : Type 0
+  IsUnwritten = y.output ≡ x.output
 
-  abbrev pub Exports : {D : Type 0} {g : disk.Ghosts D} → Image → ℕ → W → W → Option (Held (FileStore D g)) → Type 0
-  Exports image status output written left =
-      ExportEnds image status (writer.contents output) (writer.contents written) (HasWriteFailed output written) left
+  -- no file was opened, and no room
+  abbrev pub OpensNothing : Type 0
+  OpensNothing = (left ≡ None) × (room ≡ None)
 
-  -- a batch under this token, of this source
-  abbrev pub EntersBatch : {D : Type 0} {g : disk.Ghosts D} → Image → List ℕ → ℕ → ℕ → R → R → W → W
-      → Option (Held (FileStore D g)) → Type 0
-  EntersBatch image token source status input rest output written left = EntriesEnds image token source status
-      (row_bytes (reader.remaining input))
-      (writer.contents output) (writer.contents written) (HasReadFailed input rest) (HasWriteFailed output written) left
+  -- P of what was done, whose status this is, with the line of a refusal on the faults
+  abbrev pub Finished : (Outcome → Type 0) → Type 0
+  Finished P = (outcome : Outcome) × P outcome × Finishes faulter.contents outcome status x.faults y.faults
 
-  -- a file under this token
-  abbrev pub ImportsFile : {D : Type 0} {g : disk.Ghosts D} → Image → List ℕ → ℕ → R → R → W → W
-      → Option (Held (FileStore D g)) → Type 0
-  ImportsFile image token status input rest output written left =
-      ImportEnds image token status (reader.remaining input) (writer.contents output) (writer.contents written)
-      (HasReadFailed input rest) (HasWriteFailed output written) left
+  -- ---- files of archives
+  -- a task was performed on the archive in a file, and there is no room
+  abbrev pub DoesTask : Task → Type 0
+  DoesTask t = (shown : Option Content)
+      × EndsOnFile reader reads writer writes faulter image t x y status shown left × (room ≡ None)
 
-  -- what may be shown on that day
-  abbrev pub Publishes : {D : Type 0} {g : disk.Ghosts D} → Image → ℤ → ℕ → W → W → Option (Held (FileStore D g))
-      → Type 0
-  Publishes image today status output written left = PublicEnds image today status (writer.contents output)
-      (writer.contents written) (HasWriteFailed output written) left
+  -- the word is no token, or no memory was found for it
+  abbrev pub IsNoToken : List ℕ → Outcome → Type 0
+  IsNoToken word outcome = (kind : RefusalKind) × (outcome ≡ Err (placeless_text kind))
+      × ((kind ≡ OutOfMemory) ⊎ ((kind ≡ BadToken) × ¬ (IsToken word)))
 
-  -- a sheet of that kind and number, with so many generations
-  abbrev pub PrintsSheet : {D : Type 0} {g : disk.Ghosts D} → Image → SheetKind → ℕ → ℕ → ℤ → ℕ → W → W
-      → Option (Held (FileStore D g)) → Type 0
-  PrintsSheet image which number generations today status output written left =
-      SheetEnds image which number generations today status (writer.contents output) (writer.contents written)
-      (HasWriteFailed output written) left
+  -- no token was given, and nothing is opened, read or written; or a task was performed under it
+  abbrev pub DoesUnder : List ℕ → Task → Type 0
+  DoesUnder word t = (Finished (IsNoToken word) × IsUnread × IsUnwritten × OpensNothing)
+      ⊎ (IsToken word × DoesTask t)
 
-  abbrev pub Audits : {D : Type 0} {g : disk.Ghosts D} → Image → ℕ → W → W → Option (Held (FileStore D g)) → Type 0
-  Audits image status output written left =
-      AuditEnds image status (writer.contents output) (writer.contents written) (HasWriteFailed output written) left
+  -- ---- each command
+  -- what was asked for was done, or refused for a reason
+  abbrev pub Does : Asked → Type 0
+  Does Norm = Finished (Normalises (reader.remaining x.input) (writer.contents x.output) (writer.contents y.output)
+      HasReadFailed HasWriteFailed) × OpensNothing
+  Does Check = Finished (Checks (reader.remaining x.input) (writer.contents x.output) (writer.contents y.output)
+      HasReadFailed HasWriteFailed) × OpensNothing
+  Does (Init file society) = Finished (Makes image left society.now) × IsUnread × IsUnwritten × (room ≡ None)
+  Does (Apply file) = DoesTask task.Apply
+  Does (Entries file source token) = DoesUnder token.now (task.Entries token.now source)
+  Does (Import file token progress) = DoesUnder token.now (task.Import token.now progress)
+  Does (Export file) = DoesTask task.Export
+  Does (ExportPublic file today) = DoesTask (task.ExportPublic today)
+  Does (Sheet file which number generations today) = (page : Page) × IsSheetOf which number generations page
+      × DoesTask (task.Sheet page today)
+  Does (Serve file port count today) = (shown : Option Content)
+      × EndsOnFile reader reads writer writes faulter image (task.Library today) x y status shown left
+      × IsRoomOf port count shown room
+  Does (Audit file) = DoesTask task.Audit
+  Does (Days file first last words) = DoesTask (task.Days first last words)
+  Does (Show text) = Finished (Shows (string_bytes text) (writer.contents x.output) (writer.contents y.output)
+      HasWriteFailed) × IsUnread × OpensNothing
 
-  -- what is between two days, with words or without
-  abbrev pub ListsDays : {D : Type 0} {g : disk.Ghosts D} → Image → ℤ → ℤ → Bool → ℕ → W → W
-      → Option (Held (FileStore D g)) → Type 0
-  ListsDays image first last words status output written left =
-      DaysEnds image first last words status (writer.contents output) (writer.contents written)
-      (HasWriteFailed output written) left
+  -- no memory was found to read the words, and nothing is done
+  pub record IsWanting : Type 0 where
+    pub finishes : Finishes faulter.contents (Err (placeless_text OutOfMemory)) status x.faults y.faults
+    pub unread : IsUnread
+    pub unwritten : IsUnwritten
+    pub unopened : OpensNothing
 
-  -- ---- each task
-  module _ {D : Type 0} {g : disk.Ghosts D} (image : Image) (status : ℕ) (input rest : R) (output written : W)
-      (quiet told : Option (List ℕ)) (left : Option (Held (FileStore D g))) (room : Option Visits) where
-    -- no file was opened, and no room
-    abbrev pub OpensNothing : Type 0
-    OpensNothing = (left ≡ None) × (room ≡ None)
-
-    -- what was asked for was done, or refused for a reason: how the input, the output, the faults' texts, the
-    -- connection over the file, and the room are then
-    abbrev pub Does : Asked → Type 0
-    Does Norm = Normalises status input rest output written × OpensNothing
-    Does Check = Checks status input rest output written × OpensNothing
-    Does (Init file society) = InitEnds image society.now status left × (rest ≡ input) × (written ≡ output)
-        × (room ≡ None)
-    Does (Apply file) = Applies image status input rest output written quiet told left × (room ≡ None)
-    Does (Entries file source token) = EntersBatch image token.now source status input rest output written left
-        × (room ≡ None)
-    Does (Import file token progress) = ImportsFile image token.now status input rest output written left
-        × (room ≡ None)
-    Does (Export file) = Exports image status output written left × (rest ≡ input) × (room ≡ None)
-    Does (ExportPublic file today) = Publishes image today status output written left × (rest ≡ input) × (room ≡ None)
-    Does (Sheet file which number generations today) =
-        PrintsSheet image which number generations today status output written left × (rest ≡ input) × (room ≡ None)
-    Does (Serve file port count today) = RoomEnds image port count today status room left × (rest ≡ input)
-        × (written ≡ output)
-    Does (Audit file) = Audits image status output written left × (rest ≡ input) × (room ≡ None)
-    Does (Days file first last words) = ListsDays image first last words status output written left × (rest ≡ input)
-        × (room ≡ None)
-    Does (Show text) = (rest ≡ input) × OpensNothing
-
-    -- no memory was found to read the words, and nothing is done
-    pub record IsWanting : Type 0 where
-      pub refused : status ≡ 1
-      pub unread : rest ≡ input
-      pub unwritten : written ≡ output
-      pub unopened : OpensNothing
-
-    -- what the words ask for was done
-    abbrev pub DoesWords : List (List ℕ) → Type 0
-    DoesWords words = (asked : Asked) × Asks words asked × Does asked
+  -- the words ask for a command, and that was done
+  abbrev pub DoesWords : List (List ℕ) → Type 0
+  DoesWords words = (asked : Asked) × IsSome (name_of asked) × Asks words asked × Does asked

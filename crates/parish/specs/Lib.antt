@@ -1,5 +1,3 @@
-pub mod Auditing
-pub mod Days
 pub mod Doing
 pub mod Ends
-pub mod Shown
+pub mod Rooms

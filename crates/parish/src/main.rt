@@ -1,20 +1,17 @@
 //! The program `parish`: the words of its command line, on the standard streams.
 //!
-//! It uses `command_line`, `gedcom_tree` and `archive_commands`. What it does is in `command`, over any streams and
-//! whatever the file of an archive holds.
+//! It uses `command_line` for the words, `archive_commands` for tasks on the archive in a file, and `gedcom_tree` for
+//! files on the input. What it does is in `command`, over any streams and whatever the file of an archive holds.
 #![tactic(auto)]
 
 ghost use Rattle.std.specs.Prelude.{◌≡◌, IfSome, IsSomeAnd, MatchOption, None};
 ghost use Rattle.archive_commands.specs.Closing.{IsClosedOver};
 ghost use Rattle.devices.specs.Devices.{Rose};
-ghost use Rattle.parish.specs.Shown.{VisitsEnd};
+ghost use Rattle.parish.specs.Rooms.{VisitsEnd};
 
-mod audits;
-mod batches;
+mod archives;
 mod command;
-mod imports;
-mod progress;
-mod telling;
+mod files;
 mod visits;
 
 use crate::visits::Visits;

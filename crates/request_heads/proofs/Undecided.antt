@@ -1,9 +1,36 @@
 -- Bytes that decide nothing yet.
-use Rattle.std.proofs.Common.{◌≡◌, ◌≤◌, ◌<◌, ◌+◌, ◌-◌, ℕ, List, [], ◌∷◌, ◌++◌, length, take, sym, ap, ◌∙◌, arith, inl, refl}
+use Rattle.std.proofs.Common.{
+  ◌≡◌,
+  ◌≤◌,
+  ◌<◌,
+  ◌+◌,
+  ◌-◌,
+  ℕ,
+  List,
+  [],
+  ◌∷◌,
+  ◌++◌,
+  length,
+  take,
+  sym,
+  ap,
+  ◌∙◌,
+  arith,
+  inl,
+  refl,
+}
 use Rattle.std.proofs.lemmas.List.Elements.{All-nil}
 use Rattle.std.proofs.lemmas.List.Sums.{AllPass-from_list_all}
 use Rattle.std.proofs.lemmas.List.{append-nil, length-append, length-take-le, take-append-le, take-take}
-use Rattle.httparse.specs.Grammar.{HasNoRequest, IsField, IsRequestHead, RequestHead, is_token_byte, is_uri_byte, print_request}
+use Rattle.httparse.specs.Grammar.{
+  HasNoRequest,
+  IsField,
+  IsRequestHead,
+  RequestHead,
+  is_token_byte,
+  is_uri_byte,
+  print_request,
+}
 use Rattle.httparse.specs.Grammar.LineEnd.{lf}
 use Rattle.request_heads.specs.Reading.{IsUndecided, before_last}
 use borrow.Rule.Slice.PartMut.{put_mid, post_of}

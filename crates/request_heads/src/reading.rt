@@ -6,7 +6,15 @@ ghost use Rattle.std.specs.Io.KnownBytes.{Consumes};
 ghost use Rattle.devices.specs.Devices.{Rose};
 ghost use Rattle.httparse.specs.Spans.{IsHeaderWithin, IsRequestOf, IsRequestWithin};
 ghost use Rattle.request_heads.specs.Heads.{Begins};
-ghost use Rattle.request_heads.specs.Reading.{Shows, IsJudged, IsCopied, IsUndecided, TakesHead, before_last, is_host_at};
+ghost use Rattle.request_heads.specs.Reading.{
+  Shows,
+  IsJudged,
+  IsCopied,
+  IsUndecided,
+  TakesHead,
+  before_last,
+  is_host_at,
+};
 ghost use Rattle.request_heads.specs.declared.reading.Found.TheVariants as found;
 
 use crate::head::{Head, HeadRead};
@@ -32,8 +40,8 @@ pub(crate) enum Found {
     Whole(RequestSpans),
 }
 
-/// Reads as far as the bytes show what they begin with, and at most 8,192 of them. It reads a byte at a time, so that it
-/// takes none after the one that decides: a reader of sockets is to be buffered.
+/// Reads as far as the bytes show what they begin with, and at most 8,192 of them. It reads a byte at a time, so that
+/// it takes none after the one that decides: a reader of sockets is to be buffered.
 ///
 /// `before` is the count of failures at the start of the call that asks, and `Failed` says that it has risen
 /// since. `OutOfMemory`: memory was refused, here or to the reader, or the reader did not count its error.

@@ -9,7 +9,8 @@ use devices::Counted;
 use std::io;
 use std::io::Write;
 
-/// Writes an answer. Takes no memory. With an error, which is that of the writer, it has taken a beginning of the answer.
+/// Writes an answer. Takes no memory. With an error, which is that of the writer, it has taken a beginning of the
+/// answer.
 pub fn send<W: Write>(writer: &mut Counted<W>, bytes: &[u8]) -> io::Result<()>
     ensures ok { OnOk result
         (Appends (W.contents (inner_of writer.old)) (W.contents (inner_of writer.new)) bytes.now) }

@@ -2,37 +2,50 @@ use Rattle.std.proofs.Common.{refl, ap, ◌∙◌, inl, inr}
 use Rattle.sqlite.specs.Effect.{Database}
 use Rattle.sqlite.specs.Files.{file_state}
 use Rattle.store.proofs.Opened.{opened_over, opened_over_old}
+use Rattle.archive_commands.proofs.Opened.{has_of}
 use Rattle.archive_commands.proofs.opening.open_file.Goals as goal
 
-pub returns-in-Ok-adopt-clause-opened : goal.returns-in-Ok-adopt-clause-opened
-returns-in-Ok-adopt-clause-opened g c = (
-  c.in-Ok-adopt.ensures.adopted.0,
-  λ clean society content t holds is.
-      let keeps = (c.in-Ok-adopt.ensures.adopted.1 clean).keeps in
-      let opened = c.in-Ok.ensures.opened keeps.clean in
-      let has = opened_over (file_state c.in-Ok.conn) t society content opened.0 opened.1
-      ((c.in-Ok.ensures.found keeps.clean).holds t holds) is in
-      (keeps.same refl society content has, keeps.crash society content has),
-)
-
-pub returns-in-Ok-adopt-clause-finished : goal.returns-in-Ok-adopt-clause-finished
-returns-in-Ok-adopt-clause-finished g c = λ clean society content t holds is.
-    let takes = c.in-Ok-adopt.ensures.adopted.1 clean in
-    let opened = c.in-Ok.ensures.opened takes.keeps.clean in
-    takes.finished society content
-    (opened_over (file_state c.in-Ok.conn) t society content opened.0 opened.1
-    ((c.in-Ok.ensures.found takes.keeps.clean).holds t holds) is)
+pub returns-in-Ok-adopt-clause-taken : goal.returns-in-Ok-adopt-clause-taken
+returns-in-Ok-adopt-clause-taken g c = record {
+  kept = c.in-Ok-adopt.ensures.adopted.0;
+  ready = c.in-Ok-adopt.ensures.idle.1;
+  quiet = c.in-Ok-adopt.ensures.quiet;
+  has = λ clean society content t holds is.
+      let takes = c.in-Ok-adopt.ensures.adopted.1 clean in
+      let opened = c.in-Ok.ensures.opened takes.keeps.clean in
+      has_of (file_state c.in-Ok.conn) _ takes t society content opened.0 opened.1
+      ((c.in-Ok.ensures.found takes.keeps.clean).holds t holds) is;
+  recognised = λ clean t holds.
+      let before = (c.in-Ok-adopt.ensures.adopted.1 clean).keeps.clean in (
+        c.in-Ok.conn,
+        (c.in-Ok.ensures.found before).holds t holds,
+        c.in-Ok-adopt.ensures.recognised clean,
+      );
+}
 
 pub returns-in-Ok-clause-refused : goal.returns-in-Ok-clause-refused
-returns-in-Ok-clause-refused g c = (
-  c.in-Err-adopt.ensures.ended,
-  (λ clean society content t holds is.
+returns-in-Ok-clause-refused g c = record {
+  ended = c.in-Err-adopt.ensures.ended;
+  failed = λ clean society content t holds is.
       let takes = c.in-Err-adopt.ensures.refused clean in
       let opened = c.in-Ok.ensures.opened takes.keeps.clean in
-      let has = opened_over (file_state c.in-Ok.conn) t society content opened.0 opened.1
-      ((c.in-Ok.ensures.found takes.keeps.clean).holds t holds) is in
-      (takes.refused society content has, takes.keeps.crash society content has)),
-  (λ clean t holds.
+      let held = (c.in-Ok.ensures.found takes.keeps.clean).holds t holds in
+      elim is [
+        | inl now ↦ takes.refused society content (opened_over _ t society content opened.0 opened.1 held now)
+        | inr was ↦
+            takes.anew.refused society content (opened_over_old _ t society content opened.0 opened.1 held was)
+      ];
+  spared = λ clean t holds.
+      let takes = c.in-Err-adopt.ensures.refused clean in
+      let opened = c.in-Ok.ensures.opened takes.keeps.clean in
+      let held = (c.in-Ok.ensures.found takes.keeps.clean).holds t holds in
+      record {
+        kept = λ society content is.
+            takes.keeps.crash society content (opened_over _ t society content opened.0 opened.1 held is);
+        held = λ society content was.
+            takes.anew.crash society content (opened_over_old _ t society content opened.0 opened.1 held was);
+      };
+  as_held = λ clean t holds.
       let before = (c.in-Err-adopt.ensures.refused clean).keeps.clean in
       let opened = c.in-Ok.ensures.opened before in
       let held = (c.in-Ok.ensures.found before).holds t holds in
@@ -46,21 +59,11 @@ returns-in-Ok-clause-refused g c = (
               )),
         )
         | inr failed ↦ inr (failed.0, (c.in-Ok.conn, held, failed.1 clean))
-      ]),
-)
-
-pub returns-in-Ok-adopt-clause-anew : goal.returns-in-Ok-adopt-clause-anew
-returns-in-Ok-adopt-clause-anew g c = λ clean society content t holds was.
-    let takes = c.in-Ok-adopt.ensures.adopted.1 clean in
-    let opened = c.in-Ok.ensures.opened takes.keeps.clean in
-    takes.anew.finished society content
-    (opened_over_old (file_state c.in-Ok.conn) t society content opened.0 opened.1
-    ((c.in-Ok.ensures.found takes.keeps.clean).holds t holds) was)
-
-pub returns-in-Ok-clause-kept : goal.returns-in-Ok-clause-kept
-returns-in-Ok-clause-kept g c = λ clean society content t holds was.
-    let takes = c.in-Err-adopt.ensures.refused clean in
-    let opened = c.in-Ok.ensures.opened takes.keeps.clean in
-    let had = opened_over_old (file_state c.in-Ok.conn) t society content opened.0 opened.1
-    ((c.in-Ok.ensures.found takes.keeps.clean).holds t holds) was in
-    (takes.anew.refused society content had, takes.anew.crash society content had)
+      ];
+  reason = λ clean t holds.
+      let before = (c.in-Err-adopt.ensures.refused clean).keeps.clean in (
+        c.in-Ok.conn,
+        (c.in-Ok.ensures.found before).holds t holds,
+        c.in-Err-adopt.ensures.told clean,
+      );
+}

@@ -1,4 +1,4 @@
-use Rattle.std.proofs.Common.{◌≡◌, inl, inr, refl, sym, codes, map, string_bytes}
+use Rattle.std.proofs.Common.{◌≡◌, inl, inr, refl, subst, sym, codes, map, string_bytes, arith, Err}
 use Rattle.std.specs.Prelude.{List, ℕ, Bool, true, false, Some, IfSome}
 use Rattle.clap.specs.Words.{subcommand_of}
 use Rattle.command_line.specs.Asking.{HasWords, IsTaken, command_named, is_told, name_of}
@@ -6,18 +6,21 @@ use Rattle.command_line.specs.Commands.{program}
 use Rattle.command_line.specs.declared.tasks.Asked.{Asked}
 use Rattle.command_line.specs.declared.tasks.Asked.TheVariants as asked
 use Rattle.sqlite_wal.specs.Files.{image_at}
+use Rattle.record_text.specs.declared.refusal.RefusalText.{RefusalText}
+use Rattle.tasks.specs.Status.{Finishes}
 use Rattle.parish.specs.Doing.{tells}
 use Rattle.parish.specs.Ends.{AreOf, AreOfToldImport}
+use Rattle.parish.proofs.Ending.{does_at_most_1, does_quietly}
 use Rattle.parish.proofs.Untaken.{untaken}
 use Rattle.parish.proofs.command.command.Goals as goal
 
--- of an import nothing is told but where it is asked for
+-- of an import nothing is said but where it is asked for
 untold : (progress : Bool) (words : List (List ℕ)) → AreOf words (codes "import")
     → progress ≡ is_told (subcommand_of program words) → ¬ (AreOfToldImport words) → progress ≡ false
 untold false words of is no_import = refl
 untold true words of is no_import = absurd (no_import (of, sym is))
 
--- what is asked for tells nothing where it is done, but for those two
+-- what is asked for says nothing where it is done, but for those two
 quiet : (a : Asked) (words : List (List ℕ)) → IfSome (name_of a) (λ n. IsTaken words × (command_named words ≡ Some n))
     → HasWords (subcommand_of program words) a → ¬ (AreOf words (codes "apply")) → ¬ (AreOfToldImport words)
     → tells a ≡ false
@@ -35,23 +38,40 @@ quiet (asked.Audit file) words of has no_apply no_import = refl
 quiet (asked.Days file first last told) words of has no_apply no_import = refl
 quiet (asked.Show text) words of has no_apply no_import = refl
 
+pub returns-in-Ok-clause-status : goal.returns-in-Ok-clause-status
+returns-in-Ok-clause-status g c =
+    let one = does_at_most_1 g.R.Read g.R.Device g.W.Write g.W.Device g.F.Write (image_at g.S.Start) _ _ _ _ _
+    c.in-Ok.asked c.work.ensures in
+    omega (arith, one)
+
+pub returns-in-Ok-clause-words : goal.returns-in-Ok-clause-words
+returns-in-Ok-clause-words g c = λ two.
+    let one = does_at_most_1 g.R.Read g.R.Device g.W.Write g.W.Device g.F.Write (image_at g.S.Start) _ _ _ _ _
+    c.in-Ok.asked c.work.ensures in
+    absurd (omega (arith, one, two))
+
 pub returns-in-Ok-clause-done : goal.returns-in-Ok-clause-done
 returns-in-Ok-clause-done g c = λ zero no_apply no_import.
-    c.work.ensures.done zero
+    does_quietly g.R.Read g.R.Device g.W.Write g.W.Device g.F.Write (image_at g.S.Start) _ _ _ _ _ c.in-Ok.asked
+    c.work.ensures
     (quiet c.in-Ok.asked (map string_bytes c.args.words.now) c.in-Ok.ensures.asked.0 c.in-Ok.ensures.asked.1
-    no_apply no_import)
+    no_apply no_import) zero
 
 pub returns-in-Ok-clause-does : goal.returns-in-Ok-clause-does
-returns-in-Ok-clause-does g c = λ taken. inr (c.in-Ok.asked, c.in-Ok.ensures.asked, c.work.ensures.does)
+returns-in-Ok-clause-does g c = λ taken.
+    inr (c.in-Ok.asked, c.in-Ok.ensures.taken taken, c.in-Ok.ensures.asked, c.work.ensures)
 
 pub returns-in-Ok-clause-others : goal.returns-in-Ok-clause-others
 returns-in-Ok-clause-others g c = λ none.
-    untaken g.R.Read g.R.Device g.W.Write g.W.Device (image_at g.S.Start) _ _ _ _ _ _ _ _ _
-    (map string_bytes c.args.words.now) none c.in-Ok.asked c.in-Ok.ensures.asked.0 c.work.ensures.does
+    untaken g.R.Read g.R.Device g.W.Write g.W.Device g.F.Write (image_at g.S.Start) _ _ _ _ _
+    (map string_bytes c.args.words.now) none _ c.in-Ok.asked c.in-Ok.ensures.asked.0 c.work.ensures
+    c.in-Ok.ensures.shown
 
 pub returns-clause-does : goal.returns-clause-does
 returns-clause-does g c = λ taken. inl (record {
-  refused = c.refuse.ensures;
+  finishes = subst
+      (λ (t : RefusalText). Finishes g.F.Write.contents (Err t) c.status_of.result c.args.faults.now
+      c.status_of.new.faults) c.placeless.ensures c.status_of.ensures;
   unread = refl;
   unwritten = refl;
   unopened = (refl, refl);

@@ -1,3 +1,0 @@
-mod Climbing
-mod Finds
-mod OnFile

@@ -1,0 +1,2 @@
+mod Climbing
+mod Finds

@@ -1,0 +1,25 @@
+use Rattle.std.proofs.Common.{w32}
+use Rattle.std.proofs.lemmas.Int.{to_z-of_z}
+use Rattle.sqlite.specs.Held.{state}
+use Rattle.sqlite.specs.State.{HasCleanDisk}
+use Rattle.archive_exports.proofs.Asked.{unread_as}
+use Rattle.archive_exports.specs.Reading.{OnOpen}
+use Rattle.date_spans.specs.Between.{AreAll, IsBetween}
+use Rattle.store.specs.Archives.{HasArchive}
+use Rattle.day_lists.proofs.Finds.{found_as, in_days}
+use Rattle.day_lists.proofs.finding.found_in.Goals as goal
+
+pub returns-in-Ok-clause-found : goal.returns-in-Ok-clause-found
+returns-in-Ok-clause-found g c =
+    let old = state g.S.Store c.args.archive.now.conn in
+    let new = state g.S.Store c.between_days.new.self.conn in
+    let was = found_as old new c.in-Ok.found
+    (λ (clean : HasCleanDisk new). c.in-Ok.ensures.reads clean c.requires.kept) in
+    in_days (λ f l. OnOpen old new (λ society of. AreAll (IsBetween of.records f l) c.in-Ok.found.items
+    × HasArchive society of new)) _ c.args.first _ c.args.last
+    (to_z-of_z w32 c.args.first c.ranges.first) (to_z-of_z w32 c.args.last c.ranges.last) was
+
+pub returns-in-Err-clause-unfound : goal.returns-in-Err-clause-unfound
+returns-in-Err-clause-unfound g c =
+    unread_as _ (state g.S.Store c.args.archive.now.conn) (state g.S.Store c.between_days.new.self.conn) c.in-Err.kind
+    c.read_refusal.result c.read_refusal.ensures.same (λ clean. c.in-Err.ensures.reads clean c.requires.kept)

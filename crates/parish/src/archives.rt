@@ -1,0 +1,158 @@
+//! The commands on the archive in a file.
+
+ghost use Rattle.std.specs.Prelude.{◌≡◌, ◌⊎◌, IfErr, IfOk, Option};
+ghost use Rattle.sqlite_wal.specs.Files.{image_at};
+ghost use Rattle.archive_state.specs.Content.{Content};
+ghost use Rattle.archive_commands.specs.Tasks.{EndsOnFile};
+ghost use Rattle.parish.specs.Doing.{DoesTask, DoesUnder, Makes};
+ghost use Rattle.parish.specs.Rooms.{IsRoomOf};
+ghost use Rattle.receipts.specs.Tokens.{IsToken};
+ghost use Rattle.record_text.specs.declared.refusal.RefusalKind.TheVariants.{BadToken, OutOfMemory};
+ghost use Rattle.tasks.specs.Status.{Finishes, Outcome};
+ghost use Rattle.tasks.specs.declared.task.Task.TheVariants as task;
+
+use crate::visits::{Visits, room_of};
+use archive_commands::{OpenFile, init, perform_on_file};
+use gedcom_tree::Device;
+use receipts::Token;
+use record_text::RefusalKind;
+use sqlite::Start;
+use std::alloc::Global;
+use std::io::{Read, Write};
+use std::rt::HostRuntime;
+use tasks::{Task, placeless, plain, status_of};
+
+/// What a command ends with: the exit status, the connection over the archive's file where one was opened, and the room
+/// that is to be served.
+pub(crate) type Ended<S> = (u8, Option<OpenFile<S>>, Option<Visits>);
+
+/// `init`: makes the archive of a society in a file.
+pub(crate) fn make<S: Start, F: Write + Device>(
+    rt: &HostRuntime,
+    file: &str,
+    society: &str,
+    start: S,
+    faults: &mut F,
+) -> (u8, Option<OpenFile<S>>)
+    ensures { (outcome : Outcome) × Makes (image_at S.Start) result.1 society.now outcome
+        × Finishes F.contents outcome result.0 faults.old faults.new }
+{
+    let (outcome, left) = init(rt, file, society, start);
+    (status_of(plain(outcome), faults), left)
+}
+
+/// Performs a task on the archive in a file.
+pub(crate) fn do_task<S: Start, R: Read + Device, W: Write + Device, F: Write + Device>(
+    rt: &HostRuntime,
+    file: &str,
+    task: Task,
+    start: S,
+    input: &mut R,
+    output: &mut W,
+    faults: &mut F,
+) -> Ended<S>
+    ensures { DoesTask R.Read R.Device W.Write W.Device F.Write (image_at S.Start) result.0
+        (record { input = input.old; output = output.old; faults = faults.old })
+        (record { input = input.new; output = output.new; faults = faults.new }) result.1 result.2 task }
+{
+    let (status, _shown, left) = perform_on_file(rt, file, start, task, input, output, faults);
+    (status, left, None)
+}
+
+/// `entries`: enters the rows of the input as a batch, under a token. 93: the word is no token; no file is opened.
+pub(crate) fn enter<S: Start, R: Read + Device, W: Write + Device, F: Write + Device>(
+    rt: &HostRuntime,
+    file: &str,
+    token: &str,
+    source: u32,
+    start: S,
+    input: &mut R,
+    output: &mut W,
+    faults: &mut F,
+) -> Ended<S>
+    ensures { DoesUnder R.Read R.Device W.Write W.Device F.Write (image_at S.Start) result.0
+        (record { input = input.old; output = output.old; faults = faults.old })
+        (record { input = input.new; output = output.new; faults = faults.new }) result.1 result.2 token.now
+        (task.Entries token.now source) }
+{
+    match token_given(rt.alloc(), token) {
+        Ok(token) => do_task(
+            rt,
+            file,
+            Task::Entries { token, source },
+            start,
+            input,
+            output,
+            faults,
+        ),
+        Err(kind) => (status_of(Err(placeless(kind)), faults), None, None),
+    }
+}
+
+/// `import`: takes in the file of the input, under a token. 93: the word is no token; no file is opened.
+pub(crate) fn take_in<S: Start, R: Read + Device, W: Write + Device, F: Write + Device>(
+    rt: &HostRuntime,
+    file: &str,
+    token: &str,
+    progress: bool,
+    start: S,
+    input: &mut R,
+    output: &mut W,
+    faults: &mut F,
+) -> Ended<S>
+    ensures { DoesUnder R.Read R.Device W.Write W.Device F.Write (image_at S.Start) result.0
+        (record { input = input.old; output = output.old; faults = faults.old })
+        (record { input = input.new; output = output.new; faults = faults.new }) result.1 result.2 token.now
+        (task.Import token.now progress) }
+{
+    match token_given(rt.alloc(), token) {
+        Ok(token) => do_task(
+            rt,
+            file,
+            Task::Import { token, progress },
+            start,
+            input,
+            output,
+            faults,
+        ),
+        Err(kind) => (status_of(Err(placeless(kind)), faults), None, None),
+    }
+}
+
+/// The word as a token, in memory of its own. 93: it is none. 1: memory was refused.
+fn token_given(alloc: Global, word: &str) -> Result<Token, RefusalKind>
+    ensures given { IfOk result (λ token. (token ≡ word.now) × IsToken word.now) }
+    ensures refused { IfErr result (λ kind. (kind ≡ OutOfMemory) ⊎ ((kind ≡ BadToken) × ¬ (IsToken word.now))) }
+{
+    match Token::try_new(String::from_str(alloc, word)?) {
+        Some(token) => {
+            // This tells the proof that it is a token.
+            let _word = token.as_str();
+            Ok(token)
+        }
+        None => Err(RefusalKind::BadToken),
+    }
+}
+
+/// `serve`: the room that is to be served, with what may be shown of the archive in a file on a day.
+pub(crate) fn open_room<S: Start, R: Read + Device, W: Write + Device, F: Write + Device>(
+    rt: &HostRuntime,
+    file: &str,
+    port: u16,
+    count: u32,
+    today: i32,
+    start: S,
+    input: &mut R,
+    output: &mut W,
+    faults: &mut F,
+) -> Ended<S>
+    ensures { (shown : Option Content) × EndsOnFile R.Read R.Device W.Write W.Device F.Write (image_at S.Start)
+        (task.Library today)
+        (record { input = input.old; output = output.old; faults = faults.old })
+        (record { input = input.new; output = output.new; faults = faults.new }) result.0 shown result.1
+        × IsRoomOf port count shown result.2 }
+{
+    let task = Task::Library { today };
+    let (status, shown, left) = perform_on_file(rt, file, start, task, input, output, faults);
+    (status, left, room_of(shown, port, count))
+}

@@ -1,0 +1,106 @@
+//! The commands on a GEDCOM file that is the input: `norm` and `check`.
+
+ghost use Rattle.std.specs.Prelude.{◌≡◌, IfErr, OnErr, OnOk};
+ghost use Rattle.std.specs.Io.KnownBytes.{Appends};
+ghost use Rattle.devices.specs.Devices.{AppendsBeginning, Rose};
+ghost use Rattle.gedcom_rules.specs.Views.{fault_view};
+ghost use Rattle.gedcom_tree.specs.Streams.{NotWritten};
+ghost use Rattle.parish.specs.Ends as ends;
+
+use file_imports::refusal_of;
+use gedcom_tree::{
+    Device, TransferError, TreeFault, TreeKind, normalise, read_forest, write_bytes,
+};
+use record_text::{RefusalText, Unit};
+use std::alloc::Global;
+use std::io::{Read, Write};
+
+const OUT_OF_MEMORY: TreeFault = TreeFault {
+    kind: TreeKind::OutOfMemory,
+    at: None,
+};
+
+const WRITE_FAILED: TreeFault = TreeFault {
+    kind: TreeKind::WriteFailed,
+    at: None,
+};
+
+/// `norm`: writes the file of the input, canonical, on the output. Refusals as of `gedcom_tree::normalise`.
+pub(crate) fn norm<R: Read + Device, W: Write + Device>(
+    alloc: Global,
+    input: &mut R,
+    output: &mut W,
+) -> Result<(), RefusalText>
+    ensures { ends.Normalises (R.remaining input.old) (W.contents output.old) (W.contents output.new)
+        (Rose (R.failed input.old) (R.failed input.new)) (Rose (W.failed output.old) (W.failed output.new)) result }
+{
+    match normalise(alloc, input, output) {
+        Ok(()) => Ok(()),
+        Err(fault) => Err(text_of(fault)),
+    }
+}
+
+/// `check`: reads the file of the input, and prints on the output how many records it has. Refusals as of
+/// `gedcom_tree::read_forest`. 95: the output failed.
+pub(crate) fn check<R: Read + Device, W: Write + Device>(
+    alloc: Global,
+    input: &mut R,
+    output: &mut W,
+) -> Result<(), RefusalText>
+    ensures { ends.Checks (R.remaining input.old) (W.contents output.old) (W.contents output.new)
+        (Rose (R.failed input.old) (R.failed input.new)) (Rose (W.failed output.old) (W.failed output.new)) result }
+{
+    match count_records(alloc, input, output) {
+        Ok(()) => Ok(()),
+        Err(fault) => Err(text_of(fault)),
+    }
+}
+
+/// A fault of a file as it is printed.
+fn text_of(fault: TreeFault) -> RefusalText
+    ensures { result ≡ ends.fault_text (fault_view fault) }
+{
+    refusal_of(fault).text(Unit::Line)
+}
+
+/// Reads a whole file, and writes how many records it has.
+#[tactic(auto, using(list_laws::proofs::Outcomes::keeps))]
+fn count_records<R: Read + Device, W: Write + Device>(
+    alloc: Global,
+    input: &mut R,
+    output: &mut W,
+) -> Result<(), TreeFault>
+    ensures ok { OnOk result (ends.Told (R.remaining input.old)
+        (W.contents output.old) (W.contents output.new)) }
+    ensures err { IfErr result (λ f. ends.Untold (R.remaining input.old)
+        (W.contents output.old) (W.contents output.new)
+        (Rose (R.failed input.old) (R.failed input.new)) (Rose (W.failed output.old) (W.failed output.new))
+        (fault_view f)) }
+{
+    let forest = match read_forest(alloc, input) {
+        Ok(forest) => forest,
+        Err(fault) => return Err(fault),
+    };
+    let records = forest.record_count();
+    let line = format!(in alloc; "ok: {records} records\n")?;
+    match print(output, &line) {
+        Ok(()) => Ok(()),
+        Err(fault) => Err(fault),
+    }
+}
+
+/// Writes a text. At an error a beginning of it was written.
+fn print<W: Write + Device>(output: &mut W, text: &str) -> Result<(), TreeFault>
+    ensures ok { OnOk result
+        (Appends (W.contents output.old) (W.contents output.new) text.now) }
+    ensures err { OnErr result
+        (AppendsBeginning (W.contents output.old) (W.contents output.new) text.now) }
+    ensures why { IfErr result (λ f. NotWritten (Rose (W.failed output.old) (W.failed output.new)) (fault_view f)) }
+{
+    let before = output.failures();
+    match write_bytes(output, before, text.as_bytes()) {
+        Ok(()) => Ok(()),
+        Err(TransferError::OutOfMemory) => Err(OUT_OF_MEMORY),
+        Err(TransferError::Failed) => Err(WRITE_FAILED),
+    }
+}

@@ -1,0 +1,4 @@
+mod Blamed
+mod Days
+mod Hiding
+pub mod Quiet

@@ -1,0 +1,100 @@
+use Rattle.std.proofs.Common.{SFits, refl, rules, w32}
+use Rattle.std.proofs.lemmas.Int.{to_z-of_z}
+use Rattle.tasks.proofs.Blamed.{blamed_by}
+use Rattle.tasks.proofs.Days.{lists_on, prints_on, publishes_on}
+use Rattle.tasks.proofs.perform.do_task.Goals as goal
+
+pub returns-in-Apply : goal.returns-in-Apply
+returns-in-Apply g c =
+    let did = c.apply.ensures in
+    rw c.in-Apply.is (
+      (
+        c.apply.result,
+        c.plain.ensures,
+        record {
+          applied = did.applied;
+          ended = did.ended;
+          blamed = blamed_by c.apply.result _ _ did.read_failed did.write_failed;
+        },
+      ),
+      refl,
+    )
+
+pub returns-in-Entries : goal.returns-in-Entries
+returns-in-Entries g c =
+    let did = c.enter_batch.ensures in
+    rw c.in-Entries.is (record { entered = did.entered; refused = did.refused }, refl, refl)
+
+pub returns-in-Import : goal.returns-in-Import
+returns-in-Import g c =
+    let did = c.import_file.ensures in
+    rw c.in-Import.is (record { imported = did.imported; refused = did.refused }, did.silent, refl)
+
+pub returns-in-Export : goal.returns-in-Export
+returns-in-Export g c =
+    let did = c.write_archive.ensures in
+    rw c.in-Export.is (
+      (
+        c.write_archive.result,
+        c.plain-in-Export.ensures,
+        record { written = did.written; begun = did.begun; blamed = did.writer },
+      ),
+      refl,
+      refl,
+      refl,
+    )
+
+pub returns-in-ExportPublic : goal.returns-in-ExportPublic
+returns-in-ExportPublic g c =
+    let did = c.write_public.ensures in
+    let fits : SFits w32 c.in-ExportPublic.today = search rules in
+    rw c.in-ExportPublic.is (
+      (
+        c.write_public.result,
+        c.plain-in-ExportPublic.ensures,
+        publishes_on _ _ _ _ _ _ _ _ _ c.in-ExportPublic.today c.write_public.result
+            (to_z-of_z w32 c.in-ExportPublic.today fits) did.written did.begun did.sound did.unread did.writer,
+      ),
+      refl,
+      refl,
+      refl,
+    )
+
+pub returns-in-Sheet : goal.returns-in-Sheet
+returns-in-Sheet g c =
+    let did = c.write_sheet.ensures in
+    let fits : SFits w32 c.in-Sheet.today = search rules in
+    rw c.in-Sheet.is (
+      (
+        c.write_sheet.result,
+        c.plain-in-Sheet.ensures,
+        prints_on _ _ _ _ _ _ _ _ _ _ c.in-Sheet.today c.write_sheet.result
+            (to_z-of_z w32 c.in-Sheet.today fits) did.written did.refused did.sound did.unread did.writer,
+      ),
+      refl,
+      refl,
+      refl,
+    )
+
+pub returns-in-Audit : goal.returns-in-Audit
+returns-in-Audit g c =
+    let did = c.audit_archive.ensures in
+    rw c.in-Audit.is ((did.audits.0, did.audits.1, did.audits.2, did.quiet), refl, refl)
+
+pub returns-in-Days : goal.returns-in-Days
+returns-in-Days g c =
+    let did = c.write_days.ensures in
+    let fits_first : SFits w32 c.in-Days.first = search rules in
+    let fits_last : SFits w32 c.in-Days.last = search rules in
+    rw c.in-Days.is (
+      (
+        c.write_days.result,
+        c.plain-in-Days.ensures,
+        lists_on _ _ _ _ _ _ _ _ c.in-Days.words _ c.in-Days.first _ c.in-Days.last c.write_days.result
+            (to_z-of_z w32 c.in-Days.first fits_first) (to_z-of_z w32 c.in-Days.last fits_last) did.written did.cut
+            did.unread did.writer,
+      ),
+      refl,
+      refl,
+      refl,
+    )

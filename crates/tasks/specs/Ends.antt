@@ -1,0 +1,237 @@
+-- How each task ends on an archive that is open: what was read and written, the archive before and after, also after a
+-- crash, and the exit status. Rules of our own.
+use Rattle.std.specs.Prelude.{
+  ◌≡◌,
+  ◌⊎◌,
+  ◌≤ℤ◌,
+  ℕ,
+  ℤ,
+  Bool,
+  true,
+  false,
+  length,
+  List,
+  Option,
+  None,
+  Result,
+  Ok,
+  Err,
+  IfErr,
+  OnOk,
+}
+use Rattle.std.specs.FinMap.{keys}
+use Rattle.std.specs.Io.KnownBytes.{Appends, Keeps}
+use Rattle.std.specs.declared.io.Read as read
+use Rattle.std.specs.declared.io.Write as write
+use Rattle.sqlite.specs.Held.{state}
+use Rattle.sqlite.specs.State.{HasCleanDisk, State}
+use Rattle.sqlite_trees.specs.declared.store.Store.{Ghosts}
+use Rattle.archive_audits.specs.Judging.{Audit, Judges, Tells, without_fault}
+use Rattle.archive_exports.specs.Exporting.{IsPart, export_text}
+use Rattle.archive_exports.specs.Reading.{OnOpen}
+use Rattle.archive_state.specs.Content.{Content}
+use Rattle.archive_view.specs.Looks.{is_failure}
+use Rattle.batch_reading.specs.Input.{row_bytes}
+use Rattle.day_lists.specs.Ends.{AreCut, AreReversed, AreWritten}
+use Rattle.devices.specs.Devices.{Rose}
+use Rattle.devices.specs.declared.device.Device as device
+use Rattle.file_imports.specs.Importing.{Imports, ImportsAll, ImportsSilently, IsNoFile}
+use Rattle.file_imports.specs.Telling.{import_text}
+use Rattle.gedcom_export.specs.Ends.{IsWhole}
+use Rattle.receipts.specs.declared.answer.Answer.{Answer}
+use Rattle.receipts.specs.declared.report.ReportLine.{ReportLine}
+use Rattle.record_text.specs.declared.refusal.Refusal.{Refusal}
+use Rattle.record_text.specs.declared.refusal.RefusalKind.{RefusalKind}
+use Rattle.record_text.specs.declared.refusal.RefusalKind.TheVariants.{ReadFailed, WriteFailed}
+use Rattle.shown_archives.specs.Showing.{OfSound}
+use Rattle.shown_archives.specs.Writing.{IsPartPublished, IsPublished, IsSheetRefused, IsSheetWritten}
+use Rattle.shown_archives.specs.declared.sheet.Sheet.{Sheet}
+use Rattle.store.specs.Calls.{Reads}
+use Rattle.tables.specs.Entering.{Enters, IsNoBatch}
+use Rattle.tables.specs.RowByRow.{AppliedInTurn, EndedInTurn, Moment as RowMoment}
+use Rattle.tasks.specs.Moments.{Moment}
+use Rattle.tasks.specs.Parts.{IsPrintedPart, PrintsAudit, Shelves}
+use Rattle.tasks.specs.Status.{Finishes, Outcome, Plain, as_text, placeless_text}
+use Rattle.tasks.specs.Texts.{made_text}
+use Rattle.tasks.specs.declared.task.Task.{Task}
+use Rattle.tasks.specs.declared.task.Task.TheVariants as task
+
+-- the number is that of the records
+abbrev pub IsCount : List ℕ → Content → ℕ → Type 0
+IsCount society c n = n ≡ length (keys c.records)
+
+-- tables are judged so, the flaw that is named is so, and they stay
+pub record IsAudit (old : State) (audit : Audit) (new : State) : Type 0 where
+  pub judges : Judges old (without_fault audit)
+  pub tells : Tells old audit
+  pub reads : Reads IsCount old (without_fault audit) new
+
+module _ {S R W F : Type 0} (g : Ghosts S) (reader : read.Ghosts R) (reads : device.Ghosts R) (writer : write.Ghosts W)
+    (writes : device.Ghosts W) (faulter : write.Ghosts F) (a b : Moment g R W F) where
+  -- ---- the streams and the archive between the two moments
+  abbrev pub HasReadFailed : Type 0
+  HasReadFailed = Rose (reads.failed a.input) (reads.failed b.input)
+
+  abbrev pub HasWriteFailed : Type 0
+  HasWriteFailed = Rose (writes.failed a.output) (writes.failed b.output)
+
+  abbrev pub IsUnread : Type 0
+  IsUnread = b.input ≡ a.input
+
+  abbrev pub IsUnwritten : Type 0
+  IsUnwritten = b.output ≡ a.output
+
+  -- nothing was said on the faults
+  abbrev pub IsQuiet : Type 0
+  IsQuiet = b.faults ≡ a.faults
+
+  -- the output got the text
+  abbrev pub Prints : List ℕ → Type 0
+  Prints text = Appends (writer.contents a.output) (writer.contents b.output) text
+
+  -- nothing was written
+  abbrev pub PrintsNothing : Type 0
+  PrintsNothing = Keeps (writer.contents a.output) (writer.contents b.output)
+
+  -- of the text a beginning was written
+  abbrev pub PrintsPart : List ℕ → RefusalKind → Type 0
+  PrintsPart text kind = IsPrintedPart text kind (writer.contents a.output) (writer.contents b.output) HasWriteFailed
+
+  -- P of the society and of what the archive held, which it still holds, also after a crash
+  abbrev pub OnHeld : (List ℕ → Content → Type 0) → Type 0
+  OnHeld P = OnOpen (state g a.archive.conn) (state g b.archive.conn) P
+
+  -- a device is blamed only where it failed in this call, by its count
+  abbrev pub IsBlamed : RefusalKind → Type 0
+  IsBlamed kind = (kind ≡ ReadFailed → HasReadFailed) × (kind ≡ WriteFailed → HasWriteFailed)
+
+  -- ---- rows of requests
+  abbrev pub RowsAt : Moment g R W F → RowMoment g W F
+  RowsAt m = record { archive = m.archive; output = m.output; faults = m.faults }
+
+  pub record Applies (r : Plain) : Type 0 where
+    pub applied : OnOk r (AppliedInTurn g writer.contents faulter.contents (row_bytes (reader.remaining a.input))
+        (RowsAt a) (RowsAt b))
+    pub ended : IfErr r (λ kind. EndedInTurn g writer.contents faulter.contents kind
+        (row_bytes (reader.remaining a.input)) (RowsAt a) (RowsAt b))
+    pub blamed : IfErr r IsBlamed
+
+  -- ---- a batch of register entries, under a token, of a source
+  abbrev pub Batch : List ℕ → ℕ → Result Answer Refusal → Type 0
+  Batch token source o = Enters g token source (row_bytes (reader.remaining a.input)) a.archive o b.archive
+
+  -- the rows are no batch, and the archive is as it was
+  abbrev pub NoBatch : Refusal → Type 0
+  NoBatch e = (b.archive ≡ a.archive) × IsNoBatch (row_bytes (reader.remaining a.input)) e HasReadFailed
+
+  -- all rows were entered, and how many was printed; or why not: they are no batch, or it was refused, and nothing is
+  -- printed; or it was entered, and of its line a beginning is printed
+  pub record EntersBatch (token : List ℕ) (source : ℕ) (outcome : Outcome) : Type 0 where
+    pub entered : OnOk outcome ((answer : Answer) × Batch token source (Ok answer) × Prints (made_text answer))
+    pub refused : IfErr outcome (λ t. ((Batch token source (Err t.refusal) ⊎ NoBatch t.refusal) × PrintsNothing)
+        ⊎ ((answer : Answer) × (kind : RefusalKind) × (t ≡ placeless_text kind) × Batch token source (Ok answer)
+        × PrintsPart (made_text answer) kind))
+
+  -- ---- a file, under a token
+  abbrev pub FileWhole : List ℕ → Answer → List ReportLine → Type 0
+  FileWhole token answer report = ImportsAll g token (reader.remaining a.input) a.archive answer report b.archive
+
+  -- the import was refused or is in doubt; or it was done, and there is no report; or the input is no file, and the
+  -- archive is as it was
+  abbrev pub FileUntold : List ℕ → Refusal → Type 0
+  FileUntold token e = Imports g token (reader.remaining a.input) a.archive (Err e) b.archive
+      ⊎ (ImportsSilently g token (reader.remaining a.input) a.archive e b.archive
+      ⊎ ((b.archive ≡ a.archive) × IsNoFile (reader.remaining a.input) e HasReadFailed))
+
+  -- the file was imported, and what was made was printed, with its report; or why not, and nothing is printed; or it
+  -- was, and of that a beginning is printed
+  pub record ImportsFile (token : List ℕ) (outcome : Outcome) : Type 0 where
+    pub imported : OnOk outcome ((answer : Answer) × (report : List ReportLine) × FileWhole token answer report
+        × Prints (import_text answer report))
+    pub refused : IfErr outcome (λ t. (FileUntold token t.refusal × PrintsNothing)
+        ⊎ ((answer : Answer) × (report : List ReportLine) × (kind : RefusalKind) × (t ≡ placeless_text kind)
+        × FileWhole token answer report × PrintsPart (import_text answer report) kind))
+
+  -- ---- texts of the archive, which is not changed
+  -- all of it as a file, under the name of its society; or a beginning of that
+  pub record Exports (r : Plain) : Type 0 where
+    pub written : OnOk r (OnHeld (λ society c. IsWhole (writer.contents a.output) (writer.contents b.output)
+        (export_text society c)))
+    pub begun : IfErr r (λ kind. OnHeld (λ society c. IsPart kind (writer.contents a.output) (writer.contents b.output)
+        (export_text society c)))
+    pub blamed : IfErr r (λ kind. kind ≡ WriteFailed → HasWriteFailed)
+
+  -- where what is stored could not be read, nothing is written
+  abbrev pub IsUntouched : Plain → Type 0
+  IsUntouched r = IfErr r (λ kind. is_failure kind ≡ true → PrintsNothing)
+
+  -- what may be shown of it on a day as a file; or a beginning of that. It is written only of an archive that is sound,
+  -- whoever wrote its tables
+  pub record Publishes (today : ℤ) (r : Plain) : Type 0 where
+    pub written : OnOk r (OnHeld (IsPublished (writer.contents a.output) (writer.contents b.output) today))
+    pub begun : IfErr r (λ kind. OnHeld (IsPartPublished kind (writer.contents a.output) (writer.contents b.output)
+        today))
+    pub sound : OnOk r (OfSound (λ c. (society : List ℕ) × IsPublished (writer.contents a.output)
+        (writer.contents b.output) today society c))
+    pub unread : IsUntouched r
+    pub blamed : IfErr r (λ kind. kind ≡ WriteFailed → HasWriteFailed)
+
+  -- a sheet of what may be shown of it on a day; or why not. It is written only of an archive that is sound
+  pub record PrintsSheet (sheet : Sheet) (today : ℤ) (r : Plain) : Type 0 where
+    pub written : OnOk r (OnHeld (λ _ c. IsSheetWritten (writer.contents a.output) (writer.contents b.output) sheet
+        today c))
+    pub refused : IfErr r (λ kind. OnHeld (λ _ c. IsSheetRefused kind (writer.contents a.output)
+        (writer.contents b.output) sheet today c))
+    pub sound : OnOk r (OfSound (λ c. IsSheetWritten (writer.contents a.output) (writer.contents b.output) sheet
+        today c))
+    pub unread : IsUntouched r
+    pub blamed : IfErr r (λ kind. kind ≡ WriteFailed → HasWriteFailed)
+
+  -- what is between two days; or the days are reversed, and the connection is as it was; or a beginning of the text
+  pub record ListsDays (words : Bool) (first last : ℤ) (r : Plain) : Type 0 where
+    pub written : OnOk r ((first ≤ℤ last) × OnHeld (λ _ c. AreWritten words first last (writer.contents a.output)
+        (writer.contents b.output) c))
+    pub cut : IfErr r (λ kind. (AreReversed kind first last (writer.contents a.output) (writer.contents b.output)
+        × (b.archive.conn ≡ a.archive.conn))
+        ⊎ ((first ≤ℤ last) × OnHeld (λ _ c. AreCut kind words first last (writer.contents a.output)
+        (writer.contents b.output) c)))
+    pub unread : IsUntouched r
+    pub blamed : IfErr r (λ kind. kind ≡ WriteFailed → HasWriteFailed)
+
+  -- ---- an audit
+  -- the archive is sound, and how many records it has was printed; or it is not, or could not be looked at
+  abbrev pub Audits : Outcome → Type 0
+  Audits outcome = (audit : Audit) × (HasCleanDisk (state g b.archive.conn)
+      → IsAudit (state g a.archive.conn) audit (state g b.archive.conn))
+      × PrintsAudit writer.contents writes.failed a.output b.output audit outcome × OnOk outcome IsQuiet
+
+  -- ---- each task
+  -- a task that is refused without a place
+  abbrev pub Ended : Outcome → (Plain → Type 0) → Type 0
+  Ended outcome P = (r : Plain) × (outcome ≡ as_text r) × P r
+
+  -- what was done by its outcome, before the line of a refusal, with what is to be shown
+  abbrev pub Does : Task → Outcome → Option Content → Type 0
+  Does task.Apply outcome shown = Ended outcome Applies × (shown ≡ None)
+  Does (task.Entries token source) outcome shown = EntersBatch token source outcome × IsQuiet × (shown ≡ None)
+  Does (task.Import token progress) outcome shown = ImportsFile token outcome × (progress ≡ false → IsQuiet)
+      × (shown ≡ None)
+  Does task.Export outcome shown = Ended outcome Exports × IsUnread × IsQuiet × (shown ≡ None)
+  Does (task.ExportPublic today) outcome shown = Ended outcome (Publishes today) × IsUnread × IsQuiet × (shown ≡ None)
+  Does (task.Sheet sheet today) outcome shown = Ended outcome (PrintsSheet sheet today) × IsUnread × IsQuiet
+      × (shown ≡ None)
+  Does (task.Library today) outcome shown =
+      Shelves (state g a.archive.conn) (state g b.archive.conn) today outcome shown × IsUnread × IsUnwritten × IsQuiet
+  Does task.Audit outcome shown = Audits outcome × IsUnread × (shown ≡ None)
+  Does (task.Days first last words) outcome shown = Ended outcome (ListsDays words first last) × IsUnread × IsQuiet
+      × (shown ≡ None)
+
+-- a task was done, and then its status was made of its outcome, with the line of a refusal on the faults
+module _ {S R W F : Type 0} (g : Ghosts S) (reader : read.Ghosts R) (reads : device.Ghosts R) (writer : write.Ghosts W)
+    (writes : device.Ghosts W) (faulter : write.Ghosts F) where
+  pub record Ends (task : Task) (a b : Moment g R W F) (status : ℕ) (shown : Option Content) : Type 0 where
+    pub outcome : Outcome
+    pub between : F
+    pub does : Does g reader reads writer writes faulter a
+        (record { archive = b.archive; input = b.input; output = b.output; faults = between }) task outcome shown
+    pub finishes : Finishes faulter.contents outcome status between b.faults

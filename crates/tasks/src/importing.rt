@@ -1,0 +1,117 @@
+//! A GEDCOM file, imported into an archive, and what is printed of it.
+
+ghost use Rattle.std.specs.Prelude.{◌≡◌, ◌⊎◌, Err, IfErr, IfOk, Ok, OnOk, false};
+ghost use Rattle.std.specs.Io.KnownBytes.{Appends, Keeps};
+ghost use Rattle.devices.specs.Devices.{Rose};
+ghost use Rattle.file_imports.specs.Importing.{Imports, ImportsAll, ImportsSilently, IsNoFile};
+ghost use Rattle.file_imports.specs.Telling as telling;
+ghost use Rattle.receipts.specs.declared.answer.Answer.{Answer as SpecAnswer};
+ghost use Rattle.receipts.specs.declared.report.ReportLine.{ReportLine as SpecLine};
+ghost use Rattle.record_text.specs.declared.refusal.RefusalKind.{RefusalKind as SpecKind};
+ghost use Rattle.std.specs.Prelude.{List};
+ghost use Rattle.tasks.specs.Parts.{IsPrintedPart};
+ghost use Rattle.tasks.specs.Status.{placeless_text};
+
+use crate::progress::ProgressLines;
+use crate::status::placeless;
+use archive_exports::write_text;
+use devices::Device;
+use file_imports::{import, import_text};
+use receipts::{Answer, Report, Token};
+use record_text::{Refusal, RefusalKind, RefusalText, Unit};
+use sqlite::Alter;
+use std::alloc::Global;
+use std::io::{Read, Write};
+use std::time::Clock;
+use store::{Archive, Silent};
+
+/// Imports the file of the input under a token, and prints how many records were made, with the report of the file.
+/// With `progress` the faults get how far it is.
+///
+/// Refusals as of `file_imports::import`, with the line; nothing is printed then. 95: the output failed. 1: no memory
+/// was found for what is printed. At these two the file was imported, and a beginning may be printed.
+pub(crate) fn import_file<
+    S: Alter,
+    C: Clock,
+    R: Read + Device,
+    W: Write + Device,
+    F: Write + Device,
+>(
+    alloc: Global,
+    clock: &C,
+    archive: &mut Archive<S>,
+    token: Token,
+    progress: bool,
+    input: &mut R,
+    output: &mut W,
+    faults: &mut F,
+) -> Result<(), RefusalText>
+    ensures imported { OnOk result ((answer : SpecAnswer) × (report : List SpecLine)
+        × ImportsAll S.Store token (R.remaining input.old) archive.old answer report archive.new
+        × Appends (W.contents output.old) (W.contents output.new) (telling.import_text answer report)) }
+    ensures refused { IfErr result (λ t.
+        ((Imports S.Store token (R.remaining input.old) archive.old (Err t.refusal) archive.new
+        ⊎ (ImportsSilently S.Store token (R.remaining input.old) archive.old t.refusal archive.new
+        ⊎ ((archive.new ≡ archive.old) × IsNoFile (R.remaining input.old) t.refusal
+        (Rose (R.failed input.old) (R.failed input.new))))) × Keeps (W.contents output.old) (W.contents output.new))
+        ⊎ ((answer : SpecAnswer) × (report : List SpecLine) × (kind : SpecKind) × (t ≡ placeless_text kind)
+        × ImportsAll S.Store token (R.remaining input.old) archive.old answer report archive.new
+        × IsPrintedPart (telling.import_text answer report) kind (W.contents output.old) (W.contents output.new)
+        (Rose (W.failed output.old) (W.failed output.new)))) }
+    ensures silent { progress ≡ false → faults.new ≡ faults.old }
+{
+    match take_in(alloc, clock, archive, token, progress, input, faults) {
+        Ok((answer, report)) => match print_imported(alloc, answer, &report, output) {
+            Ok(()) => Ok(()),
+            Err(kind) => Err(placeless(kind)),
+        },
+        Err(why) => Err(why.text(Unit::Line)),
+    }
+}
+
+/// Imports the file of the input.
+fn take_in<S: Alter, C: Clock, R: Read + Device, F: Write + Device>(
+    alloc: Global,
+    clock: &C,
+    archive: &mut Archive<S>,
+    token: Token,
+    progress: bool,
+    input: &mut R,
+    faults: &mut F,
+) -> Result<(Answer, Report), Refusal>
+    ensures imported { IfOk result (λ done. ImportsAll S.Store token (R.remaining input.old) archive.old done.0 done.1
+        archive.new) }
+    ensures refused { IfErr result (λ e. Imports S.Store token (R.remaining input.old) archive.old (Err e) archive.new
+        ⊎ (ImportsSilently S.Store token (R.remaining input.old) archive.old e archive.new
+        ⊎ ((archive.new ≡ archive.old) × IsNoFile (R.remaining input.old) e
+        (Rose (R.failed input.old) (R.failed input.new))))) }
+    ensures silent { progress ≡ false → faults.new ≡ faults.old }
+{
+    if progress {
+        import(
+            alloc,
+            archive,
+            token,
+            input,
+            &mut ProgressLines::new(clock, faults),
+        )
+    } else {
+        import(alloc, archive, token, input, &mut Silent)
+    }
+}
+
+/// Prints how many records were made, and the report.
+fn print_imported<W: Write + Device>(
+    alloc: Global,
+    answer: Answer,
+    report: &Report,
+    output: &mut W,
+) -> Result<(), RefusalKind>
+    ensures printed { OnOk result (Appends (W.contents output.old) (W.contents output.new)
+        (telling.import_text answer report.now)) }
+    ensures part { IfErr result (λ kind. IsPrintedPart (telling.import_text answer report.now) kind
+        (W.contents output.old) (W.contents output.new) (Rose (W.failed output.old) (W.failed output.new))) }
+{
+    let text = import_text(alloc, answer, report)?;
+    write_text(&text, output)
+}

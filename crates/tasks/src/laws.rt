@@ -1,0 +1,42 @@
+//! What holds of tasks that show an archive: two archives which differ only in what is hidden give the same bytes and
+//! the same refusal, and so, by `Finishes`, the same exit status and the same line on the faults, unless memory is
+//! refused, the database fails or the writer does.
+
+ghost use Rattle.std.specs.Prelude.{◌≡◌, ◌⊎◌, ℕ, ℤ, List, Option};
+ghost use Rattle.archive_state.specs.Content.{Content};
+ghost use Rattle.record_text.specs.declared.refusal.RefusalKind.{RefusalKind};
+ghost use Rattle.shown_archives.specs.Showing.{IsShown};
+ghost use Rattle.shown_archives.specs.Writing.{IsPartPublished, IsPublished, IsSheetRefused, IsSheetWritten};
+ghost use Rattle.shown_archives.specs.declared.sheet.Sheet.{Sheet};
+ghost use Rattle.tasks.specs.Hiding.{DifferInHidden, GotTheSame, HasFailed};
+
+/// What is hidden changes no sheet that is printed, and no refusal of one.
+pub fn what_is_hidden_changes_no_sheet_that_is_printed()
+    ensures printed { (a b : Content) (today : ℤ) (sheet : Sheet) (x y v w : Option (List ℕ))
+        → DifferInHidden a b today → IsSheetWritten x y sheet today a → IsSheetWritten v w sheet today b
+        → GotTheSame x y v w }
+    ensures cut { (a b : Content) (today : ℤ) (sheet : Sheet) (x y v w : Option (List ℕ)) (kind : RefusalKind)
+        → DifferInHidden a b today → IsSheetWritten x y sheet today a → IsSheetRefused kind v w sheet today b
+        → HasFailed kind }
+    ensures refused { (a b : Content) (today : ℤ) (sheet : Sheet) (x y v w : Option (List ℕ)) (kind other : RefusalKind)
+        → DifferInHidden a b today → IsSheetRefused kind x y sheet today a → IsSheetRefused other v w sheet today b
+        → (kind ≡ other) ⊎ (HasFailed kind ⊎ HasFailed other) }
+{
+    masking::laws::what_is_hidden_changes_nothing();
+}
+
+/// What is hidden changes no public export.
+pub fn what_is_hidden_changes_no_export_that_is_printed()
+    ensures { (a b : Content) (today : ℤ) (society : List ℕ) (x y v w : Option (List ℕ)) → DifferInHidden a b today
+        → IsPublished x y today society a → IsPublished v w today society b → GotTheSame x y v w }
+{
+    masking::laws::what_is_hidden_changes_nothing();
+}
+
+/// What is hidden changes no record that a reading room has.
+pub fn what_is_hidden_changes_no_room()
+    ensures { (a b : Content) (today : ℤ) (s t : Content) → DifferInHidden a b today → IsShown a today s
+        → IsShown b today t → s.records ≡ t.records }
+{
+    masking::laws::what_is_hidden_changes_nothing();
+}
