@@ -42,4 +42,5 @@ module _ {D R W F : Type 0} {g : disk.Ghosts D} (reader : read.Ghosts R) (reads 
       → EndsOnFile reader reads writer writes faulter image (task.Library today) x y status shown left
       → EndsOnFile reader reads writer writes faulter image (task.Library day) x y status shown left
   library_on shown today day e did =
-      subst (λ (d : ℤ). EndsOnFile reader reads writer writes faulter image (task.Library d) x y status shown left) e did
+      subst (λ (d : ℤ). EndsOnFile reader reads writer writes faulter image (task.Library d) x y status shown left) e
+      did
