@@ -18,10 +18,10 @@ pub returns-in-Sheet : goal.returns-in-Sheet
 returns-in-Sheet g c =
     let fits : SFits w32 c.in-Sheet.today = search rules in
     rw c.in-Sheet.is (
-      c.sheet_of.result,
-      c.sheet_of.ensures,
+      c.sheet_of-sheet.result,
+      c.sheet_of-sheet.ensures,
       on_day g.R.Read g.R.Device g.W.Write g.W.Device g.F.Write (image_at g.S.Start) _ _ _ _ _
-          (λ (d : ℤ). task.Sheet c.sheet_of.result d) _ c.in-Sheet.today (to_z-of_z w32 c.in-Sheet.today fits)
+          (λ (d : ℤ). task.Sheet c.sheet_of-sheet.result d) _ c.in-Sheet.today (to_z-of_z w32 c.in-Sheet.today fits)
           c.do_task-in-Sheet.ensures,
     )
 
