@@ -18,7 +18,7 @@ TODAY = ("--today", "2024-01-01")
 REFUSED = (40, 80, 82)
 LIVING = b"Joe"  # the name of person 16, and of the one who is named in an entry that is closed
 
-# Words behind FILE of the commands that only read; those of SHOWN hide the living. `serve` has a visitor.
+# Words after FILE of the commands that only read; those of SHOWN hide the living. `serve` has a visitor.
 READ = {
     "audit": (),
     "export": (),
@@ -33,7 +33,7 @@ SHOWN = {
     "serve": (),
 }
 TARGETS = ("/", "/person/16", "/person/5", "/family/8", "/pedigree/5", "/register/4", "/surname?name=lee")
-# Commands that write: the words behind FILE, and what they are given.
+# Commands that write: the words after FILE, and what they are given.
 WRITTEN = {
     "apply": ((), b"z,person,Kit /Lee/,M\n"),
     "entries": (("--source", "4", "--token", "z"), b"BURIAL,f. 9,1,,,Kit,buried,Kit\n"),
@@ -83,7 +83,7 @@ class Spoilt(Audited):
 
 
 def is_refused(got: Outcome) -> bool:
-    """A refusal, perhaps behind a line on what is wrong, or with the row; and nothing on standard output."""
+    """A refusal, perhaps after a line on what is wrong, or with the row; and nothing on standard output."""
     last = got.err.decode().splitlines()[-1:]
     named = [refused(number).err.decode().strip() for number in REFUSED]
     return got.status == 1 and got.out == b"" and any(line.startswith(name) for line in last for name in named)

@@ -1,4 +1,4 @@
-"""What a refused command line, and a FILE that is refused, leave alone: standard output, standard input, the file and
+"""What a refused command line, and a FILE that is refused, do not touch: standard output, standard input, the file and
 what lies beside it.
 
 Standard input is a file whose place the program and the test share, so that each byte that is read moves it; or a pipe,
@@ -85,15 +85,15 @@ def wrong_of(words):
     for at, option in enumerate(words):
         if not option.startswith("--"):
             continue
-        behind = words[at + 1 :] if option in FLAGS else words[at + 2 :]
-        whole = words[at : len(words) - len(behind)]
+        after = words[at + 1 :] if option in FLAGS else words[at + 2 :]
+        whole = words[at : len(words) - len(after)]
         yield (*words[:at], option[:-2] + option[-1], *words[at + 1 :])
-        yield (*words[:at], *whole, *whole, *behind)
-        yield (*words[:at], *behind, "--", *whole)
+        yield (*words[:at], *whole, *whole, *after)
+        yield (*words[:at], *after, "--", *whole)
         if option not in FLAGS:
-            yield (*words[:at], *behind, option)
+            yield (*words[:at], *after, option)
         if option not in OPTIONAL:
-            yield (*words[:at], *behind)
+            yield (*words[:at], *after)
 
 
 def ended(parish, words, given: bytes) -> tuple[Outcome, int]:

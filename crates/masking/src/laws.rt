@@ -57,7 +57,7 @@ pub fn open_entries_are_shown()
         → get c.records n ≡ Some (kind.Entry e) → ¬ (IsOpen c.records today e) → get s.records n ≡ None }
 {}
 
-/// What is hidden of a sound archive changes nothing that is shown: of two that differ in what is hidden alone the same
+/// What is hidden of a sound archive changes nothing that is shown: of two that differ only in what is hidden the same
 /// records are shown.
 pub fn what_is_hidden_changes_nothing()
     ensures { (a b : Content) (today : ℤ) (s t : Content) → IsSound a → IsSound b → AreAlike a b today

@@ -38,7 +38,7 @@ pub fn plain(outcome: Result<(), RefusalKind>) -> Result<(), RefusalText>
 
 /// The exit status of what was done: 0; or 1, after the line of the refusal on the faults:
 /// `parish: <number> <Name>`, with ` at line <n>` or ` at row <n>` where it has a place. It takes no memory, and the
-/// line is given to the writer whole. Where that fails, the status says alone that it was refused.
+/// line is given to the writer whole. Where that fails, only the status says that it was refused.
 pub fn status_of<F: Write + Device>(outcome: Result<(), RefusalText>, faults: &mut F) -> u8
     ensures { Finishes F.contents outcome result faults.old faults.new }
 {
