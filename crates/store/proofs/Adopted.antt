@@ -25,7 +25,7 @@ use Rattle.std.proofs.Common.{
   subst,
   true≢false,
 }
-use Rattle.std.specs.Prelude.{◌||◌, ◌&&◌, ◌⊎◌, ◌≢◌, IfErr, IsTrue, OnOk, Result}
+use Rattle.std.specs.Prelude.{◌||◌, ◌&&◌, ◌⊎◌, ◌≢◌, IfErr, IsTrue, OnErr, OnOk, Result}
 use Rattle.std.specs.List.{AllByRecursion, list_any}
 use Rattle.sqlite.specs.Effect.{Database}
 use Rattle.sqlite.specs.Order.{Row}
@@ -35,7 +35,7 @@ use Rattle.sqlite.specs.declared.types.Value.TheVariants.{Int}
 use Rattle.archive_state.specs.Content.{Content}
 use Rattle.archive_state.specs.Sound.{IsSound}
 use Rattle.record_text.specs.declared.refusal.RefusalKind.{RefusalKind}
-use Rattle.record_text.specs.declared.refusal.RefusalKind.TheVariants.{Storage}
+use Rattle.record_text.specs.declared.refusal.RefusalKind.TheVariants.{BadStored, Storage}
 use Rattle.records_anew.specs.Anew.{IsAnew, IsSoundOld, OldContent}
 use Rattle.store_rows.specs.Meaning.{Means, is_closed}
 use Rattle.store_rows.specs.Spans.{IsDated, KeepsSpans}
@@ -52,8 +52,10 @@ use Rattle.store.specs.Adopting.{
   ClearsImports,
   HasNoImport,
   IsToClear,
+  IsUnreadable,
   RenewsRows,
   ShowsSeen,
+  StaysSettled,
   TakesUp,
   TakesUpAnew,
   has_import,
@@ -62,6 +64,7 @@ use Rattle.store.specs.Archives.{HasArchive, Keeps}
 use Rattle.store.specs.Calls.{Stays}
 use Rattle.store.specs.Earlier.{HadArchive, KeepsOld}
 use Rattle.store.specs.Histories.{has_broken, is_storage}
+use Rattle.store.proofs.Recognised.{fails_after}
 use Rattle.staged_rows.proofs.Alike.{seen_same}
 use Rattle.list_laws.proofs.Outcomes.{any_ok, ok_then}
 use Rattle.list_laws.proofs.Booleans.{not_true}
@@ -72,7 +75,20 @@ pub err_then : {A E : Type 0} {P Q : E → Type 0} (r : Result A E) → ((e : E)
 err_then (Ok a) f p = tt
 err_then (Err e) f p = f e p
 
-either_way : {A E P Q R : Type 0} (r : Result A E) → OnOk r P → IfErr r (λ _. Q) → (P → R) → (Q → R) → R
+pub err_both : {A E : Type 0} {P Q R : E → Type 0} (r : Result A E) → ((e : E) → P e → Q e → R e) → IfErr r P
+    → IfErr r Q → IfErr r R
+err_both (Ok a) f p q = tt
+err_both (Err e) f p q = f e p q
+
+on_err : {A E P Q : Type 0} (r : Result A E) → (P → Q) → OnErr r P → OnErr r Q
+on_err (Ok a) f p = tt
+on_err (Err e) f p = f p
+
+any_on_err : {A E P : Type 0} (r : Result A E) → P → OnErr r P
+any_on_err (Ok a) p = tt
+any_on_err (Err e) p = p
+
+either_way : {A E P Q R : Type 0} (r : Result A E) → OnOk r P → OnErr r Q → (P → R) → (Q → R) → R
 either_way (Ok a) p q f g = f p
 either_way (Err e) p q f g = g q
 
@@ -82,6 +98,14 @@ any_err (Err e) f = f e
 
 no_storage : (kind : RefusalKind) → is_storage kind ≡ false → kind ≡ Storage → ⊥
 no_storage kind sure e = true≢false (sym (ap is_storage e) ∙ sure)
+
+abbrev is_bad : RefusalKind → Bool
+is_bad BadStored = true
+is_bad _ = false
+
+no_failure : (kind : RefusalKind) → kind ≡ BadStored → IsFailure kind → ⊥
+no_failure kind e (inl want) = true≢false (sym (ap is_bad e) ∙ ap is_bad want)
+no_failure kind e (inr lost) = true≢false (sym (ap is_bad e) ∙ ap is_bad lost)
 
 -- ---- whether a batch is open
 abbrev pub is_open : BatchRow → Bool
@@ -120,7 +144,7 @@ none_open [] all = refl
 none_open (b ∷ bs) all = ap₂ (λ s t. s || t) (not_true b.is_open all.0) (none_open bs all.1)
 
 -- all rows of one tree say the same
-no_import : (s : State) (rows : Rows) → Settled s rows → list_any is_open rows.batches ≡ false → HasNoImport s
+pub no_import : (s : State) (rows : Rows) → Settled s rows → list_any is_open rows.batches ≡ false → HasNoImport s
 no_import s rows was none others still =
     all_closed others.batches
     (sym (open_rows others.batches) ∙ ap (list_any is_open_row) (sym still.good.holds.batches.is)
@@ -153,7 +177,7 @@ none_found has_spans old new clean looks = record {
   );
   stays = λ sure rows it. (rows, looks.same clean rows it.settled, seen_same rows);
   crash = λ rows it t l. (rows, looks.crash clean rows it.settled t l, seen_same rows);
-  failure = tt;
+  refused = tt;
   untouched = λ rows was all. ((λ sure. looks.same clean rows was), looks.crash clean rows was);
   clean = looks.clean clean;
 }
@@ -161,13 +185,13 @@ none_found has_spans old new clean looks = record {
 -- it was refused, and the connection was asked whether it answers still
 pub unknown : (has_spans : Bool) (old mid new : State) (kind result : RefusalKind) → HasCleanDisk mid
     → Looks Finds old mid (Err kind) → (is_storage result ≡ false → (rows : Rows) → LeavesOnly mid rows
-    → Settled new rows) → ((t : Trees) → new.may_leave t → mid.may_leave t) → IsFailure result
-    → ClearsImports has_spans old (Err result) new
-unknown has_spans old mid new kind result before looks settled left failure = record {
+    → Settled new rows) → ((t : Trees) → new.may_leave t → mid.may_leave t)
+    → (is_storage result ≡ false → result ≡ kind) → ClearsImports has_spans old (Err result) new
+unknown has_spans old mid new kind result before looks settled left same = record {
   cleared = tt;
   stays = λ sure rows it. (rows, settled sure rows (looks.crash before rows it.settled), seen_same rows);
   crash = λ rows it t l. (rows, looks.crash before rows it.settled t (left t l), seen_same rows);
-  failure = failure;
+  refused = λ rows was. fails_after (is_storage result) kind result refl same (looks.refused before rows was);
   untouched = λ rows was all. (
     (λ sure. settled sure rows (looks.crash before rows was)),
     (λ t l. looks.crash before rows was t (left t l)),
@@ -180,13 +204,14 @@ pub some_found : (has_spans : Bool) (old mid new : State) (r : Result (Unit {0})
     → Looks Finds old mid (Ok true)
     → OnOk r ((rows : Rows) → IsToClear has_spans mid rows → IsCleared new rows)
     → (has_broken r ≡ false → (rows : Rows) → IsToClear has_spans mid rows → ShowsSeen new rows)
-    → ((rows : Rows) → IsToClear has_spans mid rows → LeavesSeen new rows) → IfErr r IsFailure
+    → ((rows : Rows) → IsToClear has_spans mid rows → LeavesSeen new rows)
+    → IfErr r (λ kind. (rows : Rows) → Settled mid rows → IsFailure kind)
     → ClearsImports has_spans old r new
-some_found has_spans old mid new r before looks cleared stays crash failure = record {
+some_found has_spans old mid new r before looks cleared stays crash refused = record {
   cleared = ok_then r (λ done rows it. done rows (there rows it)) cleared;
   stays = λ sure rows it. stays sure rows (there rows it);
   crash = λ rows it. crash rows (there rows it);
-  failure = failure;
+  refused = err_then r (λ kind told rows was. told rows (looks.same before rows was)) refused;
   untouched = λ rows was all.
       absurd (true≢false
       (not_both (is_closed 0 rows.batches) (list_any is_open rows.batches) (looks.read before rows was)
@@ -253,7 +278,7 @@ module _ (means : (rows other : Rows) (c : Content) → IsSeenAs rows other → 
       finished = ok_then r (λ done society c has.
           let out = done has.0 (to_clear society c has) in
           no_import new out.0 out.1 (none_open out.0.batches out.3)) clears.cleared;
-      refused = err_then r (λ kind failure society c has. failure) clears.failure;
+      refused = err_then r (λ kind told society c has. told has.0 (still.same refl has.0 has.1)) clears.refused;
       untouched = λ rows was dated all. clears.untouched rows (still.same refl rows was) all;
       anew = record {
         finished = any_ok r (λ society c had. absurd (none society c had));
@@ -314,21 +339,21 @@ not_recognised old new kind still refused = record {
 }
 
 -- ---- it is made anew
+seen_alike : (rows other : Rows) → IsSeenAs rows other → AreSeenAlike rows other
+seen_alike rows other seen = record {
+  version = seen.version;
+  has_spans = seen.has_spans;
+  next = seen.next;
+  receipts = seen.receipts;
+  slips = seen.slips;
+  slip_lines = seen.slip_lines;
+  batch = seen.batch;
+  recorded = seen.recorded;
+  lines = seen.lines;
+}
+
 module _ (alike : (rows other : Rows) (before : OldContent) → AreSeenAlike rows other → MeansOld rows before
     → MeansOld other before) where
-  seen_alike : (rows other : Rows) → IsSeenAs rows other → AreSeenAlike rows other
-  seen_alike rows other seen = record {
-    version = seen.version;
-    has_spans = seen.has_spans;
-    next = seen.next;
-    receipts = seen.receipts;
-    slips = seen.slips;
-    slip_lines = seen.slip_lines;
-    batch = seen.batch;
-    recorded = seen.recorded;
-    lines = seen.lines;
-  }
-
   seen_old : (society : List ℕ) (before : OldContent) (rows other : Rows) → IsSeenAs rows other
       → KeepsOld society before rows → KeepsOld society before other
   seen_old society before rows other seen keeps = record {
@@ -354,7 +379,7 @@ module _ (alike : (rows other : Rows) (before : OldContent) → AreSeenAlike row
     shows = λ sure society c had.
         let out = clears.stays sure had.2.0 (to_clear_old old society c had) in
         inr (had.0, had.1, (out.0, out.1, seen_old society had.0 had.2.0 out.0 out.2 had.2.2));
-    refused = λ society c had. clears.failure;
+    refused = λ society c had. clears.refused had.2.0 had.2.1;
     crash = λ society c had t l.
         let out = clears.crash had.2.0 (to_clear_old old society c had) t l in
         inr (had.0, had.1, (out.0, out.1, seen_old society had.0 had.2.0 out.0 out.2 had.2.2));
@@ -405,11 +430,12 @@ module _ (alike : (rows other : Rows) (before : OldContent) → AreSeenAlike row
             had.1,
             (
               (cleared society c had).0,
-              same (cleared society c had).0 (cleared society c had).1,
+              (same (cleared society c had).0 (cleared society c had).1).0,
               keeps_old society c had,
             ),
           ));
-      refused = err_then r (λ kind failure society c had. failure) renews.failure;
+      refused = err_then r (λ kind told society c had.
+          told (cleared society c had).0 c (cleared society c had).1 (means_anew society c had)) renews.refused;
       crash = λ society c had t l. elim
           (renews.crash (cleared society c had).0 c (cleared society c had).1 (means_anew society c had) t l) [
             | inl good ↦ inr (had.0, had.1, ((cleared society c had).0, good, keeps_old society c had))
@@ -430,7 +456,7 @@ renewed old new done only crash clean = record {
       (made.0, made.1, made.2, only made.0 made.2);
   stays = λ sure. tt;
   crash = crash;
-  failure = tt;
+  refused = tt;
   clean = clean;
 }
 
@@ -440,16 +466,84 @@ pub not_renewed : (old mid new : State) (kind result : RefusalKind)
     → (is_storage result ≡ false → result ≡ kind)
     → (is_storage result ≡ false → (rows : Rows) → LeavesOnly mid rows → Settled new rows)
     → ((rows : Rows) (c : Content) → Settled old rows → MeansAnew rows c → LeavesRenewed mid rows c)
-    → ((t : Trees) → new.may_leave t → mid.may_leave t) → IsFailure result → HasCleanDisk old
+    → ((t : Trees) → new.may_leave t → mid.may_leave t)
+    → ((rows : Rows) (c : Content) → Settled old rows → MeansAnew rows c → IsFailure kind) → HasCleanDisk old
     → RenewsRows old (Err result) new
-not_renewed old mid new kind result undone same settled crash left failure clean = record {
+not_renewed old mid new kind result undone same settled crash left refused clean = record {
   done = tt;
   stays = λ sure rows was.
-      settled sure rows (undone (λ e. no_storage result sure (same sure ∙ e)) rows was);
+      let only = undone (λ e. no_storage result sure (same sure ∙ e)) rows was in
+      (settled sure rows only, λ t l. only t (left t l));
   crash = λ rows c was means t l. crash rows c was means t (left t l);
-  failure = failure;
+  refused = λ rows c was means.
+      fails_after (is_storage result) kind result refl same (refused rows c was means);
   clean = clean;
 }
+
+-- ---- an archive is not taken up, though the database did not fail
+pub settled_unknown : (old new : State) (failed : Bool) → Stays old failed new → failed ≡ false → StaysSettled old new
+settled_unknown old new failed still sure = record {
+  same = λ rows was all. (still.same sure rows was, still.crash rows was);
+  seen = λ rows first it. (
+    (rows, still.same sure rows it.settled, seen_same rows),
+    (λ t l. (rows, still.crash rows it.settled t l, seen_same rows)),
+  );
+}
+
+pub settled_second : (old mid new : State) (r : Result (Unit {0}) RefusalKind) → Stays old false mid
+    → ClearsImports true mid r new → ((rows : Rows) → Settled old rows → rows.version ≡ 2) → has_broken r ≡ false
+    → OnErr r (StaysSettled old new)
+settled_second old mid new r still clears shows sure = any_on_err r (record {
+  same = λ rows was all.
+      let kept = clears.untouched rows (still.same refl rows was) all in
+      (kept.0 sure, kept.1);
+  seen = λ rows first it. absurd (not_both_versions rows.version first (shows rows it.settled));
+})
+
+pub settled_first : (old mid new : State) (r : Result (Unit {0}) RefusalKind) → Stays old false mid
+    → OnErr r (StaysSettled mid new) → OnErr r (StaysSettled old new)
+settled_first old mid new r still stays = on_err r (λ (it : StaysSettled mid new). record {
+  same = λ rows was all. it.same rows (still.same refl rows was) all;
+  seen = λ rows first to. it.seen rows first
+      (record { settled = still.same refl rows to.settled; schema = to.schema; batch = to.batch });
+}) stays
+
+pub settled_not_cleared : (old new : State) (kind : RefusalKind) → ClearsImports false old (Err kind) new
+    → is_storage kind ≡ false → StaysSettled old new
+settled_not_cleared old new kind clears sure = record {
+  same = λ rows was all.
+      let kept = clears.untouched rows was all in
+      (kept.0 sure, kept.1);
+  seen = λ rows first it. (clears.stays sure rows it, clears.crash rows it);
+}
+
+pub settled_cleared : (old mid new : State) (r : Result (Unit {0}) RefusalKind) → ClearsImports false old (Ok tt) mid
+    → RenewsRows mid r new → has_broken r ≡ false → OnErr r (StaysSettled old new)
+settled_cleared old mid new r clears renews sure = on_err r (λ stays. record {
+  same = λ rows was all. stays rows ((clears.untouched rows was all).0 refl);
+  seen = λ rows first it.
+      let out = clears.cleared rows it in
+      let now = stays out.0 out.1 in
+      ((out.0, now.0, out.2), (λ t l. (out.0, now.1 t l, out.2)));
+}) (renews.stays sure)
+
+-- 40 is told of rows that mean no archive of the first version
+pub unread_not_cleared : (old new : State) (kind : RefusalKind) → ClearsImports false old (Err kind) new
+    → kind ≡ BadStored → IsUnreadable old
+unread_not_cleared old new kind clears e rows c was means = no_failure kind e (clears.refused rows was)
+
+pub unread_cleared : ((rows other : Rows) (c : Content) → AreSeenAlike rows other → MeansAnew rows c
+    → MeansAnew other c) → (old mid new : State) (r : Result (Unit {0}) RefusalKind)
+    → ClearsImports false old (Ok tt) mid → RenewsRows mid r new
+    → IfErr r (λ kind. kind ≡ BadStored → IsUnreadable old)
+unread_cleared alike old mid new r clears renews = err_then r (λ kind told e rows c was means.
+    let out = clears.cleared rows
+    (record { settled = was; schema = means.1.has_spans; batch = means.1.batch }) in
+    no_failure kind e (told out.0 c out.1 (alike rows out.0 c (seen_alike rows out.0 out.2) means))) renews.refused
+
+pub unread_second : (old : State) → ((rows : Rows) → Settled old rows → rows.version ≡ 2) → IsUnreadable old
+unread_second old shows rows c was means =
+    not_both_versions rows.version means.1.version (shows rows was)
 
 -- ---- a connection that shows a version still
 module _ (new : State) (is_open : IsTrue new.is_open) (ended : new.in_transaction ≡ false)

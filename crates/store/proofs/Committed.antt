@@ -65,6 +65,7 @@ use Rattle.store.specs.Calls.{
   Performs,
 }
 use Rattle.store.specs.Histories.{Accepts, Allows, MayBeFound, has_failed, in_doubt, is_storage}
+use Rattle.store.proofs.Closed.{dated_closed}
 use Rattle.store.proofs.Unchanged.{applies_nothing, rows_stay}
 use Rattle.staging.proofs.Commits.{committed}
 
@@ -109,13 +110,15 @@ module _ (society : List ℕ) (c : Content) (rows : Rows) (r : Request) (changes
     settled,
     keeps_on drawn are shallow,
     rows_stay c changes exact.1 drawn rows keeps.sound,
+    dated_closed changes drawn rows,
   )
 
   pub acknowledged_again : (new : State) → IsExactFor c r changes → changes.kept ≡ None → Settled new rows
       → AcknowledgedBy society c rows r changes.answer new
   acknowledged_again new exact none settled =
       let same = applies_nothing c changes (nothing_changes c r changes exact none) in
-      (c, rows, subst (λ d. Does c r (Ok changes.answer) d) same decided, settled, keeps, λ m e. (refl, refl))
+      let did = subst (λ d. Does c r (Ok changes.answer) d) same decided in
+      (c, rows, did, settled, keeps, (λ m e. (refl, refl)), λ closed. closed)
 
   pub done_or_not : (s : State) → LeavesEither s rows changes → LeavesDoneOrNot s society c r
   done_or_not s either t leaves = elim (either t leaves) [
@@ -196,7 +199,7 @@ ok_performs old new r a ack leaves clean = record {
       (did.0, (did.0, did.2, refl), (did.1, did.3, did.4));
   rows = λ none society c rows was keeps.
       let did = ack society c rows was keeps in
-      (did.0, did.1, (did.0, did.1, did.2, did.5, (refl, refl)), did.3, did.4);
+      (did.0, did.1, (did.0, did.1, did.2, did.5, (refl, refl)), did.3, did.4, did.6);
   crash = λ society c has t l.
       let did = ack society c has.0 has.1 has.2 in
       (did.0, (did.0, did.2, refl), (did.1, leaves did.1 did.3 t l, did.4));
@@ -227,7 +230,7 @@ module _ (old new : State) (r : Request) (e : Refusal)
         (c, (c, did.0, refl), (has.0, did.1, has.2));
     rows = λ none society c rows was keeps.
         let did = refused (not_failed r (Err e) none) society c rows was keeps in
-        (c, rows, (c, rows, did.0, (λ m same. (refl, refl)), (refl, refl)), did.1, keeps);
+        (c, rows, (c, rows, did.0, (λ m same. (refl, refl)), (refl, refl)), did.1, keeps, λ closed. closed);
     crash = left_by (is_storage e.kind) refl;
     clean = clean;
   }

@@ -79,8 +79,14 @@ performs_then a b d xs ys first none next = record {
       (two.0, joined xs ys c one.0 two.0 one.1 two.1, two.2);
   rows = λ all society c rows was keeps.
       let one = first.rows none society c rows was keeps in
-      let two = next.rows (sym (doubt_after xs ys none) ∙ all) society one.0 one.1 one.3 one.4 in
-      (two.0, two.1, runs_joined xs ys c one.0 two.0 rows one.1 two.1 one.2 two.2, two.3, two.4);
+      let two = next.rows (sym (doubt_after xs ys none) ∙ all) society one.0 one.1 one.3 one.4 in (
+        two.0,
+        two.1,
+        runs_joined xs ys c one.0 two.0 rows one.1 two.1 one.2 two.2,
+        two.3,
+        two.4,
+        λ closed. two.5 (one.5 closed),
+      );
   crash = λ society c has t leaves.
       let one = first.done none society c has in
       let left = next.crash society one.0 one.2 t leaves in

@@ -1,10 +1,12 @@
 mod Adopted
 mod Audited
 mod Called
+mod Closed
 mod Committed
 pub mod Histories
 mod Imports
 mod Looked
+mod Readable
 mod OpenCalls
 pub mod Opened
 mod Recognised

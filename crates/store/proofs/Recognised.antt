@@ -24,14 +24,21 @@ use Rattle.sqlite.specs.Tree.{Trees}
 use Rattle.sqlite.proofs.Callers.{unchanged_then}
 use Rattle.sqlite_trees.specs.declared.store.Store.{Ghosts}
 use Rattle.record_text.specs.declared.refusal.RefusalKind.{RefusalKind}
-use Rattle.record_text.specs.declared.refusal.RefusalKind.TheVariants.{NewerSchema, NotAnArchive, OutOfMemory, Storage}
+use Rattle.record_text.specs.declared.refusal.RefusalKind.TheVariants.{
+  BadStored,
+  NewerSchema,
+  NotAnArchive,
+  OutOfMemory,
+  Storage,
+}
+use Rattle.archive_view.specs.Looks.{is_stop}
 use Rattle.store_tables.specs.Calls.{IsAsItWas, LeavesOnly, Settled}
 use Rattle.store_tables.specs.Looking.{IsFailure, IsRefusedStore, Looks, version_number}
 use Rattle.store_tables.specs.Prepared.{IsRefusedTables, queries_of}
 use Rattle.store_tables.specs.Rows.{Rows}
 use Rattle.store_tables.specs.declared.version.Version.{Version}
 use Rattle.store_tables.proofs.Asking.{later_same, no_archive_same}
-use Rattle.store.specs.Adopting.{LeavesStore, RefusesToAdopt, ShowsKnown, is_foreign}
+use Rattle.store.specs.Adopting.{IsRecognised, IsUnreadable, LeavesStore, RefusesToAdopt, ShowsKnown, is_foreign}
 use Rattle.store.specs.Calls.{Stays}
 use Rattle.store.specs.Histories.{is_storage}
 use Rattle.store.proofs.Looked.{storage_is}
@@ -108,6 +115,19 @@ pub told_after : {S : Type 0} (g : Ghosts S) (old : State) (b : Bool) (kind resu
 told_after g old false kind result e same told = subst (RefusesToAdopt g old) (sym (same refl)) told
 told_after g old true kind Storage e same told = tt
 told_after g old true kind _ e same told = absurd (true≢false (sym e))
+
+-- ---- a store that was recognised is refused
+pub by_stop : {S : Type 0} (g : Ghosts S) (old : State) (kind : RefusalKind) → is_stop kind ≡ true
+    → (kind ≡ BadStored → IsRecognised g old × IsUnreadable old) → RefusesToAdopt g old kind
+by_stop g old OutOfMemory stop bad = tt
+by_stop g old Storage stop bad = tt
+by_stop g old BadStored stop bad = bad refl
+by_stop g old _ stop bad = absurd (true≢false (sym stop))
+
+pub stop_is_not_foreign : (kind : RefusalKind) → is_stop kind ≡ true → is_foreign kind ≡ true → ⊥
+stop_is_not_foreign NotAnArchive stop foreign = true≢false (sym stop)
+stop_is_not_foreign NewerSchema stop foreign = true≢false (sym stop)
+stop_is_not_foreign _ stop foreign = true≢false (sym foreign)
 
 -- ---- what is refused for what it is, is as it was
 pub same_version : (old read : State) (kind : RefusalKind) → IsRefusedStore old read kind → is_foreign kind ≡ true

@@ -109,7 +109,7 @@ pub performs_none : (s : State) → ((rows : Rows) → Settled s rows → Leaves
     → Performs s [] s
 performs_none s leaves clean = record {
   done = λ none society c has. (c, refl, has);
-  rows = λ none society c rows was keeps. (c, rows, (refl, refl), was, keeps);
+  rows = λ none society c rows was keeps. (c, rows, (refl, refl), was, keeps, λ closed. closed);
   crash = λ society c has t l. (c, refl, (has.0, leaves has.0 has.1 t l, has.2));
   clean = clean;
 }

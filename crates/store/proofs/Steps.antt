@@ -119,7 +119,7 @@ pub acknowledged_whole : (s : State) (society : List ℕ) (c : Content) (first b
 acknowledged_whole s society c first before r i staged same whole has =
     subst (λ rows. AcknowledgedBy society c rows r i.changes.answer s) same
     (subst (λ (j : Import). AcknowledgedBy society c before r j.changes.answer s) whole
-    (applied c staged.changes, has.1.0, has.0, has.1.1, has.1.2, has.1.3))
+    (applied c staged.changes, has.1.0, has.0, has.1.1, has.1.2, has.1.3, has.1.4))
 
 -- from the beginning of an import on
 pub acknowledged_begun : (mid s : State) (society : List ℕ) (c : Content) (rows : Rows) (r : Request) (a : Answer)
@@ -132,7 +132,8 @@ acknowledged_begun mid s society c rows r a i begun did =
 -- an answer was kept
 pub acknowledged_before : (s : State) (society : List ℕ) (c : Content) (rows : Rows) (r : Request) (a : Answer)
     → Keeps society c rows → HasAnswered c rows r a s → AcknowledgedBy society c rows r a s
-acknowledged_before s society c rows r a keeps has = (c, rows, has.0, has.1, keeps, λ m same. (refl, refl))
+acknowledged_before s society c rows r a keeps has =
+    (c, rows, has.0, has.1, keeps, (λ m same. (refl, refl)), λ closed. closed)
 
 -- it is just begun, and its answer is kept nowhere
 pub none_kept : (society : List ℕ) (c : Content) (before : Rows) (r : Request) (a : Answer) (i : Import) (s : State)

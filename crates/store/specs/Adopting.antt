@@ -1,13 +1,20 @@
 -- Why a store is refused where it is no archive of this program, and what becomes of one that is. Rules of our own.
-use Rattle.std.specs.Prelude.{◌≡◌, ◌⊎◌, ◌&&◌, Bool, true, false, IsTrue, List, ℕ, ⊤, Result, OnOk, IfErr}
+use Rattle.std.specs.Prelude.{◌≡◌, ◌⊎◌, ◌&&◌, Bool, true, false, IsTrue, List, ℕ, ⊤, Result, OnOk, OnErr, IfErr}
 use Rattle.sqlite.specs.Held.{Held, state}
 use Rattle.sqlite.specs.State.{HasCleanDisk, State, Survives}
 use Rattle.sqlite.specs.Tree.{Trees}
 use Rattle.sqlite_rules.specs.Lists.{Has}
 use Rattle.sqlite_trees.specs.declared.store.Store.{Ghosts}
 use Rattle.archive_state.specs.Content.{Content}
+use Rattle.archive_view.specs.Looks.{is_stop}
 use Rattle.record_text.specs.declared.refusal.RefusalKind.{RefusalKind}
-use Rattle.record_text.specs.declared.refusal.RefusalKind.TheVariants.{NewerSchema, NotAnArchive, OutOfMemory, Storage}
+use Rattle.record_text.specs.declared.refusal.RefusalKind.TheVariants.{
+  BadStored,
+  NewerSchema,
+  NotAnArchive,
+  OutOfMemory,
+  Storage,
+}
 use Rattle.store_tables.specs.Calls.{LeavesOnly, Settled}
 use Rattle.store_tables.specs.Looking.{IsFailure, IsRefusedStore, ShowsVersion, version_number}
 use Rattle.store_tables.specs.Prepared.{IsUnderstood, NamesMissing, queries_of}
@@ -60,16 +67,21 @@ pub record LeavesStore (old new : State) : Type 0 where
   pub survives : Survives old new (λ _. ⊥)
   pub crash : HasCleanDisk new → IsTrue old.is_open → (t : Trees) → new.may_leave t → t ≡ old.committed.trees
 
--- what a store that is refused leaves: nothing is committed; or it was recognised, and memory was refused or the
--- database failed while imports were taken out of it, or while it was written anew
+-- what a store that is refused leaves: nothing is committed; or it was recognised, and it was refused by 1, 40 or 80
+-- while imports were taken out of it, or while it was written anew
 abbrev pub LeavesRefused : {S : Type 0} → Ghosts S → State → RefusalKind → State → Type 0
-LeavesRefused g old kind new = LeavesStore old new ⊎ (IsFailure kind × (HasCleanDisk new → IsRecognised g old))
+LeavesRefused g old kind new = LeavesStore old new ⊎ ((is_stop kind ≡ true) × (HasCleanDisk new → IsRecognised g old))
 
--- 82: the store is no archive. 83: it shows a later version. Memory may be refused, and the database may fail, of any
--- store
+-- rows that mean no archive of the first version
+abbrev pub IsUnreadable : State → Type 0
+IsUnreadable old = (rows : Rows) (c : Content) → Settled old rows → ¬ (MeansAnew rows c)
+
+-- 82: the store is no archive. 83: it shows a later version. 40: it is of one of the two versions, and its rows mean no
+-- archive of the first one. Memory may be refused, and the database may fail, of any store
 abbrev pub RefusesToAdopt : {S : Type 0} → Ghosts S → State → RefusalKind → Type 0
 RefusesToAdopt g old NotAnArchive = IsNoArchive g old
 RefusesToAdopt {S} g old NewerSchema = (read : Held S) × IsRefusedStore old (state g read) NewerSchema
+RefusesToAdopt g old BadStored = IsRecognised g old × IsUnreadable old
 RefusesToAdopt g old OutOfMemory = ⊤
 RefusesToAdopt g old Storage = ⊤
 RefusesToAdopt g old _ = ⊥
@@ -125,6 +137,12 @@ pub record IsToClear (has_spans : Bool) (s : State) (rows : Rows) : Type 0 where
 abbrev pub ShowsSeen : State → Rows → Type 0
 ShowsSeen s rows = (after : Rows) × Settled s after × IsSeenAs rows after
 
+-- a store that is refused, though the database did not fail: settled tables in which every batch is closed keep their
+-- rows, also after a stop. Of those of the first version of which an import was left open the same is seen
+pub record StaysSettled (old new : State) : Type 0 where
+  pub same : (rows : Rows) → Settled old rows → AreAllClosed rows → Settled new rows × LeavesOnly new rows
+  pub seen : (rows : Rows) → rows.version ≡ 1 → IsToClear false old rows → ShowsSeen new rows × LeavesSeen new rows
+
 -- imports are taken out of such tables: then every batch is closed. Unless the database failed the same is seen of
 -- them, and a crash leaves that in any case; where every batch was closed they keep their rows
 pub record ClearsImports (has_spans : Bool) (old : State) (result : Result (Unit {0}) RefusalKind)
@@ -132,7 +150,7 @@ pub record ClearsImports (has_spans : Bool) (old : State) (result : Result (Unit
   pub cleared : OnOk result ((rows : Rows) → IsToClear has_spans old rows → IsCleared new rows)
   pub stays : has_broken result ≡ false → (rows : Rows) → IsToClear has_spans old rows → ShowsSeen new rows
   pub crash : (rows : Rows) → IsToClear has_spans old rows → LeavesSeen new rows
-  pub failure : IfErr result IsFailure
+  pub refused : IfErr result (λ kind. (rows : Rows) → Settled old rows → IsFailure kind)
   pub untouched : (rows : Rows) → Settled old rows → AreAllClosed rows
       → (has_broken result ≡ false → Settled new rows) × LeavesOnly new rows
   pub clean : HasCleanDisk old
@@ -141,7 +159,9 @@ pub record ClearsImports (has_spans : Bool) (old : State) (result : Result (Unit
 pub record RenewsRows (old : State) (result : Result (Unit {0}) RefusalKind) (new : State) : Type 0 where
   pub done : OnOk result ((rows : Rows) (c : Content) → Settled old rows → MeansAnew rows c
       → (after : Rows) × IsRenewed rows c after × Settled new after × LeavesOnly new after)
-  pub stays : has_broken result ≡ false → IfErr result (λ _. (rows : Rows) → Settled old rows → Settled new rows)
+  pub stays : has_broken result ≡ false
+      → OnErr result ((rows : Rows) → Settled old rows → Settled new rows × LeavesOnly new rows)
   pub crash : (rows : Rows) (c : Content) → Settled old rows → MeansAnew rows c → LeavesRenewed new rows c
-  pub failure : IfErr result IsFailure
+  pub refused : IfErr result (λ kind. (rows : Rows) (c : Content) → Settled old rows → MeansAnew rows c
+      → IsFailure kind)
   pub clean : HasCleanDisk old

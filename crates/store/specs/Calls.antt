@@ -32,6 +32,7 @@ use Rattle.store_rows.specs.Spans.{AreDrawn, Drawn, with_dated_changes}
 use Rattle.store_tables.specs.Calls.{Good, LeavesOnly, Settled}
 use Rattle.store_tables.specs.Looking.{IsFailure}
 use Rattle.store_tables.specs.Rows.{Rows, LineRow, RecordRow}
+use Rattle.staged_rows.specs.Staging.{AreAllClosed}
 use Rattle.store.specs.Archives.{HasArchive, IsArchive, Keeps, LeavesArchive}
 use Rattle.store.specs.Histories.{Accepts, MayBeFound, has_broken, in_doubt}
 
@@ -40,6 +41,10 @@ abbrev pub KeepsRows : Content → Content → Rows → Rows → Type 0
 KeepsRows c after rows now = (m : ℕ) → get c.records m ≡ get after.records m
     → (filter (λ (l : LineRow). l.no == m) now.lines ≡ filter (λ (l : LineRow). l.no == m) rows.lines)
     × (filter (λ (r : RecordRow). r.no == m) now.records ≡ filter (λ (r : RecordRow). r.no == m) rows.records)
+
+-- no import is left open: where every batch was closed, every batch is closed
+abbrev pub StaysClosed : Rows → Rows → Type 0
+StaysClosed rows now = AreAllClosed rows → AreAllClosed now
 
 -- a request on good tables: what is said of it is said of what they hold and of their rows
 abbrev pub OnArchive : State → (List ℕ → Content → Rows → Type 0) → Type 0
@@ -52,10 +57,10 @@ RunsOn c rows [] after now = (after ≡ c) × (now ≡ rows)
 RunsOn c rows (call ∷ more) after now = (between : Content) × (mid : Rows) × Does c call.0 call.1 between
     × KeepsRows c between rows mid × RunsOn between mid more after now
 
--- the rows of the archive after such a run
+-- the rows of the archive after such a run, of which no import is left open
 abbrev pub RunTo : List ℕ → Content → Rows → List Done → State → Type 0
 RunTo society c rows calls new = (after : Content) × (now : Rows) × RunsOn c rows calls after now × Settled new now
-    × Keeps society after now
+    × Keeps society after now × StaysClosed rows now
 
 -- requests with their outcomes. Where the database did not fail, they are a run of the machine, and the archive holds
 -- what it leaves, on its rows too; in any case a stop leaves what their history allows
@@ -82,11 +87,11 @@ pub record Reads {A : Type 0} (Is : List ℕ → Content → A → Type 0) (old 
   pub refused : IfErr result (λ kind. (society : List ℕ) (c : Content) → HasArchive society c old → IsFailure kind)
   pub stays : Stays old (has_broken result) new
 
--- an acknowledged request is done, and leaves the rows of what it does not change
+-- an acknowledged request is done, and leaves the rows of what it does not change, and no import open
 abbrev pub AcknowledgedBy : List ℕ → Content → Rows → Request → Answer → State → Type 0
 AcknowledgedBy society c rows r answer new =
     (after : Content) × (now : Rows) × Does c r (Ok answer) after × Settled new now × Keeps society after now
-    × KeepsRows c after rows now
+    × KeepsRows c after rows now × StaysClosed rows now
 
 abbrev pub Acknowledges : State → Request → Answer → State → Type 0
 Acknowledges old r answer new = OnArchive old (λ society c rows. AcknowledgedBy society c rows r answer new)

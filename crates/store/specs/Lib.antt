@@ -6,6 +6,7 @@ pub mod Earlier
 pub mod Histories
 pub mod Importing
 pub mod Lives
+pub mod Looking
 pub mod Shut
 pub mod Standing
 pub mod Viewing

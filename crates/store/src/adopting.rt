@@ -1,10 +1,12 @@
 //! An archive that is taken up: imports that were left open are taken out of it, and one of the first version is made
 //! anew.
 
-ghost use Rattle.std.specs.Prelude.{◌≡◌, true, false, IfErr, IsTrue, OnOk};
+ghost use Rattle.std.specs.Prelude.{◌≡◌, true, false, IfErr, IsTrue, OnErr, OnOk};
 ghost use Rattle.std.specs.List.{list_any};
 ghost use Rattle.sqlite.specs.State.{HasCleanDisk};
 ghost use Rattle.sqlite.specs.Held.{state};
+ghost use Rattle.archive_view.specs.Looks.{is_stop};
+ghost use Rattle.record_text.specs.declared.refusal.RefusalKind.TheVariants.{BadStored};
 ghost use Rattle.store_rows.specs.Meaning.{is_closed};
 ghost use Rattle.store_tables.specs.Calls.{IsAsItWas, LeavesAsBefore, LeavesOnly, Settled};
 ghost use Rattle.store_tables.specs.Looking.{IsFailure, Looks};
@@ -15,11 +17,13 @@ ghost use Rattle.store.specs.Adopting.{
   ClearsImports,
   IsRecognised,
   IsToClear,
+  IsUnreadable,
   LeavesRefused,
   LeavesStore,
   RefusesToAdopt,
   RenewsRows,
   ShowsSeen,
+  StaysSettled,
   TakesUp,
   TakesUpAnew,
   has_import,
@@ -27,6 +31,7 @@ ghost use Rattle.store.specs.Adopting.{
 };
 ghost use Rattle.store.specs.Histories.{has_broken, is_storage};
 
+use crate::failing::is_stop;
 use crate::reading::recognise;
 use old_rows::laws::what_is_seen_alike_means_the_same;
 use old_rows::renew;
@@ -53,6 +58,8 @@ pub(crate) fn take_up<S: Alter>(alloc: Global, conn: &mut Connection<S>) -> Resu
         (state S.Store conn.new)) }
     ensures unchanged { HasCleanDisk (state S.Store conn.new) → IfErr result (λ kind. is_foreign kind ≡ true
         → IsAsItWas (state S.Store conn.old) (state S.Store conn.new)) }
+    ensures stays { HasCleanDisk (state S.Store conn.new) → has_broken result ≡ false
+        → OnErr result (StaysSettled (state S.Store conn.old) (state S.Store conn.new)) }
     ensures ended { conn.new.in_transaction ≡ false }
 {
     what_is_seen_means_the_same();
@@ -69,7 +76,11 @@ fn make_anew<S: Alter>(alloc: Global, conn: &mut Connection<S>) -> Result<(), Re
     requires autocommit { conn.old.in_transaction ≡ false }
     ensures takes { HasCleanDisk (state S.Store conn.new)
         → TakesUpAnew (state S.Store conn.old) result (state S.Store conn.new) }
-    ensures failure { IfErr result IsFailure }
+    ensures stop { IfErr result (λ kind. is_stop kind ≡ true) }
+    ensures unreadable { HasCleanDisk (state S.Store conn.new)
+        → IfErr result (λ kind. kind ≡ BadStored → IsUnreadable (state S.Store conn.old)) }
+    ensures stays { HasCleanDisk (state S.Store conn.new) → has_broken result ≡ false
+        → OnErr result (StaysSettled (state S.Store conn.old) (state S.Store conn.new)) }
     ensures clean { HasCleanDisk (state S.Store conn.new) → HasCleanDisk (state S.Store conn.old) }
     ensures ended { conn.new.in_transaction ≡ false }
 {
@@ -83,13 +94,13 @@ fn make_anew<S: Alter>(alloc: Global, conn: &mut Connection<S>) -> Result<(), Re
 
 /// Makes one of the second version of an archive of the first version, in one commit.
 ///
-/// 80: the database failed, and that is done or not; or its rows are no archive of that version, and nothing is
-/// written. 1: memory was refused, and the connection still answers; nothing is written.
+/// 80: the database failed, and that is done or not. 1: memory was refused. 40: its rows are no archive of that
+/// version. After 1 and 40 the connection still answers, and nothing is written.
 fn renew_rows<S: Alter>(alloc: Global, conn: &mut Connection<S>) -> Result<(), RefusalKind>
     requires autocommit { conn.old.in_transaction ≡ false }
     ensures renews { HasCleanDisk (state S.Store conn.new)
         → RenewsRows (state S.Store conn.old) result (state S.Store conn.new) }
-    ensures failure { IfErr result IsFailure }
+    ensures stop { IfErr result (λ kind. is_stop kind ≡ true) }
     ensures clean { HasCleanDisk (state S.Store conn.new) → HasCleanDisk (state S.Store conn.old) }
     ensures ended { conn.new.in_transaction ≡ false }
 {
@@ -102,7 +113,7 @@ fn renew_rows<S: Alter>(alloc: Global, conn: &mut Connection<S>) -> Result<(), R
 /// Takes out imports that were left open, of tables that have spans or have none. Where none was, nothing is written.
 ///
 /// 80: the database failed. 1: memory was refused, and the connection still answers. After either some rows of these
-/// imports may be left.
+/// imports may be left. 40: a row of `batch` is none, and the connection still answers.
 fn remove_imports<S: Alter>(
     alloc: Global,
     conn: &mut Connection<S>,
@@ -111,7 +122,7 @@ fn remove_imports<S: Alter>(
     requires autocommit { conn.old.in_transaction ≡ false }
     ensures clears { HasCleanDisk (state S.Store conn.new)
         → ClearsImports has_spans (state S.Store conn.old) result (state S.Store conn.new) }
-    ensures failure { IfErr result IsFailure }
+    ensures stop { IfErr result (λ kind. is_stop kind ≡ true) }
     ensures clean { HasCleanDisk (state S.Store conn.new) → HasCleanDisk (state S.Store conn.old) }
     ensures ended { conn.new.in_transaction ≡ false }
 {
@@ -170,7 +181,9 @@ fn remove_them<S: Alter>(
         → IsToClear has_spans (state S.Store conn.old) rows → ShowsSeen (state S.Store conn.new) rows }
     ensures crash { HasCleanDisk (state S.Store conn.new) → (rows : Rows)
         → IsToClear has_spans (state S.Store conn.old) rows → LeavesSeen (state S.Store conn.new) rows }
-    ensures failure { IfErr result IsFailure }
+    ensures refused { HasCleanDisk (state S.Store conn.new) → IfErr result (λ kind. (rows : Rows)
+        → Settled (state S.Store conn.old) rows → IsFailure kind) }
+    ensures stop { IfErr result (λ kind. is_stop kind ≡ true) }
     ensures clean { HasCleanDisk (state S.Store conn.new) → HasCleanDisk (state S.Store conn.old) }
     ensures ended { conn.new.in_transaction ≡ false }
 {
@@ -180,25 +193,21 @@ fn remove_them<S: Alter>(
     }
 }
 
-/// What a step of this is refused with: 1 where memory was refused and the connection still answers, else 80.
+/// What a step of this is refused with: 1 where memory was refused, and 40 where a row is none of an archive, if the
+/// connection still answers; else 80.
 fn failure_after<S: Alter>(conn: &mut Connection<S>, kind: RefusalKind) -> RefusalKind
     requires autocommit { conn.old.in_transaction ≡ false }
     ensures settled { HasCleanDisk (state S.Store conn.new) → is_storage result ≡ false → (rows : Rows)
         → LeavesOnly (state S.Store conn.old) rows → Settled (state S.Store conn.new) rows }
     ensures same { is_storage result ≡ false → result ≡ kind }
-    ensures failure { IsFailure result }
+    ensures stop { is_stop result ≡ true }
     ensures survives { LeavesAsBefore (state S.Store conn.old) (state S.Store conn.new) }
     ensures ended { conn.new.in_transaction ≡ false }
 {
-    match kind {
-        RefusalKind::OutOfMemory => {
-            if shows_version(conn) {
-                RefusalKind::OutOfMemory
-            } else {
-                RefusalKind::Storage
-            }
-        }
-        _ => RefusalKind::Storage,
+    if is_stop(kind) && shows_version(conn) {
+        kind
+    } else {
+        RefusalKind::Storage
     }
 }
 

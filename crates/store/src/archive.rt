@@ -44,9 +44,20 @@ ghost use Rattle.archive_core.specs.Steps.{refused_at};
 ghost use Rattle.archive_core.specs.declared.request.Request.{Request};
 ghost use Rattle.archive_state.specs.Content.{Content, nothing};
 ghost use Rattle.store_tables.specs.Calls.{IsAsItWas, Settled, SettledBlank, LeavesOnly};
+ghost use Rattle.store_tables.specs.Looking.{IsFailure};
+ghost use Rattle.store_tables.specs.Rows.{Rows};
 ghost use Rattle.store_tables.specs.Schema.{no_schema};
 ghost use Rattle.archive_audits.specs.Judging.{Judges, Tells, without_fault};
-ghost use Rattle.store.specs.Adopting.{IsRecognised, LeavesRefused, LeavesStore, RefusesToAdopt, TakesUp, is_foreign};
+ghost use Rattle.store.specs.Adopting.{
+  HasNoImport,
+  IsRecognised,
+  LeavesRefused,
+  LeavesStore,
+  RefusesToAdopt,
+  StaysSettled,
+  TakesUp,
+  is_foreign,
+};
 ghost use Rattle.store.specs.Archives.{HasArchive, Keeps, LeavesArchive};
 ghost use Rattle.store.specs.Calls.{Acknowledges, LeavesDoneOrNot, OnArchive, Performs, Reads};
 ghost use Rattle.store.specs.Creating.{IsSociety, RefusesToCreate, RefusesToMake};
@@ -60,6 +71,7 @@ ghost use Rattle.store.specs.Histories.{
 };
 ghost use Rattle.store.specs.Importing.{HasAnswered, HasBegun, HasImport, HasPublished, StaysOn};
 ghost use Rattle.store.specs.Lives.{IsCall, IsOpenedOver, IsRefusedOver, IsTakenUpOver};
+ghost use Rattle.store.specs.Looking.{IsRead, IsUnread};
 ghost use Rattle.store.specs.Standing.{
   begun_as,
   heard,
@@ -113,6 +125,8 @@ impl<S: Alter> Archive<S> {
             → SettledBlank (state S.Store conn)
             → HasArchive (string_bytes society) nothing (state S.Store made.conn) × LeavesArchive
             (state S.Store made.conn) (string_bytes society) (λ found. found ≡ nothing)) }
+        ensures closed { IfOk result (λ made. HasCleanDisk (state S.Store made.conn)
+            → SettledBlank (state S.Store conn) → HasNoImport (state S.Store made.conn)) }
         ensures named { IfOk result (λ made. (made.is_lost ≡ false) × IsSociety (string_bytes society)
             × ((state S.Store conn).now.schema ≡ no_schema)) }
         ensures quiet { IfOk result (λ made. made.failures ≡ 0) }
@@ -135,8 +149,9 @@ impl<S: Alter> Archive<S> {
     /// written. Then one of the first version is made one of the second, in one commit, and its dates are read anew.
     /// At a refusal the connection is handed back.
     ///
-    /// 82: the store has no archive. 83: a later program wrote it. 80: the database failed, or it shows the first
-    /// version, and its rows are no archive of that version. 1: memory was refused.
+    /// 82: the store has no archive. 83: a later program wrote it. 40: it shows the first version, and its rows are no
+    /// archive of that version, or a row of `batch` is none of an archive; nothing is written anew. 80: the database
+    /// failed. 1: memory was refused.
     pub fn adopt(
         alloc: Global,
         mut conn: Connection<S>,
@@ -162,6 +177,8 @@ impl<S: Alter> Archive<S> {
             → IsOpenedOver t (state S.Store conn) → IsRefusedOver t (state S.Store e.1)) }
         ensures told { IfErr result (λ e. HasCleanDisk (state S.Store e.1) → RefusesToAdopt S.Store
             (state S.Store conn) e.0) }
+        ensures stays { IfErr result (λ e. HasCleanDisk (state S.Store e.1) → is_storage e.0 ≡ false
+            → StaysSettled (state S.Store conn) (state S.Store e.1)) }
         ensures ended { IfErr result (λ e. e.1.in_transaction ≡ false) }
     {
         match take_up(alloc, &mut conn) {
@@ -419,6 +436,10 @@ impl<S: Alter> Archive<S> {
     pub fn state(&mut self, alloc: Global) -> Result<State, RefusalKind>
         ensures reads { HasCleanDisk (state S.Store self.new.conn) → self.old.is_lost ≡ false
             → Reads (λ _ c held. held ≡ c) (state S.Store self.old.conn) result (state S.Store self.new.conn) }
+        ensures read { HasCleanDisk (state S.Store self.new.conn) → self.old.is_lost ≡ false
+            → IfOk result (IsRead (state S.Store self.old.conn)) }
+        ensures unread { HasCleanDisk (state S.Store self.new.conn) → self.old.is_lost ≡ false
+            → IfErr result (IsUnread (state S.Store self.old.conn)) }
         ensures lost { self.old.is_lost ≡ false → self.new.is_lost ≡ has_broken result }
         ensures reopen { IsTrue self.old.is_lost → (result ≡ Err refusal.Reopen) × (self.new ≡ self.old) }
         ensures open { self.new.import ≡ self.old.import }
@@ -468,6 +489,8 @@ impl<S: Alter> Archive<S> {
         ensures reads { HasCleanDisk (state S.Store self.new.conn) → self.old.is_lost ≡ false
             → Reads (λ society _ text. text ≡ society) (state S.Store self.old.conn) result
             (state S.Store self.new.conn) }
+        ensures unread { HasCleanDisk (state S.Store self.new.conn) → self.old.is_lost ≡ false
+            → IfErr result (λ kind. (rows : Rows) → Settled (state S.Store self.old.conn) rows → IsFailure kind) }
         ensures lost { self.old.is_lost ≡ false → self.new.is_lost ≡ has_broken result }
         ensures reopen { IsTrue self.old.is_lost → (result ≡ Err refusal.Reopen) × (self.new ≡ self.old) }
         ensures open { self.new.import ≡ self.old.import }
@@ -578,6 +601,8 @@ fn create_named<S: Alter>(
     ensures created { IfOk result (λ made. HasCleanDisk (state S.Store made.conn) → SettledBlank (state S.Store conn)
         → HasArchive society.now nothing (state S.Store made.conn) × LeavesArchive (state S.Store made.conn) society.now
         (λ found. found ≡ nothing)) }
+    ensures closed { IfOk result (λ made. HasCleanDisk (state S.Store made.conn) → SettledBlank (state S.Store conn)
+        → HasNoImport (state S.Store made.conn)) }
     ensures blank { IfOk result (λ made. (made.is_lost ≡ false) × ((state S.Store conn).now.schema ≡ no_schema)) }
     ensures refused { IfErr result (λ e. RefusesToMake society.now (state S.Store conn) (state S.Store e.1) e.0) }
     ensures back { IfErr result (λ e. is_storage e.0 ≡ false → e.1 ≡ conn) }

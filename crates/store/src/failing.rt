@@ -14,6 +14,16 @@ pub(crate) fn is_storage(kind: RefusalKind) -> bool
     matches!(kind, RefusalKind::Storage)
 }
 
+/// Whether a refusal may come in place of any other answer: 1, 40 or 80.
+pub(crate) fn is_stop(kind: RefusalKind) -> bool
+    ensures { result ≡ looks.is_stop kind }
+{
+    matches!(
+        kind,
+        RefusalKind::OutOfMemory | RefusalKind::BadStored | RefusalKind::Storage
+    )
+}
+
 /// Whether a refusal of a look says that a read failed: 40 or 80.
 pub(crate) fn is_failure(kind: RefusalKind) -> bool
     ensures { result ≡ looks.is_failure kind }

@@ -1,9 +1,9 @@
 //! What holds of an archive over all runs and all stops.
 
-ghost use Rattle.std.specs.Prelude.{◌≡◌, ◌⊎◌, ℕ, List, ◌++◌, Option, None, Some, Ok};
+ghost use Rattle.std.specs.Prelude.{◌≡◌, ◌⊎◌, ℕ, List, [], ◌++◌, Option, None, Some, Ok, false};
 ghost use Rattle.std.specs.List.{Any};
 ghost use Rattle.sqlite.specs.Held.{Held, state};
-ghost use Rattle.sqlite.specs.State.{IsLive, Opens};
+ghost use Rattle.sqlite.specs.State.{HasCleanDisk, IsLive, Opens};
 ghost use Rattle.sqlite.specs.Tree.{Trees};
 ghost use Rattle.archive_state.specs.Content.{Content};
 ghost use Rattle.archive_core.specs.Machine.{Does, Done, Runs};
@@ -15,7 +15,9 @@ ghost use Rattle.store.specs.Earlier.{HoldsArchive};
 ghost use Rattle.staging.specs.Opened.{Import};
 ghost use Rattle.store.specs.Histories.{in_doubt};
 ghost use Rattle.store.specs.Importing.{Has};
-ghost use Rattle.store.specs.Lives.{CountInAll, IsOpenedOver, Life, LifeOn};
+ghost use Rattle.store.specs.Lives.{CountInAll, IsCall, IsOpenedOver, Life, LifeOn};
+ghost use Rattle.store.specs.Looking.{StaysReadable};
+ghost use Rattle.store.specs.Standing.{Standing};
 
 use import_commits::laws::an_import_that_is_begun_is_in_no_view;
 use sqlite::Alter;
@@ -77,3 +79,13 @@ pub fn calls_follow_each_other<S: Alter>()
         → Performs (state S.Store between) rest (state S.Store new) → Performs (state S.Store old) (first ++ rest)
         (state S.Store new) }
 {}
+
+/// Looks at an archive, one after the other, are a call of a session, which does no request: the archive stays as it
+/// was, with the import that is open.
+pub fn looks_are_a_call<S: Alter>()
+    ensures { (old new : Held S) (was is : Standing) → was.is_lost ≡ false → is.import ≡ was.import
+        → (HasCleanDisk (state S.Store new)
+        → StaysReadable (state S.Store old) is.is_lost (state S.Store new)) → IsCall S.Store old was [] new is }
+{
+    an_import_that_is_begun_is_in_no_view();
+}

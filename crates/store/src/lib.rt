@@ -12,6 +12,7 @@ mod deciding;
 mod failing;
 mod importing;
 pub mod laws;
+mod looking;
 mod open_imports;
 mod performing;
 mod reading;

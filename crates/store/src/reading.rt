@@ -9,6 +9,7 @@ ghost use Rattle.store_tables.specs.Rows.{Rows};
 ghost use Rattle.store.specs.Adopting.{IsOfVersion, LeavesStore, RefusesToAdopt, is_foreign};
 ghost use Rattle.store.specs.Calls.{Reads, Stays};
 ghost use Rattle.store.specs.Histories.{has_broken, is_storage};
+ghost use Rattle.store.specs.Looking.{IsRead, IsUnread};
 
 use crate::failing::is_storage;
 use archive_state::State;
@@ -27,6 +28,8 @@ pub(crate) fn state_on<S: Alter>(
     requires autocommit { conn.old.in_transaction ≡ false }
     ensures reads { HasCleanDisk (state S.Store conn.new) → Reads (λ _ c held. held ≡ c) (state S.Store conn.old) result
         (state S.Store conn.new) }
+    ensures read { HasCleanDisk (state S.Store conn.new) → IfOk result (IsRead (state S.Store conn.old)) }
+    ensures unread { HasCleanDisk (state S.Store conn.new) → IfErr result (IsUnread (state S.Store conn.old)) }
     ensures ended { conn.new.in_transaction ≡ false }
 {
     match read_state(alloc, conn) {
@@ -43,6 +46,8 @@ pub(crate) fn society_on<S: Alter>(
     requires autocommit { conn.old.in_transaction ≡ false }
     ensures reads { HasCleanDisk (state S.Store conn.new) → Reads (λ society _ text. text ≡ society)
         (state S.Store conn.old) result (state S.Store conn.new) }
+    ensures unread { HasCleanDisk (state S.Store conn.new) → IfErr result (λ kind. (rows : Rows)
+        → Settled (state S.Store conn.old) rows → IsFailure kind) }
     ensures ended { conn.new.in_transaction ≡ false }
 {
     match store_tables::society(alloc, conn) {

@@ -352,6 +352,7 @@ SCENARIOS = OTHERS + (
         spoils("", "ok", "ok", "ok", "ok"),
         spoils("UPDATE meta SET version = 3", "unadopted", 83),
         spoils("UPDATE meta SET version = 1; DROP TABLE span", "ok", "ok", "ok", "ok"),
+        spoils("UPDATE meta SET version = 1; DROP TABLE span; DELETE FROM line", "unadopted", 40),
         spoils("DROP TABLE span", "unadopted", 82),
         spoils("DELETE FROM meta", "unadopted", 82),
         spoils("DROP TABLE receipt", "unadopted", 82),

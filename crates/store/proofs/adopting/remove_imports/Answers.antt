@@ -14,7 +14,8 @@ returns-in-Ok-true-clause-clears g c clean =
     let looks : Looks Finds old mid (Ok true) = subst (λ b. Looks Finds old mid (Ok b)) c.in-Ok-true.field-0-test
     c.in-Ok-true.ensures.looks in
     some_found c.args.has_spans old mid (state g.S.Store c.remove_them.new.conn) c.remove_them.result
-    (after.clean clean) looks (after.cleared clean) (after.stays clean) (after.crash clean) after.failure
+    (after.clean clean) looks (after.cleared clean) (after.stays clean) (after.crash clean)
+    (after.refused clean)
 
 pub returns-in-Ok-false-clause-clears : goal.returns-in-Ok-false-clause-clears
 returns-in-Ok-false-clause-clears g c clean =
@@ -34,4 +35,4 @@ returns-in-Err-clause-clears g c clean =
     let left : (t : Trees) → new.may_leave t → mid.may_leave t = λ t l. elim (after.survives.crash clean t l)
     [ inl was ↦ was | inr none ↦ absurd none ] in
     unknown c.args.has_spans old mid new c.in-Err.kind c.failure_after.result before c.in-Err.ensures.looks
-    (after.settled clean) left after.failure
+    (after.settled clean) left after.same

@@ -1,7 +1,9 @@
-use Rattle.std.proofs.Common.{arith, inl, inr}
+use Rattle.std.proofs.Common.{arith, inl, inr, refl}
 use Rattle.sqlite.specs.Held.{state}
 use Rattle.sqlite.specs.State.{HasCleanDisk}
+use Rattle.store.specs.Histories.{is_storage}
 use Rattle.store.proofs.Adopted.{shows_one}
+use Rattle.store.proofs.Recognised.{fails_after}
 use Rattle.store.proofs.adopting.remove_them.Goals as goal
 
 pub returns-in-Ok-clause-cleared : goal.returns-in-Ok-clause-cleared
@@ -30,3 +32,11 @@ returns-in-Err-clause-crash g c clean rows it t l =
     let before : HasCleanDisk mid = omega (arith, after.survives.clean, clean) in
     let left : mid.may_leave t = elim (after.survives.crash clean t l) [ inl was ↦ was | inr none ↦ absurd none ] in
     c.in-Err.ensures.crash before rows it.settled it.schema t left
+
+pub returns-in-Err-clause-refused : goal.returns-in-Err-clause-refused
+returns-in-Err-clause-refused g c clean rows was =
+    let mid = state g.S.Store c.remove_open.new.conn in
+    let after = c.failure_after.ensures in
+    let before : HasCleanDisk mid = omega (arith, after.survives.clean, clean) in
+    fails_after (is_storage c.failure_after.result) c.in-Err.kind c.failure_after.result refl after.same
+    (c.in-Err.ensures.refused before rows was)

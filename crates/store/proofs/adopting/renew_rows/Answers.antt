@@ -24,4 +24,4 @@ returns-in-Err-clause-renews g c clean =
     [ inl was ↦ was | inr none ↦ absurd none ] in
     not_renewed (state g.S.Store c.args.conn.now) mid new c.in-Err.kind c.failure_after.result
     (c.in-Err.ensures.undone before) after.same (after.settled clean) (c.in-Err.ensures.crash before) left
-    after.failure (c.in-Err.ensures.clean before)
+    (c.in-Err.ensures.refused before) (c.in-Err.ensures.clean before)

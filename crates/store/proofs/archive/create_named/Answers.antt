@@ -4,6 +4,7 @@ use Rattle.sqlite.specs.Held.{state}
 use Rattle.store_tables.specs.Rows.{nothing_yet}
 use Rattle.store_tables.proofs.Queries.{only_committed}
 use Rattle.archive_state.specs.Content.{nothing}
+use Rattle.store.proofs.Adopted.{no_import}
 use Rattle.store.proofs.Looked.{new_keeps}
 use Rattle.store.proofs.archive.create_named.Goals as goal
 
@@ -28,6 +29,11 @@ returns-in-Ok-clause-created g c clean blank =
         ),
       ),
     )
+
+pub returns-in-Ok-clause-closed : goal.returns-in-Ok-clause-closed
+returns-in-Ok-clause-closed g c clean blank =
+    no_import (state g.S.Store c.create.new.conn) (nothing_yet c.args.society.now) (c.in-Ok.ensures.done clean blank)
+    refl
 
 pub returns-in-Err-clause-refused : goal.returns-in-Err-clause-refused
 returns-in-Err-clause-refused g c =

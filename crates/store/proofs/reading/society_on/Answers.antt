@@ -1,8 +1,10 @@
-use Rattle.std.proofs.Common.{◌∙◌, arith, inl, inr}
+use Rattle.std.proofs.Common.{◌∙◌, arith, inl, inr, refl}
 use Rattle.sqlite.specs.Held.{state}
 use Rattle.sqlite.specs.State.{HasCleanDisk}
 use Rattle.sqlite.specs.Tree.{Trees}
+use Rattle.store.specs.Histories.{is_storage}
 use Rattle.store.proofs.Looked.{err_reads, ok_reads}
+use Rattle.store.proofs.Recognised.{fails_after}
 use Rattle.store.proofs.reading.society_on.Goals as goal
 
 pub returns-in-Ok-clause-reads : goal.returns-in-Ok-clause-reads
@@ -25,3 +27,10 @@ returns-in-Err-clause-reads g c clean =
     err_reads _ old mid new c.in-Err.kind c.refusal_after.result
     (λ society content has. read.refused before has.0 has.1)
     (read.crash before) (read.clean before) (after.settled clean) after.same left
+
+pub returns-in-Err-clause-unread : goal.returns-in-Err-clause-unread
+returns-in-Err-clause-unread g c clean rows was =
+    let after = c.refusal_after.ensures in
+    let before : HasCleanDisk (state g.S.Store c.society.new.conn) = omega (arith, after.survives.clean, clean) in
+    fails_after (is_storage c.refusal_after.result) c.in-Err.kind c.refusal_after.result refl after.same
+    (c.in-Err.ensures.looks.refused before rows was)

@@ -4,6 +4,7 @@ use Rattle.sqlite.specs.State.{HasCleanDisk}
 use Rattle.sqlite.specs.Tree.{Trees}
 use Rattle.store_rows.proofs.OneContent.{one_content}
 use Rattle.store.proofs.Looked.{err_reads, ok_reads}
+use Rattle.store.proofs.Readable.{unread_as}
 use Rattle.store.proofs.reading.state_on.Goals as goal
 
 pub returns-in-Ok-clause-reads : goal.returns-in-Ok-clause-reads
@@ -29,3 +30,10 @@ returns-in-Err-clause-reads g c clean =
       | inr bad ↦ absurd (bad.1 (content, has.2.means, has.2.shallow))
     ])
     (read.crash before) (read.clean before) (after.settled clean) after.same left
+
+pub returns-in-Err-clause-unread : goal.returns-in-Err-clause-unread
+returns-in-Err-clause-unread g c clean =
+    let after = c.refusal_after.ensures in
+    let before : HasCleanDisk (state g.S.Store c.read_state.new.conn) = omega (arith, after.survives.clean, clean) in
+    unread_as (state g.S.Store c.args.conn.now) c.in-Err.kind c.refusal_after.result after.same
+    (c.in-Err.ensures.refused before)
