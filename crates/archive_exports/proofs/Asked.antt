@@ -14,6 +14,10 @@ use Rattle.archive_exports.specs.Reading.{OnOpen}
 abbrev pub StopsAs : RefusalKind → RefusalKind → Type 0
 StopsAs kind told = is_stop kind ≡ true → told ≡ kind
 
+pub failure_as : (kind told : RefusalKind) → StopsAs kind told → IsFailure kind → IsFailure told
+failure_as kind told same (inl want) = inl (same (ap is_stop want) ∙ want)
+failure_as kind told same (inr lost) = inr (same (ap is_stop lost) ∙ lost)
+
 pub follows : (old new : State) (P Q : List ℕ → Content → Type 0)
     → ((society : List ℕ) (c : Content) → P society c → Q society c) → OnOpen old new P → OnOpen old new Q
 follows old new P Q so is clean =
@@ -39,17 +43,13 @@ module _ {A : Type 0} (Is : List ℕ → Content → A → Type 0) (old new : St
         ),
       )
 
-  fails_as : (kind told : RefusalKind) → StopsAs kind told → IsFailure kind → IsFailure told
-  fails_as kind told same (inl want) = inl (same (ap is_stop want) ∙ want)
-  fails_as kind told same (inr lost) = inr (same (ap is_stop lost) ∙ lost)
-
   pub unread_as : (kind told : RefusalKind) → StopsAs kind told → (HasCleanDisk new → Reads Is old (Err kind) new)
       → OnOpen old new (λ _ _. IsFailure told)
   unread_as kind told same reads clean =
       let r = reads clean in (
         r.stays.clean,
         λ society c has. (
-          fails_as kind told same (r.refused society c has),
+          failure_as kind told same (r.refused society c has),
           λ t l. (c, refl, (has.0, r.stays.crash has.0 has.1 t l, has.2)),
         ),
       )

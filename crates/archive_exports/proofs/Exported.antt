@@ -9,7 +9,6 @@ use Rattle.std.proofs.Common.{
   Bool,
   true,
   false,
-  cond,
   List,
   length,
   refl,
@@ -27,9 +26,11 @@ use Rattle.devices.specs.Devices.{Rose}
 use Rattle.gedcom_export.specs.Ends.{IsBegun, IsReason}
 use Rattle.record_text.specs.declared.refusal.RefusalKind.{RefusalKind}
 use Rattle.record_text.specs.declared.refusal.RefusalKind.TheVariants.{BadStored, Storage}
+use Rattle.store_rows.specs.Meaning.{AllShallow, Means}
 use Rattle.store_tables.specs.Calls.{LeavesOnly, Settled}
 use Rattle.store_tables.specs.Looking.{IsFailure}
 use Rattle.store_tables.specs.Rows.{Rows}
+use Rattle.store.specs.Looking.{StaysReadable}
 use Rattle.store.specs.Viewing.{Kept, Shows}
 use Rattle.store.proofs.Viewed.{kept_of}
 use Rattle.archive_exports.specs.Exporting.{IsPart, export_text}
@@ -99,18 +100,41 @@ not_risen : Rose 0 0 → ⊥
 not_risen (inl less) = absurd (omega (arith, less))
 not_risen (inr last) = absurd (omega (arith, last))
 
+not_true : (b : Bool) → (b ≡ true → ⊥) → b ≡ false
+not_true true none = absurd (none refl)
+not_true false none = refl
+
 -- why an export was stopped, where a lost archive is told as 80: of an archive that is not lost no look has failed
 pub stopped : (lost : Bool) (failures failures_now : ℕ) (before after : Option (List ℕ)) (bytes : List ℕ)
-    (kind told : RefusalKind) → told ≡ cond lost Storage kind → failures ≡ 0 → (lost ≡ false → failures_now ≡ 0)
+    (kind told : RefusalKind) → (lost ≡ true → told ≡ Storage) → (lost ≡ false → is_failure kind ≡ false → told ≡ kind)
+    → failures ≡ 0 → (lost ≡ false → failures_now ≡ 0)
     → (is_failure kind ≡ true → Rose failures failures_now) → IsBegun before after bytes kind
     → IsPart told before after bytes
-stopped true failures failures_now before after bytes kind told is first last rose begun = (
-  record { reason = inl (ap is_stop is); written = begun.written },
-  λ bad. absurd (true≢false (sym (ap is_bad (sym is ∙ bad)))),
+stopped true failures failures_now before after bytes kind told is same first last rose begun = (
+  record { reason = inl (ap is_stop (is refl)); written = begun.written },
+  λ bad. absurd (true≢false (sym (ap is_bad (sym (is refl) ∙ bad)))),
 )
-stopped false failures failures_now before after bytes kind told is first last rose begun = (
-  record { reason = subst (IsReason (length bytes)) (sym is) begun.reason; written = begun.written },
-  λ bad.
-      let rises = rose (ap is_failure (sym is ∙ bad)) in
-      not_risen (subst (λ n. Rose n 0) first (subst (λ n. Rose failures n) (last refl) rises)),
-)
+stopped false failures failures_now before after bytes kind told lost same first last rose begun =
+    let none : is_failure kind ≡ true → ⊥ = λ fails.
+    not_risen (subst (λ n. Rose n 0) first (subst (λ n. Rose failures n) (last refl) (rose fails))) in
+    let is : told ≡ kind = same refl (not_true (is_failure kind) none) in (
+      record { reason = subst (IsReason (length bytes)) (sym is) begun.reason; written = begun.written },
+      λ bad. none (ap is_failure (sym is ∙ bad)),
+    )
+
+-- tables that can be read stay
+pub stays_viewed : (P : Content → Type 0) (old new : State) (lost lost_now : Bool) (failures failures_now : ℕ)
+    → failures ≡ 0 → ((rows : Rows) → Settled old rows → LeavesOnly old rows)
+    → Viewed old lost failures new lost_now failures_now P → HasCleanDisk new → StaysReadable old lost_now new
+stays_viewed P old new lost lost_now failures failures_now none leaves viewed clean =
+    let at = viewed clean in
+    let shown : (rows : Rows) (c : Content) → Settled old rows → (means : Means rows c) (shallow : AllShallow c)
+    → Shows old lost failures (kept_of rows c means shallow) =
+    λ rows c was means shallow. record { crash = leaves rows was; settled = λ _. was; none = λ _. none } in
+    record {
+      same = λ sure rows c was means shallow.
+          (at.1 (kept_of rows c means shallow) (shown rows c was means shallow)).0.settled sure;
+      crash = λ rows c was means shallow.
+          (at.1 (kept_of rows c means shallow) (shown rows c was means shallow)).0.crash;
+      clean = at.0;
+    }

@@ -1,11 +1,12 @@
 //! What is between two days in an archive that is open, as a text.
 
-ghost use Rattle.std.specs.Prelude.{◌≡◌, false, true, IfErr, IfOk, OnOk, string_bytes};
+ghost use Rattle.std.specs.Prelude.{◌≡◌, false, true, IfErr, IfOk, string_bytes};
 ghost use Rattle.sqlite.specs.Held.{state};
-ghost use Rattle.archive_exports.specs.Reading.{OnOpen};
+ghost use Rattle.archive_exports.specs.Reading.{OnOpen, OnlyReadsAny};
 ghost use Rattle.archive_view.specs.Looks.{is_stop};
 ghost use Rattle.date_spans.specs.Between.{AreAll, IsBetween};
 ghost use Rattle.store.specs.Archives.{HasArchive};
+ghost use Rattle.store.specs.Histories.{has_broken};
 ghost use Rattle.store_tables.specs.Looking.{IsFailure};
 ghost use Rattle.day_lists.specs.Ends.{OnFound};
 ghost use Rattle.day_lists.specs.Lines.{found_text};
@@ -18,7 +19,8 @@ use std::alloc::Global;
 use store::Archive;
 
 /// What is between two days, counted from 1970-01-01, as a text: numbers alone, or with words what is told of each. The
-/// archive is not changed. 1: memory was refused. 40: somebody else has spoilt what is stored. 80: the database failed.
+/// archive is not changed; an import that is open stays open. 1: memory was refused. 40: somebody else has spoilt what
+/// is stored. 80: the database failed, and the archive has to be opened again.
 pub(crate) fn text_of<S: Alter>(
     alloc: Global,
     archive: &mut Archive<S>,
@@ -32,6 +34,8 @@ pub(crate) fn text_of<S: Alter>(
     ensures unfound { IfErr result (λ kind. OnOpen (state S.Store archive.old.conn) (state S.Store archive.new.conn)
         (λ _ _. IsFailure kind)) }
     ensures stops { IfErr result (λ kind. is_stop kind ≡ true) }
+    ensures lost { archive.new.is_lost ≡ has_broken result }
+    ensures reads { OnlyReadsAny S.Store archive.old archive.new }
 {
     if words {
         told_of(alloc, archive, first, last)
@@ -53,6 +57,8 @@ fn numbers_of<S: Alter>(
     ensures unfound { IfErr result (λ kind. OnOpen (state S.Store archive.old.conn) (state S.Store archive.new.conn)
         (λ _ _. IsFailure kind)) }
     ensures stops { IfErr result (λ kind. is_stop kind ≡ true) }
+    ensures lost { archive.new.is_lost ≡ has_broken result }
+    ensures reads { OnlyReadsAny S.Store archive.old archive.new }
 {
     match found_in(alloc, archive, first, last) {
         Ok(found) => numbers_text(alloc, &found),
@@ -73,6 +79,8 @@ fn told_of<S: Alter>(
     ensures unfound { IfErr result (λ kind. OnOpen (state S.Store archive.old.conn) (state S.Store archive.new.conn)
         (λ _ _. IsFailure kind)) }
     ensures stops { IfErr result (λ kind. is_stop kind ≡ true) }
+    ensures lost { archive.new.is_lost ≡ has_broken result }
+    ensures reads { OnlyReadsAny S.Store archive.old archive.new }
 {
     match found_in(alloc, archive, first, last) {
         Ok(found) => told_by(alloc, archive, &found),
@@ -94,7 +102,8 @@ fn found_in<S: Alter>(
     ensures unfound { IfErr result (λ kind. OnOpen (state S.Store archive.old.conn) (state S.Store archive.new.conn)
         (λ _ _. IsFailure kind)) }
     ensures stops { IfErr result (λ kind. is_stop kind ≡ true) }
-    ensures kept { OnOk result (archive.new.is_lost ≡ false) }
+    ensures lost { archive.new.is_lost ≡ has_broken result }
+    ensures reads { OnlyReadsAny S.Store archive.old archive.new }
 {
     match archive.between_days(alloc, first, last) {
         Ok(found) => Ok(found),
@@ -114,6 +123,8 @@ fn told_by<S: Alter>(
     ensures untold { IfErr result (λ kind. OnOpen (state S.Store archive.old.conn) (state S.Store archive.new.conn)
         (λ _ _. IsFailure kind)) }
     ensures stops { IfErr result (λ kind. is_stop kind ≡ true) }
+    ensures lost { archive.new.is_lost ≡ has_broken result }
+    ensures reads { OnlyReadsAny S.Store archive.old archive.new }
 {
     match archive.state(alloc) {
         Ok(state) => told_text(alloc, &state, found),

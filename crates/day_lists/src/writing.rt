@@ -3,10 +3,11 @@
 ghost use Rattle.std.specs.Prelude.{◌≡◌, ◌⊎◌, ◌≤ℤ◌, false, true, IfErr, OnOk};
 ghost use Rattle.std.specs.Io.KnownBytes.{Keeps};
 ghost use Rattle.sqlite.specs.Held.{state};
-ghost use Rattle.archive_exports.specs.Reading.{OnOpen};
+ghost use Rattle.archive_exports.specs.Reading.{OnOpen, OnlyReadsAny};
 ghost use Rattle.archive_view.specs.Looks.{is_failure};
 ghost use Rattle.devices.specs.Devices.{Rose};
 ghost use Rattle.record_text.specs.declared.refusal.RefusalKind.TheVariants.{WriteFailed};
+ghost use Rattle.store.specs.Histories.{has_broken};
 ghost use Rattle.day_lists.specs.Ends.{AreCut, AreReversed, AreWritten};
 
 use crate::finding::text_of;
@@ -19,11 +20,12 @@ use std::io::Write;
 use store::Archive;
 
 /// Writes the events and register entries of an archive that is open whose date may mean a day from the first to the
-/// last, counted from 1970-01-01, by number, one a line; with words what each is. The archive is not changed.
+/// last, counted from 1970-01-01, by number, one a line; with words what each is. The archive is not changed; an import
+/// that is open stays open, and nothing of it is written.
 ///
-/// 87: the first day is after the last. 80: the database failed. 40: somebody else has spoilt what is stored. At these
-/// nothing is written. 95: the output failed. 1: memory was refused. At these a beginning of the text may have been
-/// written.
+/// 87: the first day is after the last. 80: the database failed, and the archive has to be opened again. 40: somebody
+/// else has spoilt what is stored. At these nothing is written. 95: the output failed. 1: memory was refused. At these
+/// a beginning of the text may have been written.
 pub fn write_days<S: Alter, W: Write + Device>(
     alloc: Global,
     archive: &mut Archive<S>,
@@ -44,6 +46,8 @@ pub fn write_days<S: Alter, W: Write + Device>(
     ensures unread { IfErr result
         (λ kind. is_failure kind ≡ true → Keeps (W.contents writer.old) (W.contents writer.new)) }
     ensures writer { IfErr result (λ kind. kind ≡ WriteFailed → Rose (W.failed writer.old) (W.failed writer.new)) }
+    ensures lost { archive.new.is_lost ≡ has_broken result }
+    ensures reads { OnlyReadsAny S.Store archive.old archive.new }
 {
     if first > last {
         return Err(RefusalKind::DaysReversed);
@@ -68,6 +72,8 @@ fn write_found<S: Alter, W: Write + Device>(
     ensures unread { IfErr result
         (λ kind. is_failure kind ≡ true → Keeps (W.contents writer.old) (W.contents writer.new)) }
     ensures writer { IfErr result (λ kind. kind ≡ WriteFailed → Rose (W.failed writer.old) (W.failed writer.new)) }
+    ensures lost { archive.new.is_lost ≡ has_broken result }
+    ensures reads { OnlyReadsAny S.Store archive.old archive.new }
 {
     match text_of(alloc, archive, first, last, words) {
         Ok(text) => write_text(text.as_str(), writer),

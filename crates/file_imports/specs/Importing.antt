@@ -1,6 +1,6 @@
 -- What the import of a file does: the file is read as a forest, and one request makes all that it has. Rules of our
 -- own.
-use Rattle.std.specs.Prelude.{◌≡◌, ℕ, List, Option, IfSome, Ok}
+use Rattle.std.specs.Prelude.{◌≡◌, ◌⊎◌, ℕ, List, Option, IfSome, Ok, Err}
 use Rattle.sqlite_trees.specs.declared.store.Store.{Ghosts}
 use Rattle.record_text.specs.declared.refusal.Refusal.{Refusal}
 use Rattle.receipts.specs.declared.answer.Answer.{Answer}
@@ -44,3 +44,10 @@ ImportsSilently g token input old e new =
 -- why the input is no file; the reader is blamed only where it failed
 abbrev pub IsNoFile : Option (List ℕ) → Refusal → Type 0 → Type 0
 IsNoFile input e ReaderFailed = (f : Fault) × (e ≡ refusal_of f) × NotRead input ReaderFailed f
+
+-- the import was refused or is in doubt; or it was done, and there is no report; or the input is no file, and the
+-- archive is as it was
+abbrev pub IsUntold : {S : Type 0} → (g : Ghosts S) → List ℕ → Option (List ℕ) → Archive S g → Refusal → Archive S g
+    → Type 0 → Type 0
+IsUntold g token input old e new ReaderFailed = Imports g token input old (Err e) new
+    ⊎ (ImportsSilently g token input old e new ⊎ ((new ≡ old) × IsNoFile input e ReaderFailed))

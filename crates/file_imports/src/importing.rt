@@ -5,7 +5,7 @@ ghost use Rattle.devices.specs.Devices.{Rose};
 ghost use Rattle.receipts.specs.declared.answer.Answer.{Answer};
 ghost use Rattle.import_forest.specs.Report.{report as report_said};
 ghost use Rattle.tables.specs.Applying.{Steps};
-ghost use Rattle.file_imports.specs.Importing.{Imports, ImportsAll, ImportsSilently, IsNoFile};
+ghost use Rattle.file_imports.specs.Importing.{ImportsAll, IsUntold};
 ghost use Rattle.interchange.specs.Results.{IsUnreported};
 ghost use Rattle.archive_core.specs.Machine.{import_of};
 
@@ -36,10 +36,8 @@ pub fn import<S: Alter, R: Read + Device, P: Progress>(
 ) -> Result<(Answer, Report), Refusal>
     ensures imported { IfOk result (λ done. ImportsAll S.Store token (R.remaining input.old) archive.old done.0 done.1
         archive.new) }
-    ensures refused { IfErr result (λ e. Imports S.Store token (R.remaining input.old) archive.old (Err e) archive.new
-        ⊎ (ImportsSilently S.Store token (R.remaining input.old) archive.old e archive.new
-        ⊎ ((archive.new ≡ archive.old) × IsNoFile (R.remaining input.old) e
-        (Rose (R.failed input.old) (R.failed input.new))))) }
+    ensures refused { IfErr result (λ e. IsUntold S.Store token (R.remaining input.old) archive.old e archive.new
+        (Rose (R.failed input.old) (R.failed input.new))) }
 {
     match read_forest(alloc, input) {
         Ok(forest) => import_forest(alloc, archive, token, forest, progress),

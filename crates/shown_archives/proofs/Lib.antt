@@ -1,2 +1,3 @@
 pub mod Masked
+mod Own
 mod Sound

@@ -8,8 +8,9 @@ ghost use Rattle.archive_view.specs.Looks.{is_failure};
 ghost use Rattle.devices.specs.Devices.{Rose};
 ghost use Rattle.gedcom_export.specs.Ends.{IsWhole};
 ghost use Rattle.record_text.specs.declared.refusal.RefusalKind.TheVariants.{WriteFailed};
+ghost use Rattle.store.specs.Histories.{has_broken};
 ghost use Rattle.archive_exports.specs.Exporting.{export_text};
-ghost use Rattle.archive_exports.specs.Reading.{OnOpen};
+ghost use Rattle.archive_exports.specs.Reading.{OnOpen, OnlyReadsAny};
 ghost use Rattle.shown_archives.specs.Showing.{OfSound};
 ghost use Rattle.shown_archives.specs.Writing.{IsCut, IsNotBegun, IsPartPublished, IsPublished};
 
@@ -25,11 +26,11 @@ use std::io::Write;
 use store::Archive;
 
 /// Writes what is shown of an archive on a day as a GEDCOM file under the name of its society. The archive is read
-/// whole, and not changed.
+/// whole, and not changed; an import that is open stays open.
 ///
 /// 1: memory was refused. 40: somebody else has spoilt what is stored, which cannot be read or is not sound. 80: the
-/// database failed. 70: the text would have more than 67,108,864 bytes. 95: the writer failed. Nothing is written at 40
-/// and 80; at the others a beginning of the text may be.
+/// database failed, and the archive has to be opened again. 70: the text would have more than 67,108,864 bytes. 95: the
+/// writer failed. Nothing is written at 40 and 80; at the others a beginning of the text may be.
 pub fn write_public<S: Alter, W: Write + Device>(
     alloc: Global,
     archive: &mut Archive<S>,
@@ -44,9 +45,11 @@ pub fn write_public<S: Alter, W: Write + Device>(
     ensures unread { IfErr result
         (λ kind. is_failure kind ≡ true → Keeps (W.contents writer.old) (W.contents writer.new)) }
     ensures writer { IfErr result (λ kind. kind ≡ WriteFailed → Rose (W.failed writer.old) (W.failed writer.new)) }
+    ensures lost { archive.new.is_lost ≡ has_broken result }
     // Whether the tables are good or not.
-    ensures sound { OnOk result (OfSound (λ c. (society : List ℕ)
-        × IsPublished (W.contents writer.old) (W.contents writer.new) today society c)) }
+    ensures sound { OnOk result (OfSound (state S.Store archive.old.conn) (state S.Store archive.new.conn)
+        (λ c. (society : List ℕ) × IsPublished (W.contents writer.old) (W.contents writer.new) today society c)) }
+    ensures reads { OnlyReadsAny S.Store archive.old archive.new }
 {
     match society_of(alloc, archive) {
         Ok(society) => write_named(alloc, archive, society.as_str(), today, writer),
@@ -70,8 +73,10 @@ fn write_named<S: Alter, W: Write + Device>(
     ensures unread { IfErr result
         (λ kind. is_failure kind ≡ true → Keeps (W.contents writer.old) (W.contents writer.new)) }
     ensures writer { IfErr result (λ kind. kind ≡ WriteFailed → Rose (W.failed writer.old) (W.failed writer.new)) }
-    ensures sound { OnOk result (OfSound
+    ensures lost { archive.new.is_lost ≡ has_broken result }
+    ensures sound { OnOk result (OfSound (state S.Store archive.old.conn) (state S.Store archive.new.conn)
         (λ c. IsPublished (W.contents writer.old) (W.contents writer.new) today society.now c)) }
+    ensures reads { OnlyReadsAny S.Store archive.old archive.new }
 {
     match shown_of(alloc, archive, today) {
         Ok(shown) => write_shown(alloc, &shown, society, writer),
@@ -91,8 +96,7 @@ fn write_shown<W: Write + Device>(
     ensures begun { IsSound shown.now → IfErr result (λ kind.
         IsNotBegun kind (W.contents writer.old) (W.contents writer.new)
         ⊎ IsCut kind (W.contents writer.old) (W.contents writer.new) (export_text society.now shown.now)) }
-    ensures unread { IfErr result
-        (λ kind. is_failure kind ≡ true → Keeps (W.contents writer.old) (W.contents writer.new)) }
+    ensures own { IfErr result (λ kind. is_failure kind ≡ false) }
     ensures writer { IfErr result (λ kind. kind ≡ WriteFailed → Rose (W.failed writer.old) (W.failed writer.new)) }
 {
     match public_export(alloc, shown, society, writer) {

@@ -6,8 +6,9 @@ ghost use Rattle.archive_state.specs.Sound.{IsSound};
 ghost use Rattle.archive_view.specs.Looks.{is_stop};
 ghost use Rattle.record_text.specs.declared.refusal.RefusalKind.TheVariants.{BadStored, OutOfMemory};
 ghost use Rattle.store.specs.Archives.{HasArchive};
+ghost use Rattle.store.specs.Histories.{has_broken};
 ghost use Rattle.store_tables.specs.Looking.{IsFailure};
-ghost use Rattle.archive_exports.specs.Reading.{OnOpen};
+ghost use Rattle.archive_exports.specs.Reading.{OnOpen, OnlyReadsAny};
 ghost use Rattle.shown_archives.specs.Showing.{IsShown, OfSound};
 
 use archive_exports::read_refusal;
@@ -21,8 +22,9 @@ use std::alloc::Global;
 use store::Archive;
 
 /// What may be shown of an archive on a day, counted from 1970-01-01, day 0. The archive is read whole, and not
-/// changed. 1: memory was refused. 40: somebody else has spoilt what is stored, which cannot be read or is not sound.
-/// 80: the database failed.
+/// changed; an import that is open stays open, and nothing of it is shown. 1: memory was refused. 40: somebody else has
+/// spoilt what is stored, which cannot be read or is not sound. 80: the database failed, and the archive has to be
+/// opened again.
 pub fn shown_of<S: Alter>(
     alloc: Global,
     archive: &mut Archive<S>,
@@ -34,8 +36,11 @@ pub fn shown_of<S: Alter>(
     ensures unshown { IfErr result (λ kind. OnOpen (state S.Store archive.old.conn) (state S.Store archive.new.conn)
         (λ _ _. IsFailure kind)) }
     ensures stops { IfErr result (λ kind. is_stop kind ≡ true) }
+    ensures lost { archive.new.is_lost ≡ has_broken result }
     // Whether the tables are good or not.
-    ensures sound { IfOk result (λ s. OfSound (λ c. IsShown c today s)) }
+    ensures sound { IfOk result (λ s. OfSound (state S.Store archive.old.conn) (state S.Store archive.new.conn)
+        (λ c. IsShown c today s)) }
+    ensures reads { OnlyReadsAny S.Store archive.old archive.new }
 {
     match archive.state(alloc) {
         Ok(state) => masked_if_sound(alloc, &state, today),
@@ -78,7 +83,10 @@ pub fn library_of<S: Alter>(
     ensures unshown { IfErr result (λ kind. OnOpen (state S.Store archive.old.conn) (state S.Store archive.new.conn)
         (λ _ _. IsFailure kind)) }
     ensures stops { IfErr result (λ kind. is_stop kind ≡ true) }
-    ensures sound { IfOk result (λ l. OfSound (λ c. IsShown c today l)) }
+    ensures lost { archive.new.is_lost ≡ has_broken result }
+    ensures sound { IfOk result (λ l. OfSound (state S.Store archive.old.conn) (state S.Store archive.new.conn)
+        (λ c. IsShown c today l)) }
+    ensures reads { OnlyReadsAny S.Store archive.old archive.new }
 {
     match shown_of(alloc, archive, today) {
         Ok(shown) => shelved(alloc, shown),

@@ -7,7 +7,8 @@ ghost use Rattle.archive_state.specs.Sound.{IsSound};
 ghost use Rattle.archive_view.specs.Looks.{is_failure};
 ghost use Rattle.devices.specs.Devices.{Rose};
 ghost use Rattle.record_text.specs.declared.refusal.RefusalKind.TheVariants.{WriteFailed};
-ghost use Rattle.archive_exports.specs.Reading.{OnOpen};
+ghost use Rattle.store.specs.Histories.{has_broken};
+ghost use Rattle.archive_exports.specs.Reading.{OnOpen, OnlyReadsAny};
 ghost use Rattle.shown_archives.specs.Sheets.{sheet_text};
 ghost use Rattle.shown_archives.specs.Showing.{OfSound};
 ghost use Rattle.shown_archives.specs.Writing.{GotNoText, GotText, IsNotBegun, IsSheetRefused, IsSheetWritten};
@@ -23,11 +24,12 @@ use std::alloc::Global;
 use std::io::Write;
 use store::Archive;
 
-/// Writes a sheet of what is shown of an archive on a day. The archive is read whole, and not changed.
+/// Writes a sheet of what is shown of an archive on a day. The archive is read whole, and not changed; an import that
+/// is open stays open.
 ///
 /// 1: memory was refused. 40: somebody else has spoilt what is stored, which cannot be read or is not sound. 80: the
-/// database failed. 50: no record that is shown has the number. 51: it is of another kind. 95: the writer failed.
-/// Nothing is written but at 95 and at 1, where a beginning of the text may be.
+/// database failed, and the archive has to be opened again. 50: no record that is shown has the number. 51: it is of
+/// another kind. 95: the writer failed. Nothing is written but at 95 and at 1, where a beginning of the text may be.
 pub fn write_sheet<S: Alter, W: Write + Device>(
     alloc: Global,
     archive: &mut Archive<S>,
@@ -43,9 +45,11 @@ pub fn write_sheet<S: Alter, W: Write + Device>(
     ensures unread { IfErr result
         (λ kind. is_failure kind ≡ true → Keeps (W.contents writer.old) (W.contents writer.new)) }
     ensures writer { IfErr result (λ kind. kind ≡ WriteFailed → Rose (W.failed writer.old) (W.failed writer.new)) }
+    ensures lost { archive.new.is_lost ≡ has_broken result }
     // Whether the tables are good or not.
-    ensures sound { OnOk result (OfSound
+    ensures sound { OnOk result (OfSound (state S.Store archive.old.conn) (state S.Store archive.new.conn)
         (λ c. IsSheetWritten (W.contents writer.old) (W.contents writer.new) sheet.now today c)) }
+    ensures reads { OnlyReadsAny S.Store archive.old archive.new }
 {
     match shown_of(alloc, archive, today) {
         Ok(shown) => write_shown(alloc, &shown, sheet, writer),
@@ -65,8 +69,7 @@ fn write_shown<W: Write + Device>(
     ensures refused { IsSound shown.now → IfErr result (λ kind.
         IsNotBegun kind (W.contents writer.old) (W.contents writer.new)
         ⊎ GotNoText kind (W.contents writer.old) (W.contents writer.new) (sheet_text shown.now.records sheet.now)) }
-    ensures unread { IfErr result
-        (λ kind. is_failure kind ≡ true → Keeps (W.contents writer.old) (W.contents writer.new)) }
+    ensures own { IfErr result (λ kind. is_failure kind ≡ false) }
     ensures writer { IfErr result (λ kind. kind ≡ WriteFailed → Rose (W.failed writer.old) (W.failed writer.new)) }
 {
     match sheet_of(alloc, shown, sheet) {

@@ -11,16 +11,22 @@ use Rattle.devices.specs.declared.device.Device as device
 use Rattle.record_text.specs.declared.refusal.RefusalKind.TheVariants.{WriteFailed}
 use Rattle.archive_exports.specs.Reading.{OnOpen}
 use Rattle.store.specs.Archives.{HasArchive}
+use Rattle.store.specs.Histories.{has_broken}
 use Rattle.shown_archives.specs.Showing.{IsShown, OfSound}
 use Rattle.shown_archives.specs.Writing.{IsPartPublished, IsPublished, IsSheetRefused, IsSheetWritten}
 use Rattle.shown_archives.specs.declared.sheet.Sheet.{Sheet}
-use Rattle.tasks.specs.Ends.{HasWriteFailed, IsUntouched, ListsDays, OnHeld, PrintsSheet, Publishes}
+use Rattle.tasks.specs.Ends.{HasWriteFailed, IsUntouched, ListsDays, LooksAt, OnHeld, OnSound, PrintsSheet, Publishes}
 use Rattle.tasks.specs.Moments.{Moment}
 use Rattle.tasks.specs.Parts.{Shelves}
-use Rattle.tasks.specs.Status.{Plain}
+use Rattle.tasks.specs.Status.{Outcome, Plain}
+
+pub shelves_on : (old new : State) (f d : ℤ) (o : Outcome) (shown : Option Content) → f ≡ d
+    → Shelves old new f o shown → Shelves old new d o shown
+shelves_on old new f d o shown e did = subst (λ (t : ℤ). Shelves old new t o shown) e did
 
 pub library_on : (old new : State) (f d : ℤ) (shown : Content) → f ≡ d
-    → OnOpen old new (λ society c. IsShown c f shown × HasArchive society c new) → OfSound (λ c. IsShown c f shown)
+    → OnOpen old new (λ society c. IsShown c f shown × HasArchive society c new)
+    → OfSound old new (λ c. IsShown c f shown)
     → Shelves old new d (Ok tt) (Some shown)
 library_on old new f d shown e is sound = subst (λ (t : ℤ). Shelves old new t (Ok tt) (Some shown)) e (
   (λ clean. let at = is clean in (at.0, λ society content has. let p = at.1 society content has in (p.0.0, p.1))),
@@ -34,27 +40,31 @@ module _ {S R W F : Type 0} (g : Ghosts S) (reader : read.Ghosts R) (reads : dev
       (IsPublished (writer.contents a.output) (writer.contents b.output) f))
       → IfErr r (λ kind. OnHeld g reader reads writer writes faulter a b
       (IsPartPublished kind (writer.contents a.output) (writer.contents b.output) f))
-      → OnOk r (OfSound (λ c. (society : List ℕ) × IsPublished (writer.contents a.output) (writer.contents b.output) f
+      → OnOk r (OnSound g reader reads writer writes faulter a b (λ c. (society : List ℕ)
+      × IsPublished (writer.contents a.output) (writer.contents b.output) f
       society c))
       → IsUntouched g reader reads writer writes faulter a b r
       → IfErr r (λ kind. kind ≡ WriteFailed → HasWriteFailed g reader reads writer writes faulter a b)
+      → LooksAt g reader reads writer writes faulter a b (has_broken r)
       → Publishes g reader reads writer writes faulter a b d r
-  publishes_on f d r e written begun sound unread blamed =
+  publishes_on f d r e written begun sound unread blamed looks =
       subst (λ (t : ℤ). Publishes g reader reads writer writes faulter a b t r) e
-      (record { written = written; begun = begun; sound = sound; unread = unread; blamed = blamed })
+      (record { written = written; begun = begun; sound = sound; unread = unread; blamed = blamed; looks = looks })
 
   pub prints_on : (sheet : Sheet) (f d : ℤ) (r : Plain) → f ≡ d
       → OnOk r (OnHeld g reader reads writer writes faulter a b
       (λ _ c. IsSheetWritten (writer.contents a.output) (writer.contents b.output) sheet f c))
       → IfErr r (λ kind. OnHeld g reader reads writer writes faulter a b
       (λ _ c. IsSheetRefused kind (writer.contents a.output) (writer.contents b.output) sheet f c))
-      → OnOk r (OfSound (λ c. IsSheetWritten (writer.contents a.output) (writer.contents b.output) sheet f c))
+      → OnOk r (OnSound g reader reads writer writes faulter a b
+      (λ c. IsSheetWritten (writer.contents a.output) (writer.contents b.output) sheet f c))
       → IsUntouched g reader reads writer writes faulter a b r
       → IfErr r (λ kind. kind ≡ WriteFailed → HasWriteFailed g reader reads writer writes faulter a b)
+      → LooksAt g reader reads writer writes faulter a b (has_broken r)
       → PrintsSheet g reader reads writer writes faulter a b sheet d r
-  prints_on sheet f d r e written refused sound unread blamed =
+  prints_on sheet f d r e written refused sound unread blamed looks =
       subst (λ (t : ℤ). PrintsSheet g reader reads writer writes faulter a b sheet t r) e
-      (record { written = written; refused = refused; sound = sound; unread = unread; blamed = blamed })
+      (record { written = written; refused = refused; sound = sound; unread = unread; blamed = blamed; looks = looks })
 
   pub lists_on : (words : Bool) (f first l last : ℤ) (r : Plain) → f ≡ first → l ≡ last
       → OnOk r ((f ≤ℤ l) × OnHeld g reader reads writer writes faulter a b
@@ -65,8 +75,9 @@ module _ {S R W F : Type 0} (g : Ghosts S) (reader : read.Ghosts R) (reads : dev
       (λ _ c. AreCut kind words f l (writer.contents a.output) (writer.contents b.output) c)))
       → IsUntouched g reader reads writer writes faulter a b r
       → IfErr r (λ kind. kind ≡ WriteFailed → HasWriteFailed g reader reads writer writes faulter a b)
+      → LooksAt g reader reads writer writes faulter a b (has_broken r)
       → ListsDays g reader reads writer writes faulter a b words first last r
-  lists_on words f first l last r e h written cut unread blamed =
+  lists_on words f first l last r e h written cut unread blamed looks =
       subst (λ (t : ℤ). ListsDays g reader reads writer writes faulter a b words t last r) e
       (subst (λ (u : ℤ). ListsDays g reader reads writer writes faulter a b words f u r) h
-      (record { written = written; cut = cut; unread = unread; blamed = blamed }))
+      (record { written = written; cut = cut; unread = unread; blamed = blamed; looks = looks }))

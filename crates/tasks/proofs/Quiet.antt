@@ -1,5 +1,5 @@
 -- The status of a task, and what is said on the faults where it is 0.
-use Rattle.std.proofs.Common.{◌≡◌, ◌∙◌, ◌≤◌, ℕ, List, Bool, true, false, arith, true≢false, Ok, Err}
+use Rattle.std.proofs.Common.{◌≡◌, ◌∙◌, ◌≤◌, ℕ, List, Bool, true, false, ap, arith, refl, true≢false, Ok, Err}
 use Rattle.std.specs.Prelude.{Option, Result, OnOk}
 use Rattle.std.specs.declared.io.Read as read
 use Rattle.std.specs.declared.io.Write as write
@@ -34,6 +34,11 @@ on_ok : {A E P : Type 0} (r : Result A E) → P → OnOk r P
 on_ok (Ok a) p = p
 on_ok (Err e) p = tt
 
+-- whether the archive was lost before or not
+either_way : (lost : Bool) (P : Type 0) → (lost ≡ false → P) → (lost ≡ true → P) → P
+either_way false P kept lost = kept refl
+either_way true P kept lost = lost refl
+
 module _ {S R W F : Type 0} (g : Ghosts S) (reader : read.Ghosts R) (reads : device.Ghosts R) (writer : write.Ghosts W)
     (writes : device.Ghosts W) (faulter : write.Ghosts F) where
   does_quietly : (t : Task) (a b : Moment g R W F) (o : Outcome) (shown : Option Content)
@@ -44,8 +49,8 @@ module _ {S R W F : Type 0} (g : Ghosts S) (reader : read.Ghosts R) (reads : dev
   does_quietly task.Export a b o shown did is = on_ok o did.2
   does_quietly (task.ExportPublic today) a b o shown did is = on_ok o did.2
   does_quietly (task.Sheet sheet today) a b o shown did is = on_ok o did.2
-  does_quietly (task.Library today) a b o shown did is = on_ok o did.3
-  does_quietly task.Audit a b o shown did is = did.0.3
+  does_quietly (task.Library today) a b o shown did is = on_ok o did.4
+  does_quietly task.Audit a b o shown did is = did.0.4
   does_quietly (task.Days first last words) a b o shown did is = on_ok o did.2
 
   pub ends_at_most_1 : (t : Task) (a b : Moment g R W F) (status : ℕ) (shown : Option Content)
@@ -56,5 +61,7 @@ module _ {S R W F : Type 0} (g : Ghosts S) (reader : read.Ghosts R) (reads : dev
       → Ends g reader reads writer writes faulter t a b status shown → says t ≡ false → status ≡ 0
       → b.faults ≡ a.faults
   ends_quietly t a b status shown e is zero =
-      done_quiet faulter.contents e.outcome status a.faults e.between b.faults e.finishes
-      (does_quietly t a _ e.outcome shown e.does is) zero
+      let quiet = either_way a.archive.is_lost (OnOk e.outcome (e.between ≡ a.faults))
+      (λ kept. does_quietly t a _ e.outcome shown (e.does kept) is)
+      (λ lost. on_ok e.outcome (ap (λ (m : Moment g R W F). m.faults) (e.reopen lost).2)) in
+      done_quiet faulter.contents e.outcome status a.faults e.between b.faults e.finishes quiet zero

@@ -1,5 +1,5 @@
 -- How each task ends on an archive that is open: what was read and written, the archive before and after, also after a
--- crash, and the exit status. Rules of our own.
+-- crash, and the exit status; and on one that is lost. Rules of our own.
 use Rattle.std.specs.Prelude.{
   ◌≡◌,
   ◌⊎◌,
@@ -28,30 +28,31 @@ use Rattle.sqlite.specs.State.{HasCleanDisk, State}
 use Rattle.sqlite_trees.specs.declared.store.Store.{Ghosts}
 use Rattle.archive_audits.specs.Judging.{Audit, Judges, Tells, without_fault}
 use Rattle.archive_exports.specs.Exporting.{IsPart, export_text}
-use Rattle.archive_exports.specs.Reading.{OnOpen}
+use Rattle.archive_exports.specs.Reading.{OnOpen, OnlyReads, OnlyReadsAny}
 use Rattle.archive_state.specs.Content.{Content}
 use Rattle.archive_view.specs.Looks.{is_failure}
 use Rattle.batch_reading.specs.Input.{row_bytes}
 use Rattle.day_lists.specs.Ends.{AreCut, AreReversed, AreWritten}
 use Rattle.devices.specs.Devices.{Rose}
 use Rattle.devices.specs.declared.device.Device as device
-use Rattle.file_imports.specs.Importing.{Imports, ImportsAll, ImportsSilently, IsNoFile}
+use Rattle.file_imports.specs.Importing.{ImportsAll, IsUntold}
 use Rattle.file_imports.specs.Telling.{import_text}
 use Rattle.gedcom_export.specs.Ends.{IsWhole}
 use Rattle.receipts.specs.declared.answer.Answer.{Answer}
 use Rattle.receipts.specs.declared.report.ReportLine.{ReportLine}
 use Rattle.record_text.specs.declared.refusal.Refusal.{Refusal}
 use Rattle.record_text.specs.declared.refusal.RefusalKind.{RefusalKind}
-use Rattle.record_text.specs.declared.refusal.RefusalKind.TheVariants.{ReadFailed, WriteFailed}
+use Rattle.record_text.specs.declared.refusal.RefusalKind.TheVariants.{ReadFailed, Reopen, Storage, WriteFailed}
 use Rattle.shown_archives.specs.Showing.{OfSound}
 use Rattle.shown_archives.specs.Writing.{IsPartPublished, IsPublished, IsSheetRefused, IsSheetWritten}
 use Rattle.shown_archives.specs.declared.sheet.Sheet.{Sheet}
 use Rattle.store.specs.Calls.{Reads}
+use Rattle.store.specs.Histories.{has_broken}
 use Rattle.tables.specs.Entering.{Enters, IsNoBatch}
 use Rattle.tables.specs.RowByRow.{AppliedInTurn, EndedInTurn, Moment as RowMoment}
 use Rattle.tasks.specs.Moments.{Moment}
 use Rattle.tasks.specs.Parts.{IsPrintedPart, PrintsAudit, Shelves}
-use Rattle.tasks.specs.Status.{Finishes, Outcome, Plain, as_text, placeless_text}
+use Rattle.tasks.specs.Status.{Finishes, Outcome, Plain, as_text, is_80, placeless_text}
 use Rattle.tasks.specs.Texts.{made_text}
 use Rattle.tasks.specs.declared.task.Task.{Task}
 use Rattle.tasks.specs.declared.task.Task.TheVariants as task
@@ -101,6 +102,11 @@ module _ {S R W F : Type 0} (g : Ghosts S) (reader : read.Ghosts R) (reads : dev
   abbrev pub OnHeld : (List ℕ → Content → Type 0) → Type 0
   OnHeld P = OnOpen (state g a.archive.conn) (state g b.archive.conn) P
 
+  -- the archive is only read, whatever its tables are, and is lost only where 80 is told
+  pub record LooksAt (told : Bool) : Type 0 where
+    pub stays : OnlyReadsAny g a.archive b.archive
+    pub lost : b.archive.is_lost ≡ told
+
   -- a device is blamed only where it failed in this call, by its count
   abbrev pub IsBlamed : RefusalKind → Type 0
   IsBlamed kind = (kind ≡ ReadFailed → HasReadFailed) × (kind ≡ WriteFailed → HasWriteFailed)
@@ -136,12 +142,9 @@ module _ {S R W F : Type 0} (g : Ghosts S) (reader : read.Ghosts R) (reads : dev
   abbrev pub FileWhole : List ℕ → Answer → List ReportLine → Type 0
   FileWhole token answer report = ImportsAll g token (reader.remaining a.input) a.archive answer report b.archive
 
-  -- the import was refused or is in doubt; or it was done, and there is no report; or the input is no file, and the
-  -- archive is as it was
+  -- why there is no report
   abbrev pub FileUntold : List ℕ → Refusal → Type 0
-  FileUntold token e = Imports g token (reader.remaining a.input) a.archive (Err e) b.archive
-      ⊎ (ImportsSilently g token (reader.remaining a.input) a.archive e b.archive
-      ⊎ ((b.archive ≡ a.archive) × IsNoFile (reader.remaining a.input) e HasReadFailed))
+  FileUntold token e = IsUntold g token (reader.remaining a.input) a.archive e b.archive HasReadFailed
 
   -- the file was imported, and what was made was printed, with its report; or why not, and nothing is printed; or it
   -- was, and of that a beginning is printed
@@ -160,6 +163,12 @@ module _ {S R W F : Type 0} (g : Ghosts S) (reader : read.Ghosts R) (reads : dev
     pub begun : IfErr r (λ kind. OnHeld (λ society c. IsPart kind (writer.contents a.output) (writer.contents b.output)
         (export_text society c)))
     pub blamed : IfErr r (λ kind. kind ≡ WriteFailed → HasWriteFailed)
+    pub stays : OnlyReads g a.archive b.archive
+    pub told : IfErr r (λ kind. kind ≡ Storage → b.archive.is_lost ≡ true)
+
+  -- P of a sound archive, which the tables mean, whoever wrote them
+  abbrev pub OnSound : (Content → Type 0) → Type 0
+  OnSound P = OfSound (state g a.archive.conn) (state g b.archive.conn) P
 
   -- where what is stored could not be read, nothing is written
   abbrev pub IsUntouched : Plain → Type 0
@@ -171,10 +180,11 @@ module _ {S R W F : Type 0} (g : Ghosts S) (reader : read.Ghosts R) (reads : dev
     pub written : OnOk r (OnHeld (IsPublished (writer.contents a.output) (writer.contents b.output) today))
     pub begun : IfErr r (λ kind. OnHeld (IsPartPublished kind (writer.contents a.output) (writer.contents b.output)
         today))
-    pub sound : OnOk r (OfSound (λ c. (society : List ℕ) × IsPublished (writer.contents a.output)
+    pub sound : OnOk r (OnSound (λ c. (society : List ℕ) × IsPublished (writer.contents a.output)
         (writer.contents b.output) today society c))
     pub unread : IsUntouched r
     pub blamed : IfErr r (λ kind. kind ≡ WriteFailed → HasWriteFailed)
+    pub looks : LooksAt (has_broken r)
 
   -- a sheet of what may be shown of it on a day; or why not. It is written only of an archive that is sound
   pub record PrintsSheet (sheet : Sheet) (today : ℤ) (r : Plain) : Type 0 where
@@ -182,10 +192,11 @@ module _ {S R W F : Type 0} (g : Ghosts S) (reader : read.Ghosts R) (reads : dev
         today c))
     pub refused : IfErr r (λ kind. OnHeld (λ _ c. IsSheetRefused kind (writer.contents a.output)
         (writer.contents b.output) sheet today c))
-    pub sound : OnOk r (OfSound (λ c. IsSheetWritten (writer.contents a.output) (writer.contents b.output) sheet
+    pub sound : OnOk r (OnSound (λ c. IsSheetWritten (writer.contents a.output) (writer.contents b.output) sheet
         today c))
     pub unread : IsUntouched r
     pub blamed : IfErr r (λ kind. kind ≡ WriteFailed → HasWriteFailed)
+    pub looks : LooksAt (has_broken r)
 
   -- what is between two days; or the days are reversed, and the connection is as it was; or a beginning of the text
   pub record ListsDays (words : Bool) (first last : ℤ) (r : Plain) : Type 0 where
@@ -197,11 +208,12 @@ module _ {S R W F : Type 0} (g : Ghosts S) (reader : read.Ghosts R) (reads : dev
         (writer.contents b.output) c)))
     pub unread : IsUntouched r
     pub blamed : IfErr r (λ kind. kind ≡ WriteFailed → HasWriteFailed)
+    pub looks : LooksAt (has_broken r)
 
   -- ---- an audit
   -- the archive is sound, and how many records it has was printed; or it is not, or could not be looked at
   abbrev pub Audits : Outcome → Type 0
-  Audits outcome = (audit : Audit) × (HasCleanDisk (state g b.archive.conn)
+  Audits outcome = (audit : Audit) × LooksAt (has_broken (without_fault audit)) × (HasCleanDisk (state g b.archive.conn)
       → IsAudit (state g a.archive.conn) audit (state g b.archive.conn))
       × PrintsAudit writer.contents writes.failed a.output b.output audit outcome × OnOk outcome IsQuiet
 
@@ -221,17 +233,26 @@ module _ {S R W F : Type 0} (g : Ghosts S) (reader : read.Ghosts R) (reads : dev
   Does (task.Sheet sheet today) outcome shown = Ended outcome (PrintsSheet sheet today) × IsUnread × IsQuiet
       × (shown ≡ None)
   Does (task.Library today) outcome shown =
-      Shelves (state g a.archive.conn) (state g b.archive.conn) today outcome shown × IsUnread × IsUnwritten × IsQuiet
+      Shelves (state g a.archive.conn) (state g b.archive.conn) today outcome shown × LooksAt (is_80 outcome) × IsUnread
+      × IsUnwritten × IsQuiet
   Does task.Audit outcome shown = Audits outcome × IsUnread × (shown ≡ None)
   Does (task.Days first last words) outcome shown = Ended outcome (ListsDays words first last) × IsUnread × IsQuiet
       × (shown ≡ None)
 
--- a task was done, and then its status was made of its outcome, with the line of a refusal on the faults
+  -- ---- an archive that was lost before
+  -- 81: nothing is read, written, changed or shown
+  abbrev pub MustReopen : Outcome → Option Content → Type 0
+  MustReopen outcome shown = (outcome ≡ Err (placeless_text Reopen)) × (shown ≡ None) × (b ≡ a)
+
+-- a task was done, unless the archive was lost before, and then its status was made of its outcome, with the line of a
+-- refusal on the faults
 module _ {S R W F : Type 0} (g : Ghosts S) (reader : read.Ghosts R) (reads : device.Ghosts R) (writer : write.Ghosts W)
     (writes : device.Ghosts W) (faulter : write.Ghosts F) where
   pub record Ends (task : Task) (a b : Moment g R W F) (status : ℕ) (shown : Option Content) : Type 0 where
     pub outcome : Outcome
     pub between : F
-    pub does : Does g reader reads writer writes faulter a
+    pub does : a.archive.is_lost ≡ false → Does g reader reads writer writes faulter a
         (record { archive = b.archive; input = b.input; output = b.output; faults = between }) task outcome shown
+    pub reopen : a.archive.is_lost ≡ true → MustReopen g reader reads writer writes faulter a
+        (record { archive = b.archive; input = b.input; output = b.output; faults = between }) outcome shown
     pub finishes : Finishes faulter.contents outcome status between b.faults

@@ -33,7 +33,7 @@ PrintsAudit got failed old new (Err e) (Err t) = (t ≡ placeless_text e.0) × (
 -- what may be shown of an archive on a day, for a reading room, only of one that is sound; or why there is nothing
 abbrev pub Shelves : State → State → ℤ → Outcome → Option Content → Type 0
 Shelves old new today (Ok done) (Some shown) = OnOpen old new (λ _ c. IsShown c today shown)
-    × OfSound (λ c. IsShown c today shown)
+    × OfSound old new (λ c. IsShown c today shown)
 Shelves old new today (Err t) None = OnOpen old new (λ _ _. IsFailure t.refusal.kind)
 Shelves old new today (Ok done) None = ⊥
 Shelves old new today (Err t) (Some shown) = ⊥

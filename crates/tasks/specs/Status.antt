@@ -1,5 +1,5 @@
 -- The exit status of a task, and the line of a refusal. Rules of our own.
-use Rattle.std.specs.Prelude.{◌≡◌, ◌++◌, ◌∷◌, [], ℕ, List, Option, None, Some, Result, Ok, Err, codes}
+use Rattle.std.specs.Prelude.{◌≡◌, ◌++◌, ◌∷◌, [], ℕ, Bool, false, List, Option, None, Some, Result, Ok, Err, codes}
 use Rattle.std.specs.Fmt.{decimal}
 use Rattle.devices.specs.Devices.{AppendsBeginning}
 use Rattle.record_text.specs.Refusals.{name_of, number_of, unit_name}
@@ -7,6 +7,7 @@ use Rattle.record_text.specs.declared.refusal.RefusalKind.{RefusalKind}
 use Rattle.record_text.specs.declared.refusal.RefusalText.{RefusalText}
 use Rattle.record_text.specs.declared.refusal.Unit.{Unit as Counted}
 use Rattle.record_text.specs.declared.refusal.Unit.TheVariants as unit
+use Rattle.store.specs.Histories.{is_storage}
 
 -- what is done, or why it is not, with the place
 abbrev pub Outcome : Type 0
@@ -22,6 +23,11 @@ placeless_text kind = record { refusal = record { kind = kind; at = None }; unit
 abbrev pub as_text : Plain → Outcome
 as_text (Ok done) = Ok done
 as_text (Err kind) = Err (placeless_text kind)
+
+-- 80: the database failed
+abbrev pub is_80 : Outcome → Bool
+is_80 (Ok done) = false
+is_80 (Err t) = is_storage t.refusal.kind
 
 -- the place of a refusal: ` at line 4`, ` at row 4`
 abbrev pub place_text : Counted → Option ℕ → List ℕ

@@ -4,8 +4,10 @@ ghost use Rattle.std.specs.Prelude.{◌≡◌, false, IfErr, IfOk, OnErr, OnOk, 
 ghost use Rattle.std.specs.Io.KnownBytes.{Appends};
 ghost use Rattle.sqlite.specs.Held.{state};
 ghost use Rattle.sqlite.specs.State.{HasCleanDisk};
-ghost use Rattle.archive_audits.specs.Judging.{Audit};
+ghost use Rattle.archive_audits.specs.Judging.{Audit, without_fault};
+ghost use Rattle.archive_exports.specs.Reading.{OnlyReadsAny};
 ghost use Rattle.devices.specs.Devices.{Rose};
+ghost use Rattle.store.specs.Histories.{has_broken};
 ghost use Rattle.tasks.specs.Ends.{IsAudit};
 ghost use Rattle.tasks.specs.Parts.{IsPrintedPart, PrintsAudit};
 ghost use Rattle.tasks.specs.Texts.{sound_text};
@@ -32,10 +34,12 @@ pub(crate) fn audit_archive<S: Alter, W: Write + Device, F: Write + Device>(
     faults: &mut F,
 ) -> Result<(), RefusalText>
     requires kept { archive.old.is_lost ≡ false }
-    ensures audits { (audit : Audit) × (HasCleanDisk (state S.Store archive.new.conn)
+    ensures audits { (audit : Audit) × (archive.new.is_lost ≡ has_broken (without_fault audit))
+        × (HasCleanDisk (state S.Store archive.new.conn)
         → IsAudit (state S.Store archive.old.conn) audit (state S.Store archive.new.conn))
         × PrintsAudit W.contents W.failed output.old output.new audit result }
     ensures quiet { OnOk result (faults.new ≡ faults.old) }
+    ensures reads { OnlyReadsAny S.Store archive.old archive.new }
 {
     match archive.audit_with_fault(alloc) {
         Ok(records) => match print_sound(alloc, records, output) {

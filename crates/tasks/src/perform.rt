@@ -1,18 +1,18 @@
 //! A task, performed on an archive that is open.
 
-ghost use Rattle.std.specs.Prelude.{◌≡◌, false};
-ghost use Rattle.tasks.specs.Ends.{Does, Ends};
+ghost use Rattle.std.specs.Prelude.{◌≡◌, false, true};
+ghost use Rattle.tasks.specs.Ends.{Does, Ends, MustReopen};
 
 use crate::auditing::audit_archive;
 use crate::entering::enter_batch;
 use crate::importing::import_file;
 use crate::showing::show_library;
-use crate::status::{plain, status_of};
+use crate::status::{placeless, plain, status_of};
 use crate::task::Task;
 use archive_exports::write_archive;
 use day_lists::write_days;
 use devices::Device;
-use record_text::RefusalText;
+use record_text::{RefusalKind, RefusalText};
 use sheets::Library;
 use shown_archives::{write_public, write_sheet};
 use sqlite::Alter;
@@ -27,6 +27,10 @@ use tables::apply;
 ///
 /// Results go to `output`. On `faults` stands, before that line, what is wrong with each row of `Task::Apply` that is
 /// refused, what `Task::Audit` finds wrong, and with `progress` how far an import is.
+///
+/// 81: a call or a look answered 80 before, and the archive has to be opened again; nothing is read, written or
+/// changed. While an import is open, tasks that read serve, and requests are refused with 84. Else refusals are those
+/// of the task.
 pub fn perform_task<S: Alter, C: Clock, R: Read + Device, W: Write + Device, F: Write + Device>(
     alloc: Global,
     clock: &C,
@@ -36,15 +40,38 @@ pub fn perform_task<S: Alter, C: Clock, R: Read + Device, W: Write + Device, F: 
     output: &mut W,
     faults: &mut F,
 ) -> (u8, Option<Library>)
-    requires kept { archive.old.is_lost ≡ false }
-    requires quiet { archive.old.failures ≡ 0 }
     ensures { Ends S.Store R.Read R.Device W.Write W.Device F.Write task
         (record { archive = archive.old; input = input.old; output = output.old; faults = faults.old })
         (record { archive = archive.new; input = input.new; output = output.new; faults = faults.new })
         result.0 result.1 }
 {
-    let (outcome, shown) = do_task(alloc, clock, archive, task, input, output, faults);
+    let (outcome, shown) = try_task(alloc, clock, archive, task, input, output, faults);
     (status_of(outcome, faults), shown)
+}
+
+/// Tries a task: on an archive that is lost it is refused with 81, and nothing is done.
+fn try_task<S: Alter, C: Clock, R: Read + Device, W: Write + Device, F: Write + Device>(
+    alloc: Global,
+    clock: &C,
+    archive: &mut Archive<S>,
+    task: Task,
+    input: &mut R,
+    output: &mut W,
+    faults: &mut F,
+) -> (Result<(), RefusalText>, Option<Library>)
+    ensures does { archive.old.is_lost ≡ false → Does S.Store R.Read R.Device W.Write W.Device F.Write
+        (record { archive = archive.old; input = input.old; output = output.old; faults = faults.old })
+        (record { archive = archive.new; input = input.new; output = output.new; faults = faults.new })
+        task result.0 result.1 }
+    ensures reopen { archive.old.is_lost ≡ true → MustReopen S.Store R.Read R.Device W.Write W.Device F.Write
+        (record { archive = archive.old; input = input.old; output = output.old; faults = faults.old })
+        (record { archive = archive.new; input = input.new; output = output.new; faults = faults.new })
+        result.0 result.1 }
+{
+    if archive.is_lost() {
+        return (Err(placeless(RefusalKind::Reopen)), None);
+    }
+    do_task(alloc, clock, archive, task, input, output, faults)
 }
 
 /// Does a task, and gives its outcome, with what may be shown where that was asked for.
@@ -58,7 +85,6 @@ fn do_task<S: Alter, C: Clock, R: Read + Device, W: Write + Device, F: Write + D
     faults: &mut F,
 ) -> (Result<(), RefusalText>, Option<Library>)
     requires kept { archive.old.is_lost ≡ false }
-    requires quiet { archive.old.failures ≡ 0 }
     ensures { Does S.Store R.Read R.Device W.Write W.Device F.Write
         (record { archive = archive.old; input = input.old; output = output.old; faults = faults.old })
         (record { archive = archive.new; input = input.new; output = output.new; faults = faults.new })

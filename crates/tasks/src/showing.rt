@@ -2,7 +2,9 @@
 
 ghost use Rattle.std.specs.Prelude.{◌≡◌, false};
 ghost use Rattle.sqlite.specs.Held.{state};
+ghost use Rattle.archive_exports.specs.Reading.{OnlyReadsAny};
 ghost use Rattle.tasks.specs.Parts.{Shelves};
+ghost use Rattle.tasks.specs.Status.{is_80};
 
 use crate::status::placeless;
 use record_text::RefusalText;
@@ -19,7 +21,10 @@ pub(crate) fn show_library<S: Alter>(
     today: i32,
 ) -> (Result<(), RefusalText>, Option<Library>)
     requires kept { archive.old.is_lost ≡ false }
-    ensures { Shelves (state S.Store archive.old.conn) (state S.Store archive.new.conn) today result.0 result.1 }
+    ensures shelves { Shelves (state S.Store archive.old.conn) (state S.Store archive.new.conn) today result.0
+        result.1 }
+    ensures reads { OnlyReadsAny S.Store archive.old archive.new }
+    ensures lost { archive.new.is_lost ≡ is_80 result.0 }
 {
     match library_of(alloc, archive, today) {
         Ok(library) => (Ok(()), Some(library)),

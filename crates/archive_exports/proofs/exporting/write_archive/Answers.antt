@@ -1,6 +1,9 @@
+use Rattle.std.proofs.Common.{◌∙◌, ap}
 use Rattle.sqlite.specs.Held.{state}
 use Rattle.gedcom_export.specs.Ends.{IsWhole}
+use Rattle.store.specs.Histories.{is_storage}
 use Rattle.archive_exports.specs.Exporting.{IsPart, export_text}
+use Rattle.archive_exports.proofs.Calls.{reads_then}
 use Rattle.archive_exports.proofs.Exported.{nothing_written}
 use Rattle.archive_exports.proofs.Named.{not_blamed, part_of_named, whole_of_named}
 use Rattle.archive_exports.proofs.exporting.write_archive.Goals as goal
@@ -30,3 +33,14 @@ returns-in-Err-clause-begun g c =
 
 pub returns-in-Err-clause-writer : goal.returns-in-Err-clause-writer
 returns-in-Err-clause-writer g c = not_blamed c.in-Err.kind _ c.in-Err.ensures.stops
+
+pub returns-in-Err-clause-told : goal.returns-in-Err-clause-told
+returns-in-Err-clause-told g c is = c.in-Err.ensures.lost ∙ ap is_storage is
+
+pub returns-in-Ok-clause-reads : goal.returns-in-Ok-clause-reads
+returns-in-Ok-clause-reads g c =
+    reads_then g.S.Store c.args.archive.now c.society_of.new.archive c.write_named.new.archive c.in-Ok.ensures.lost
+    c.in-Ok.ensures.reads.reads c.write_named.ensures.reads
+
+pub returns-in-Err-clause-reads : goal.returns-in-Err-clause-reads
+returns-in-Err-clause-reads g c = c.in-Err.ensures.reads.reads

@@ -1,4 +1,4 @@
-use Rattle.std.proofs.Common.{◌≡◌, string_bytes, w32}
+use Rattle.std.proofs.Common.{◌≡◌, ◌∙◌, string_bytes, sym, w32}
 use Rattle.std.proofs.lemmas.Int.{to_z-of_z}
 use Rattle.std.specs.Prelude.{IfOk, false}
 use Rattle.sqlite.specs.Held.{state}
@@ -6,6 +6,7 @@ use Rattle.archive_exports.specs.Reading.{OnOpen}
 use Rattle.day_lists.specs.Ends.{OnFound}
 use Rattle.day_lists.proofs.Finds.{in_days, numbers_are}
 use Rattle.day_lists.proofs.finding.numbers_of.Goals as goal
+use Rattle.archive_exports.proofs.Calls.{want_alone}
 use Rattle.archive_exports.proofs.Stopped.{want_fails}
 use Rattle.archive_view.proofs.Stops.{want_stops}
 
@@ -28,3 +29,7 @@ returns-in-Ok-clause-unfound g c =
 
 pub returns-in-Ok-clause-stops : goal.returns-in-Ok-clause-stops
 returns-in-Ok-clause-stops g c = want_stops c.numbers_text.result c.numbers_text.ensures.refused
+
+pub returns-in-Ok-clause-lost : goal.returns-in-Ok-clause-lost
+returns-in-Ok-clause-lost g c =
+    c.in-Ok.ensures.lost ∙ sym (want_alone c.numbers_text.result c.numbers_text.ensures.refused)

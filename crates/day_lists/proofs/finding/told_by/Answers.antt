@@ -1,6 +1,8 @@
-use Rattle.std.proofs.Common.{◌≡◌, string_bytes}
+use Rattle.std.proofs.Common.{◌≡◌, ◌∙◌, false, string_bytes, sym}
 use Rattle.sqlite.specs.Held.{state}
 use Rattle.archive_exports.proofs.Asked.{unread_as}
+use Rattle.archive_exports.proofs.Calls.{reads_any, want_alone}
+use Rattle.store.specs.Histories.{is_storage}
 use Rattle.day_lists.proofs.Finds.{read, told_of_held}
 use Rattle.day_lists.proofs.finding.told_by.Goals as goal
 use Rattle.archive_exports.proofs.Stopped.{want_fails}
@@ -27,3 +29,21 @@ returns-in-Err-clause-untold g c =
     unread_as (λ _ of found. found ≡ of) (state g.S.Store c.args.archive.now.conn)
     (state g.S.Store c.state.new.self.conn) c.in-Err.kind c.read_refusal.result c.read_refusal.ensures.same
     (λ clean. c.in-Err.ensures.reads clean c.requires.kept)
+
+pub returns-in-Ok-clause-lost : goal.returns-in-Ok-clause-lost
+returns-in-Ok-clause-lost g c =
+    c.in-Ok.ensures.lost c.requires.kept ∙ sym (want_alone c.told_text.result c.told_text.ensures.refused)
+
+pub returns-in-Ok-clause-reads : goal.returns-in-Ok-clause-reads
+returns-in-Ok-clause-reads g c =
+    reads_any g.S.Store c.args.archive.now c.state.new.self false (c.in-Ok.ensures.lost c.requires.kept)
+    c.in-Ok.ensures.called c.in-Ok.ensures.open (λ clean. (c.in-Ok.ensures.reads clean c.requires.kept).stays)
+
+pub returns-in-Err-clause-lost : goal.returns-in-Err-clause-lost
+returns-in-Err-clause-lost g c = c.in-Err.ensures.lost c.requires.kept ∙ sym c.read_refusal.ensures.lost
+
+pub returns-in-Err-clause-reads : goal.returns-in-Err-clause-reads
+returns-in-Err-clause-reads g c =
+    reads_any g.S.Store c.args.archive.now c.state.new.self (is_storage c.in-Err.kind)
+    (c.in-Err.ensures.lost c.requires.kept) c.in-Err.ensures.called c.in-Err.ensures.open
+    (λ clean. (c.in-Err.ensures.reads clean c.requires.kept).stays)

@@ -3,6 +3,7 @@ use Rattle.std.proofs.lemmas.Int.{to_z-of_z}
 use Rattle.std.specs.Prelude.{IfOk, true}
 use Rattle.sqlite.specs.Held.{state}
 use Rattle.archive_exports.specs.Reading.{OnOpen}
+use Rattle.archive_exports.proofs.Calls.{reads_any_then}
 use Rattle.day_lists.specs.Ends.{OnFound}
 use Rattle.day_lists.proofs.Finds.{in_days, told_are, untold_are}
 use Rattle.day_lists.proofs.finding.told_of.Goals as goal
@@ -23,3 +24,8 @@ returns-in-Ok-clause-unfound g c =
     untold_are string_bytes (state g.S.Store c.args.archive.now.conn) (state g.S.Store c.found_in.new.archive.conn)
     _ _ c.in-Ok.found.items c.deref.result.now c.deref.ensures.value c.in-Ok.ensures.found
     (state g.S.Store c.told_by.new.archive.conn) c.told_by.result c.told_by.ensures.untold
+
+pub returns-in-Ok-clause-reads : goal.returns-in-Ok-clause-reads
+returns-in-Ok-clause-reads g c =
+    reads_any_then g.S.Store c.args.archive.now c.found_in.new.archive c.told_by.new.archive c.in-Ok.ensures.lost
+    c.in-Ok.ensures.reads c.told_by.ensures.reads

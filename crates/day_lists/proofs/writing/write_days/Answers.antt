@@ -2,7 +2,9 @@ use Rattle.std.proofs.Common.{◌≡◌, ◌≤ℤ◌, ◌<ℤ◌, arith, inl, r
 use Rattle.std.proofs.lemmas.Int.{ints, to_z-of_z}
 use Rattle.std.specs.Prelude.{IfErr, OnOk}
 use Rattle.sqlite.specs.Held.{state}
+use Rattle.store_tables.proofs.Queries.{only_committed}
 use Rattle.archive_exports.specs.Reading.{OnOpen}
+use Rattle.archive_exports.proofs.Calls.{reads_none}
 use Rattle.day_lists.specs.Ends.{AreCut, AreReversed, AreWritten}
 use Rattle.day_lists.proofs.Finds.{all_in_order, in_days, part_in_order}
 use Rattle.day_lists.proofs.writing.write_days.Goals as goal
@@ -44,3 +46,10 @@ returns-clause-cut g c =
     (λ f l. IfErr c.write_found.result (λ kind. OnOpen old new (λ _ of. AreCut kind c.args.words f l before after of)))
     _ c.args.first _ c.args.last (to_z-of_z w32 c.args.first c.ranges.first)
     (to_z-of_z w32 c.args.last c.ranges.last) c.write_found.ensures.cut)
+
+pub returns-then-first-last-clause-reads : goal.returns-then-first-last-clause-reads
+returns-then-first-last-clause-reads g c =
+    let conn = c.args.archive.now.conn in
+    reads_none g.S.Store c.args.archive.now
+    (λ rows was t l. only_committed (state g.S.Store conn) rows t was
+    (g.met.S.Store.settled conn.store t was.is_open l))

@@ -1,7 +1,8 @@
-use Rattle.std.proofs.Common.{string_bytes, w32}
+use Rattle.std.proofs.Common.{◌∙◌, string_bytes, sym, w32}
 use Rattle.std.proofs.lemmas.Int.{to_z-of_z}
 use Rattle.std.specs.Prelude.{IfErr, OnOk}
 use Rattle.sqlite.specs.Held.{state}
+use Rattle.archive_exports.proofs.Calls.{written_or_want}
 use Rattle.archive_exports.proofs.Named.{not_blamed}
 use Rattle.archive_exports.specs.Reading.{OnOpen}
 use Rattle.day_lists.specs.Ends.{AreCut, AreWritten}
@@ -47,3 +48,7 @@ returns-in-Err-clause-writer g c = not_blamed c.in-Err.kind _ c.in-Err.ensures.s
 
 pub returns-in-Err-clause-unread : goal.returns-in-Err-clause-unread
 returns-in-Err-clause-unread g c = λ _. keeps (g.W.Write.contents c.args.writer.now)
+
+pub returns-in-Ok-clause-lost : goal.returns-in-Ok-clause-lost
+returns-in-Ok-clause-lost g c =
+    c.in-Ok.ensures.lost ∙ sym (written_or_want c.write_text.result c.write_text.ensures.why)

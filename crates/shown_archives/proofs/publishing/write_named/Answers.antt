@@ -1,10 +1,12 @@
-use Rattle.std.proofs.Common.{w32}
+use Rattle.std.proofs.Common.{◌∙◌, sym, w32}
 use Rattle.std.proofs.lemmas.Int.{to_z-of_z}
 use Rattle.sqlite.specs.Held.{state}
 use Rattle.gedcom_export.specs.Ends.{IsWhole}
 use Rattle.archive_exports.specs.Exporting.{export_text}
+use Rattle.archive_exports.proofs.Calls.{no_failure}
 use Rattle.archive_exports.proofs.Named.{not_blamed}
 use Rattle.shown_archives.specs.Writing.{IsCut, IsNotBegun}
+use Rattle.shown_archives.proofs.Own.{never_unread}
 use Rattle.shown_archives.proofs.Sound.{all_of_sound, day_sound}
 use Rattle.shown_archives.proofs.Masked.{all_of_shown, none_of_shown, not_begun, of_day}
 use Rattle.shown_archives.proofs.publishing.write_named.Goals as goal
@@ -45,9 +47,18 @@ returns-in-Err-clause-unread g c = λ _. keeps (g.W.Write.contents c.args.writer
 
 pub returns-in-Ok-clause-sound : goal.returns-in-Ok-clause-sound
 returns-in-Ok-clause-sound g c =
+    let old = state g.S.Store c.args.archive.now.conn in
+    let new = state g.S.Store c.shown_of.new.archive.conn in
     let before = g.W.Write.contents c.args.writer.now in
     let after = g.W.Write.contents c.write_shown.new.writer in
-    all_of_sound c.args.today c.in-Ok.shown
-    (day_sound _ c.args.today c.in-Ok.shown (to_z-of_z w32 c.args.today c.ranges.today) c.in-Ok.ensures.sound)
+    all_of_sound old new c.args.today c.in-Ok.shown
+    (day_sound old new _ c.args.today c.in-Ok.shown (to_z-of_z w32 c.args.today c.ranges.today) c.in-Ok.ensures.sound)
     c.write_shown.result
     (λ s. IsWhole before after (export_text c.args.society.now s)) c.write_shown.ensures.written
+
+pub returns-in-Ok-clause-unread : goal.returns-in-Ok-clause-unread
+returns-in-Ok-clause-unread g c = never_unread c.write_shown.result _ c.write_shown.ensures.own
+
+pub returns-in-Ok-clause-lost : goal.returns-in-Ok-clause-lost
+returns-in-Ok-clause-lost g c =
+    c.in-Ok.ensures.lost ∙ sym (no_failure c.write_shown.result c.write_shown.ensures.own)

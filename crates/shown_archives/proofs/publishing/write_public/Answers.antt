@@ -3,6 +3,7 @@ use Rattle.std.proofs.lemmas.Int.{to_z-of_z}
 use Rattle.std.specs.Prelude.{IfErr, OnOk}
 use Rattle.sqlite.specs.Held.{state}
 use Rattle.archive_exports.specs.Reading.{OnOpen}
+use Rattle.archive_exports.proofs.Calls.{reads_any_then}
 use Rattle.archive_exports.proofs.Named.{not_blamed, part_of_named, whole_of_named}
 use Rattle.shown_archives.specs.Writing.{IsPartPublished, IsPublished}
 use Rattle.shown_archives.specs.Showing.{OfSound}
@@ -48,9 +49,18 @@ returns-in-Err-clause-unread g c = λ _. keeps (g.W.Write.contents c.args.writer
 
 pub returns-in-Ok-clause-sound : goal.returns-in-Ok-clause-sound
 returns-in-Ok-clause-sound g c =
+    let old = state g.S.Store c.args.archive.now.conn in
+    let new = state g.S.Store c.write_named.new.archive.conn in
     let before = g.W.Write.contents c.args.writer.now in
     let after = g.W.Write.contents c.write_named.new.writer in
     subst (λ (t : ℤ). OnOk c.write_named.result
-    (OfSound (λ of. (society : List ℕ) × IsPublished before after t society of)))
+    (OfSound old new (λ of. (society : List ℕ) × IsPublished before after t society of)))
     (to_z-of_z w32 c.args.today c.ranges.today)
-    (all_under c.write_named.result c.as_str.result.now (IsPublished before after _) c.write_named.ensures.sound)
+    (all_under old (state g.S.Store c.society_of.new.archive.conn) new c.society_of.new.archive.is_lost
+    c.in-Ok.ensures.lost (λ clean. (c.write_named.ensures.reads.stays clean).clean) c.in-Ok.ensures.reads.stays
+    c.write_named.result c.as_str.result.now (IsPublished before after _) c.write_named.ensures.sound)
+
+pub returns-in-Ok-clause-reads : goal.returns-in-Ok-clause-reads
+returns-in-Ok-clause-reads g c =
+    reads_any_then g.S.Store c.args.archive.now c.society_of.new.archive c.write_named.new.archive
+    c.in-Ok.ensures.lost c.in-Ok.ensures.reads c.write_named.ensures.reads

@@ -1,9 +1,10 @@
-use Rattle.std.proofs.Common.{w32}
+use Rattle.std.proofs.Common.{◌∙◌, sym, w32}
 use Rattle.std.proofs.lemmas.Int.{to_z-of_z}
 use Rattle.sqlite.specs.Held.{state}
 use Rattle.archive_state.specs.Content.{Content}
 use Rattle.store.specs.Archives.{HasArchive}
 use Rattle.archive_exports.specs.Reading.{OnOpen}
+use Rattle.archive_exports.proofs.Calls.{want_alone}
 use Rattle.shown_archives.specs.Showing.{IsShown, OfSound}
 use Rattle.shown_archives.proofs.Masked.{of_day, same_of}
 use Rattle.shown_archives.proofs.Sound.{day_sound}
@@ -30,6 +31,11 @@ returns-in-Ok-clause-stops g c = want_stops c.shelved.result c.shelved.ensures.r
 
 pub returns-in-Ok-clause-sound : goal.returns-in-Ok-clause-sound
 returns-in-Ok-clause-sound g c =
-    same_of c.shelved.result c.in-Ok.shown (λ (l : Content). OfSound (λ of. IsShown of c.args.today l))
+    let old = state g.S.Store c.args.archive.now.conn in
+    let new = state g.S.Store c.shown_of.new.archive.conn in
+    same_of c.shelved.result c.in-Ok.shown (λ (l : Content). OfSound old new (λ of. IsShown of c.args.today l))
     c.shelved.ensures.same
-    (day_sound _ c.args.today c.in-Ok.shown (to_z-of_z w32 c.args.today c.ranges.today) c.in-Ok.ensures.sound)
+    (day_sound old new _ c.args.today c.in-Ok.shown (to_z-of_z w32 c.args.today c.ranges.today) c.in-Ok.ensures.sound)
+
+pub returns-in-Ok-clause-lost : goal.returns-in-Ok-clause-lost
+returns-in-Ok-clause-lost g c = c.in-Ok.ensures.lost ∙ sym (want_alone c.shelved.result c.shelved.ensures.refused)

@@ -1,7 +1,8 @@
 use Rattle.std.proofs.Common.{SFits, refl, rules, w32}
 use Rattle.std.proofs.lemmas.Int.{to_z-of_z}
+use Rattle.sqlite.specs.Held.{state}
 use Rattle.tasks.proofs.Blamed.{blamed_by}
-use Rattle.tasks.proofs.Days.{lists_on, prints_on, publishes_on}
+use Rattle.tasks.proofs.Days.{lists_on, prints_on, publishes_on, shelves_on}
 use Rattle.tasks.proofs.perform.do_task.Goals as goal
 
 pub returns-in-Apply : goal.returns-in-Apply
@@ -37,7 +38,13 @@ returns-in-Export g c =
       (
         c.write_archive.result,
         c.plain-in-Export.ensures,
-        record { written = did.written; begun = did.begun; blamed = did.writer },
+        record {
+          written = did.written;
+          begun = did.begun;
+          blamed = did.writer;
+          stays = did.reads;
+          told = did.told;
+        },
       ),
       refl,
       refl,
@@ -53,7 +60,8 @@ returns-in-ExportPublic g c =
         c.write_public.result,
         c.plain-in-ExportPublic.ensures,
         publishes_on _ _ _ _ _ _ _ _ _ c.in-ExportPublic.today c.write_public.result
-            (to_z-of_z w32 c.in-ExportPublic.today fits) did.written did.begun did.sound did.unread did.writer,
+            (to_z-of_z w32 c.in-ExportPublic.today fits) did.written did.begun did.sound did.unread did.writer
+            (record { stays = did.reads; lost = did.lost }),
       ),
       refl,
       refl,
@@ -69,8 +77,23 @@ returns-in-Sheet g c =
         c.write_sheet.result,
         c.plain-in-Sheet.ensures,
         prints_on _ _ _ _ _ _ _ _ _ _ c.in-Sheet.today c.write_sheet.result
-            (to_z-of_z w32 c.in-Sheet.today fits) did.written did.refused did.sound did.unread did.writer,
+            (to_z-of_z w32 c.in-Sheet.today fits) did.written did.refused did.sound did.unread did.writer
+            (record { stays = did.reads; lost = did.lost }),
       ),
+      refl,
+      refl,
+      refl,
+    )
+
+pub returns-in-Library : goal.returns-in-Library
+returns-in-Library g c =
+    let did = c.show_library.ensures in
+    let fits : SFits w32 c.in-Library.today = search rules in
+    rw c.in-Library.is (
+      shelves_on (state g.S.Store c.args.archive.now.conn) (state g.S.Store c.show_library.new.archive.conn) _
+          c.in-Library.today c.show_library.result.0 c.show_library.result.1
+          (to_z-of_z w32 c.in-Library.today fits) did.shelves,
+      record { stays = did.reads; lost = did.lost },
       refl,
       refl,
       refl,
@@ -79,7 +102,17 @@ returns-in-Sheet g c =
 pub returns-in-Audit : goal.returns-in-Audit
 returns-in-Audit g c =
     let did = c.audit_archive.ensures in
-    rw c.in-Audit.is ((did.audits.0, did.audits.1, did.audits.2, did.quiet), refl, refl)
+    rw c.in-Audit.is (
+      (
+        did.audits.0,
+        record { stays = did.reads; lost = did.audits.1 },
+        did.audits.2,
+        did.audits.3,
+        did.quiet,
+      ),
+      refl,
+      refl,
+    )
 
 pub returns-in-Days : goal.returns-in-Days
 returns-in-Days g c =
@@ -92,7 +125,7 @@ returns-in-Days g c =
         c.plain-in-Days.ensures,
         lists_on _ _ _ _ _ _ _ _ c.in-Days.words _ c.in-Days.first _ c.in-Days.last c.write_days.result
             (to_z-of_z w32 c.in-Days.first fits_first) (to_z-of_z w32 c.in-Days.last fits_last) did.written did.cut
-            did.unread did.writer,
+            did.unread did.writer (record { stays = did.reads; lost = did.lost }),
       ),
       refl,
       refl,
