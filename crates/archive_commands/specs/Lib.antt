@@ -1,4 +1,1 @@
-pub mod Closing
-pub mod Made
-pub mod Opening
 pub mod Tasks

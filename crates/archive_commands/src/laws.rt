@@ -10,7 +10,7 @@ ghost use Rattle.archive_exports.specs.Reading.{OnOpen};
 ghost use Rattle.gedcom_export.specs.Ends.{IsWhole};
 ghost use Rattle.store.specs.declared.archive.Archive.{Archive};
 ghost use Rattle.tables.specs.Applying.{PerformsAll};
-ghost use Rattle.archive_commands.specs.Opening.{IsTakenUp, OnHeld};
+ghost use Rattle.archive_files.specs.Opening.{IsTakenUp, OnHeld};
 ghost use Rattle.archive_commands.specs.Tasks.{PerformsOn};
 
 use sqlite_disk::Disk;

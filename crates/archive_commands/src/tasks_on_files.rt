@@ -4,21 +4,21 @@ ghost use Rattle.std.specs.Prelude.{◌≡◌, Err};
 ghost use Rattle.sqlite_wal.specs.Files.{image_at};
 ghost use Rattle.archive_commands.specs.Tasks.{EndsOnFile};
 
-use crate::opening::{OpenFile, open};
+use archive_files::open;
+use database_files::{Left, LeftFile, Openable};
 use devices::Device;
 use sheets::Library;
-use sqlite::Start;
 use std::io::{Read, Write};
 use std::rt::HostRuntime;
 use tasks::{Task, perform_task, placeless, status_of};
 
 /// Opens the archive in a file, performs a task on it, and gives the exit status; of `Task::Library` also what may be
-/// shown; and the connection over the file where one was opened.
+/// shown; and what is left of the file.
 ///
 /// 82: there is no file, or it has no archive. 83: a later program made it. 80: the file cannot be opened or is no
 /// database, or the database failed. 1: memory was refused. At these nothing is read, and nothing written but the line
 /// of the refusal. Else it ends as `tasks::perform_task`.
-pub fn perform_on_file<S: Start, R: Read + Device, W: Write + Device, F: Write + Device>(
+pub fn perform_on_file<S: Openable, R: Read + Device, W: Write + Device, F: Write + Device>(
     rt: &HostRuntime,
     file: &str,
     start: S,
@@ -26,7 +26,7 @@ pub fn perform_on_file<S: Start, R: Read + Device, W: Write + Device, F: Write +
     input: &mut R,
     output: &mut W,
     faults: &mut F,
-) -> (u8, Option<Library>, Option<OpenFile<S>>)
+) -> (u8, Option<Library>, LeftFile<S>)
     ensures { EndsOnFile R.Read R.Device W.Write W.Device F.Write (image_at S.Start) task
         (record { input = input.old; output = output.old; faults = faults.old })
         (record { input = input.new; output = output.new; faults = faults.new }) result.0 result.1 result.2 }
@@ -42,7 +42,7 @@ pub fn perform_on_file<S: Start, R: Read + Device, W: Write + Device, F: Write +
                 output,
                 faults,
             );
-            (status, shown, Some(archive.into_connection()))
+            (status, shown, Left::Open(archive.into_connection()))
         }
         Err((kind, left)) => (status_of(Err(placeless(kind)), faults), None, left),
     }

@@ -4,15 +4,14 @@ use Rattle.std.specs.Prelude.{Option, Result, OnErr, OnOk, is_ok, if◌then◌el
 use Rattle.std.specs.Io.KnownBytes.{Appends}
 use Rattle.std.specs.declared.io.Read as read
 use Rattle.std.specs.declared.io.Write as write
-use Rattle.sqlite.specs.Held.{Held}
 use Rattle.sqlite_disk.specs.declared.Disk as disk
-use Rattle.sqlite_store.specs.declared.store.FileStore.{FileStore}
 use Rattle.sqlite_wal.specs.Recovery.{Image}
 use Rattle.sqlite.specs.Files.{over_files}
 use Rattle.archive_commands.specs.Tasks.{EndsOnFile}
 use Rattle.archive_state.specs.Content.{Content}
 use Rattle.command_line.specs.declared.tasks.Asked.{Asked}
 use Rattle.command_line.specs.declared.tasks.Asked.TheVariants as asked
+use Rattle.database_files.specs.declared.left.Left.{Left}
 use Rattle.devices.specs.Devices.{AppendsBeginning}
 use Rattle.devices.specs.declared.device.Device as device
 use Rattle.parish.specs.Doing.{Does, DoesTask, DoesUnder, Finished, tells}
@@ -31,9 +30,9 @@ on_ok : {A E P : Type 0} (r : Result A E) → P → OnOk r P
 on_ok (Ok a) p = p
 on_ok (Err e) p = tt
 
-module _ {D R W F : Type 0} {g : disk.Ghosts D} (reader : read.Ghosts R) (reads : device.Ghosts R)
+module _ {D S R W F : Type 0} {g : disk.Ghosts D} (reader : read.Ghosts R) (reads : device.Ghosts R)
     (writer : write.Ghosts W) (writes : device.Ghosts W) (faulter : write.Ghosts F) (image : Image) (status : ℕ)
-    (x y : Streams R W F) (left : Option (Held (FileStore D g))) (room : Option Visits) where
+    (x y : Streams R W F) (left : Left S D g) (room : Option Visits) where
   -- ---- the status is 0 or 1
   finished_at_most_1 : (P : Outcome → Type 0)
       → Finished reader reads writer writes faulter image status x y left room P → status ≤ 1

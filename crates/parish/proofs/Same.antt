@@ -3,12 +3,11 @@ use Rattle.std.proofs.Common.{◌≡◌, ℕ, List, refl, subst}
 use Rattle.std.specs.Prelude.{ℤ, Bool, Option}
 use Rattle.std.specs.declared.io.Read as read
 use Rattle.std.specs.declared.io.Write as write
-use Rattle.sqlite.specs.Held.{Held}
 use Rattle.sqlite_disk.specs.declared.Disk as disk
-use Rattle.sqlite_store.specs.declared.store.FileStore.{FileStore}
 use Rattle.sqlite_wal.specs.Recovery.{Image}
 use Rattle.archive_commands.specs.Tasks.{EndsOnFile}
 use Rattle.archive_state.specs.Content.{Content}
+use Rattle.database_files.specs.declared.left.Left.{Left}
 use Rattle.devices.specs.declared.device.Device as device
 use Rattle.parish.specs.Doing.{DoesTask}
 use Rattle.parish.specs.declared.visits.Visits.{Visits}
@@ -16,9 +15,9 @@ use Rattle.tasks.specs.Moments.{Streams}
 use Rattle.tasks.specs.declared.task.Task.{Task}
 use Rattle.tasks.specs.declared.task.Task.TheVariants as task
 
-module _ {D R W F : Type 0} {g : disk.Ghosts D} (reader : read.Ghosts R) (reads : device.Ghosts R)
+module _ {D S R W F : Type 0} {g : disk.Ghosts D} (reader : read.Ghosts R) (reads : device.Ghosts R)
     (writer : write.Ghosts W) (writes : device.Ghosts W) (faulter : write.Ghosts F) (image : Image) (status : ℕ)
-    (x y : Streams R W F) (left : Option (Held (FileStore D g))) where
+    (x y : Streams R W F) (left : Left S D g) where
   pub under_token : (room : Option Visits) (t : List ℕ → Task) (word token : List ℕ) → word ≡ token
       → DoesTask reader reads writer writes faulter image status x y left room (t word)
       → DoesTask reader reads writer writes faulter image status x y left room (t token)

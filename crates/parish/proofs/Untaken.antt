@@ -3,25 +3,25 @@ use Rattle.std.proofs.Common.{◌≡◌, ◌⊎◌, ℕ, List, inr, refl}
 use Rattle.std.specs.Prelude.{Option, None, Some, IfSome}
 use Rattle.std.specs.declared.io.Read as read
 use Rattle.std.specs.declared.io.Write as write
-use Rattle.sqlite.specs.Held.{Held}
 use Rattle.sqlite_disk.specs.declared.Disk as disk
-use Rattle.sqlite_store.specs.declared.store.FileStore.{FileStore}
 use Rattle.sqlite_wal.specs.Recovery.{Image}
 use Rattle.command_line.specs.Asking.{IsTaken, command_named, name_of}
 use Rattle.command_line.specs.declared.tasks.Asked.{Asked}
 use Rattle.command_line.specs.declared.tasks.Asked.TheVariants as asked
+use Rattle.database_files.specs.Opening.{IsUntouched}
+use Rattle.database_files.specs.declared.left.Left.{Left}
 use Rattle.devices.specs.declared.device.Device as device
 use Rattle.parish.specs.Doing.{Does}
 use Rattle.parish.specs.declared.visits.Visits.{Visits}
 use Rattle.tasks.specs.Moments.{Streams}
 
-module _ {R W F D : Type 0} {g : disk.Ghosts D} (reader : read.Ghosts R) (reads : device.Ghosts R)
+module _ {R W F D S : Type 0} {g : disk.Ghosts D} (reader : read.Ghosts R) (reads : device.Ghosts R)
     (writer : write.Ghosts W) (writes : device.Ghosts W) (faulter : write.Ghosts F) (image : Image) (status : ℕ)
-    (x y : Streams R W F) (left : Option (Held (FileStore D g)))
-    (room : Option Visits) (words : List (List ℕ)) (none : ¬ (IsTaken words)) (Help : Type 0) where
+    (x y : Streams R W F) (left : Left S D g) (room : Option Visits) (words : List (List ℕ)) (none : ¬ (IsTaken words))
+    (Help : Type 0) where
   pub untaken : (a : Asked) → IfSome (name_of a) (λ n. IsTaken words × (command_named words ≡ Some n))
       → Does reader reads writer writes faulter image status x y left room a → (name_of a ≡ None → Help)
-      → (y.input ≡ x.input) × (left ≡ None) × (room ≡ None) × ((y.output ≡ x.output) ⊎ Help)
+      → (y.input ≡ x.input) × IsUntouched left × (room ≡ None) × ((y.output ≡ x.output) ⊎ Help)
   untaken asked.Norm is did help = absurd (none is.0)
   untaken asked.Check is did help = absurd (none is.0)
   untaken (asked.Init file society) is did help = absurd (none is.0)

@@ -18,12 +18,10 @@ use Rattle.std.specs.Prelude.{
 }
 use Rattle.std.specs.declared.io.Read as read
 use Rattle.std.specs.declared.io.Write as write
-use Rattle.sqlite.specs.Held.{Held}
 use Rattle.sqlite_disk.specs.declared.Disk as disk
-use Rattle.sqlite_store.specs.declared.store.FileStore.{FileStore}
 use Rattle.sqlite_wal.specs.Recovery.{Image}
-use Rattle.archive_commands.specs.Made.{IsMadeIn, Unmade}
 use Rattle.archive_commands.specs.Tasks.{EndsOnFile}
+use Rattle.archive_files.specs.Made.{IsMadeIn, Unmade}
 use Rattle.archive_state.specs.Content.{Content}
 use Rattle.command_line.specs.Asking.{Asks, name_of}
 use Rattle.command_line.specs.declared.tasks.Asked.{Asked}
@@ -42,6 +40,8 @@ use Rattle.command_line.specs.declared.tasks.Asked.TheVariants.{
   Sheet,
   Show,
 }
+use Rattle.database_files.specs.Opening.{IsUntouched}
+use Rattle.database_files.specs.declared.left.Left.{Left}
 use Rattle.devices.specs.Devices.{Rose}
 use Rattle.devices.specs.declared.device.Device as device
 use Rattle.parish.specs.Ends.{Checks, Normalises, Shows}
@@ -62,15 +62,15 @@ tells (Apply file) = true
 tells (Import file token progress) = progress
 tells _ = false
 
-module _ {D : Type 0} {g : disk.Ghosts D} (image : Image) (left : Option (Held (FileStore D g))) where
+module _ {D S : Type 0} {g : disk.Ghosts D} (image : Image) (left : Left S D g) where
   -- a new archive of the society was made; or there is a reason why not
   abbrev pub Makes : List ℕ → Outcome → Type 0
   Makes society outcome = (r : Plain) × (outcome ≡ as_text r) × OnOk r (IsMadeIn image society left)
       × IfErr r (λ kind. Unmade image society kind left)
 
-module _ {D R W F : Type 0} {g : disk.Ghosts D} (reader : read.Ghosts R) (reads : device.Ghosts R)
+module _ {D S R W F : Type 0} {g : disk.Ghosts D} (reader : read.Ghosts R) (reads : device.Ghosts R)
     (writer : write.Ghosts W) (writes : device.Ghosts W) (faulter : write.Ghosts F) (image : Image) (status : ℕ)
-    (x y : Streams R W F) (left : Option (Held (FileStore D g))) (room : Option Visits) where
+    (x y : Streams R W F) (left : Left S D g) (room : Option Visits) where
   -- ---- the streams, the file and the room
   abbrev pub HasReadFailed : Type 0
   HasReadFailed = Rose (reads.failed x.input) (reads.failed y.input)
@@ -86,7 +86,7 @@ module _ {D R W F : Type 0} {g : disk.Ghosts D} (reader : read.Ghosts R) (reads 
 
   -- no file was opened, and no room
   abbrev pub OpensNothing : Type 0
-  OpensNothing = (left ≡ None) × (room ≡ None)
+  OpensNothing = IsUntouched left × (room ≡ None)
 
   -- P of what was done, whose status this is, with the line of a refusal on the faults
   abbrev pub Finished : (Outcome → Type 0) → Type 0

@@ -12,28 +12,28 @@ ghost use Rattle.tasks.specs.Status.{Finishes, Outcome};
 ghost use Rattle.tasks.specs.declared.task.Task.TheVariants as task;
 
 use crate::visits::{Visits, room_of};
-use archive_commands::{OpenFile, init, perform_on_file};
+use archive_commands::perform_on_file;
+use archive_files::init;
+use database_files::{Left, LeftFile, Openable};
 use gedcom_tree::Device;
 use receipts::Token;
 use record_text::RefusalKind;
-use sqlite::Start;
 use std::alloc::Global;
 use std::io::{Read, Write};
 use std::rt::HostRuntime;
 use tasks::{Task, placeless, plain, status_of};
 
-/// What a command ends with: the exit status, the connection over the archive's file where one was opened, and the room
-/// that is to be served.
-pub(crate) type Ended<S> = (u8, Option<OpenFile<S>>, Option<Visits>);
+/// What a command ends with: the exit status, what is left of the archive's file, and the room that is to be served.
+pub(crate) type Ended<S> = (u8, LeftFile<S>, Option<Visits>);
 
 /// `init`: makes the archive of a society in a file.
-pub(crate) fn make<S: Start, F: Write + Device>(
+pub(crate) fn make<S: Openable, F: Write + Device>(
     rt: &HostRuntime,
     file: &str,
     society: &str,
     start: S,
     faults: &mut F,
-) -> (u8, Option<OpenFile<S>>)
+) -> (u8, LeftFile<S>)
     ensures { (outcome : Outcome) × Makes (image_at S.Start) result.1 society.now outcome
         × Finishes F.contents outcome result.0 faults.old faults.new }
 {
@@ -42,7 +42,7 @@ pub(crate) fn make<S: Start, F: Write + Device>(
 }
 
 /// Performs a task on the archive in a file.
-pub(crate) fn do_task<S: Start, R: Read + Device, W: Write + Device, F: Write + Device>(
+pub(crate) fn do_task<S: Openable, R: Read + Device, W: Write + Device, F: Write + Device>(
     rt: &HostRuntime,
     file: &str,
     task: Task,
@@ -60,7 +60,7 @@ pub(crate) fn do_task<S: Start, R: Read + Device, W: Write + Device, F: Write + 
 }
 
 /// `entries`: enters the rows of the input as a batch, under a token. 93: the word is no token; no file is opened.
-pub(crate) fn enter<S: Start, R: Read + Device, W: Write + Device, F: Write + Device>(
+pub(crate) fn enter<S: Openable, R: Read + Device, W: Write + Device, F: Write + Device>(
     rt: &HostRuntime,
     file: &str,
     token: &str,
@@ -85,12 +85,16 @@ pub(crate) fn enter<S: Start, R: Read + Device, W: Write + Device, F: Write + De
             output,
             faults,
         ),
-        Err(kind) => (status_of(Err(placeless(kind)), faults), None, None),
+        Err(kind) => (
+            status_of(Err(placeless(kind)), faults),
+            Left::Untouched(start),
+            None,
+        ),
     }
 }
 
 /// `import`: takes in the file of the input, under a token. 93: the word is no token; no file is opened.
-pub(crate) fn take_in<S: Start, R: Read + Device, W: Write + Device, F: Write + Device>(
+pub(crate) fn take_in<S: Openable, R: Read + Device, W: Write + Device, F: Write + Device>(
     rt: &HostRuntime,
     file: &str,
     token: &str,
@@ -115,7 +119,11 @@ pub(crate) fn take_in<S: Start, R: Read + Device, W: Write + Device, F: Write + 
             output,
             faults,
         ),
-        Err(kind) => (status_of(Err(placeless(kind)), faults), None, None),
+        Err(kind) => (
+            status_of(Err(placeless(kind)), faults),
+            Left::Untouched(start),
+            None,
+        ),
     }
 }
 
@@ -135,7 +143,7 @@ fn token_given(alloc: Global, word: &str) -> Result<Token, RefusalKind>
 }
 
 /// `serve`: the room that is to be served, with what may be shown of the archive in a file on a day.
-pub(crate) fn open_room<S: Start, R: Read + Device, W: Write + Device, F: Write + Device>(
+pub(crate) fn open_room<S: Openable, R: Read + Device, W: Write + Device, F: Write + Device>(
     rt: &HostRuntime,
     file: &str,
     port: u16,

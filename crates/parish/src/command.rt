@@ -14,6 +14,7 @@ ghost use Rattle.std.specs.Prelude.{
 ghost use Rattle.std.specs.IoError.{error_kind};
 ghost use Rattle.sqlite_wal.specs.Files.{image_at};
 ghost use Rattle.command_line.specs.Asking.{AsksForHelp, HasWords, IsTaken};
+ghost use Rattle.database_files.specs.Opening.{IsUntouched};
 ghost use Rattle.devices.specs.Devices.{Rose};
 ghost use Rattle.parish.specs.Doing.{Does, DoesWords, IsWanting, tells};
 ghost use Rattle.parish.specs.Ends.{AreOf, AreOfToldImport, Shows};
@@ -23,9 +24,9 @@ use crate::files::{check, norm};
 use crate::visits::sheet_of;
 use archive_exports::write_text;
 use command_line::{Asked, Refused, read_words};
+use database_files::{Left, Openable};
 use gedcom_tree::{Device, write_bytes};
 use record_text::{RefusalKind, RefusalText};
-use sqlite::Start;
 use std::io;
 use std::io::{ErrorKind, Read, Write};
 use std::rt::HostRuntime;
@@ -34,8 +35,8 @@ use tasks::{Task, placeless, status_of};
 /// The words were refused.
 const WORDS_REFUSED: u8 = 2;
 
-/// Does what the words ask for, the program's name first, and gives the exit status, with the connection over the
-/// archive's file where one was opened, and the reading room where one is to be served. Who calls closes the file, and
+/// Does what the words ask for, the program's name first, and gives the exit status, with what is left of the
+/// archive's file, and the reading room where one is to be served. Who calls closes the file, and
 /// serves the room then.
 ///
 /// Results go to `output`, a refusal goes to `faults` as one line, and so does what is wrong with a row of `apply` that
@@ -43,7 +44,7 @@ const WORDS_REFUSED: u8 = 2;
 /// status says so. Where the words are refused nothing is read, and nothing written elsewhere: what is not taken is
 /// answered on `output` only where it asks for help or for the version. Words that are taken are never refused: what
 /// they name is done, with 0, or 1 and a reason.
-pub fn command<S: Start, R: Read + Device, W: Write + Device, F: Write + Device>(
+pub fn command<S: Openable, R: Read + Device, W: Write + Device, F: Write + Device>(
     rt: &HostRuntime,
     words: &[String],
     start: S,
@@ -54,7 +55,7 @@ pub fn command<S: Start, R: Read + Device, W: Write + Device, F: Write + Device>
     ensures status { result.0 ≤ 2 }
     ensures done { result.0 ≡ 0 → ¬ (AreOf (map string_bytes words.now) (codes "apply"))
         → ¬ (AreOfToldImport (map string_bytes words.now)) → faults.new ≡ faults.old }
-    ensures words { result.0 ≡ 2 → (input.new ≡ input.old) × (output.new ≡ output.old) × (result.1 ≡ None)
+    ensures words { result.0 ≡ 2 → (input.new ≡ input.old) × (output.new ≡ output.old) × IsUntouched result.1
         × (result.2 ≡ None) }
     ensures does { IsTaken (map string_bytes words.now)
         → IsWanting R.Read R.Device W.Write W.Device F.Write (image_at S.Start) result.0
@@ -64,23 +65,23 @@ pub fn command<S: Start, R: Read + Device, W: Write + Device, F: Write + Device>
         (record { input = input.old; output = output.old; faults = faults.old })
         (record { input = input.new; output = output.new; faults = faults.new }) result.1 result.2
         (map string_bytes words.now) }
-    ensures others { ¬ (IsTaken (map string_bytes words.now)) → (input.new ≡ input.old) × (result.1 ≡ None)
+    ensures others { ¬ (IsTaken (map string_bytes words.now)) → (input.new ≡ input.old) × IsUntouched result.1
         × (result.2 ≡ None) × ((output.new ≡ output.old) ⊎ AsksForHelp (map string_bytes words.now)) }
 {
     match read_words(rt.alloc(), words) {
         Ok(asked) => work(rt, asked, start, input, output, faults),
-        Err(Refused::Words { text }) => (refuse_words(faults, &text), None, None),
+        Err(Refused::Words { text }) => (refuse_words(faults, &text), Left::Untouched(start), None),
         Err(Refused::OutOfMemory) => (
             status_of(Err(placeless(RefusalKind::OutOfMemory)), faults),
-            None,
+            Left::Untouched(start),
             None,
         ),
     }
 }
 
-/// Does what was asked for, and gives the exit status, with the connection over the archive's file where one was
-/// opened, and the room that is to be served.
-fn work<S: Start, R: Read + Device, W: Write + Device, F: Write + Device>(
+/// Does what was asked for, and gives the exit status, with what is left of the archive's file, and the room that is to
+/// be served.
+fn work<S: Openable, R: Read + Device, W: Write + Device, F: Write + Device>(
     rt: &HostRuntime,
     asked: Asked<'_>,
     start: S,
@@ -96,11 +97,11 @@ fn work<S: Start, R: Read + Device, W: Write + Device, F: Write + Device>(
     match asked {
         Asked::Norm => {
             let outcome = norm(rt.alloc(), input, output);
-            (status_of(outcome, faults), None, None)
+            (status_of(outcome, faults), Left::Untouched(start), None)
         }
         Asked::Check => {
             let outcome = check(rt.alloc(), input, output);
-            (status_of(outcome, faults), None, None)
+            (status_of(outcome, faults), Left::Untouched(start), None)
         }
         Asked::Init { file, society } => {
             let (status, left) = make(rt, file, society, start, faults);
@@ -149,7 +150,11 @@ fn work<S: Start, R: Read + Device, W: Write + Device, F: Write + Device>(
             let task = Task::Days { first, last, words };
             do_task(rt, file, task, start, input, output, faults)
         }
-        Asked::Show { text } => (status_of(show(&text, output), faults), None, None),
+        Asked::Show { text } => (
+            status_of(show(&text, output), faults),
+            Left::Untouched(start),
+            None,
+        ),
     }
 }
 

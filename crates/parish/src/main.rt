@@ -1,11 +1,12 @@
 //! The program `parish`: the words of its command line, on the standard streams.
 //!
-//! It uses `command_line` for the words, `archive_commands` for tasks on the archive in a file, and `gedcom_tree` for
-//! files on the input. What it does is in `command`, over any streams and whatever the file of an archive holds.
+//! It uses `command_line` for the words, `archive_files` and `archive_commands` for the archive in a file and tasks on
+//! it, and `gedcom_tree` for files on the input. What it does is in `command`, over any streams and whatever the file
+//! of an archive holds.
 #![tactic(auto)]
 
-ghost use Rattle.std.specs.Prelude.{◌≡◌, IfSome, IsSomeAnd, MatchOption, None};
-ghost use Rattle.archive_commands.specs.Closing.{IsClosedOver};
+ghost use Rattle.std.specs.Prelude.{◌≡◌, IfSome, None};
+ghost use Rattle.database_files.specs.Closing.{IsClosing};
 ghost use Rattle.devices.specs.Devices.{Rose};
 ghost use Rattle.parish.specs.Rooms.{VisitsEnd};
 
@@ -15,9 +16,9 @@ mod files;
 mod visits;
 
 use crate::visits::Visits;
-use archive_commands::{ClosedFile, OpenFile, close};
+use database_files::{ClosedFile, LeftFile, Openable};
 use gedcom_tree::{Counted, Device};
-use sqlite::{Start, Unknown};
+use sqlite::Unknown;
 use std::alloc::Global;
 use std::io::Write;
 use std::net::{Net, TcpListener, TcpStream};
@@ -37,15 +38,15 @@ fn words_of(rt: &(impl Env + AllocGlobal)) -> io::Result<Vec<String>> {
 
 /// The status of what was done, after the file that was opened for it is closed, what is left of that, and the room
 /// that is to be served.
-fn closed<S: Start>(
-    done: (u8, Option<OpenFile<S>>, Option<Visits>),
-) -> (u8, Option<ClosedFile<S>>, Option<Visits>)
+fn closed<S: Openable>(
+    done: (u8, LeftFile<S>, Option<Visits>),
+) -> (u8, ClosedFile<S>, Option<Visits>)
     ensures status { result.0 ≡ done.0 }
-    ensures closed { MatchOption done.1 (result.1 ≡ None) (λ conn. IsSomeAnd result.1 (IsClosedOver conn)) }
+    ensures closed { IsClosing done.1 result.1 }
     ensures room { result.2 ≡ done.2 }
 {
     let (status, left, room) = done;
-    (status, close(left), room)
+    (status, left.close(), room)
 }
 
 /// Serves the room that there is, and gives the exit status; where there is none, the status that was given.

@@ -1,7 +1,8 @@
-use Rattle.std.proofs.Common.{ap, inl, inr, refl, subst, Some, Err}
+use Rattle.std.proofs.Common.{ap, inl, inr, refl, subst, Err}
 use Rattle.record_text.specs.declared.refusal.RefusalText.{RefusalText}
 use Rattle.tasks.specs.Status.{Finishes}
 use Rattle.archive_commands.proofs.tasks_on_files.perform_on_file.Goals as goal
+use Rattle.database_files.specs.declared.left.Left.TheVariants.{Open}
 
 pub returns-in-Ok : goal.returns-in-Ok
 returns-in-Ok g c = inr (record {
@@ -9,7 +10,7 @@ returns-in-Ok g c = inr (record {
   new = c.perform_task-status.new.archive;
   held = c.in-Ok.ensures.taken;
   ends = c.perform_task-status.ensures;
-  back = ap Some c.into_connection.ensures;
+  back = ap Open c.into_connection.ensures;
 })
 
 pub returns-in-Err : goal.returns-in-Err

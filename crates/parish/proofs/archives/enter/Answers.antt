@@ -16,5 +16,5 @@ returns-in-Err g c = inl (
   (_, (c.in-Err.kind, ap Err c.placeless.ensures, c.in-Err.ensures.refused), c.status_of.ensures),
   refl,
   refl,
-  (refl, refl),
+  (tt, refl),
 )

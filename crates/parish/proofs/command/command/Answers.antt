@@ -67,12 +67,12 @@ returns-in-Ok-clause-others g c = λ none.
     (map string_bytes c.args.words.now) none _ c.in-Ok.asked c.in-Ok.ensures.asked.0 c.work.ensures
     c.in-Ok.ensures.shown
 
-pub returns-clause-does : goal.returns-clause-does
-returns-clause-does g c = λ taken. inl (record {
+pub returns-in-Err-OutOfMemory-clause-does : goal.returns-in-Err-OutOfMemory-clause-does
+returns-in-Err-OutOfMemory-clause-does g c = λ taken. inl (record {
   finishes = subst
       (λ (t : RefusalText). Finishes g.F.Write.contents (Err t) c.status_of.result c.args.faults.now
       c.status_of.new.faults) c.placeless.ensures c.status_of.ensures;
   unread = refl;
   unwritten = refl;
-  unopened = (refl, refl);
+  unopened = (tt, refl);
 })

@@ -1,2 +1,0 @@
-mod Opened
-mod Refusing

@@ -1,0 +1,89 @@
+//! An archive in a file and the log beside it, taken up.
+
+ghost use Rattle.std.specs.Prelude.{◌≡◌, false, IfErr, IfOk};
+ghost use Rattle.sqlite_wal.specs.Files.{image_at};
+ghost use Rattle.archive_files.specs.Opening.{IsTakenUp, Unopened};
+ghost use Rattle.database_files.specs.Opening.{IsOpenOver};
+
+use crate::beside::{has_log, holds_nothing, take_away_log};
+use database_files::{Left, LeftFile, OpenFile, Openable};
+use record_text::RefusalKind;
+use sqlite::{FileFrom, FileStore};
+use std::alloc::Global;
+use std::rt::HostRuntime;
+use store::Archive;
+
+/// An archive in a file. `S` is what the file and its log held as they were opened.
+pub type ArchiveFile<S> = Archive<FileStore<FileFrom<S>>>;
+
+/// The archive in a file. The file is looked at first, since to open one that is not there would make it, and to open
+/// one of no bytes would make a database of it. Imports that were left open are taken out of it, and one of the first
+/// version is made one of the second. What is left of the file is handed back with a refusal.
+///
+/// 82: there is no file, or it has no archive. 83: a later program made it; at both no log stays beside it that was not
+/// there. 80: the file cannot be opened or is no database, or the database failed. 1: memory was refused.
+pub fn open<S: Openable>(
+    rt: &HostRuntime,
+    file: &str,
+    start: S,
+) -> Result<ArchiveFile<S>, (RefusalKind, LeftFile<S>)>
+    ensures taken { IfOk result (λ archive. IsTakenUp (image_at S.Start) archive) }
+    ensures refused { IfErr result (λ e. Unopened (image_at S.Start) e.0 e.1) }
+{
+    match holds_nothing(rt, file) {
+        Ok(false) => open_beside(rt, file, start),
+        Ok(true) => Err((RefusalKind::NotAnArchive, Left::Untouched(start))),
+        Err(_) => Err((RefusalKind::Storage, Left::Untouched(start))),
+    }
+}
+
+/// The same of a file in which something was made.
+fn open_beside<S: Openable>(
+    rt: &HostRuntime,
+    file: &str,
+    start: S,
+) -> Result<ArchiveFile<S>, (RefusalKind, LeftFile<S>)>
+    ensures taken { IfOk result (λ archive. IsTakenUp (image_at S.Start) archive) }
+    ensures refused { IfErr result (λ e. Unopened (image_at S.Start) e.0 e.1) }
+{
+    let had_log = has_log(rt, file);
+    match open_file(rt, file, start) {
+        Ok(archive) => Ok(archive),
+        Err((kind, left)) => {
+            take_away_log(rt, file, had_log, kind);
+            Err((kind, left))
+        }
+    }
+}
+
+/// The archive in a file, which is made where there is none. Refusals as of `Archive::adopt`; 80 also where the file
+/// cannot be opened or is no database.
+fn open_file<S: Openable>(
+    rt: &HostRuntime,
+    file: &str,
+    start: S,
+) -> Result<ArchiveFile<S>, (RefusalKind, LeftFile<S>)>
+    ensures taken { IfOk result (λ archive. IsTakenUp (image_at S.Start) archive) }
+    ensures refused { IfErr result (λ e. Unopened (image_at S.Start) e.0 e.1) }
+{
+    match start.opened(rt, file) {
+        Ok(conn) => adopted(rt.alloc(), conn),
+        Err(left) => Err((RefusalKind::Storage, left)),
+    }
+}
+
+/// The archive in a file that is open. Refusals as of `Archive::adopt`.
+fn adopted<S: Openable>(
+    alloc: Global,
+    conn: OpenFile<S>,
+) -> Result<ArchiveFile<S>, (RefusalKind, LeftFile<S>)>
+    requires opened { IsOpenOver (image_at S.Start) conn }
+    requires ended { conn.in_transaction ≡ false }
+    ensures taken { IfOk result (λ archive. IsTakenUp (image_at S.Start) archive) }
+    ensures refused { IfErr result (λ e. Unopened (image_at S.Start) e.0 e.1) }
+{
+    match Archive::adopt(alloc, conn) {
+        Ok(archive) => Ok(archive),
+        Err((kind, conn)) => Err((kind, Left::Open(conn))),
+    }
+}

@@ -1,0 +1,4 @@
+mod Failed
+mod Found
+mod Fresh
+pub mod Leaving
