@@ -1,0 +1,5 @@
+mod Carried
+mod Closed
+mod Counted
+mod Found
+mod Seen

@@ -1,0 +1,8 @@
+use Rattle.runs_on_files.proofs.Carried.{carries}
+use Rattle.runs_on_files.proofs.laws.a_task_on_a_file_loses_nothing.Goals as goal
+
+pub returns : goal.returns
+returns g c = λ image after task x y status shown left input seen unseen ended ends s is finds.
+    carries _ _ _ _ _ x y input seen unseen status ended s is image after task
+    c.requests_are_performed_on_the_archive_of_the_file.ensures
+    c.an_exported_file_gives_the_same_records.ensures shown left ends finds
