@@ -1,10 +1,9 @@
 """The end-to-end tests: the executable from outside, by files, streams, sizes and refused memory.
 
-    python3 tests/run.py [--parish COMMAND] [--pieces COMMAND] [--only WORD] [--untried] [-v]
+    python3 tests/run.py [--parish COMMAND] [--pieces COMMAND] [--only WORD] [-v]
 
 COMMAND is a program, or a command in quotes; without it, the executable that `rt ci` or `rt run`
-left under crates/.  `--only` runs the cases whose names have the word, `--untried` those
-that were never run over an executable, which are left out else.  The last line is
+left under crates/.  `--only` runs the cases whose names have the word.  The last line is
 `N passed, M failed`; the status is 0 where none failed and one passed.
 """
 
@@ -80,15 +79,6 @@ PARTS = (
     files,
     layout,
 )
-# The names of cases, or what they begin with, that were never run yet. Whoever sees them pass takes them out here.
-UNTRIED = (
-    "unsound: ",
-    "untouched: ",
-    "visitors: who does not read",
-    "visitors: a head that has ended",
-    "visitors: who does not close",
-    "visitors: by another address",
-)
 PIECES = "tree_pieces"
 VISITS = "visit_rows"
 
@@ -138,7 +128,6 @@ def main():
     words.add_argument("--parish", metavar="COMMAND")
     words.add_argument("--pieces", metavar="COMMAND")
     words.add_argument("--only", metavar="WORD", default="")
-    words.add_argument("--untried", action="store_true")
     words.add_argument("-v", "--verbose", action="store_true")
     given = words.parse_args()
     tools = tools_of(given)
@@ -146,7 +135,7 @@ def main():
         case
         for part in PARTS
         for case in part.cases(tools)
-        if given.only in case.name and case.name.startswith(UNTRIED) == given.untried
+        if given.only in case.name
     ]
     failed = 0
     with ThreadPoolExecutor(max_workers=min(8, os.cpu_count() or 1)) as pool:

@@ -16,6 +16,8 @@ from visits import request
 TODAY = ("--today", "2024-01-01")
 # What an archive is refused with that is not sound, or none at all.
 REFUSED = (40, 80, 82)
+# What else a request may be refused with: what it names is no record any more.
+MISSING = (50,)
 LIVING = b"Joe"  # the name of person 16, and of the one who is named in an entry that is closed
 
 # Words after FILE of the commands that only read; those of SHOWN hide the living. `serve` has a visitor.
@@ -82,10 +84,10 @@ class Spoilt(Audited):
         return self
 
 
-def is_refused(got: Outcome) -> bool:
+def is_refused(got: Outcome, numbers=REFUSED) -> bool:
     """A refusal, perhaps after a line on what is wrong, or with the row; and nothing on standard output."""
     last = got.err.decode().splitlines()[-1:]
-    named = [refused(number).err.decode().strip() for number in REFUSED]
+    named = [refused(number).err.decode().strip() for number in numbers]
     return got.status == 1 and got.out == b"" and any(line.startswith(name) for line in last for name in named)
 
 
@@ -112,7 +114,7 @@ def writers_are_refused_or_do_it(tools, pair):
         with Spoilt(tools) as at:
             before = at.by(image, pair.spoilt).tables()
             got = told(at, name, words, given)
-            if is_refused(got) or b",refused,40,BadStored\n" in got.out:
+            if is_refused(got, REFUSED + MISSING) or b",refused,40,BadStored\n" in got.out:
                 at.audit()  # an opening takes out what was staged of a file before an 80
                 demand(at.tables() == before, f"{name}: refused, and the tables changed")
             else:

@@ -179,23 +179,22 @@ OTHERS = (
 )
 
 
-def without_log(at) -> dict[str, bytes]:
-    """The files of a folder but the log, which may be made beside a file that is a database (docs/KEEPING.md)."""
-    return {name: data for name, data in files_of(at).items() if not name.endswith("-wal")}
-
-
 def is_left_alone(at, number, word, words, given):
-    """The refusal, with nothing on standard output, nothing read, and FILE and its folder as they were."""
-    before = None if os.path.isdir(at.file) else without_log(at)
+    """The refusal, with nothing on standard output, nothing read, and FILE and its folder as they were. Beside what is
+    no database at all (80) a log may be made; one that was there may be another."""
+    before = None if os.path.isdir(at.file) else files_of(at)
     got, read = ended(at.parish, (word, at.file, *words), given)
     expect(got, refused(number))
     demand(read == 0, f"{word}: {read} bytes of standard input are gone")
     if before is None:
         demand(os.listdir(at.path) == [os.path.basename(at.file)], f"{word}: something is new: {os.listdir(at.path)}")
         return
-    after = without_log(at)
-    demand(list(after) == list(before), f"{word}: there is {list(after)}, and was {list(before)}")
-    demand(after == before, f"{word}: the file is another")
+    after = files_of(at)
+    log = os.path.basename(at.file) + "-wal"
+    new = [name for name in after if name not in before and (number, name) != (80, log)]
+    demand(not new, f"{word}: there is {new}, and was {list(before)}")
+    changed = [name for name, data in before.items() if name != log and after.get(name) != data]
+    demand(not changed, f"{word}: {changed} changed")
 
 
 def each_command(at, number):
@@ -209,18 +208,6 @@ def a_file_that_is_refused(tools, make, number):
     with Folder(tools) as at:
         make(at)
         each_command(at, number)
-
-
-def no_log_beside_what_is_no_archive(tools):
-    """Behind an 82 there is no log, also where FILE has no bytes."""
-    for name, make, number in FILES:
-        with Folder(tools) as at:
-            make(at)
-            logs = [name for name in os.listdir(at.path) if name.endswith("-wal")]
-            if number == 82 and not logs:
-                each_command(at, number)
-                left = [name for name in os.listdir(at.path) if name.endswith("-wal")]
-                demand(not left, f"{name}: there is {left}")
 
 
 def init_of_a_file_that_is_refused(tools):
@@ -261,7 +248,6 @@ def a_pipe_is_not_read(tools):
 
 TESTS = (
     init_of_a_file_that_is_refused,
-    no_log_beside_what_is_no_archive,
     a_token_that_is_none,
     a_pipe_is_not_read,
 )

@@ -142,7 +142,7 @@ def who_does_not_read(tools):
     """A visitor who asks for a page of 10 MB and reads none of it is let go after half a minute; who waited is
     answered."""
     with Shown(tools) as at:
-        at.with_rows([*SMITHS, *(f"n{n},name,1,{'x' * 100_000}" for n in range(100))])
+        at.with_rows([*SMITHS, *(f"n{n},name,1,{'x' * 1_000_000}" for n in range(10))])
         with Room(at, 2) as room, socket.socket() as idle:
             idle.setsockopt(socket.SOL_SOCKET, socket.SO_RCVBUF, 4_096)  # the less is on its way
             idle.settimeout(60)
