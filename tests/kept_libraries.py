@@ -1,0 +1,56 @@
+"""Puts the libraries that `rt ci` keeps on this machine into crates/*/out, for a check of what stands on them.
+
+    python3 tests/kept_libraries.py NAME..
+
+`rt check` in a clone proves all that is below a crate anew, where no check in another clone has done so; only `rt ci`
+begins with what earlier runs kept. Here each library below the named crates that is kept, of these very sources, comes
+to its place with the stamp by which `rt check` knows it. The crates that have none are printed. It uses the kit's own
+`rt`, as tests/rt_ci.py does, and is no part of the gate, which proves or takes each crate by itself.
+"""
+
+from __future__ import annotations
+
+import os
+import shutil
+import sys
+
+import rt_ci
+
+sys.dont_write_bytecode = True
+
+
+def is_given(kept, crate) -> bool:
+    """Whether the library is in its place now; all below it have to be."""
+    if any(it.name not in kept.rlibs for it in crate.below()):
+        return False
+    key = kept.key(crate)
+    shutil.rmtree(f"{crate.folder}/out/rlib", ignore_errors=True)
+    os.makedirs(f"{crate.folder}/out", exist_ok=True)
+    if not os.path.isdir(kept.place(crate, False, key)) or not kept.give(crate, False, key):
+        return False
+    kept.is_built(crate)
+    with open(f"{crate.folder}/out/rlib/stamp", "w", encoding="utf-8") as file:
+        file.write(crate.stamp())
+    return True
+
+
+def main(names: list[str]) -> int:
+    module = rt_ci.loaded(os.path.realpath(shutil.which("rt") or "rt"))
+    if module is None or not names:
+        print(__doc__)
+        return 1
+    crate = module.rtlib.Crate
+    crate.below, crate.stamp = rt_ci.remembered(crate.below), rt_ci.remembered(crate.stamp)
+    module.Crate.cuts_libraries = True
+    module.Crate.allowed = module.handles_of(os.getcwd())
+    every = module.crates_of(os.getcwd())
+    below = {one.name for it in every if it.name in names for one in it.below()}
+    libraries = [it for it in every if it.name in below and not it.is_program]
+    kept = module.Kept(libraries, False)
+    lacking = [it.name for it in libraries if not is_given(kept, it)]
+    print(f"{len(libraries) - len(lacking)} libraries are in their places; not kept: {' '.join(lacking) or 'none'}")
+    return 0
+
+
+if __name__ == "__main__":
+    sys.exit(main(sys.argv[1:]))
