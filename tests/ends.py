@@ -44,21 +44,18 @@ def left_by_its_reader(words) -> bytes:
 
 
 def each_growth_refused(at, *calls):
-    """Each call with one growth of its memory refused: 1, or 80 where the database wanted it, after a beginning of what
-    it writes otherwise. Those of the log's path, which is looked for before the file is opened, may be refused without
-    harm: then all is done."""
+    """Each call with one growth of its memory refused: 1, or 80 where the database wanted it, after a beginning of
+    what it writes otherwise."""
     library = built(at.path)
     for call in calls:
-        whole, unharmed = call(), 0
+        whole = call()
         for number in apart():
             mark = os.path.join(at.path, "mark")
             got = call(env=refusing(number, library, mark))
             if not os.path.exists(mark):
                 expect(got, whole)
                 demand(number > 100, f"it has only {number} growths")
-                demand(unharmed <= 2, f"{unharmed} growths were refused without a word")
                 break
             os.remove(mark)
             is_told = got.status == 1 and got.err in (refused(1).err, refused(80).err)
-            demand(got == whole or is_told and whole.out.startswith(got.out), f"growth {number}: {got}")
-            unharmed += got == whole
+            demand(is_told and whole.out.startswith(got.out), f"growth {number}: {got}")

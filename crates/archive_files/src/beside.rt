@@ -19,12 +19,13 @@ pub(crate) fn holds_nothing(rt: &HostRuntime, file: &str) -> io::Result<bool> {
     has_no_page(rt, log_of(rt, file)?.as_str())
 }
 
-/// Whether a log lies beside a file, or it cannot be told.
-pub(crate) fn has_log(rt: &HostRuntime, file: &str) -> bool {
-    match log_of(rt, file) {
-        Ok(log) => !matches!(fs::exists(rt, log.as_str()), Ok(false)),
-        Err(_) => true,
+/// Whether a log may lie beside a file. Where there is no file it is not looked for: the path of a log is that of a
+/// file that is there.
+pub(crate) fn may_have_log(rt: &HostRuntime, file: &str) -> io::Result<bool> {
+    if !fs::exists(rt, file)? {
+        return Ok(true);
     }
+    fs::exists(rt, log_of(rt, file)?.as_str())
 }
 
 /// Where a file is refused for what it is, takes away the log that its opening has made beside it, if no page is in it.

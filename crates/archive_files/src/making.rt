@@ -2,14 +2,12 @@
 
 ghost use Rattle.std.specs.Prelude.{◌≡◌, ◌⊎◌, IfErr, IfOk, OnOk};
 ghost use Rattle.std.specs.String.{string_bytes};
-ghost use Rattle.sqlite.specs.Files.{file_state};
 ghost use Rattle.sqlite_wal.specs.Files.{image_at};
 ghost use Rattle.record_text.specs.declared.refusal.RefusalKind.TheVariants.{BadText, OutOfMemory};
 ghost use Rattle.store.specs.Creating.{IsSociety};
-ghost use Rattle.archive_files.specs.Made.{IsMadeFor, IsMadeIn, Unmade};
+ghost use Rattle.archive_files.specs.Made.{IsMadeIn, Unmade};
 
-use crate::beside::{has_log, take_away_log};
-use crate::opening::ArchiveFile;
+use crate::beside::{may_have_log, take_away_log};
 use database_files::{Left, LeftFile, Openable};
 use record_text::RefusalKind;
 use std::alloc::Global;
@@ -18,8 +16,8 @@ use store::{Archive, society_named};
 
 /// `init`: a new archive of a society in a file, with what is left of the file.
 ///
-/// 58: the society is empty or no text. 82: something was made in the file before. 80: the file cannot be opened or is
-/// no database, or the database failed. 1: memory was refused.
+/// 58: the society is empty or no text; no file is made. 82: something was made in the file before; it is not changed.
+/// 80: the file cannot be opened or is no database, or the database failed. 1: memory was refused.
 pub fn init<S: Openable>(
     rt: &HostRuntime,
     file: &str,
@@ -29,53 +27,52 @@ pub fn init<S: Openable>(
     ensures made { OnOk result.0 (IsMadeIn (image_at S.Start) society.now result.1) }
     ensures refused { IfErr result.0 (λ kind. Unmade (image_at S.Start) society.now kind result.1) }
 {
-    let had_log = has_log(rt, file);
-    match create(rt, file, start, society) {
-        Ok(archive) => (Ok(()), Left::Open(archive.into_connection())),
-        Err((kind, left)) => {
-            take_away_log(rt, file, had_log, kind);
-            (Err(kind), left)
-        }
+    match society_given(rt.alloc(), society) {
+        Ok(name) => init_named(rt, file, name, start),
+        Err(kind) => (Err(kind), Left::Untouched(start)),
     }
 }
 
-/// A new archive of a society in a file, which is made where there is none. What is left of the file is handed back
-/// with a refusal.
-///
-/// 58: the society is empty or no text; no file is made. 82: something was made in the file before; it is not changed.
-/// 80: the file cannot be opened or is no database, or the database failed. 1: memory was refused.
+/// The same for a society whose name is one. A log that its opening made beside a file that is refused is taken away.
+fn init_named<S: Openable>(
+    rt: &HostRuntime,
+    file: &str,
+    society: String,
+    start: S,
+) -> (Result<(), RefusalKind>, LeftFile<S>)
+    requires named { IsSociety (string_bytes society) }
+    ensures made { OnOk result.0 (IsMadeIn (image_at S.Start) (string_bytes society) result.1) }
+    ensures refused { IfErr result.0 (λ kind. Unmade (image_at S.Start) (string_bytes society) kind result.1) }
+{
+    match may_have_log(rt, file) {
+        Ok(had_log) => {
+            let (outcome, left) = create(rt, file, society, start);
+            if let Err(kind) = &outcome {
+                take_away_log(rt, file, had_log, *kind);
+            }
+            (outcome, left)
+        }
+        Err(_) => (Err(RefusalKind::Storage), Left::Untouched(start)),
+    }
+}
+
+/// Opens the file, which is made where there is none, and makes the archive in it.
 fn create<S: Openable>(
     rt: &HostRuntime,
     file: &str,
-    start: S,
-    society: &str,
-) -> Result<ArchiveFile<S>, (RefusalKind, LeftFile<S>)>
-    ensures created { IfOk result (λ made. IsMadeFor (image_at S.Start) society.now (file_state made.conn)) }
-    ensures refused { IfErr result (λ e. Unmade (image_at S.Start) society.now e.0 e.1) }
-{
-    match society_given(rt.alloc(), society) {
-        Ok(name) => create_named(rt, file, start, name),
-        Err(kind) => Err((kind, Left::Untouched(start))),
-    }
-}
-
-fn create_named<S: Openable>(
-    rt: &HostRuntime,
-    file: &str,
-    start: S,
     society: String,
-) -> Result<ArchiveFile<S>, (RefusalKind, LeftFile<S>)>
+    start: S,
+) -> (Result<(), RefusalKind>, LeftFile<S>)
     requires named { IsSociety (string_bytes society) }
-    ensures created { IfOk result (λ made. IsMadeFor (image_at S.Start) (string_bytes society)
-        (file_state made.conn)) }
-    ensures refused { IfErr result (λ e. Unmade (image_at S.Start) (string_bytes society) e.0 e.1) }
+    ensures made { OnOk result.0 (IsMadeIn (image_at S.Start) (string_bytes society) result.1) }
+    ensures refused { IfErr result.0 (λ kind. Unmade (image_at S.Start) (string_bytes society) kind result.1) }
 {
     match start.opened(rt, file) {
         Ok(conn) => match Archive::create(conn, society) {
-            Ok(archive) => Ok(archive),
-            Err((kind, conn)) => Err((kind, Left::Open(conn))),
+            Ok(archive) => (Ok(()), Left::Open(archive.into_connection())),
+            Err((kind, conn)) => (Err(kind), Left::Open(conn)),
         },
-        Err(left) => Err((RefusalKind::Storage, left)),
+        Err(left) => (Err(RefusalKind::Storage), left),
     }
 }
 

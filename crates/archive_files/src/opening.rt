@@ -5,7 +5,7 @@ ghost use Rattle.sqlite_wal.specs.Files.{image_at};
 ghost use Rattle.archive_files.specs.Opening.{IsTakenUp, Unopened};
 ghost use Rattle.database_files.specs.Opening.{IsOpenOver};
 
-use crate::beside::{has_log, holds_nothing, take_away_log};
+use crate::beside::{holds_nothing, may_have_log, take_away_log};
 use database_files::{Left, LeftFile, OpenFile, Openable};
 use record_text::RefusalKind;
 use sqlite::{FileFrom, FileStore};
@@ -37,7 +37,8 @@ pub fn open<S: Openable>(
     }
 }
 
-/// The same of a file in which something was made.
+/// The same of a file in which something was made. A log that its opening made beside it is taken away where it is
+/// refused.
 fn open_beside<S: Openable>(
     rt: &HostRuntime,
     file: &str,
@@ -46,7 +47,9 @@ fn open_beside<S: Openable>(
     ensures taken { IfOk result (λ archive. IsTakenUp (image_at S.Start) archive) }
     ensures refused { IfErr result (λ e. Unopened (image_at S.Start) e.0 e.1) }
 {
-    let had_log = has_log(rt, file);
+    let Ok(had_log) = may_have_log(rt, file) else {
+        return Err((RefusalKind::Storage, Left::Untouched(start)));
+    };
     match open_file(rt, file, start) {
         Ok(archive) => Ok(archive),
         Err((kind, left)) => {

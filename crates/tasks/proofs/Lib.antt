@@ -1,4 +1,6 @@
+mod Alike
 mod Blamed
 mod Days
 mod Hiding
+mod Publishing
 pub mod Quiet

@@ -8,7 +8,14 @@ ghost use Rattle.record_text.specs.declared.refusal.RefusalKind.{RefusalKind};
 ghost use Rattle.shown_archives.specs.Showing.{IsShown};
 ghost use Rattle.shown_archives.specs.Writing.{IsPartPublished, IsPublished, IsSheetRefused, IsSheetWritten};
 ghost use Rattle.shown_archives.specs.declared.sheet.Sheet.{Sheet};
-ghost use Rattle.tasks.specs.Hiding.{DifferInHidden, GotTheSame, HasFailed};
+ghost use Rattle.tasks.specs.Ends.{Ends};
+ghost use Rattle.tasks.specs.Hiding.{DifferInHidden, EndAlike, GotTheSame, HasFailed, IsCutShort, IsOver, ShowsOn};
+ghost use Rattle.tasks.specs.Moments.{Moment};
+ghost use Rattle.tasks.specs.declared.task.Task.{Task};
+
+use devices::Device;
+use sqlite::Alter;
+use std::io::{Read, Write};
 
 /// What is hidden changes no sheet that is printed, and no refusal of one.
 pub fn what_is_hidden_changes_no_sheet_that_is_printed()
@@ -25,10 +32,17 @@ pub fn what_is_hidden_changes_no_sheet_that_is_printed()
     masking::laws::what_is_hidden_changes_nothing();
 }
 
-/// What is hidden changes no public export.
+/// What is hidden changes no public export, and no refusal of one.
 pub fn what_is_hidden_changes_no_export_that_is_printed()
-    ensures { (a b : Content) (today : ℤ) (society : List ℕ) (x y v w : Option (List ℕ)) → DifferInHidden a b today
-        → IsPublished x y today society a → IsPublished v w today society b → GotTheSame x y v w }
+    ensures printed { (a b : Content) (today : ℤ) (society : List ℕ) (x y v w : Option (List ℕ))
+        → DifferInHidden a b today → IsPublished x y today society a → IsPublished v w today society b
+        → GotTheSame x y v w }
+    ensures cut { (a b : Content) (today : ℤ) (society : List ℕ) (x y v w : Option (List ℕ)) (kind : RefusalKind)
+        → DifferInHidden a b today → IsPublished x y today society a → IsPartPublished kind v w today society b
+        → HasFailed kind }
+    ensures refused { (a b : Content) (today : ℤ) (society : List ℕ) (x y v w : Option (List ℕ))
+        (kind other : RefusalKind) → DifferInHidden a b today → IsPartPublished kind x y today society a
+        → IsPartPublished other v w today society b → (kind ≡ other) ⊎ (HasFailed kind ⊎ HasFailed other) }
 {
     masking::laws::what_is_hidden_changes_nothing();
 }
@@ -39,4 +53,26 @@ pub fn what_is_hidden_changes_no_room()
         → IsShown b today t → s.records ≡ t.records }
 {
     masking::laws::what_is_hidden_changes_nothing();
+}
+
+/// What is hidden changes nothing of what a run sends that shows an archive: a sheet, a public export or a reading
+/// room. Over two archives that differ only in it the run ends alike, on both streams and by its status, unless one of
+/// the two was cut short.
+pub fn what_is_hidden_changes_no_run<
+    S: Alter,
+    R: Read + Device,
+    W: Write + Device,
+    F: Write + Device,
+>()
+    ensures { (task : Task) (today : ℤ) (society : List ℕ) (c d : Content) (a b v w : Moment S.Store R W F)
+        (status number : ℕ) (shown more : Option Content)
+        (first : Ends S.Store R.Read R.Device W.Write W.Device F.Write task a b status shown)
+        (second : Ends S.Store R.Read R.Device W.Write W.Device F.Write task v w number more) → ShowsOn task today
+        → DifferInHidden c d today → IsOver S.Store society c a b → IsOver S.Store society d v w
+        → IsCutShort first.outcome ⊎ (IsCutShort second.outcome
+        ⊎ EndAlike W.Write.contents a b v w first.outcome second.outcome status number shown more) }
+{
+    what_is_hidden_changes_no_sheet_that_is_printed();
+    what_is_hidden_changes_no_export_that_is_printed();
+    what_is_hidden_changes_no_room();
 }

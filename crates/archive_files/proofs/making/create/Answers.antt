@@ -1,19 +1,34 @@
-use Rattle.std.proofs.Common.{ℕ, List, subst}
-use Rattle.std.specs.Prelude.{IfErr, IfOk}
+use Rattle.std.proofs.Common.{sym, subst}
+use Rattle.std.specs.String.{string_bytes}
 use Rattle.sqlite.specs.Files.{file_state}
-use Rattle.archive_files.specs.Made.{IsMadeFor, Unmade}
-use Rattle.archive_files.proofs.Refusing.{unnamed}
+use Rattle.sqlite_wal.specs.Files.{image_at}
+use Rattle.archive_files.specs.Made.{IsMadeFor}
+use Rattle.archive_files.proofs.Opened.{was_blank}
+use Rattle.archive_files.proofs.Refusing.{unmade, unmade_unopened}
 use Rattle.archive_files.proofs.making.create.Goals as goal
+use Rattle.store.proofs.Opened.{opened_blank}
 
-pub returns-in-Ok-clause-created : goal.returns-in-Ok-clause-created
-returns-in-Ok-clause-created g c =
-    subst (λ (society : List ℕ). IfOk c.create_named.result (λ made. IsMadeFor _ society (file_state made.conn)))
-    c.in-Ok.ensures.given.0 c.create_named.ensures.created
+pub returns-in-Ok-create-clause-made : goal.returns-in-Ok-create-clause-made
+returns-in-Ok-create-clause-made g c =
+    let made = c.in-Ok-create.ensures in
+    let opened = file_state c.in-Ok.conn in
+    subst (λ conn. IsMadeFor (image_at g.S.Start) (string_bytes c.args.society) (file_state conn))
+    (sym c.into_connection.ensures) (
+      c.requires.named,
+      (λ clean t holds.
+          let o = (c.in-Ok.ensures.opened (made.clean clean)).0 in
+          was_blank opened t o.0 o.1 made.named.2 ((c.in-Ok.ensures.opened (made.clean clean)).1.holds t holds)),
+      (λ clean.
+          let o = (c.in-Ok.ensures.opened (made.clean clean)).0 in
+          made.created clean (opened_blank opened o.0 o.1 made.named.2)),
+    )
 
-pub returns-in-Ok-clause-refused : goal.returns-in-Ok-clause-refused
-returns-in-Ok-clause-refused g c =
-    subst (λ (society : List ℕ). IfErr c.create_named.result (λ e. Unmade _ society e.0 e.1)) c.in-Ok.ensures.given.0
-    c.create_named.ensures.refused
+pub returns-in-Err-create-clause-refused : goal.returns-in-Err-create-clause-refused
+returns-in-Err-create-clause-refused g c =
+    let refused = c.in-Err-create.ensures in
+    unmade (image_at g.S.Start) _ c.in-Err-create.kind c.in-Ok.conn c.in-Err-create.conn c.requires.named
+    refused.refused refused.back refused.honest
+    c.in-Ok.ensures.opened
 
 pub returns-in-Err-clause-refused : goal.returns-in-Err-clause-refused
-returns-in-Err-clause-refused g c = unnamed _ _ c.in-Err.ensures.refused
+returns-in-Err-clause-refused g c = unmade_unopened _ _ c.in-Err.left c.requires.named c.in-Err.ensures.unopened
