@@ -1,3 +1,4 @@
+mod Carrying
 mod Ending
 mod Same
 mod Untaken

@@ -1,27 +1,26 @@
--- Words that are not taken ask for no work: nothing is read, and nothing opened.
-use Rattle.std.proofs.Common.{◌≡◌, ◌⊎◌, ℕ, List, inr, refl}
-use Rattle.std.specs.Prelude.{Option, None, Some, IfSome}
+-- Words that are not taken ask for no work: nothing is read, and nothing opened, and a text is printed.
+use Rattle.std.proofs.Common.{◌≡◌, ℕ, List, inl, refl}
+use Rattle.std.specs.Prelude.{Option, None, Some, IfSome, string_bytes}
 use Rattle.std.specs.declared.io.Read as read
 use Rattle.std.specs.declared.io.Write as write
 use Rattle.sqlite_disk.specs.declared.Disk as disk
 use Rattle.sqlite_wal.specs.Recovery.{Image}
-use Rattle.command_line.specs.Asking.{IsTaken, command_named, name_of}
+use Rattle.command_line.specs.Asking.{AsksForHelp, IsTaken, command_named, name_of}
 use Rattle.command_line.specs.declared.tasks.Asked.{Asked}
 use Rattle.command_line.specs.declared.tasks.Asked.TheVariants as asked
-use Rattle.database_files.specs.Opening.{IsUntouched}
 use Rattle.database_files.specs.declared.left.Left.{Left}
 use Rattle.devices.specs.declared.device.Device as device
-use Rattle.parish.specs.Doing.{Does}
+use Rattle.parish.specs.Doing.{Does, RefusesWords}
 use Rattle.parish.specs.declared.visits.Visits.{Visits}
 use Rattle.tasks.specs.Moments.{Streams}
 
 module _ {R W F D S : Type 0} {g : disk.Ghosts D} (reader : read.Ghosts R) (reads : device.Ghosts R)
     (writer : write.Ghosts W) (writes : device.Ghosts W) (faulter : write.Ghosts F) (image : Image) (status : ℕ)
-    (x y : Streams R W F) (left : Left S D g) (room : Option Visits) (words : List (List ℕ)) (none : ¬ (IsTaken words))
-    (Help : Type 0) where
+    (x y : Streams R W F) (left : Left S D g) (room : Option Visits) (words : List (List ℕ))
+    (none : ¬ (IsTaken words)) where
   pub untaken : (a : Asked) → IfSome (name_of a) (λ n. IsTaken words × (command_named words ≡ Some n))
-      → Does reader reads writer writes faulter image status x y left room a → (name_of a ≡ None → Help)
-      → (y.input ≡ x.input) × IsUntouched left × (room ≡ None) × ((y.output ≡ x.output) ⊎ Help)
+      → Does reader reads writer writes faulter image status x y left room a → (name_of a ≡ None → AsksForHelp words)
+      → RefusesWords reader reads writer writes faulter image status x y left room words
   untaken asked.Norm is did help = absurd (none is.0)
   untaken asked.Check is did help = absurd (none is.0)
   untaken (asked.Init file society) is did help = absurd (none is.0)
@@ -34,4 +33,4 @@ module _ {R W F D S : Type 0} {g : disk.Ghosts D} (reader : read.Ghosts R) (read
   untaken (asked.Serve file port count today) is did help = absurd (none is.0)
   untaken (asked.Audit file) is did help = absurd (none is.0)
   untaken (asked.Days file first last told_words) is did help = absurd (none is.0)
-  untaken (asked.Show text) is did help = (did.1, did.2.0, did.2.1, inr (help refl))
+  untaken (asked.Show text) is did help = (did.1, did.2, inl (help refl, (string_bytes text, did.0)))

@@ -23,7 +23,7 @@ use Rattle.sqlite_wal.specs.Recovery.{Image}
 use Rattle.archive_commands.specs.Tasks.{EndsOnFile}
 use Rattle.archive_files.specs.Made.{IsMadeIn, Unmade}
 use Rattle.archive_state.specs.Content.{Content}
-use Rattle.command_line.specs.Asking.{Asks, name_of}
+use Rattle.command_line.specs.Asking.{Asks, AsksForHelp, name_of}
 use Rattle.command_line.specs.declared.tasks.Asked.{Asked}
 use Rattle.command_line.specs.declared.tasks.Asked.TheVariants.{
   Apply,
@@ -108,6 +108,10 @@ module _ {D S R W F : Type 0} {g : disk.Ghosts D} (reader : read.Ghosts R) (read
   DoesUnder word t = (Finished (IsNoToken word) × IsUnread × IsUnwritten × OpensNothing)
       ⊎ (IsToken word × DoesTask t)
 
+  -- ---- texts that are asked for
+  abbrev pub Prints : List ℕ → Type 0
+  Prints text = Finished (Shows text (writer.contents x.output) (writer.contents y.output) HasWriteFailed)
+
   -- ---- each command
   -- what was asked for was done, or refused for a reason
   abbrev pub Does : Asked → Type 0
@@ -128,8 +132,7 @@ module _ {D S R W F : Type 0} {g : disk.Ghosts D} (reader : read.Ghosts R) (read
       × IsRoomOf port count shown room
   Does (Audit file) = DoesTask task.Audit
   Does (Days file first last words) = DoesTask (task.Days first last words)
-  Does (Show text) = Finished (Shows (string_bytes text) (writer.contents x.output) (writer.contents y.output)
-      HasWriteFailed) × IsUnread × OpensNothing
+  Does (Show text) = Prints (string_bytes text) × IsUnread × OpensNothing
 
   -- no memory was found to read the words, and nothing is done
   pub record IsWanting : Type 0 where
@@ -141,3 +144,10 @@ module _ {D S R W F : Type 0} {g : disk.Ghosts D} (reader : read.Ghosts R) (read
   -- the words ask for a command, and that was done
   abbrev pub DoesWords : List (List ℕ) → Type 0
   DoesWords words = (asked : Asked) × IsSome (name_of asked) × Asks words asked × Does asked
+
+  -- words that ask for no command: nothing is read, and nothing opened. They ask for help or for the version, and a
+  -- text is printed; or they are refused with 2, or no memory was found to read them, and nothing is written on the
+  -- output
+  abbrev pub RefusesWords : List (List ℕ) → Type 0
+  RefusesWords words = IsUnread × OpensNothing × ((AsksForHelp words × ((text : List ℕ) × Prints text))
+      ⊎ (IsUnwritten × ((status ≡ 2) ⊎ IsWanting)))

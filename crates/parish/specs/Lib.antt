@@ -1,3 +1,4 @@
 pub mod Doing
 pub mod Ends
 pub mod Rooms
+pub mod Runs

@@ -5,6 +5,9 @@ ghost use Rattle.std.specs.Prelude.{
   ◌≢◌,
   ◌⊎◌,
   ◌≤◌,
+  ℕ,
+  List,
+  Option,
   codes,
   false,
   map,
@@ -13,20 +16,26 @@ ghost use Rattle.std.specs.Prelude.{
 };
 ghost use Rattle.std.specs.IoError.{error_kind};
 ghost use Rattle.sqlite_wal.specs.Files.{image_at};
-ghost use Rattle.command_line.specs.Asking.{AsksForHelp, HasWords, IsTaken};
+ghost use Rattle.sqlite_wal.specs.Recovery.{Image};
+ghost use Rattle.command_line.specs.Asking.{HasWords, IsTaken};
 ghost use Rattle.database_files.specs.Opening.{IsUntouched};
 ghost use Rattle.devices.specs.Devices.{Rose};
-ghost use Rattle.parish.specs.Doing.{Does, DoesWords, IsWanting, tells};
+ghost use Rattle.parish.specs.Doing.{Does, DoesWords, IsWanting, RefusesWords, tells};
 ghost use Rattle.parish.specs.Ends.{AreOf, AreOfToldImport, Shows};
+ghost use Rattle.parish.specs.Runs.{IsRunOf};
+ghost use Rattle.runs_on_files.specs.Leaving.{FindsAfter};
+ghost use Rattle.runs_on_files.specs.Seeing.{IsSeen, IsSeenAs};
 
 use crate::archives::{Ended, do_task, enter, make, open_room, take_in};
 use crate::files::{check, norm};
+use crate::laws::what_is_asked_for_loses_nothing;
 use crate::visits::sheet_of;
 use archive_exports::write_text;
 use command_line::{Asked, Refused, read_words};
 use database_files::{Left, Openable};
 use gedcom_tree::{Device, write_bytes};
 use record_text::{RefusalKind, RefusalText};
+use sqlite::FileFrom;
 use std::io;
 use std::io::{ErrorKind, Read, Write};
 use std::rt::HostRuntime;
@@ -43,7 +52,8 @@ const WORDS_REFUSED: u8 = 2;
 /// is refused, what `audit` finds wrong, and with `--progress` how far an import is. Where `faults` fails too, only the
 /// status says so. Where the words are refused nothing is read, and nothing written elsewhere: what is not taken is
 /// answered on `output` only where it asks for help or for the version. Words that are taken are never refused: what
-/// they name is done, with 0, or 1 and a reason.
+/// they name is done, with 0, or 1 and a reason. Of each archive that the file held nothing is lost, however much was
+/// seen of the output and of the end, as soon as the file is closed, or given up in a stop.
 pub fn command<S: Openable, R: Read + Device, W: Write + Device, F: Write + Device>(
     rt: &HostRuntime,
     words: &[String],
@@ -65,9 +75,18 @@ pub fn command<S: Openable, R: Read + Device, W: Write + Device, F: Write + Devi
         (record { input = input.old; output = output.old; faults = faults.old })
         (record { input = input.new; output = output.new; faults = faults.new }) result.1 result.2
         (map string_bytes words.now) }
-    ensures others { ¬ (IsTaken (map string_bytes words.now)) → (input.new ≡ input.old) × IsUntouched result.1
-        × (result.2 ≡ None) × ((output.new ≡ output.old) ⊎ AsksForHelp (map string_bytes words.now)) }
+    ensures others { ¬ (IsTaken (map string_bytes words.now))
+        → RefusesWords R.Read R.Device W.Write W.Device F.Write (image_at S.Start) result.0
+        (record { input = input.old; output = output.old; faults = faults.old })
+        (record { input = input.new; output = output.new; faults = faults.new }) result.1 result.2
+        (map string_bytes words.now) }
+    ensures carries { (bytes seen unseen : List ℕ) (ended : Option ℕ) (after : Image) → IsSeen R.Read W.Write
+        (record { input = input.old; output = output.old; faults = faults.old })
+        (record { input = input.new; output = output.new; faults = faults.new }) bytes seen unseen
+        → IsSeenAs result.0 unseen ended → FindsAfter (image_at S.Start) result.1 after
+        → IsRunOf (image_at S.Start) bytes seen ended after (map string_bytes words.now) }
 {
+    what_is_asked_for_loses_nothing::<S, FileFrom<S>, R, W, F>();
     match read_words(rt.alloc(), words) {
         Ok(asked) => work(rt, asked, start, input, output, faults),
         Err(Refused::Words { text }) => (refuse_words(faults, &text), Left::Untouched(start), None),

@@ -2,21 +2,22 @@
 //!
 //! It uses `command_line` for the words, `archive_files` and `archive_commands` for the archive in a file and tasks on
 //! it, and `gedcom_tree` for files on the input. What it does is in `command`, over any streams and whatever the file
-//! of an archive holds.
+//! of an archive holds; `run` is that and the close of the file, and says what is lost of an archive: nothing.
 #![tactic(auto)]
 
 ghost use Rattle.std.specs.Prelude.{◌≡◌, IfSome, None};
-ghost use Rattle.database_files.specs.Closing.{IsClosing};
 ghost use Rattle.devices.specs.Devices.{Rose};
 ghost use Rattle.parish.specs.Rooms.{VisitsEnd};
 
 mod archives;
 mod command;
 mod files;
+mod laws;
+mod running;
 mod visits;
 
+use crate::running::run;
 use crate::visits::Visits;
-use database_files::{ClosedFile, LeftFile, Openable};
 use gedcom_tree::{Counted, Device};
 use sqlite::Unknown;
 use std::alloc::Global;
@@ -34,19 +35,6 @@ fn words_of(rt: &(impl Env + AllocGlobal)) -> io::Result<Vec<String>> {
         words.push(word)?;
     }
     Ok(words)
-}
-
-/// The status of what was done, after the file that was opened for it is closed, what is left of that, and the room
-/// that is to be served.
-fn closed<S: Openable>(
-    done: (u8, LeftFile<S>, Option<Visits>),
-) -> (u8, ClosedFile<S>, Option<Visits>)
-    ensures status { result.0 ≡ done.0 }
-    ensures closed { IsClosing done.1 result.1 }
-    ensures room { result.2 ≡ done.2 }
-{
-    let (status, left, room) = done;
-    (status, left.close(), room)
 }
 
 /// Serves the room that there is, and gives the exit status; where there is none, the status that was given.
@@ -76,14 +64,14 @@ fn main(rt: HostRuntime) -> ExitCode {
     let mut faults = Counted::new(rt.stderr());
     let status = match words_of(&rt) {
         Ok(words) => {
-            let (status, left, room) = closed(command::command(
+            let (status, left, room) = run(
                 &rt,
                 &words,
                 Unknown,
                 &mut input,
                 &mut output,
                 &mut faults,
-            ));
+            );
             // The file is free for others while a room is served.
             drop(left);
             served(rt.alloc(), &rt, status, room, &mut output, &mut faults)

@@ -14,6 +14,7 @@ use Rattle.sqlite_wal.specs.Recovery.{Image}
 use Rattle.archive_commands.specs.Tasks.{EndsOnFile, EndsOpened, EndsUnopened}
 use Rattle.archive_core.specs.Machine.{Done}
 use Rattle.archive_state.specs.Content.{Content}
+use Rattle.database_files.specs.Opening.{IsUntouched}
 use Rattle.database_files.specs.declared.left.Left.{Left as LeftOf}
 use Rattle.database_files.specs.declared.left.Left.TheVariants.{Untouched, Unopened, Open}
 use Rattle.devices.specs.declared.device.Device as device
@@ -72,10 +73,10 @@ module _ {R W F : Type 0} (reader : read.Ghosts R) (reads : device.Ghosts R) (wr
     unopened : (shown : Option Content) (left : LeftOf S D g)
         → EndsUnopened reader reads writer writes faulter image x y status shown left → FindsAfter image left after
         → Carries image run after
-    unopened shown (Untouched start) u finds = carried_over u.unwritten u.finishes.0 (finds tt)
-    unopened shown (Unopened rest) u finds = carried_over u.unwritten u.finishes.0 (finds u.unopened.1)
+    unopened shown (Untouched start) u finds = carried_over u.unwritten u.finishes.0 (finds.0 tt)
+    unopened shown (Unopened rest) u finds = carried_over u.unwritten u.finishes.0 (finds.0 u.unopened.1)
     unopened shown (Open conn) u finds = λ society c stands.
-        carried conn (finds tt stands.0 stands.1) (λ clean society c tables holds had left may.
+        carried conn (finds.0 tt stands.0 stands.1) (λ clean society c tables holds had left may.
         keeps_none reader reads writer writes faulter x y input seen unseen status ended s is t society c left
         (acts c u.unwritten u.finishes.0)
         (still_held tables (file_state conn) (u.unopened.spared clean tables holds) society c had left may))
@@ -86,7 +87,7 @@ module _ {R W F : Type 0} (reader : read.Ghosts R) (reads : device.Ghosts R) (wr
         → Carries image run after
     opened law back shown left o finds society c stands =
         let found = subst (λ (rest : LeftOf S D g). FindsAfter image rest after) o.back finds in
-        carried o.new.conn (found tt stands.0 stands.1)
+        carried o.new.conn (found.0 tt stands.0 stands.1)
         (λ clean society c tables holds had left may.
         found_by reader reads writer writes faulter x y input seen unseen status ended s is image o.taken o.new o.held
         clean society c tables holds had left may o.ends.between law back t o.ends.outcome shown
@@ -97,3 +98,10 @@ module _ {R W F : Type 0} (reader : read.Ghosts R) (reads : device.Ghosts R) (wr
         → Carries image run after
     carries law back shown left (inl u) finds = unopened shown left u finds
     carries law back shown left (inr o) finds = opened law back shown left o finds
+
+    -- it was refused before the file was opened
+    pub refused : (left : LeftOf S D g) → IsUntouched left → y.output ≡ x.output → status ≡ 1
+        → FindsAfter image left after → Carries image run after
+    refused (Untouched start) is unwritten one finds = carried_over unwritten one (finds.0 tt)
+    refused (Unopened rest) is unwritten one finds = absurd is
+    refused (Open conn) is unwritten one finds = absurd is

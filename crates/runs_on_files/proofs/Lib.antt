@@ -2,4 +2,5 @@ mod Carried
 mod Closed
 mod Counted
 mod Found
+mod Idle
 mod Seen

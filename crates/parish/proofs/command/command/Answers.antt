@@ -1,11 +1,14 @@
-use Rattle.std.proofs.Common.{◌≡◌, inl, inr, refl, subst, sym, codes, map, string_bytes, arith, Err}
+use Rattle.std.proofs.Common.{◌≡◌, ◌∙◌, inl, inr, refl, subst, sym, codes, map, string_bytes, arith, Err}
 use Rattle.std.specs.Prelude.{List, ℕ, Bool, true, false, Some, IfSome}
 use Rattle.clap.specs.Words.{subcommand_of}
 use Rattle.command_line.specs.Asking.{HasWords, IsTaken, command_named, is_told, name_of}
 use Rattle.command_line.specs.Commands.{program}
 use Rattle.command_line.specs.declared.tasks.Asked.{Asked}
 use Rattle.command_line.specs.declared.tasks.Asked.TheVariants as asked
+use Rattle.command_line.specs.declared.tasks.Refused.{Refused}
+use Rattle.command_line.specs.declared.tasks.Refused.TheVariants.{OutOfMemory, Words}
 use Rattle.sqlite_wal.specs.Files.{image_at}
+use Rattle.database_files.specs.declared.left.Left.TheVariants.{Untouched}
 use Rattle.record_text.specs.declared.refusal.RefusalText.{RefusalText}
 use Rattle.tasks.specs.Status.{Finishes}
 use Rattle.parish.specs.Doing.{tells}
@@ -13,6 +16,14 @@ use Rattle.parish.specs.Ends.{AreOf, AreOfToldImport}
 use Rattle.parish.proofs.Ending.{does_at_most_1, does_quietly}
 use Rattle.parish.proofs.Untaken.{untaken}
 use Rattle.parish.proofs.command.command.Goals as goal
+
+-- words that were refused are no want of memory
+abbrev IsWords : Refused → Type 0
+IsWords (Words text) = Unit {0}
+IsWords OutOfMemory = ⊥
+
+no_want : (r : Refused) → IsWords r → r ≡ OutOfMemory → ⊥
+no_want r is same = subst IsWords same is
 
 -- of an import nothing is said but where it is asked for
 untold : (progress : Bool) (words : List (List ℕ)) → AreOf words (codes "import")
@@ -64,8 +75,50 @@ returns-in-Ok-clause-does g c = λ taken.
 pub returns-in-Ok-clause-others : goal.returns-in-Ok-clause-others
 returns-in-Ok-clause-others g c = λ none.
     untaken g.R.Read g.R.Device g.W.Write g.W.Device g.F.Write (image_at g.S.Start) _ _ _ _ _
-    (map string_bytes c.args.words.now) none _ c.in-Ok.asked c.in-Ok.ensures.asked.0 c.work.ensures
+    (map string_bytes c.args.words.now) none c.in-Ok.asked c.in-Ok.ensures.asked.0 c.work.ensures
     c.in-Ok.ensures.shown
+
+pub returns-in-Ok-clause-carries : goal.returns-in-Ok-clause-carries
+returns-in-Ok-clause-carries g c = λ bytes seen unseen ended after s as_seen finds. inl (
+  c.in-Ok.asked,
+  c.in-Ok.ensures.asked,
+  c.what_is_asked_for_loses_nothing.ensures.asked (image_at g.S.Start) after c.in-Ok.asked _ _ _ _ _ bytes seen
+      unseen ended c.work.ensures s as_seen finds,
+)
+
+pub returns-in-Err-Words-clause-others : goal.returns-in-Err-Words-clause-others
+returns-in-Err-Words-clause-others g c = λ none. (refl, (tt, refl), inr (refl, inl c.refuse_words.ensures))
+
+pub returns-in-Err-Words-clause-carries : goal.returns-in-Err-Words-clause-carries
+returns-in-Err-Words-clause-carries g c = λ bytes seen unseen ended after s as_seen finds.
+    c.what_is_asked_for_loses_nothing.ensures.refused (image_at g.S.Start) after (map string_bytes c.args.words.now)
+    c.refuse_words.result (Untouched c.args.start) bytes seen unseen ended tt
+    (λ zero. omega (arith, zero, c.refuse_words.ensures))
+    (λ taken two. no_want _ tt (sym c.in-Err-Words.field-0-is ∙ c.in-Err-Words.ensures.taken taken)) as_seen finds
+
+pub returns-in-Err-OutOfMemory-clause-carries : goal.returns-in-Err-OutOfMemory-clause-carries
+returns-in-Err-OutOfMemory-clause-carries g c = λ bytes seen unseen ended after s as_seen finds.
+    c.what_is_asked_for_loses_nothing.ensures.refused (image_at g.S.Start) after (map string_bytes c.args.words.now)
+    c.status_of.result (Untouched c.args.start) bytes seen unseen ended tt
+    (λ zero. omega (arith, zero, c.status_of.ensures.0)) (λ taken two. omega (arith, two, c.status_of.ensures.0))
+    as_seen finds
+
+pub returns-in-Err-OutOfMemory-clause-others : goal.returns-in-Err-OutOfMemory-clause-others
+returns-in-Err-OutOfMemory-clause-others g c = λ none. (
+  refl,
+  (tt, refl),
+  inr (
+    refl,
+    inr (record {
+      finishes = subst
+          (λ (t : RefusalText). Finishes g.F.Write.contents (Err t) c.status_of.result c.args.faults.now
+          c.status_of.new.faults) c.placeless.ensures c.status_of.ensures;
+      unread = refl;
+      unwritten = refl;
+      unopened = (tt, refl);
+    }),
+  ),
+)
 
 pub returns-in-Err-OutOfMemory-clause-does : goal.returns-in-Err-OutOfMemory-clause-does
 returns-in-Err-OutOfMemory-clause-does g c = λ taken. inl (record {

@@ -1,0 +1,100 @@
+-- What was asked for is a run that loses nothing, by what is said of tasks on the file and of runs without one.
+use Rattle.std.proofs.Common.{◌≡◌, [], ℕ, List, Some, None, Ok, Err, arith, inl, inr, refl, subst}
+use Rattle.std.specs.Prelude.{Option, IfErr, OnOk}
+use Rattle.std.specs.declared.io.Read as read
+use Rattle.std.specs.declared.io.Write as write
+use Rattle.sqlite_disk.specs.declared.Disk as disk
+use Rattle.sqlite_wal.specs.Recovery.{Image}
+use Rattle.archive_commands.specs.Tasks.{EndsOnFile}
+use Rattle.archive_files.specs.Made.{IsMadeIn, Unmade}
+use Rattle.archive_state.specs.Content.{Content, nothing}
+use Rattle.command_line.specs.declared.tasks.Asked.{Asked}
+use Rattle.command_line.specs.declared.tasks.Asked.TheVariants as asked
+use Rattle.database_files.specs.Opening.{IsUntouched}
+use Rattle.database_files.specs.declared.left.Left.{Left}
+use Rattle.devices.specs.declared.device.Device as device
+use Rattle.parish.specs.Doing.{Does, DoesTask, DoesUnder, Finished, IsNoToken}
+use Rattle.parish.specs.Runs.{IsRun}
+use Rattle.parish.specs.declared.visits.Visits.{Visits}
+use Rattle.program_runs.specs.Runs.{Carries, Run, Stands}
+use Rattle.runs_on_files.specs.Beginning.{HasNoTask, idle}
+use Rattle.runs_on_files.specs.Seeing.{IsSeenAs}
+use Rattle.tasks.specs.Moments.{Streams}
+use Rattle.tasks.specs.Status.{Finishes, Outcome, Plain, as_text}
+use Rattle.tasks.specs.declared.task.Task.{Task}
+use Rattle.tasks.specs.declared.task.Task.TheVariants as task
+
+module _ {R W F D S : Type 0} {g : disk.Ghosts D} (reader : read.Ghosts R) (reads : device.Ghosts R)
+    (writer : write.Ghosts W) (writes : device.Ghosts W) (faulter : write.Ghosts F) (image after : Image) (status : ℕ)
+    (x y : Streams R W F) (left : Left S D g) (room : Option Visits) (bytes seen unseen : List ℕ) (ended : Option ℕ)
+    (as_seen : IsSeenAs status unseen ended) where
+  abbrev run : Option Task → Run
+  run t = record { task = t; input = bytes; written = seen; status = ended }
+
+  module _
+      (performed : (t : Task) (shown : Option Content)
+      → EndsOnFile reader reads writer writes faulter image t x y status shown left
+      → Carries image (run (Some t)) after)
+      (untried : (t : Task) → IsUntouched left → y.output ≡ x.output → status ≡ 1
+      → Carries image (run (Some t)) after)
+      (idles : (society : List ℕ) → HasNoTask image society left → Carries image (idle bytes seen ended) after)
+      (begins : (society : List ℕ) → IsMadeIn image society left → ∥ Stands society nothing after ∥₁)
+    where
+      -- ---- tasks
+      performs : (t : Task) → DoesTask reader reads writer writes faulter image status x y left room t
+          → Carries image (run (Some t)) after
+      performs t did = performed t did.0 did.1
+
+      no_token : (word : List ℕ)
+          → Finished reader reads writer writes faulter image status x y left room
+          (IsNoToken reader reads writer writes faulter image status x y left room word) → status ≡ 1
+      no_token word done =
+          (subst (λ (o : Outcome). Finishes faulter.contents o status x.faults y.faults) done.1.1 done.2).0
+
+      under : (word : List ℕ) (t : Task)
+          → DoesUnder reader reads writer writes faulter image status x y left room word t
+          → Carries image (run (Some t)) after
+      under word t (inl bad) = untried t bad.3.0 bad.2 (no_token word bad.0)
+      under word t (inr did) = performs t did.1
+
+      -- ---- a new archive
+      made_or_not : (society : List ℕ) (r : Plain) → OnOk r (IsMadeIn image society left)
+          → IfErr r (λ kind. Unmade image society kind left) → HasNoTask image society left
+      made_or_not society (Ok _) made un = inr (inl made)
+      made_or_not society (Err kind) made un = inr (inr (kind, un))
+
+      begun : (society : List ℕ) (r : Plain) → OnOk r (IsMadeIn image society left)
+          → Finishes faulter.contents (as_text r) status x.faults y.faults → ended ≡ Some 0
+          → ∥ Stands society nothing after ∥₁
+      begun society (Ok _) made finishes done = begins society made
+      begun society (Err kind) made finishes done =
+          absurd (omega (arith, finishes.0, (subst (IsSeenAs status unseen) done as_seen).0))
+
+      -- ---- each command
+      pub is_run : (a : Asked) → Does reader reads writer writes faulter image status x y left room a
+          → IsRun image bytes seen ended after a
+      is_run asked.Norm did = ((None, refl, idles [] (inl did.1.0)), tt)
+      is_run asked.Check did = ((None, refl, idles [] (inl did.1.0)), tt)
+      is_run (asked.Init file society) did =
+          let makes = did.0.1 in
+          let finishes =
+          subst (λ (o : Outcome). Finishes faulter.contents o status x.faults y.faults) makes.1 did.0.2 in (
+            (None, refl, idles society.now (made_or_not society.now makes.0 makes.2 makes.3)),
+            λ done. begun society.now makes.0 makes.2 finishes done,
+          )
+      is_run (asked.Apply file) did = ((Some task.Apply, refl, performs task.Apply did), tt)
+      is_run (asked.Entries file source token) did =
+          let t = task.Entries token.now source in ((Some t, refl, under token.now t did), tt)
+      is_run (asked.Import file token progress) did =
+          let t = task.Import token.now progress in ((Some t, refl, under token.now t did), tt)
+      is_run (asked.Export file) did = ((Some task.Export, refl, performs task.Export did), tt)
+      is_run (asked.ExportPublic file today) did =
+          let t = task.ExportPublic today in ((Some t, refl, performs t did), tt)
+      is_run (asked.Sheet file which number generations today) did =
+          let t = task.Sheet did.0 today in ((Some t, (did.0, did.1, refl), performs t did.2), tt)
+      is_run (asked.Serve file port count today) did =
+          let t = task.Library today in ((Some t, refl, performed t did.0 did.1), tt)
+      is_run (asked.Audit file) did = ((Some task.Audit, refl, performs task.Audit did), tt)
+      is_run (asked.Days file first last words) did =
+          let t = task.Days first last words in ((Some t, refl, performs t did), tt)
+      is_run (asked.Show text) did = ((None, refl, idles [] (inl did.2.0)), tt)

@@ -1,0 +1,60 @@
+-- What a run of the program leaves of the archive's file and the log beside it. Rules of our own.
+use Rattle.std.specs.Prelude.{◌≡◌, ◌⊎◌, ⊤, ℕ, List, Option, Some, None}
+use Rattle.sqlite_wal.specs.Recovery.{Image}
+use Rattle.archive_state.specs.Content.{nothing}
+use Rattle.command_line.specs.Asking.{Asks, IsTaken}
+use Rattle.command_line.specs.declared.tasks.Asked.{Asked}
+use Rattle.command_line.specs.declared.tasks.Asked.TheVariants.{
+  Apply,
+  Audit,
+  Days,
+  Entries,
+  Export,
+  ExportPublic,
+  Import,
+  Init,
+  Serve,
+  Sheet,
+}
+use Rattle.parish.specs.Rooms.{IsSheetOf}
+use Rattle.program_runs.specs.Runs.{Carries, Stands}
+use Rattle.runs_on_files.specs.Beginning.{idle}
+use Rattle.shown_archives.specs.declared.sheet.Sheet.{Sheet as Page}
+use Rattle.tasks.specs.declared.task.Task.{Task}
+use Rattle.tasks.specs.declared.task.Task.TheVariants as task
+
+-- the task on an archive that is asked for; none where none is
+abbrev pub HasTask : Asked → Option Task → Type 0
+HasTask (Apply file) t = t ≡ Some task.Apply
+HasTask (Entries file source token) t = t ≡ Some (task.Entries token.now source)
+HasTask (Import file token progress) t = t ≡ Some (task.Import token.now progress)
+HasTask (Export file) t = t ≡ Some task.Export
+HasTask (ExportPublic file today) t = t ≡ Some (task.ExportPublic today)
+HasTask (Sheet file which number generations today) t = (page : Page) × IsSheetOf which number generations page
+    × (t ≡ Some (task.Sheet page today))
+HasTask (Serve file port count today) t = t ≡ Some (task.Library today)
+HasTask (Audit file) t = t ≡ Some task.Audit
+HasTask (Days file first last words) t = t ≡ Some (task.Days first last words)
+HasTask _ t = t ≡ None
+
+-- a run over the two before, with this input, which wrote this and ended so, leaves the two after
+module _ (before : Image) (input written : List ℕ) (ended : Option ℕ) (after : Image) where
+  -- an archive that was made is there
+  abbrev pub Begins : Asked → Type 0
+  Begins (Init file society) = ended ≡ Some 0 → ∥ Stands society.now nothing after ∥₁
+  Begins _ = ⊤
+
+  -- of each archive that the two held nothing is lost, by the task that was asked for
+  abbrev pub IsRun : Asked → Type 0
+  IsRun asked = ((t : Option Task) × HasTask asked t
+      × Carries before (record { task = t; input = input; written = written; status = ended }) after)
+      × Begins asked
+
+  -- the words were refused, which those that are taken never are, or no memory was found to read them
+  abbrev pub IsRefused : List (List ℕ) → Type 0
+  IsRefused words = ¬ (ended ≡ Some 0) × (IsTaken words → ¬ (ended ≡ Some 2))
+
+  -- the same of what the words ask for; or they were refused, and nothing of an archive is changed
+  abbrev pub IsRunOf : List (List ℕ) → Type 0
+  IsRunOf words = ((asked : Asked) × Asks words asked × IsRun asked)
+      ⊎ (IsRefused words × Carries before (idle input written ended) after)

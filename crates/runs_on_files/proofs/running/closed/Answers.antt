@@ -1,9 +1,0 @@
-use Rattle.runs_on_files.proofs.Closed.{told_closed}
-use Rattle.runs_on_files.proofs.running.closed.Goals as goal
-
-pub returns : goal.returns
-returns g c = record {
-  found = λ before after told numbered may over t holds.
-      c.a_close_loses_no_database.ensures before after c.args.left c.close.result t over
-      (told_closed before c.args.left c.close.result c.close.ensures told) c.close.ensures numbered holds may;
-}
