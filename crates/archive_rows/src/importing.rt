@@ -1,7 +1,8 @@
 //! An import that is staged: opened, written, published, and taken out again, each row in commits of its own.
 
-use crate::session::{Session, nothing};
+use crate::session::Session;
 use records::RefusalKind;
+use row_answers::nothing;
 use row_words::{Answer, number, word};
 use sqlite::{Alter, Connection, Error};
 use staging::{OpenImport, publish_rows, remove_batch, remove_open, stage_rows};
@@ -10,9 +11,9 @@ use std::mem;
 use store_tables::rows;
 
 /// Answers a row on the import that is open. 80: none is, the database failed, or a row `sql` has begun a transaction.
-pub(crate) fn answer_import(
+pub(crate) fn answer_import<S: Alter + Drop>(
     alloc: Global,
-    session: &mut Session,
+    session: &mut Session<S>,
     words: &[String],
     out: &mut Answer,
 ) -> Result<(), RefusalKind> {
@@ -32,8 +33,12 @@ pub(crate) fn answer_import(
 }
 
 /// Makes an import of what was noted, with the next number behind it, in an open batch.
-fn open(alloc: Global, session: &mut Session, words: &[String]) -> Result<(), RefusalKind> {
-    let mut changes = mem::replace(&mut session.planned, nothing(alloc));
+fn open<S: Alter + Drop>(
+    alloc: Global,
+    session: &mut Session<S>,
+    words: &[String],
+) -> Result<(), RefusalKind> {
+    let mut changes = mem::replace(&mut session.noted.planned, nothing(alloc));
     changes.next = word(words, 2).parse::<u64>().unwrap_or(0);
     let batch = number(words, 1);
     session.import = Some(OpenImport::new(alloc, batch, changes)?);
@@ -54,7 +59,11 @@ fn open_batch<S: Alter>(conn: &mut Connection<S>, batch: u32) -> Result<(), Refu
 }
 
 /// Writes the next rows, and says whether more are left.
-fn stage_next(alloc: Global, session: &mut Session, out: &mut Answer) -> Result<(), RefusalKind> {
+fn stage_next<S: Alter + Drop>(
+    alloc: Global,
+    session: &mut Session<S>,
+    out: &mut Answer,
+) -> Result<(), RefusalKind> {
     let Some(import) = &mut session.import else {
         return Err(RefusalKind::Storage);
     };
@@ -77,7 +86,7 @@ fn stage<S: Alter>(
 }
 
 /// Publishes the import, or takes it out.
-fn end(session: &mut Session, how: &str) -> Result<(), RefusalKind> {
+fn end<S: Alter + Drop>(session: &mut Session<S>, how: &str) -> Result<(), RefusalKind> {
     let Some(import) = &session.import else {
         return Err(RefusalKind::Storage);
     };

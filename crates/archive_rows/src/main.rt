@@ -4,30 +4,30 @@
 
 mod answering;
 mod asking;
-mod changing;
-mod fields;
 mod importing;
-mod lines;
-mod planning;
-mod printed;
-mod reading;
 mod session;
 mod tables;
-mod values;
 
 use crate::answering::answer_to;
 use crate::session::Session;
+use sqlite::{Alter, Connection};
 use std::io::{self, BufRead, BufReader, BufWriter, Write};
 
 fn main(rt: HostRuntime) -> io::Result<()> {
-    let mut session = Session::new(rt.alloc())?;
-    let served = serve(&rt, &mut session);
+    let conn = Connection::open_in_memory(rt.alloc())?;
+    serve_over(&rt, conn)
+}
+
+/// Answers the rows of standard input over the tables of a connection.
+fn serve_over<S: Alter + Drop>(rt: &HostRuntime, conn: Connection<S>) -> io::Result<()> {
+    let mut session = Session::new(rt.alloc(), conn);
+    let served = serve(rt, &mut session);
     drop(session);
     served
 }
 
 /// Answers the rows of standard input to their end.
-fn serve(rt: &HostRuntime, session: &mut Session) -> io::Result<()> {
+fn serve<S: Alter + Drop>(rt: &HostRuntime, session: &mut Session<S>) -> io::Result<()> {
     let alloc = rt.alloc();
     let mut out = BufWriter::new(alloc, io::writer(rt))?;
     for row in BufReader::new(alloc, rt.reader())?.lines(alloc) {

@@ -2,11 +2,29 @@
 
 use archive_state::Changes;
 use records::RefusalKind;
-use row_words::Answer;
+use row_words::{Answer, text};
 use sqlite::{Alter, Connection, Error, Row};
 use sqlite_value::value::ValueRef;
 use std::alloc::Global;
 use store_rows::write_changes;
+use store_tables::create;
+
+/// Makes the tables of a new archive of a society. 58: the name is no text. 80: the database failed, or a row `sql` has
+/// begun a transaction.
+pub(crate) fn make<S: Alter>(
+    alloc: Global,
+    conn: &mut Connection<S>,
+    name: &str,
+) -> Result<(), RefusalKind> {
+    if !conn.is_autocommit() {
+        return Err(RefusalKind::Storage);
+    }
+    let name = text(alloc, name)?;
+    match create(conn, &name) {
+        Ok(()) => Ok(()),
+        Err(_) => Err(RefusalKind::Storage),
+    }
+}
 
 /// Writes changes in one commit.
 pub(crate) fn write<S: Alter>(

@@ -2,39 +2,40 @@
 //! product.
 #![tactic(auto)]
 
-mod archives;
-mod asking;
-mod kept;
-mod looks;
-mod pictures;
-mod reading;
-mod rows;
-mod seeing;
+mod calls;
+mod images;
+mod sessions;
 mod steps;
-mod stops;
-mod storing;
-mod wordings;
 
-use crate::archives::Archives;
-use crate::asking::answer;
+use crate::images::Images;
 use csv::ReaderBuilder;
+use request_answers::{ArchiveFiles, Archives, answer};
 use std::alloc::Global;
 use std::io::{self, BufWriter, Read, Write};
 
 fn main(rt: HostRuntime) -> io::Result<()> {
     let alloc = rt.alloc();
     let mut out = BufWriter::new(alloc, io::writer(&rt))?;
-    let mut archives = Archives::new(alloc);
-    let done = answer_all(alloc, &mut archives, rt.reader(), &mut out);
-    drop(archives);
-    done?;
+    serve::<Images, _, _>(alloc, rt.reader(), &mut out)?;
     out.flush()
 }
 
-/// Answers each row that is read. Where reading or memory fails, the rows before it were answered.
-fn answer_all<R: Read + Drop, W: Write>(
+/// Answers the rows of an input, over archives of which one may be in such files.
+fn serve<F: ArchiveFiles, R: Read + Drop, W: Write>(
     alloc: Global,
-    archives: &mut Archives,
+    input: R,
+    output: &mut W,
+) -> io::Result<()> {
+    let mut archives: Archives<F> = Archives::new(alloc);
+    let done = answer_all(alloc, &mut archives, input, output);
+    drop(archives);
+    done
+}
+
+/// Answers each row that is read. Where reading or memory fails, the rows before it were answered.
+fn answer_all<F: ArchiveFiles, R: Read + Drop, W: Write>(
+    alloc: Global,
+    archives: &mut Archives<F>,
     input: R,
     output: &mut W,
 ) -> io::Result<()> {

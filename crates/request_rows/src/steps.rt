@@ -1,122 +1,66 @@
-//! The rows about the steps of an import.
+//! The steps of an import, and what is asked beside them, as outcomes.
 
-use crate::archives::Archives;
-use crate::kept::Kept;
-use crate::reading::{parted, requests_of};
-use crate::rows::{refused, word};
-use crate::stops::stop_asked_row;
-use archive_core::Request;
-use failing_archives::{Asked, Fuses, Words};
-use records::RefusalKind;
+use archive_core::{Command, Request};
+use archive_state::{Answer, State};
+use records::{Refusal, RefusalKind};
+use request_answers::Outcome;
+use sqlite::Alter;
 use std::alloc::{AllocError, Global};
+use store::Archive;
 
-/// What an archive in files that may fail answers to steps, and to more, where there are, when it is adopted again. A
-/// request is one field here. What is left in the files is kept.
-pub(crate) fn steps(
+/// What an archive answers to a step: of the import that is the first of these requests, or of the second. What has no
+/// answer of its own has first 0 and count 0. A stage has count 1 where more is left; the state has its next number as
+/// first, and as count how many records it has, which is the count of an audit too.
+pub(crate) fn step<S: Alter>(
     alloc: Global,
-    archives: &mut Archives,
-    file: &str,
-    calls: &str,
-    fields: &[&str],
-) -> Result<Vec<u8>, AllocError> {
-    let [names, then, rows @ ..] = fields else {
-        return refused(alloc, "", RefusalKind::FieldCount);
-    };
-    let Some(fuses) = Fuses::of(file, calls) else {
-        return refused(alloc, "", RefusalKind::BadRow);
-    };
-    match requests_of(alloc, rows)? {
-        Ok(requests) => steps_row(alloc, archives, fuses, names, then, &requests),
-        Err(kind) => refused(alloc, "", kind),
+    archive: &mut Archive<S>,
+    name: &str,
+    requests: &[Request],
+) -> Outcome {
+    match (name, requests) {
+        ("begin", [import, ..]) => begin(alloc, archive, import),
+        ("perform", [_, request, ..]) => archive.perform(alloc, request),
+        ("stage", _) => staged(archive.stage(alloc)),
+        ("publish", _) => Ok(archive.publish()?),
+        ("abandon", _) => {
+            archive.abandon()?;
+            Ok(answer_of(0, 0))
+        }
+        ("society", _) => {
+            archive.society(alloc)?;
+            Ok(answer_of(0, 0))
+        }
+        ("state", _) => counted(alloc, archive.state(alloc)),
+        ("audit", _) => Ok(answer_of(0, archive.audit(alloc)?)),
+        _ => Err(Refusal::from(RefusalKind::BadRow)),
     }
 }
 
-fn steps_row(
-    alloc: Global,
-    archives: &mut Archives,
-    fuses: Fuses,
-    names: &str,
-    then: &str,
-    requests: &[Request],
-) -> Result<Vec<u8>, AllocError> {
-    match &mut archives.kept {
-        Some(kept) if then.is_empty() => once(alloc, kept, fuses, names, requests),
-        Some(kept) => twice(alloc, kept, fuses, names, then, requests),
-        None => word(alloc, "none"),
-    }
-}
-
-fn once(
-    alloc: Global,
-    kept: &mut Kept,
-    fuses: Fuses,
-    names: &str,
-    requests: &[Request],
-) -> Result<Vec<u8>, AllocError> {
-    let names = names_of(alloc, names)?;
-    let reply = kept.visit(alloc, fuses, Asked::Steps(names.as_slice(), requests))?;
-    let mut words = Words::new(alloc, "steps")?;
-    words.say_answers(alloc, &reply)?;
-    words.into_row()
-}
-
-fn twice(
-    alloc: Global,
-    kept: &mut Kept,
-    fuses: Fuses,
-    names: &str,
-    then: &str,
-    requests: &[Request],
-) -> Result<Vec<u8>, AllocError> {
-    let names = names_of(alloc, names)?;
-    let then = names_of(alloc, then)?;
-    let asked = Asked::Steps(names.as_slice(), requests);
-    let next = Asked::Steps(then.as_slice(), requests);
-    let (first, second) = kept.visit_again(alloc, fuses, asked, next)?;
-    let mut words = Words::new(alloc, "steps")?;
-    words.say_answers(alloc, &first)?;
-    words.say("again")?;
-    words.say_answers(alloc, &second)?;
-    words.into_row()
-}
-
-/// Steps on a copy of the archive of which a file fails.
-pub(crate) fn stop_steps(
-    alloc: Global,
-    archives: &mut Archives,
-    file: &str,
-    calls: &str,
-    fields: &[&str],
-) -> Result<Vec<u8>, AllocError> {
-    let [names, rows @ ..] = fields else {
-        return refused(alloc, "", RefusalKind::FieldCount);
+fn begin<S: Alter>(alloc: Global, archive: &mut Archive<S>, request: &Request) -> Outcome {
+    let Command::Import(forest) = &request.command else {
+        return Err(Refusal::from(RefusalKind::BadRow));
     };
-    let Some(fuses) = Fuses::of(file, calls) else {
-        return refused(alloc, "", RefusalKind::BadRow);
-    };
-    match requests_of(alloc, rows)? {
-        Ok(requests) => stop_steps_row(alloc, archives, fuses, names, &requests),
-        Err(kind) => refused(alloc, "", kind),
+    match archive.begin_import(alloc, &request.token, forest)? {
+        Some(answer) => Ok(answer),
+        None => Ok(answer_of(0, 0)),
     }
 }
 
-fn stop_steps_row(
-    alloc: Global,
-    archives: &mut Archives,
-    fuses: Fuses,
-    names: &str,
-    requests: &[Request],
-) -> Result<Vec<u8>, AllocError> {
-    let names = names_of(alloc, names)?;
-    let asked = Asked::Steps(names.as_slice(), requests);
-    stop_asked_row(alloc, archives, fuses, requests, asked)
+fn staged(more: Result<bool, RefusalKind>) -> Outcome {
+    Ok(answer_of(0, u32::from(more?)))
 }
 
-/// The names of steps, with bars between them.
-fn names_of<'a>(alloc: Global, text: &'a str) -> Result<Vec<&'a str>, AllocError> {
-    if text.is_empty() {
-        Ok(Vec::new(alloc))
-    } else {
-        parted(alloc, text, '|')
-    }
+fn counted(alloc: Global, state: Result<State, RefusalKind>) -> Outcome {
+    let state = state?;
+    let count = record_count(alloc, &state)?;
+    Ok(answer_of(state.next().min(u64::from(u32::MAX)) as u32, count))
+}
+
+fn record_count(alloc: Global, state: &State) -> Result<u32, AllocError> {
+    let numbers = state.record_numbers(alloc)?;
+    Ok(numbers.len().min(u32::MAX as usize) as u32)
+}
+
+fn answer_of(first: u32, count: u32) -> Answer {
+    Answer { first, count }
 }

@@ -1,4 +1,0 @@
-use Rattle.failing_archives.proofs.failing.FailingView.record_at.Goals as goal
-
-pub returns-clause-shows : goal.returns-clause-shows
-returns-clause-shows c = λ _. (tt, λ held shown. (shown, ((c.record_at.ensures.shows tt).1 held shown).1))
