@@ -207,7 +207,7 @@ def interrupted(copy, number, to_all):
     while ran.poll() is None and not (os.path.exists(pid) and os.path.getsize(pid)):
         time.sleep(0.01)
     (os.killpg if to_all else os.kill)(ran.pid, number)
-    out, err = ran.communicate(timeout=30)
+    out, err = ran.communicate(timeout=120)
     demand((ran.returncode, out) == (3, b""), f"wanted status 3 and no output, got {ran.returncode}, {shown(out)}")
     demand_log(copy, err, b"")
     with open(pid, encoding="utf-8") as file:
