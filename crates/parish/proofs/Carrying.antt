@@ -1,5 +1,24 @@
 -- What was asked for is a run that loses nothing, by what is said of tasks on the file and of runs without one.
-use Rattle.std.proofs.Common.{◌≡◌, [], ℕ, List, Some, None, Ok, Err, arith, inl, inr, refl, subst}
+use Rattle.std.proofs.Common.{
+  ◌≡◌,
+  ◌∙◌,
+  ◌++◌,
+  ◌∷◌,
+  [],
+  ℕ,
+  List,
+  Some,
+  None,
+  Ok,
+  Err,
+  ap,
+  arith,
+  inl,
+  inr,
+  refl,
+  subst,
+  sym,
+}
 use Rattle.std.specs.Prelude.{Option, IfErr, OnOk}
 use Rattle.std.specs.declared.io.Read as read
 use Rattle.std.specs.declared.io.Write as write
@@ -18,11 +37,21 @@ use Rattle.parish.specs.Runs.{IsRun}
 use Rattle.parish.specs.declared.visits.Visits.{Visits}
 use Rattle.program_runs.specs.Runs.{Carries, Run, Stands}
 use Rattle.runs_on_files.specs.Beginning.{HasNoTask, idle}
-use Rattle.runs_on_files.specs.Seeing.{IsSeenAs}
+use Rattle.runs_on_files.specs.Seeing.{IsSeen, IsSeenAs}
 use Rattle.tasks.specs.Moments.{Streams}
 use Rattle.tasks.specs.Status.{Finishes, Outcome, Plain, as_text}
 use Rattle.tasks.specs.declared.task.Task.{Task}
 use Rattle.tasks.specs.declared.task.Task.TheVariants as task
+
+none_seen : (seen unseen : List ℕ) → Some (seen ++ unseen) ≡ Some [] → seen ≡ []
+none_seen [] unseen none = refl
+none_seen (b ∷ seen) unseen none = cc
+
+-- of an output that is as it was, nothing was seen
+pub unwritten : {R W F : Type 0} (reader : read.Ghosts R) (writer : write.Ghosts W) (x y : Streams R W F)
+    (bytes seen unseen : List ℕ) → IsSeen reader writer x y bytes seen unseen → y.output ≡ x.output → seen ≡ []
+unwritten {R} {W} reader writer x y bytes seen unseen s same =
+    none_seen seen unseen (sym s.writes ∙ ap (λ (w : W). writer.contents w) same ∙ s.begins)
 
 module _ {R W F D S : Type 0} {g : disk.Ghosts D} (reader : read.Ghosts R) (reads : device.Ghosts R)
     (writer : write.Ghosts W) (writes : device.Ghosts W) (faulter : write.Ghosts F) (image after : Image) (status : ℕ)

@@ -1,5 +1,5 @@
 -- What a run of the program leaves of the archive's file and the log beside it. Rules of our own.
-use Rattle.std.specs.Prelude.{◌≡◌, ◌⊎◌, ⊤, ℕ, List, Option, Some, None}
+use Rattle.std.specs.Prelude.{◌≡◌, ◌⊎◌, ⊤, [], ℕ, List, Option, Some, None}
 use Rattle.sqlite_wal.specs.Recovery.{Image}
 use Rattle.archive_state.specs.Content.{nothing}
 use Rattle.command_line.specs.Asking.{Asks, IsTaken}
@@ -50,9 +50,10 @@ module _ (before : Image) (input written : List ℕ) (ended : Option ℕ) (after
       × Carries before (record { task = t; input = input; written = written; status = ended }) after)
       × Begins asked
 
-  -- the words were refused, which those that are taken never are, or no memory was found to read them
+  -- the words were refused, which those that are taken never are, or no memory was found to read them; nothing was
+  -- written
   abbrev pub IsRefused : List (List ℕ) → Type 0
-  IsRefused words = ¬ (ended ≡ Some 0) × (IsTaken words → ¬ (ended ≡ Some 2))
+  IsRefused words = (written ≡ []) × ¬ (ended ≡ Some 0) × (IsTaken words → ¬ (ended ≡ Some 2))
 
   -- the same of what the words ask for; or they were refused, and nothing of an archive is changed
   abbrev pub IsRunOf : List (List ℕ) → Type 0

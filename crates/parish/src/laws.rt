@@ -1,6 +1,6 @@
 //! What is found of the archive in a file after what was asked for.
 
-ghost use Rattle.std.specs.Prelude.{◌≢◌, ℕ, List, Option};
+ghost use Rattle.std.specs.Prelude.{◌≡◌, ◌≢◌, ℕ, List, Option};
 ghost use Rattle.sqlite_wal.specs.Recovery.{Image};
 ghost use Rattle.command_line.specs.Asking.{IsTaken};
 ghost use Rattle.command_line.specs.declared.tasks.Asked.{Asked};
@@ -32,9 +32,11 @@ pub fn what_is_asked_for_loses_nothing<
         → Does R.Read R.Device W.Write W.Device F.Write image status x y left room asked
         → IsSeen R.Read W.Write x y bytes seen unseen → IsSeenAs status unseen ended → FindsAfter image left after
         → IsRun image bytes seen ended after asked }
-    ensures refused { (image after : Image) (words : List (List ℕ)) (status : ℕ) (left : Left S D D.Disk)
-        (bytes seen unseen : List ℕ) (ended : Option ℕ) → IsUntouched left → status ≢ 0 → (IsTaken words → status ≢ 2)
-        → IsSeenAs status unseen ended → FindsAfter image left after → IsRunOf image bytes seen ended after words }
+    ensures refused { (image after : Image) (words : List (List ℕ)) (status : ℕ) (x y : Streams R W F)
+        (left : Left S D D.Disk) (bytes seen unseen : List ℕ) (ended : Option ℕ)
+        → IsSeen R.Read W.Write x y bytes seen unseen → IsSeenAs status unseen ended → FindsAfter image left after
+        → IsUntouched left → y.output ≡ x.output → status ≢ 0 → (IsTaken words → status ≢ 2)
+        → IsRunOf image bytes seen ended after words }
 {
     a_task_on_a_file_loses_nothing::<S, D, R, W, F>();
     a_run_without_a_task_loses_nothing::<S, D>();

@@ -92,16 +92,15 @@ returns-in-Err-Words-clause-others g c = λ none. (refl, (tt, refl), inr (refl, 
 pub returns-in-Err-Words-clause-carries : goal.returns-in-Err-Words-clause-carries
 returns-in-Err-Words-clause-carries g c = λ bytes seen unseen ended after s as_seen finds.
     c.what_is_asked_for_loses_nothing.ensures.refused (image_at g.S.Start) after (map string_bytes c.args.words.now)
-    c.refuse_words.result (Untouched c.args.start) bytes seen unseen ended tt
+    c.refuse_words.result _ _ (Untouched c.args.start) bytes seen unseen ended s as_seen finds tt refl
     (λ zero. omega (arith, zero, c.refuse_words.ensures))
-    (λ taken two. no_want _ tt (sym c.in-Err-Words.field-0-is ∙ c.in-Err-Words.ensures.taken taken)) as_seen finds
+    (λ taken two. no_want _ tt (sym c.in-Err-Words.field-0-is ∙ c.in-Err-Words.ensures.taken taken))
 
 pub returns-in-Err-OutOfMemory-clause-carries : goal.returns-in-Err-OutOfMemory-clause-carries
 returns-in-Err-OutOfMemory-clause-carries g c = λ bytes seen unseen ended after s as_seen finds.
     c.what_is_asked_for_loses_nothing.ensures.refused (image_at g.S.Start) after (map string_bytes c.args.words.now)
-    c.status_of.result (Untouched c.args.start) bytes seen unseen ended tt
+    c.status_of.result _ _ (Untouched c.args.start) bytes seen unseen ended s as_seen finds tt refl
     (λ zero. omega (arith, zero, c.status_of.ensures.0)) (λ taken two. omega (arith, two, c.status_of.ensures.0))
-    as_seen finds
 
 pub returns-in-Err-OutOfMemory-clause-others : goal.returns-in-Err-OutOfMemory-clause-others
 returns-in-Err-OutOfMemory-clause-others g c = λ none. (

@@ -1,6 +1,6 @@
 use Rattle.std.proofs.Common.{[], inl, inr, subst, sym}
 use Rattle.runs_on_files.specs.Seeing.{IsSeenAs}
-use Rattle.parish.proofs.Carrying.{is_run}
+use Rattle.parish.proofs.Carrying.{is_run, unwritten}
 use Rattle.parish.proofs.laws.what_is_asked_for_loses_nothing.Goals as goal
 
 pub returns : goal.returns
@@ -16,8 +16,9 @@ returns g c = record {
       finds)
       (λ society made. c.a_run_without_a_task_loses_nothing.ensures.begun image after society left made finds)
       a did;
-  refused = λ image after words status left bytes seen unseen ended is nonzero untwo as_seen finds. inr (
+  refused = λ image after words status x y left bytes seen unseen ended s as_seen finds is same nonzero untwo. inr (
     (
+      unwritten g.R.Read g.W.Write x y bytes seen unseen s same,
       (λ done. nonzero (sym (subst (IsSeenAs status unseen) done as_seen).0)),
       (λ taken two. untwo taken (sym (subst (IsSeenAs status unseen) two as_seen).0)),
     ),
