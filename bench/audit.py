@@ -12,7 +12,7 @@ import subprocess
 import sys
 import tempfile
 
-from export import LINE, filled
+from export import filled, put
 from norm import PARISH, one_run
 
 
@@ -61,8 +61,7 @@ def made(file, records, first=3):
     with sqlite3.connect(file) as conn:
         number = first
         for kind, lines in records:
-            conn.execute("INSERT INTO record (no, kind, batch) VALUES (?, ?, 0)", (number, kind))
-            conn.executemany(LINE, ((number, pos, *line) for pos, line in enumerate(lines)))
+            put(conn, number, kind, lines)
             number += 1
         conn.execute("UPDATE meta SET next = ?", (number,))
     conn.close()

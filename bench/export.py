@@ -18,6 +18,7 @@ from norm import FIRST, LAST, MONTHS, PARISH, ROOT, SAID, one_run
 
 sys.path.append(str(ROOT / "tests"))
 
+from beside import links_of, sought_of  # noqa: E402
 from calendars import span_of  # noqa: E402
 
 LINE = "INSERT INTO line (no, pos, depth, tag, text, dst) VALUES (?, ?, ?, ?, ?, ?)"
@@ -57,6 +58,17 @@ def person(rng, number):
     ]
 
 
+def put(conn, number, kind, lines):
+    """A record that is kept as these lines, with all that an archive has beside them."""
+    conn.execute("INSERT INTO record (no, kind, batch) VALUES (?, ?, 0)", (number, kind))
+    conn.executemany(LINE, ((number, pos, *line) for pos, line in enumerate(lines)))
+    conn.executemany("INSERT INTO link VALUES (?)", ((key,) for key in links_of(number, lines)))
+    if (sought := sought_of(lines)) is not None:
+        conn.execute("INSERT INTO sought VALUES (?, ?, ?)", (number, *sought))
+    if (span := span_of(kind, lines)) is not None:
+        conn.execute("INSERT INTO span VALUES (?, ?, ?)", (number, *span))
+
+
 def filled(file, persons):
     """An archive of so many persons behind a source and a place."""
     subprocess.run([PARISH, "init", file, "--society", "Ashby Society"], check=True)
@@ -67,10 +79,7 @@ def filled(file, persons):
         number = 3
         for _ in range(persons):
             for kind, lines in person(rng, number):
-                conn.execute("INSERT INTO record (no, kind, batch) VALUES (?, ?, 0)", (number, kind))
-                conn.executemany(LINE, ((number, pos, *line) for pos, line in enumerate(lines)))
-                if (span := span_of(kind, lines)) is not None:
-                    conn.execute("INSERT INTO span VALUES (?, ?, ?)", (number, *span))
+                put(conn, number, kind, lines)
                 number += 1
         conn.execute("UPDATE meta SET next = ?", (number,))
     conn.close()

@@ -23,6 +23,10 @@ import tempfile
 import time
 
 ROOT = pathlib.Path(__file__).resolve().parents[1]
+sys.path.append(str(ROOT / "tests"))
+
+from beside import link_of, links_of  # noqa: E402
+
 PARISH = ROOT / "crates/parish/out/parish"
 MANY, ROWS, RUNS = 100, 10_000, 3
 LINE = "INSERT INTO line (no, pos, depth, tag, text, dst) VALUES (?1, ?2, ?3, ?4, ?5, ?6)"
@@ -149,15 +153,18 @@ def lines_of(conn, number):
     ).fetchall()
 
 
-def span_of(conn, number):
-    """The row of `span` of a number, where it has one."""
-    return conn.execute("SELECT no, lo, hi FROM span WHERE no = ?1", (number,)).fetchone()
+def beside(conn, number):
+    """What is there beside the lines of a number: its rows of `span` and `sought`, where it has them, and those of
+    `link`."""
+    span = conn.execute("SELECT no, lo, hi FROM span WHERE no = ?1", (number,)).fetchone()
+    sought = conn.execute("SELECT no, text, dst FROM sought WHERE no = ?1", (number,)).fetchone()
+    return span, sought, [(key,) for key in links_of(number, (line[2:] for line in lines_of(conn, number)))]
 
 
 def plan(file, rows):
-    """What parish writes for each row: the numbers that it names, the records that it puts with their spans, its
-    receipt. Each row is one request on records that no other row changes, so the lines that are there at the end
-    are those that it wrote."""
+    """What parish writes for each row: the numbers that it names, the records that it puts with what they have beside
+    their lines, its receipt. Each row is one request on records that no other row changes, so the lines that are there
+    at the end are those that it wrote."""
     with tempfile.TemporaryDirectory() as folder:
         copy = copied(file, folder)
         before, after = sqlite3.connect(file), sqlite3.connect(copy)
@@ -174,7 +181,7 @@ def plan(file, rows):
                 after.execute("SELECT no, kind, batch FROM record WHERE no = ?1", (number,)).fetchone()
                 for number in put
             ]
-            rows_of = [(kind, lines_of(after, number), span_of(after, number)) for number, kind in zip(put, kinds)]
+            rows_of = [(kind, lines_of(after, number), beside(after, number)) for number, kind in zip(put, kinds)]
             found.append((named, [(number, *rest) for number, rest in zip(put, rows_of)], receipt))
         before.close()
         after.close()
@@ -205,7 +212,7 @@ def perform(conn, named, put, receipt):
         lines_of(conn, number)
     conn.execute("SELECT next FROM meta").fetchall()
     conn.execute("BEGIN")
-    for number, kind, lines, span in put:
+    for number, kind, lines, (span, sought, links) in put:
         if kind is None:
             remove(conn, number)
             continue
@@ -216,6 +223,10 @@ def perform(conn, named, put, receipt):
             conn.execute(LINE, line)
         if span and conn.execute("UPDATE span SET lo = ?2, hi = ?3 WHERE no = ?1", span).rowcount == 0:
             conn.execute("INSERT INTO span (no, lo, hi) VALUES (?1, ?2, ?3)", span)
+        if sought and conn.execute("UPDATE sought SET text = ?2, dst = ?3 WHERE no = ?1", sought).rowcount == 0:
+            conn.execute("INSERT INTO sought (no, text, dst) VALUES (?1, ?2, ?3)", sought)
+        for link in links:
+            conn.execute("INSERT OR IGNORE INTO link (id) VALUES (?1)", link)
     if receipt[3]:
         conn.execute("UPDATE meta SET next = ?1", (receipt[2] + 1,))
     conn.execute("INSERT INTO receipt (token, digest, first, count) VALUES (?1, ?2, ?3, ?4)", receipt)
@@ -223,10 +234,12 @@ def perform(conn, named, put, receipt):
 
 
 def remove(conn, number):
-    """Takes a record out, where no line names it."""
-    assert not conn.execute("SELECT no FROM line WHERE dst = ?1 AND no <> ?1", (number,)).fetchall()
+    """Takes a record out, where none names it."""
+    ends = link_of(0, number), link_of((1 << 32) - 1, number)
+    assert not conn.execute("SELECT id FROM link WHERE id >= ?1 AND id <= ?2", ends).fetchall()
     conn.execute("DELETE FROM line WHERE no = ?1", (number,))
     conn.execute("DELETE FROM span WHERE no = ?1", (number,))
+    conn.execute("DELETE FROM sought WHERE no = ?1", (number,))
     conn.execute("DELETE FROM record WHERE no = ?1", (number,))
 
 

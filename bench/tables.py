@@ -25,6 +25,11 @@ SCHEMA = (
     "CREATE INDEX line_by_record ON line (no)",
     "CREATE INDEX line_by_target ON line (dst)",
     "CREATE INDEX line_by_text ON line (text, dst)",
+    "CREATE TABLE span (no INTEGER PRIMARY KEY REFERENCES record (no) ON DELETE RESTRICT, lo INTEGER, hi INTEGER)"
+    " STRICT",
+    "CREATE TABLE sought (no INTEGER PRIMARY KEY REFERENCES record (no) ON DELETE RESTRICT, text TEXT NOT NULL,"
+    " dst INTEGER) STRICT",
+    "CREATE INDEX sought_by_text ON sought (text, dst)",
     "INSERT INTO batch VALUES (0, 0)",
 )
 
@@ -56,6 +61,9 @@ def theirs(count):
         conn.execute("DELETE FROM line WHERE no = ?1", (number,))
         conn.execute(insert, (number, 0, 0, "person", None, None))
         conn.execute(insert, (number, 1, 1, "name", f"Ann /Lee {number}/", None))
+    for table in ("span", "sought"):
+        for number in range(1, count + 1):
+            conn.execute(f"DELETE FROM {table} WHERE no = ?1", (number,))
     conn.execute("COMMIT")
     written = time.perf_counter() - start
     start = time.perf_counter()

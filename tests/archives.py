@@ -56,7 +56,7 @@ def answered(got, answers):
     demand(all(line.isprintable() and not line.endswith(": ") for line in told), f"no words in {shown(got.err)}")
 
 
-TABLES = ("meta", "batch", "record", "line", "receipt", "slip", "slip_line", "span")
+TABLES = ("meta", "batch", "record", "line", "receipt", "slip", "slip_line", "span", "link", "sought", "past")
 ROWS = lines(row for row, _ in WEDDING)
 ANSWERS = lines(answer for _, answer in WEDDING)
 

@@ -4,6 +4,7 @@ neighbour that is sound (spoilt.py)."""
 from __future__ import annotations
 
 from archives import generated, lines
+from beside import link_of
 from ends import each_growth_refused, refused_as_no_archive
 from exports import ARCHIVES
 from harness import Case, Tools, demand, expect, pipe_without_reader, refused, run, written
@@ -53,6 +54,24 @@ def a_citation_of_a_person(tools):
         expect(at.audit(), sound(3))
         at.other_database("UPDATE line SET dst = 2 WHERE no = 3 AND tag = 'source'")
         told_of(at, "record 3", "2, which is no source", "the citation")
+
+
+def rows_that_mean_nothing(tools):
+    """Rows of `past`, and links that no record has: nothing is told of them, and nothing else is read."""
+    with Audited(tools) as at:
+        exported = at.of_pairs().export()
+        with Tables(at.file) as tables:
+            tables.run("INSERT INTO past VALUES (1, 5, 'e', '0 person'), (3, 4294967295, '', 'a\rb'), (9, 0, 'x', '')")
+            for key in (link_of(5, 20), link_of(99, 7), link_of(5, 99), link_of(0, 0), link_of(4294967295, 4294967295)):
+                tables.run("INSERT INTO link VALUES (?)", key)
+        before = at.tables()
+        expect(at.audit(), sound(RECORDS))
+        expect(at.export(), exported)
+        answers = at.apply(b"z1,remove,99\nz2,remove,7\nz3,remove,20\n").out
+        demand(answers == b"z1,refused,50,NoSuch\nz2,refused,53,StillNamed\nz3,ok,0,0\n", f"{answers!r}")
+        after = at.tables()
+        demand(after["past"] == before["past"] and after["link"] == before["link"], "rows of others went")
+        expect(at.audit(), sound(RECORDS - 1))
 
 
 def told_of(at, subject, words, name):
@@ -116,6 +135,7 @@ def refused_memory(tools):
 TESTS = (
     archives_that_are_sound,
     a_citation_of_a_person,
+    rows_that_mean_nothing,
     no_archive,
     words_that_are_refused,
     outputs_that_fail,

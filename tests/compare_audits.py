@@ -23,6 +23,7 @@ import tempfile
 
 sys.dont_write_bytecode = True
 
+from beside import links_of, sought_of  # noqa: E402
 from harness import ROOT  # noqa: E402
 
 OURS = os.path.join(ROOT, "crates", "parish", "out", "parish")
@@ -74,6 +75,7 @@ class Spoiling:
         if found:
             self.rows("DELETE FROM line WHERE no = ?", *found)
             self.rows("DELETE FROM span WHERE no = ?", *found)
+            self.rows("DELETE FROM sought WHERE no = ?", *found)
             self.rows("DELETE FROM record WHERE no = ?", *found)
 
     def moved(self):
@@ -128,11 +130,23 @@ class Spoiling:
         if found:
             self.rows("UPDATE slip_line SET text = 'Kit' WHERE id = ?", *found)
 
+    def beside(self):
+        """Links and what is looked for are those of the lines that are there now."""
+        self.rows("DELETE FROM sought")
+        for number, in self.rows("SELECT no FROM record"):
+            lines = self.rows("SELECT depth, tag, text, dst FROM line WHERE no = ? ORDER BY id", number)
+            for key in links_of(number, lines):
+                self.rows("INSERT OR IGNORE INTO link VALUES (?)", key)
+            sought = sought_of(lines) if lines else None
+            if sought is not None and sought[0] is not None:
+                self.rows("INSERT INTO sought VALUES (?, ?, ?)", number, *sought)
+
     def spoil(self):
         changes = (self.pointer, self.pointer, self.pointer, self.place, self.next_number, self.gone, self.moved,
                    self.copied, self.tag, self.carried, self.slip, self.text_of_slip)
         for change in self.rng.choices(changes, k=self.rng.choice((1, 1, 2, 3))):
             change()
+        self.beside()
 
 
 def drawn(parish, file, seed):

@@ -1,6 +1,7 @@
 """Archives of the first version, taken up by the executable: their dates are read anew, each gets its span, and `days`
-finds by these. Some are made here, by statements; tests/earlier/archive.db was made by a program of that version, of
-the rows and the file beside it, and its own export lies there too.
+finds by these; and each record gets its links, and what it is looked for by. Some are made here, by statements;
+tests/earlier/archive.db was made by a program of that version, of the rows and the file beside it, and its own export
+lies there too.
 
 What the tables become is worked out beside the program, from docs/FORMATS.md ("Version 1"), by the slow reader of dates
 (`anew`).
@@ -19,6 +20,7 @@ from collections.abc import Iterable
 
 from archives import TABLES as ALL_TABLES
 from archives import Folder, lines
+from beside import LATER, links_of, sought_of
 from calendars import anew as date_anew
 from calendars import span_of
 from harness import ROOT, Case, Tools, demand, expect, refused, run, written
@@ -54,7 +56,7 @@ TABLES = (
     "CREATE INDEX slip_line_by_slip ON slip_line (slip)",
     "CREATE INDEX line_by_text ON line (text, dst)",
 )
-FIRST_TABLES = tuple(name for name in ALL_TABLES if name != "span")
+FIRST_TABLES = tuple(name for name in ALL_TABLES if name not in LATER)
 
 Line = tuple[int, str, "str | None", "int | None"]
 
@@ -170,7 +172,8 @@ def with_dates_anew(rows: list, whole, record) -> list:
 
 def anew(before: dict[str, list]) -> dict[str, list]:
     """What the tables of the first version become: an open import is gone, each date is written as it is today, each
-    record with a date has its span, and the version is the second one. All else stays."""
+    record with a date has its span, each has its links and what it is looked for by, and the version is the second one.
+    All else stays."""
     opened = {number for number, is_open in before["batch"] if is_open}
     gone = {number for number, _, batch in before["record"] if batch in opened}
     kept = [row for row in before["line"] if row[1] not in gone]
@@ -183,8 +186,16 @@ def anew(before: dict[str, list]) -> dict[str, list]:
         "slip_line": with_dates_anew(before["slip_line"], lambda row: row[1], lambda row: (row[3], row[2])),
     }
     lines_of = grouped(after["line"], lambda row: row[1])
-    spans = {number: span_of(rows[0][4], [row[3:] for row in rows]) for number, rows in lines_of.items()}
-    return {**after, "span": [(number, *span) for number, span in spans.items() if span is not None]}
+    kept_as = {number: [row[3:] for row in rows] for number, rows in lines_of.items()}
+    spans = {number: span_of(given[0][1], given) for number, given in kept_as.items()}
+    soughts = {number: sought_of(given) for number, given in kept_as.items()}
+    return {
+        **after,
+        "span": [(number, *span) for number, span in spans.items() if span is not None],
+        "link": sorted((key,) for number, given in kept_as.items() for key in links_of(number, given)),
+        "sought": sorted((number, *sought) for number, sought in soughts.items() if sought is not None),
+        "past": [],
+    }
 
 
 def is_made_anew(at: Earlier, before: dict[str, list]) -> None:
@@ -416,7 +427,7 @@ def whoever_opens_it(tools):
 
 def a_later_version(tools):
     """It is refused, and nothing is changed, whatever tables it has."""
-    for statements in ((), ("DROP TABLE span",), ("DROP INDEX line_by_text", "DROP TABLE slip")):
+    for statements in ((), ("DROP TABLE span",), ("DROP TABLE link",), ("DROP INDEX line_by_text", "DROP TABLE slip")):
         with Earlier(tools) as at:
             at.made().apply(b"a,person,Ann,F\n")
             at.other_database("UPDATE meta SET version = 3", *statements)
@@ -512,7 +523,8 @@ def is_anew(at: Folder, before: dict[str, list], after: dict[str, list]) -> bool
         return True
     there = {name: at.rows_of(f"SELECT * FROM {name}") for name in FIRST_TABLES}
     demand(closed(there) == closed(before), "what a stop left is neither as it was nor anew")
-    demand(not at.rows_of("SELECT * FROM sqlite_master WHERE name = 'span'"), "the first version has spans")
+    for name in LATER:
+        demand(not at.rows_of(f"SELECT * FROM sqlite_master WHERE name = '{name}'"), f"the first version has {name}")
     return False
 
 
@@ -547,7 +559,8 @@ def as_of_that_time(at: Earlier, begun: Iterable[int]) -> Earlier:
     """An archive of the second version becomes one of the first, with an import that is open, of places with these
     numbers."""
     conn = sqlite3.connect(at.file)
-    conn.execute("DROP TABLE span")
+    for name in LATER:
+        conn.execute(f"DROP TABLE {name}")
     conn.execute("UPDATE meta SET version = 1")
     french = "tag = 'date' AND text LIKE '%@#DFRENCH R@%' AND id %"
     conn.execute(f"UPDATE line SET text = lower(text) WHERE {french} 3 = 0")

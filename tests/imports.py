@@ -354,14 +354,15 @@ MANY = between(*(line for n in range(2_000) for line in (f"0 @I{n}@ INDI", "1 BI
 def how_far_it_is(tools):
     """With --progress standard error has lines `staged <n> of <m> rows` with n going up to m, the number of rows that
     the archive got. All else is as without it."""
-    for given in (between(), LEE, BORN, MANY):
+    dated = between("0 @S1@ SOUR", "0 @E1@ _REG BURIAL", *ENTRY, "0 @I1@ INDI", "1 BIRT", "2 DATE 1 MAY 1800")
+    for given in (between(), LEE, BORN, MANY, dated):
         with Imported(tools) as silent, Imported(tools) as at:
             told = silent.made().import_(given)
             expect(told, written(told.out))
             got = at.made().import_(given, "t", "--progress")
             expect(Outcome(got.out, b"", got.status), told)
             demand(at.tables() == silent.tables(), "the tables differ")
-            rows = len(at.rows_of("SELECT * FROM record")) + len(at.rows_of("SELECT * FROM line"))
+            rows = sum(len(at.tables()[name]) for name in ("record", "line", "link", "sought", "span"))
             lines = re.fullmatch(rb"((?:staged \d+ of %d rows\n)*)staged %d of %d rows\n" % ((rows,) * 3), got.err)
             demand(lines, f"{rows} rows: {got.err!r}")
             counts = [int(count) for count in re.findall(rb"staged (\d+) of", got.err)]

@@ -10,6 +10,7 @@ import sqlite3
 from collections.abc import Callable
 from typing import NamedTuple
 
+from beside import link_of, links_of, sought_of
 from calendars import span_of
 
 # What is in the archive: repository 1, places 2 and 3 (Ashby, Kent), source 4, persons 5, 6 and 7, family 8 of 6 and 7
@@ -58,7 +59,7 @@ class Tables:
         return self.conn.execute(text, (number,)).fetchall()
 
     def put(self, number: int, lines: list[Line]) -> None:
-        """The record of a number has these lines now, and the span of its date."""
+        """The record of a number has these lines now, the span of its date, its links, and what it is looked for by."""
         self.run("DELETE FROM line WHERE no = ?", number)
         for place, line in enumerate(lines):
             text = "INSERT INTO line (no, pos, depth, tag, text, dst) VALUES (?, ?, ?, ?, ?, ?)"
@@ -66,6 +67,11 @@ class Tables:
         self.run("DELETE FROM span WHERE no = ?", number)
         if (span := span_of(lines[0][1], lines)) is not None:
             self.run("INSERT INTO span VALUES (?, ?, ?)", number, *span)
+        for key in links_of(number, lines):
+            self.run("INSERT OR IGNORE INTO link VALUES (?)", key)
+        self.run("DELETE FROM sought WHERE no = ?", number)
+        if (sought := sought_of(lines)) is not None:
+            self.run("INSERT INTO sought VALUES (?, ?, ?)", number, *sought)
 
     def changed(self, number: int, place: int, line: Line) -> None:
         """One line is another."""
@@ -145,6 +151,17 @@ def names(name, number, kind, place, spoilt, sound):
 def span(name, number, statement, sound):
     """A span that is not that of the date of its record, and a date that goes with its span."""
     return Pair(name, f"record {number}", "its span is not that of its date", run(statement), sound)
+
+
+def link(name, number, named, sound):
+    """A number that a record names without a link, and a link that no record needs."""
+    gone = run(f"DELETE FROM link WHERE id = {link_of(number, named)}")
+    return Pair(name, f"record {number}", f"it names {named}, without a link", gone, sound)
+
+
+def looked_for(name, number, statement, sound):
+    """A record that is not looked for by what it has, and one that is."""
+    return Pair(name, f"record {number}", "it is not looked for by what it has", run(statement), sound)
 
 
 def chain(depth: int, count: int) -> list[Line]:
@@ -268,6 +285,16 @@ PAIRS = (
     span("a span without a date", 20, "INSERT INTO span VALUES (20, NULL, NULL)",
          more(20, (1, "date", "in May", None))),
     span("a span of a person", 5, "INSERT INTO span VALUES (5, 0, 0)", nothing),
+    # links
+    link("a place that is named without a link", 9, 3, run(f"INSERT INTO link VALUES ({link_of(9, 2)})")),
+    link("a partner who is named without a link", 8, 7, run(f"INSERT INTO link VALUES ({link_of(21, 7)})")),
+    link("a source that is named without a link", 12, 4, other("NOTE", None, 5)),
+    # what is looked for
+    looked_for("a place by another name", 3, "UPDATE sought SET text = 'Ash' WHERE no = 3",
+               change(3, 0, (0, "place", "Ash", 2))),
+    looked_for("a place by nothing", 2, "DELETE FROM sought WHERE no = 2", nothing),
+    looked_for("an entry by no source", 13, "UPDATE sought SET dst = NULL WHERE no = 13", nothing),
+    looked_for("a person by a name", 5, "INSERT INTO sought VALUES (5, 'Ann', NULL)", nothing),
     # slips
     Pair("a slip that is no merge", "slip 19", "the new records are not the merge of the old ones",
          slip(0, 17, (0, "person", None, None), (1, "name", "Tom /Lea/", None), (1, "sex", "M", None)),

@@ -142,6 +142,11 @@ def an_archive_without_a_table(at):
     at.made().other_database("DROP TABLE slip_line")
 
 
+def an_archive_without_what_is_beside(at):
+    """The second version as it was for a while before it was given to anybody."""
+    at.made().other_database("DROP TABLE link", "DROP TABLE sought", "DROP TABLE past")
+
+
 def bytes_in(data):
     def write(at):
         with open(at.file, "wb") as file:
@@ -160,6 +165,7 @@ FILES = (
     ("a file of no bytes", bytes_in(b""), 82),
     ("another program's database", another_database, 82),
     ("an archive that lacks a table", an_archive_without_a_table, 82),
+    ("an archive that lacks links and what is looked for", an_archive_without_what_is_beside, 82),
     ("tables of no version", an_archive_of(0), 82),
     ("a later archive", an_archive_of(3), 83),
     ("ten bytes", bytes_in(b"x" * 10), 80),

@@ -24,10 +24,12 @@ from typing import Callable
 
 sys.dont_write_bytecode = True
 
+ROOT = pathlib.Path(__file__).resolve().parents[2]
+sys.path.append(str(ROOT / "tests"))
+
 from table import making  # noqa: E402
 from table.stored import STORED  # noqa: E402
 
-ROOT = pathlib.Path(__file__).resolve().parents[2]
 PROGRAM = ROOT / "crates/request_rows/out/request_rows"
 TOGETHER = 16  # numbers of calls that one run of the program tries
 BEHIND = 3  # numbers that are tried behind the first with which nothing is stopped

@@ -29,13 +29,12 @@ from dataclasses import dataclass
 
 sys.dont_write_bytecode = True
 
-from table.making import row  # noqa: E402
-from table.steps import GOOD, MORE, NONE, PERSON, imports, persons  # noqa: E402
-
 ROOT = pathlib.Path(__file__).resolve().parents[2]
 sys.path.append(str(ROOT / "tests"))
 
 from refusing import built, refusing  # noqa: E402
+from table.making import row  # noqa: E402
+from table.steps import GOOD, MORE, NONE, PERSON, imports, persons  # noqa: E402
 
 PROGRAM = ROOT / "crates/request_rows/out/request_rows"
 STAGE = 256  # rows that a stage writes

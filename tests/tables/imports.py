@@ -1,5 +1,6 @@
 """Imports that are staged: what the tables have at each stage, what is seen of it, and how it is published or taken out
-again. A stage writes 256 rows: first those of `record`, then the lines, then the spans."""
+again. A stage writes 256 rows: first those of `record`, then the lines, then the links, what is looked for, and the
+spans."""
 
 from __future__ import annotations
 
@@ -71,30 +72,38 @@ class Importing(Filling):
 
 
 def places(count: int) -> dict[int, tuple[Line, ...]]:
-    """Places, of which each has two rows: one of `record`, and one line."""
+    """Places, of which each has three rows: one of `record`, one line, and one of what is looked for."""
     return {FIRST + at: place(f"Kent {at}") for at in range(count)}
 
 
 def births(count: int) -> dict[int, tuple[Line, ...]]:
-    """Events with a date, of which each has five rows, the last of them of `span`; of every third the first day is
-    open, of every third the last one."""
+    """Events with a date, of which each has six rows, the last two of them of `link` and `span`; of every third the
+    first day is open, of every third the last one."""
     dates = ("3 MAR 1799", "BEF 1700", "AFT @#DFRENCH R@ 8")
     return {FIRST + at: event(PERSON, "BIRT", dates[at % 3]) for at in range(count)}
 
 
-# Imports by the number of their rows: none, the fewest of a record, and about one, two and three stages. Of the last
-# two the spans begin within a stage and go on into the next one, and have a stage of their own.
+def named(count: int) -> tuple[Line, ...]:
+    """A person with so many names: a row of `record`, and a line more than there are names."""
+    return (Line(0, "person"), *(Line(1, "name", f"Ann /Lee {at}/") for at in range(count)))
+
+
+# Imports by the number of their rows: none, the fewest of a record, and about one, two and three stages. What is looked
+# for begins within a stage and goes on into the next one (600), or has a stage of its own (384); so do the links (312),
+# and the spans behind them (768).
 IMPORTS = {
     0: {},
-    2: places(1),
-    255: {**places(126), 900: person("Tom /Parry/")},
-    256: places(128),
-    257: {**places(127), 900: person("Tom /Parry/")},
-    512: places(256),
-    600: places(300),
-    701: {FIRST: (Line(0, "person"), *(Line(1, "name", f"Ann /Lee {at}/") for at in range(699)))},
-    260: births(52),
-    640: births(128),
+    2: {FIRST: named(0)},
+    3: places(1),
+    255: places(85),
+    256: {**places(84), 900: named(2)},
+    257: {**places(85), 900: named(0)},
+    384: places(128),
+    512: {**places(170), 900: named(0)},
+    600: places(200),
+    701: {FIRST: named(699)},
+    312: births(52),
+    768: births(128),
 }
 
 
@@ -253,7 +262,7 @@ def short() -> Scene:
 def scenes():
     for rows in IMPORTS:
         yield published(rows)
-    for rows in (0, 2, 256, 257, 600, 701, 260, 640):
+    for rows in (0, 3, 256, 257, 384, 600, 701, 312, 768):
         for stages in range(stages_of(rows) + 1):
             yield taken_out(rows, stages, "remove")
             yield taken_out(rows, stages, "clear")

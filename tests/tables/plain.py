@@ -13,6 +13,8 @@ QUERIES = {
     "receipt": "SELECT id, token, digest, first, count FROM receipt ORDER BY id",
     "slip": "SELECT no, keep, gone, undone FROM slip ORDER BY no",
     "slip_line": "SELECT id, slip, side, no, pos, depth, tag, text, dst FROM slip_line ORDER BY id",
+    "link": "SELECT id FROM link ORDER BY id",
+    "sought": "SELECT no, text, dst FROM sought ORDER BY no",
     "span": "SELECT no, lo, hi FROM span ORDER BY no",
     "batch": "SELECT no, is_open FROM batch ORDER BY no",
     "meta": "SELECT version, next, society FROM meta",
@@ -22,6 +24,26 @@ QUERIES = {
 def fields(line: Line) -> tuple[object, ...]:
     """The last columns of a row that is a stored line."""
     return (line.depth, line.tag, line.text, line.number)
+
+
+def pair(number: int, named: int) -> int:
+    """The key in `link` of a record that names a number."""
+    return (named << 32) + number - (1 << 63)
+
+
+def links_of(number: int, lines: tuple[Line, ...]) -> set[int]:
+    """The keys in `link` of a record that is kept as these lines."""
+    return {pair(number, line.number) for line in lines if line.number is not None}
+
+
+def sought_of(lines: tuple[Line, ...]) -> tuple[object, ...] | None:
+    """What a record that is kept as these lines is looked for by: a place by its name, an entry by its key and the
+    number of its source, which stand on one line."""
+    if lines[0].tag == "place":
+        return (lines[0].text, None)
+    if lines[0].tag == "entry":
+        return next((line.text, line.number) for line in lines if line.tag == "key")
+    return None
 
 
 class Tables:
@@ -37,6 +59,8 @@ class Tables:
         self.slips: dict[int, tuple[int, int, int]] = {}
         self.slip_lines: list[tuple[object, ...]] = []
         self.spans: dict[int, tuple[int | None, int | None]] = {}
+        self.links: set[int] = set()  # of a record that is changed or taken out they stay
+        self.soughts: dict[int, tuple[object, ...]] = {}
 
     def put(self, number: int, lines: tuple[Line, ...]) -> None:
         self.records[number] = (lines[0].tag, 0)
@@ -46,11 +70,16 @@ class Tables:
         self.spans.pop(number, None)
         if (span := span_of(lines[0].tag, lines)) is not None:
             self.spans[number] = span
+        self.links |= links_of(number, lines)
+        self.soughts.pop(number, None)
+        if (sought := sought_of(lines)) is not None:
+            self.soughts[number] = sought
 
     def take(self, number: int) -> None:
         self.lines = [row for row in self.lines if row[1] != number]
         self.records.pop(number, None)
         self.spans.pop(number, None)
+        self.soughts.pop(number, None)
 
     def keep(self, token: str, byte: int, first: int, count: int) -> None:
         self.receipts.append((following(self.receipts), token, bytes([byte]) * 32, first, count))
@@ -77,6 +106,10 @@ class Tables:
                 self.records[number] = (row[0], batch)
             elif table == "line":
                 self.lines.append((following(self.lines), number, row[0], *fields(row[1])))
+            elif table == "link":
+                self.links.add(number)
+            elif table == "sought":
+                self.soughts[number] = (row[0], row[1])
             else:
                 self.spans[number] = (row[0], row[1])
 
@@ -89,6 +122,8 @@ class Tables:
         self.lines = [row for row in self.lines if row[1] not in gone]
         self.records = {number: row for number, row in self.records.items() if number not in gone}
         self.spans = {number: span for number, span in self.spans.items() if number not in gone}
+        self.soughts = {number: row for number, row in self.soughts.items() if number not in gone}
+        self.links = {key for key in self.links if key & 0xFFFFFFFF not in gone}
         del self.batches[batch]
 
     def rows(self, table: str) -> list[tuple[object, ...]]:
@@ -98,6 +133,8 @@ class Tables:
             "receipt": self.receipts,
             "slip": [(number, *row) for number, row in sorted(self.slips.items())],
             "slip_line": self.slip_lines,
+            "link": [(key,) for key in sorted(self.links)],
+            "sought": [(number, *row) for number, row in sorted(self.soughts.items())],
             "span": [(number, *span) for number, span in sorted(self.spans.items())],
             "batch": sorted(self.batches.items()),
             "meta": [(2, self.next, self.society)],
@@ -108,12 +145,16 @@ class Tables:
 
 
 def rows_of(records: dict[int, tuple[Line, ...]]) -> list[tuple[object, ...]]:
-    """The rows of an import of these records, in the order in which they are written: of each its table, its number
-    and the rest."""
+    """The rows of an import of these records, in the order in which they are written: of each its table, its number or
+    its key, and the rest."""
     spans = {number: span_of(lines[0].tag, lines) for number, lines in records.items()}
+    soughts = {number: sought_of(lines) for number, lines in records.items()}
+    links = {key for number, lines in records.items() for key in links_of(number, lines)}
     return [
         *(("record", number, lines[0].tag) for number, lines in records.items()),
         *(("line", number, at, line) for number, lines in records.items() for at, line in enumerate(lines)),
+        *(("link", key) for key in sorted(links)),
+        *(("sought", number, *sought) for number, sought in soughts.items() if sought is not None),
         *(("span", number, *span) for number, span in spans.items() if span is not None),
     ]
 

@@ -4,7 +4,7 @@ from __future__ import annotations
 
 from typing import NamedTuple
 
-from plain import QUERIES, Tables
+from plain import QUERIES, Tables, pair
 from records import RECORDS
 from rows import Ask, Case, Line, given, kept, row
 from states import ENTRIES, FAMILY, NAMED_BY, entry, place
@@ -277,6 +277,39 @@ def looked_for() -> Scene:
     return filling.scene("records, referrers and receipts, asked of the tables")
 
 
+def links_that_stay() -> Scene:
+    """A link of before tells no referrer: of a record that was changed, of one that was taken out, of a number that
+    never had one. The greatest numbers have theirs too."""
+    filling = Filling()
+    for number in (1, 2):
+        filling.put(number, person("Ann /Lee/"))
+    filling.put(3, (Line(0, "family"), Line(1, "partner", "husband", 1), Line(1, "partner", "wife", 2)))
+    filling.put(4, (Line(0, "family"), Line(1, "partner", "husband", 1), Line(1, "child", None, 2)))
+    filling.put(LAST, person("Tom /Lee/"))
+    filling.put(LAST - 1, (Line(0, "family"), Line(1, "partner", "husband", LAST), Line(1, "child", None, 1)))
+    filling.write(LAST)
+    filling.ask("tables", "referrers", 1, wanted=f"referrers 3 4 {LAST - 1}\n")
+    filling.ask("tables", "referrers", 2, wanted="referrers 3 4\n")
+    filling.ask("tables", "referrers", LAST, wanted=f"referrers {LAST - 1}\n")
+    filling.put(3, (Line(0, "family"), Line(1, "partner", "wife", 2)))
+    filling.take(4)
+    filling.write(LAST)
+    for number in (0, 6, LAST):
+        filling.tables.links.add(pair(number, 2))
+        filling.ask("sql", f"INSERT INTO link VALUES ({pair(number, 2)})")
+    filling.ask("tables", "referrers", 1, wanted=f"referrers {LAST - 1}\n")
+    filling.ask("tables", "referrers", 2, wanted="referrers 3\n")
+    filling.ask("tables", "referrers", LAST, wanted=f"referrers {LAST - 1}\n")
+    filling.ask("tables", "referrers", 0, wanted="referrers\n")
+    filling.compare()
+    # where it names the number again, the link is there once
+    filling.put(3, (Line(0, "family"), Line(1, "partner", "wife", 2), Line(1, "child", None, 1)))
+    filling.write(LAST)
+    filling.ask("tables", "referrers", 1, wanted=f"referrers 3 {LAST - 1}\n")
+    filling.read()
+    return filling.scene("links of before, and those of the greatest numbers")
+
+
 # Paths and the lowest place of each. Ashby in Kent is 25 and 27; 22 is a place within Ashby, 25, and 23 one whose own
 # name has a comma.
 PLACES = {
@@ -288,11 +321,15 @@ PLACES = {
     26: place("Mill Field", 25),
     27: place("Ashby", 20),
     28: place("x" * 4090, 20),
-    # a person of that name is no place
+    # a person of that name is no place, and an entry with the key of another's name is none
     19: (Line(0, "person"), Line(1, "name", "Kent")),
+    17: (Line(0, "source", "Kent"),),
+    18: entry(17, "BURIAL", "Kent", 1),
+    29: place("1 Kent"),
 }
 PATHS = {
     "Kent": 20,
+    "1 Kent": 29,
     "Ashby": 21,
     "Ashby, Kent": 23,
     "Mill Field": 22,
@@ -483,6 +520,7 @@ def scenes():
         slips(),
         spans(),
         looked_for(),
+        links_that_stay(),
         places_found(),
         entries_found(),
         dangling(),

@@ -1,4 +1,6 @@
 mod Counting
+mod Found
 mod Judged
+mod Linked
 mod Shown
 mod Spanned

@@ -9,43 +9,76 @@ use Rattle.archive_state.specs.Sound.{IsSound}
 use Rattle.audit.specs.Faults.{IsFault}
 use Rattle.store_tables.specs.Calls.{Settled, LeavesOnly}
 use Rattle.store_tables.specs.Looking.{IsFailure}
-use Rattle.store_tables.specs.Rows.{Rows, SpanRow}
+use Rattle.store_tables.specs.Rows.{LinkRow, Rows, SoughtRow, SpanRow}
 use Rattle.store_tables.specs.Schema.{archive_schema}
-use Rattle.store_tables.specs.Showing.{ShowsRows, ShowsSpans}
+use Rattle.store_tables.specs.Showing.{ShowsLinks, ShowsRows, ShowsSoughts, ShowsSpans}
 use Rattle.store_rows.specs.Meaning.{AllShallow, Means}
-use Rattle.store_rows.specs.Spans.{KeepsSpans}
+use Rattle.archive_audits.specs.Linking.{HaveLinks, LacksLink}
+use Rattle.archive_audits.specs.Seeking.{HasSought, HaveSoughts, soughts_in}
 use Rattle.archive_audits.specs.Spanning.{HasOwn, HaveSpans, spans_in}
 use Rattle.archive_audits.specs.declared.flaw.Flaw.{Flaw}
 use Rattle.archive_audits.specs.declared.flaw.Flaw.TheVariants as flaw
 
--- the rows mean what is sound, has its spans, and has that many records
+-- what tables have beside records: spans, links, and what is looked for
+pub record Beside : Type 0 where
+  pub spans : List SpanRow
+  pub links : List LinkRow
+  pub soughts : List SoughtRow
+
+abbrev pub beside_in : Rows → Beside
+beside_in rows = record { spans = rows.spans; links = rows.links; soughts = rows.soughts }
+
+-- each record has its own of these: the span of its date, a link for each number that it names, and what it is looked
+-- for by
+pub record HaveOwn (b : Beside) (c : Content) : Type 0 where
+  pub spans : HaveSpans b.spans c
+  pub links : HaveLinks b.links c
+  pub soughts : HaveSoughts b.soughts c
+
+-- the rows mean what is sound, has its own beside it, and has that many records
 abbrev pub MeanGood : ℕ → Rows → (Content → Type 0) → Type 0
-MeanGood n rows HasSpans =
-    (c : Content) × Means rows c × IsSound c × HasSpans c × (n ≡ length (keys c.records))
+MeanGood n rows HasItsOwn =
+    (c : Content) × Means rows c × IsSound c × HasItsOwn c × (n ≡ length (keys c.records))
 
--- so they do, and of the second schema the rows have the spans too
+-- so they do, and of the second schema the rows have that too
 abbrev pub AreGood : ℕ → Rows → Type 0
-AreGood n rows = MeanGood n rows (λ c. rows.has_spans ≡ true → KeepsSpans rows c)
+AreGood n rows = MeanGood n rows (λ c. rows.has_spans ≡ true → HaveOwn (beside_in rows) c)
 
--- they are those of no archive: they mean nothing that can be read and is sound, and whose spans they have
+-- they are those of no archive: they mean nothing that can be read and is sound, and whose own they have beside it
 abbrev pub AreNone : Rows → Type 0
-AreNone rows = (c : Content) → Means rows c → AllShallow c → IsSound c → rows.has_spans ≡ true → ¬ (KeepsSpans rows c)
+AreNone rows = (c : Content) → Means rows c → AllShallow c → IsSound c → rows.has_spans ≡ true
+    → ¬ (HaveOwn (beside_in rows) c)
 
--- the content breaks the rule of a sound archive so, or a record does not have its own of these spans
-abbrev pub IsFlaw : Content → List SpanRow → Flaw → Type 0
-IsFlaw c spans (flaw.Rule fault) = IsFault c fault
-IsFlaw c spans (flaw.Span n) = ¬ (HasOwn c (spans_in spans) n)
+-- the content breaks the rule of a sound archive so, or a record does not have its own of these
+abbrev pub IsFlaw : Content → Beside → Flaw → Type 0
+IsFlaw c b (flaw.Rule fault) = IsFault c fault
+IsFlaw c b (flaw.Span n) = ¬ (HasOwn c (spans_in b.spans) n)
+IsFlaw c b (flaw.Link n target) = LacksLink c b.links n target
+IsFlaw c b (flaw.Sought n) = ¬ (HasSought c (soughts_in b.soughts) n)
 
--- what the rows mean has the flaw; that of a span is one of rows of the second schema
+-- so that not each has its own
+abbrev pub IsLacking : Content → Beside → Flaw → Type 0
+IsLacking c b f = IsFlaw c b f × ¬ (HaveOwn b c)
+
+-- what the rows mean has the flaw; those beside the rule are flaws of rows of the second schema
 abbrev pub AreFlawed : Flaw → Rows → Type 0
 AreFlawed (flaw.Rule fault) rows = (c : Content) × Means rows c × IsFault c fault
-AreFlawed (flaw.Span n) rows = rows.has_spans ≡ true
-    → (c : Content) × Means rows c × IsFlaw c rows.spans (flaw.Span n)
+AreFlawed f rows = rows.has_spans ≡ true → (c : Content) × Means rows c × IsFlaw c (beside_in rows) f
 
--- whoever reads the tables is shown rows that mean what is sound, and spans of which each record has its own
+-- whoever reads the tables is shown these beside the records
+pub record ShowsBeside (b : Beside) (s : State) : Type 0 where
+  pub spans : ShowsSpans b.spans s
+  pub links : ShowsLinks b.links s
+  pub soughts : ShowsSoughts b.soughts s
+
+-- these are shown, and then the tables are as they were: whatever is shown behind that was shown before it
+abbrev pub ShowsBehind : Beside → State → State → Type 0
+ShowsBehind b old new = (new.now.schema ≡ archive_schema true) × ShowsBeside b old
+    × ((rows : Rows) → ShowsRows rows new → ShowsRows rows old)
+
+-- whoever reads the tables is shown rows that mean what is sound, and beside them what each record has of its own
 abbrev pub ShowsGood : ℕ → State → Type 0
-ShowsGood n s = (rows : Rows) × (spans : List SpanRow) × ShowsRows rows s × ShowsSpans spans s
-    × MeanGood n rows (HaveSpans spans)
+ShowsGood n s = (rows : Rows) × (b : Beside) × ShowsRows rows s × ShowsBeside b s × MeanGood n rows (HaveOwn b)
 
 -- what an audit answers: the number of records, or why not, with the flaw that it found
 abbrev pub Audit : Type 0

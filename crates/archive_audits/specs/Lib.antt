@@ -1,2 +1,4 @@
+pub mod Linking
+pub mod Seeking
 pub mod Spanning
 pub mod Judging

@@ -20,6 +20,6 @@ HaveSpans spans c = (n : ℕ) → HasOwn c (spans_in spans) n
 
 -- ---- as the code gathers them
 -- the first of two that is there
-abbrev pub first_there : Option Span → Option Span → Option Span
+abbrev pub first_there : {X : Type 0} → Option X → Option X → Option X
 first_there None other = other
-first_there (Some span) other = Some span
+first_there (Some x) other = Some x

@@ -4,52 +4,50 @@ ghost use Rattle.std.specs.Prelude.{◌≡◌, ◌⊎◌, IfErr, IfOk, IfSome, M
 ghost use Rattle.std.specs.FinMap.{keys};
 ghost use Rattle.record_text.specs.declared.refusal.RefusalKind.TheVariants.{BadStored, OutOfMemory};
 ghost use Rattle.archive_state.specs.Sound.{IsSound};
-ghost use Rattle.archive_audits.specs.Judging.{IsFlaw};
-ghost use Rattle.archive_audits.specs.Spanning.{HaveSpans};
+ghost use Rattle.archive_audits.specs.Judging.{HaveOwn, IsFlaw};
 
+use crate::beside::{Beside, first_lacking};
 use crate::flaw::Flaw;
-use crate::spanning::first_unspanned;
 use archive_state::State;
 use audit::first_fault;
 use record_text::RefusalKind;
 use std::alloc::{AllocError, Global};
-use store_tables::SpanRow;
 
-/// How many records a sound state has, each of which has its own of the spans. 40: it is not sound, or a record does
-/// not have its span, with which. 1: memory was refused.
+/// How many records a sound state has, each of which has its own of what is beside. 40: it is not sound, or a record
+/// does not have its own, with what is wrong. 1: memory was refused.
 pub(crate) fn judge(
     alloc: Global,
     held: &State,
-    spans: Vec<SpanRow>,
+    beside: Beside,
 ) -> Result<u32, (RefusalKind, Option<Flaw>)>
-    ensures good { IfOk result (λ n. IsSound held.now × HaveSpans spans.items held.now
+    ensures good { IfOk result (λ n. IsSound held.now × HaveOwn beside held.now
         × (n ≡ length (keys held.now.records))) }
     ensures bad { IfErr result (λ e. (e.0 ≡ OutOfMemory)
-        ⊎ ((e.0 ≡ BadStored) × (IsSound held.now → ¬ (HaveSpans spans.items held.now)))) }
-    ensures told { IfErr result (λ e. IfSome e.1 (IsFlaw held.now spans.items)) }
+        ⊎ ((e.0 ≡ BadStored) × (IsSound held.now → ¬ (HaveOwn beside held.now)))) }
+    ensures told { IfErr result (λ e. IfSome e.1 (IsFlaw held.now beside)) }
 {
     match first_fault(alloc, held) {
-        Ok(None) => judge_spans(alloc, held, spans),
+        Ok(None) => judge_beside(alloc, held, beside),
         Ok(Some(fault)) => Err((RefusalKind::BadStored, Some(Flaw::Rule(fault)))),
         Err(refusal) => Err((refusal.kind, None)),
     }
 }
 
 /// The same of a sound state.
-fn judge_spans(
+fn judge_beside(
     alloc: Global,
     held: &State,
-    spans: Vec<SpanRow>,
+    beside: Beside,
 ) -> Result<u32, (RefusalKind, Option<Flaw>)>
     requires sound { IsSound held.now }
-    ensures good { IfOk result (λ n. HaveSpans spans.items held.now × (n ≡ length (keys held.now.records))) }
+    ensures good { IfOk result (λ n. HaveOwn beside held.now × (n ≡ length (keys held.now.records))) }
     ensures bad { IfErr result (λ e. (e.0 ≡ OutOfMemory)
-        ⊎ ((e.0 ≡ BadStored) × ¬ (HaveSpans spans.items held.now))) }
-    ensures told { IfErr result (λ e. IfSome e.1 (IsFlaw held.now spans.items)) }
+        ⊎ ((e.0 ≡ BadStored) × ¬ (HaveOwn beside held.now))) }
+    ensures told { IfErr result (λ e. IfSome e.1 (IsFlaw held.now beside)) }
 {
-    match first_unspanned(alloc, held, spans) {
+    match first_lacking(alloc, held, beside) {
         Ok(None) => counted(alloc, held),
-        Ok(Some(number)) => Err((RefusalKind::BadStored, Some(Flaw::Span(number)))),
+        Ok(Some(flaw)) => Err((RefusalKind::BadStored, Some(flaw))),
         Err(AllocError) => Err((RefusalKind::OutOfMemory, None)),
     }
 }

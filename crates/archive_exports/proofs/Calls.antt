@@ -33,6 +33,7 @@ use Rattle.store.specs.Lives.{IsCall}
 use Rattle.store.specs.Looking.{StaysReadable}
 use Rattle.store.specs.Standing.{Standing, standing}
 use Rattle.store.specs.declared.archive.Archive.{Archive}
+use Rattle.store.proofs.Viewed.{seen_of}
 use Rattle.store_tables.specs.Calls.{LeavesOnly, Settled}
 use Rattle.store_tables.specs.Rows.{Rows}
 use Rattle.archive_exports.specs.Reading.{DoesNoRequest, OnOpen, OnlyReads, OnlyReadsAny}
@@ -65,8 +66,8 @@ readable : (old new : State) (failed : Bool) → (HasCleanDisk new → Stays old
 readable old new failed stays clean =
     let s = stays clean in
     record {
-      same = λ sure rows c was _ _. s.same sure rows was;
-      crash = λ rows c was _ _. s.crash rows was;
+      same = λ sure rows c was _. s.same sure rows was;
+      crash = λ rows c was _. s.crash rows was;
       clean = s.clean;
     }
 
@@ -88,9 +89,8 @@ module _ (old mid new : State) (lost failed : Bool) (kept : lost ≡ false) wher
       let b = more clean in
       let a = first b.clean in
       record {
-        same = λ sure rows c was means shallow.
-            b.same sure rows c (a.same kept rows c was means shallow) means shallow;
-        crash = λ rows c was means shallow. b.crash rows c (a.same kept rows c was means shallow) means shallow;
+        same = λ sure rows c was seen. b.same sure rows c (a.same kept rows c was seen) seen;
+        crash = λ rows c was seen. b.crash rows c (a.same kept rows c was seen) seen;
         clean = a.clean;
       }
 
@@ -101,8 +101,8 @@ still_open old new lost stays sure clean =
     let s = stays clean in (
       s.clean,
       λ society c has. (
-        (has.0, s.same sure has.0 c has.1 has.2.means has.2.shallow, has.2),
-        λ t l. (c, refl, (has.0, s.crash has.0 c has.1 has.2.means has.2.shallow t l, has.2)),
+        (has.0, s.same sure has.0 c has.1 (seen_of has.2), has.2),
+        λ t l. (c, refl, (has.0, s.crash has.0 c has.1 (seen_of has.2) t l, has.2)),
       ),
     )
 

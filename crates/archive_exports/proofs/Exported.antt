@@ -26,13 +26,12 @@ use Rattle.devices.specs.Devices.{Rose}
 use Rattle.gedcom_export.specs.Ends.{IsBegun, IsReason}
 use Rattle.record_text.specs.declared.refusal.RefusalKind.{RefusalKind}
 use Rattle.record_text.specs.declared.refusal.RefusalKind.TheVariants.{BadStored, Storage}
-use Rattle.store_rows.specs.Meaning.{AllShallow, Means}
 use Rattle.store_tables.specs.Calls.{LeavesOnly, Settled}
 use Rattle.store_tables.specs.Looking.{IsFailure}
 use Rattle.store_tables.specs.Rows.{Rows}
 use Rattle.store.specs.Looking.{StaysReadable}
-use Rattle.store.specs.Viewing.{Kept, Shows}
-use Rattle.store.proofs.Viewed.{kept_of}
+use Rattle.store.specs.Viewing.{AreSeen, Kept, Shows}
+use Rattle.store.proofs.Viewed.{kept_of, seen_of}
 use Rattle.archive_exports.specs.Exporting.{IsPart, export_text}
 use Rattle.archive_exports.specs.Reading.{OnOpen}
 use Rattle.devices.proofs.Begun.{begins_none}
@@ -88,9 +87,10 @@ on_open P Q old new lost lost_now failures failures_now none leaves viewed so cl
     let at = viewed clean in (
       at.0,
       λ society c has.
-          let shown : Shows old lost failures (kept_of has.0 c has.2.means has.2.shallow) =
+          let seen = seen_of has.2 in
+          let shown : Shows old lost failures (kept_of has.0 c seen) =
           record { crash = leaves has.0 has.1; settled = λ _. has.1; none = λ _. none } in
-          let still = at.1 (kept_of has.0 c has.2.means has.2.shallow) shown in (
+          let still = at.1 (kept_of has.0 c seen) shown in (
             so still.0.none society c (still.1 has.2.sound),
             λ t l. (c, refl, (has.0, still.0.crash t l, has.2)),
           ),
@@ -128,13 +128,13 @@ pub stays_viewed : (P : Content → Type 0) (old new : State) (lost lost_now : B
     → Viewed old lost failures new lost_now failures_now P → HasCleanDisk new → StaysReadable old lost_now new
 stays_viewed P old new lost lost_now failures failures_now none leaves viewed clean =
     let at = viewed clean in
-    let shown : (rows : Rows) (c : Content) → Settled old rows → (means : Means rows c) (shallow : AllShallow c)
-    → Shows old lost failures (kept_of rows c means shallow) =
-    λ rows c was means shallow. record { crash = leaves rows was; settled = λ _. was; none = λ _. none } in
+    let shown : (rows : Rows) (c : Content) → Settled old rows → (seen : AreSeen rows c)
+    → Shows old lost failures (kept_of rows c seen) =
+    λ rows c was seen. record { crash = leaves rows was; settled = λ _. was; none = λ _. none } in
     record {
-      same = λ sure rows c was means shallow.
-          (at.1 (kept_of rows c means shallow) (shown rows c was means shallow)).0.settled sure;
-      crash = λ rows c was means shallow.
-          (at.1 (kept_of rows c means shallow) (shown rows c was means shallow)).0.crash;
+      same = λ sure rows c was seen.
+          (at.1 (kept_of rows c seen) (shown rows c was seen)).0.settled sure;
+      crash = λ rows c was seen.
+          (at.1 (kept_of rows c seen) (shown rows c was seen)).0.crash;
       clean = at.0;
     }

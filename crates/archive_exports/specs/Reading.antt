@@ -25,7 +25,8 @@ module _ {S : Type 0} (g : Ghosts S) (old new : Archive S g) where
       (standing r new.is_lost new.import)
 
   -- an archive is only read: it does no request, and the import that is open stays; while the archive is not lost the
-  -- connection has it as it was; and so do tables that can be read stay, sound or not
+  -- connection has it as it was; and so do tables that can be read, and in which each record has its links and the row
+  -- of what it is looked for by, stay, sound or not
   pub record OnlyReads : Type 0 where
     pub called : DoesNoRequest
     pub import : new.import ≡ old.import

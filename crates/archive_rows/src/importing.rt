@@ -110,7 +110,7 @@ fn take_out<S: Alter>(conn: &mut Connection<S>, import: &OpenImport) -> Result<(
     if !conn.is_autocommit() {
         return Err(RefusalKind::Storage);
     }
-    remove_batch(conn, true, import.batch(), import.numbers())
+    remove_batch(conn, true, import.batch(), import.numbers(), import.links())
 }
 
 /// Takes every open batch out.

@@ -10,6 +10,7 @@ use Rattle.std.proofs.Common.{
   [],
   ◌∷◌,
   ◌++◌,
+  ◌-◌,
   append-nil,
   length,
   drop,
@@ -36,20 +37,26 @@ use Rattle.archive_state.specs.declared.changes.Numbered.{Numbered}
 use Rattle.record_shapes.specs.Lists.{EachOf, IsOnce}
 use Rattle.store_tables.specs.Batches.{AreOwned}
 use Rattle.store_tables.specs.Calls.{Good}
-use Rattle.store_tables.specs.Rows.{Rows, BatchRow, with_batch, with_closed, with_next}
+use Rattle.store_tables.specs.Rows.{LinkRow, Rows, BatchRow, with_batch, with_closed, with_next}
 use Rattle.store_rows.specs.Meaning.{Means, is_closed}
+use Rattle.store_rows.specs.Links.{KeepsLinks}
+use Rattle.store_rows.specs.Sought.{KeepsSought}
 use Rattle.store_rows.specs.Spans.{AreDrawn, Drawn, IsDated, KeepsSpans}
 use Rattle.store_rows.specs.Writing.{with_kept_written}
-use Rattle.staged_rows.specs.Removing.{AreAside, IsSeenAs, without_batch}
+use Rattle.staged_rows.specs.Removing.{AreAside, AreOf, IsSeenAs, is_from, links_among, without_batch}
 use Rattle.staged_rows.specs.Staging.{
   AreAllClosed,
   AreClosed,
+  AreNew,
   IsFresh,
   StagedRow,
   a_line,
+  a_link,
   a_record,
+  a_sought,
   a_span,
   import_changes,
+  links_of,
   numbers_of,
   rows_of_import,
   with_open_import,
@@ -58,10 +65,11 @@ use Rattle.staged_rows.specs.Staging.{
   with_staged_row,
   with_whole_import,
 }
-use Rattle.staging.specs.Opened.{Import}
-use Rattle.import_commits.specs.Commits.{IsAddition, IsBegun, IsNextBatch}
+use Rattle.staging.specs.Opened.{Import, links_written}
+use Rattle.import_commits.specs.Commits.{AreWrittenAnew, IsAddition, IsBegun, IsNextBatch}
 use Rattle.import_commits.proofs.Batches.{opened_is_not_closed}
-use Rattle.staged_rows.proofs.Staged.{batches_stay}
+use Rattle.staged_rows.proofs.LinksGone.{written_are}
+use Rattle.staged_rows.proofs.Staged.{batches_stay, each_taken}
 use Rattle.staging.proofs.Cursors.{staged_has}
 use Rattle.staged_rows.proofs.Whole.{joined as staged_after}
 use Rattle.staged_rows.proofs.Alike.{none_closed}
@@ -85,11 +93,15 @@ joined (x ∷ xs) ys zs = ap (λ ws. x ∷ ws) (joined xs ys zs)
 row_society : (x : StagedRow) (rows : Rows) → (with_staged_row x rows).society ≡ rows.society
 row_society (a_record r) rows = refl
 row_society (a_line n at l) rows = refl
+row_society (a_link l) rows = refl
+row_society (a_sought n s) rows = refl
 row_society (a_span n span) rows = refl
 
 row_version : (x : StagedRow) (rows : Rows) → (with_staged_row x rows).version ≡ rows.version
 row_version (a_record r) rows = refl
 row_version (a_line n at l) rows = refl
+row_version (a_link l) rows = refl
+row_version (a_sought n s) rows = refl
 row_version (a_span n span) rows = refl
 
 staged_society : (xs : List StagedRow) (rows : Rows) → (with_staged xs rows).society ≡ rows.society
@@ -126,6 +138,22 @@ goes_on n before rows i begun = record {
   rows_are = ap (with_staged (take n i.left)) begun.rows_are
       ∙ sym (staged_after begun.done (take n i.left) (with_batch i.batch true before));
 }
+
+new_then : (xs ys : List StagedRow) (rows : Rows) → AreNew xs rows → AreNew ys (with_staged xs rows)
+    → AreNew (xs ++ ys) rows
+new_then [] ys rows a b = b
+new_then (x ∷ xs) ys rows a b = (a.0, new_then xs ys (with_staged_row x rows) a.1 b)
+
+pub goes_on_anew : (n : ℕ) (before rows : Rows) (i : Import) → (begun : IsBegun before i rows)
+    → AreWrittenAnew before i rows begun → AreNew (take n i.left) rows
+    → (next : IsBegun before (record i { left = drop n i.left }) (with_staged (take n i.left) rows))
+    × AreWrittenAnew before (record i { left = drop n i.left }) (with_staged (take n i.left) rows) next
+unfolding goes_on
+goes_on_anew n before rows i begun new more = (
+  goes_on n before rows i begun,
+  new_then begun.done (take n i.left) (with_batch i.batch true before) new
+      (subst (AreNew (take n i.left)) begun.rows_are more),
+)
 
 -- it is published when all its rows are there
 pub published_is : (before rows : Rows) (i : Import) → (begun : IsBegun before i rows) → i.left ≡ []
@@ -172,11 +200,20 @@ module _ (before rows : Rows) (i : Import) (c : Content) (begun : IsBegun before
 
   pub taken_out : ((batch : ℕ) (puts : List Numbered) (drawn : Drawn) (done left : List StagedRow) (rows : Rows)
       → rows_of_import batch puts drawn ≡ done ++ left → IsFresh batch puts rows → AreDrawn puts drawn
-      → without_batch batch (numbers_of puts) (with_staged done (with_batch batch true rows)) ≡ rows)
-      → without_batch i.batch (numbers_of i.changes.puts) rows ≡ before
-  taken_out law =
-      ap (without_batch i.batch (numbers_of i.changes.puts)) begun.rows_are
-      ∙ law i.batch i.changes.puts begun.drawn begun.done i.left before begun.parts fresh begun.are
+      → AreNew done (with_batch batch true rows)
+      → without_batch batch (numbers_of puts) (links_among done) (with_staged done (with_batch batch true rows)) ≡ rows)
+      → AreWrittenAnew before i rows begun
+      → without_batch i.batch (numbers_of i.changes.puts) (links_written i) rows ≡ before
+  taken_out law new =
+      ap₂ (without_batch i.batch (numbers_of i.changes.puts))
+      (written_are i.batch i.changes.puts begun.drawn begun.done i.left begun.parts) begun.rows_are
+      ∙ law i.batch i.changes.puts begun.drawn begun.done i.left before begun.parts fresh begun.are new
+
+  -- its links are from its numbers
+  pub links_from_it : ((puts : List Numbered) → AreOf (numbers_of puts) (links_of puts))
+      → AreOf (numbers_of i.changes.puts) (links_written i)
+  links_from_it law = each_taken (λ (l : LinkRow). is_from (numbers_of i.changes.puts) l ≡ true)
+      (length (links_of i.changes.puts) - length (links_among i.left)) (links_of i.changes.puts) (law i.changes.puts)
 
   -- ---- it is published
   kept_society : (kept : Option Kept) (r : Rows) → (with_kept_written kept r).society ≡ r.society
@@ -225,6 +262,26 @@ module _ (before rows : Rows) (i : Import) (c : Content) (begun : IsBegun before
   published_means law means none = published_has Means none
       (law i.batch i.changes.next i.changes.puts begun.drawn i.changes.answer i.changes.kept before c adds.once fresh
       begun.are means)
+
+  pub published_links : ((batch next : ℕ) (puts : List Numbered) (drawn : Drawn) (answer : Answer)
+      (kept : Option Kept) (rows : Rows) (c : Content) → IsOnce (numbers_of puts) → IsFresh batch puts rows
+      → KeepsLinks rows c
+      → KeepsLinks (with_whole_import batch (import_changes puts next answer kept) drawn rows)
+      (applied c (import_changes puts next answer kept)))
+      → KeepsLinks before c → i.left ≡ [] → KeepsLinks (with_published i.batch i.changes rows) (applied c i.changes)
+  published_links law links none = published_has KeepsLinks none
+      (law i.batch i.changes.next i.changes.puts begun.drawn i.changes.answer i.changes.kept before c adds.once fresh
+      links)
+
+  pub published_soughts : ((batch next : ℕ) (puts : List Numbered) (drawn : Drawn) (answer : Answer)
+      (kept : Option Kept) (rows : Rows) (c : Content) → IsOnce (numbers_of puts) → IsFresh batch puts rows
+      → KeepsSought rows c
+      → KeepsSought (with_whole_import batch (import_changes puts next answer kept) drawn rows)
+      (applied c (import_changes puts next answer kept)))
+      → KeepsSought before c → i.left ≡ [] → KeepsSought (with_published i.batch i.changes rows) (applied c i.changes)
+  published_soughts law soughts none = published_has KeepsSought none
+      (law i.batch i.changes.next i.changes.puts begun.drawn i.changes.answer i.changes.kept before c adds.once fresh
+      soughts)
 
   pub published_spans : ((batch next : ℕ) (puts : List Numbered) (drawn : Drawn) (answer : Answer)
       (kept : Option Kept) (rows : Rows) (c : Content) → IsOnce (numbers_of puts) → IsFresh batch puts rows

@@ -14,6 +14,7 @@ use Rattle.store_rows.specs.Shallow.{IsShallowPut}
 use Rattle.store_rows.specs.Spans.{AreDrawn, Drawn}
 use Rattle.staged_rows.specs.Staging.{
   AreAllClosed,
+  AreNew,
   StagedRow,
   numbers_of,
   rows_of_import,
@@ -61,3 +62,7 @@ pub record IsBegun (before : Rows) (i : Import) (rows : Rows) : Type 0 where
   pub done : List StagedRow
   pub parts : rows_of_import i.batch i.changes.puts drawn ≡ done ++ i.left
   pub rows_are : rows ≡ with_staged done (with_batch i.batch true before)
+
+-- and no link was there of those that are written
+abbrev pub AreWrittenAnew : (before : Rows) (i : Import) (rows : Rows) → IsBegun before i rows → Type 0
+AreWrittenAnew before i rows begun = AreNew begun.done (with_batch i.batch true before)

@@ -6,7 +6,7 @@ ghost use Rattle.sqlite.specs.Held.{state};
 ghost use Rattle.record_text.specs.declared.refusal.RefusalKind.TheVariants.{OutOfMemory, Storage};
 ghost use Rattle.store_tables.specs.Calls.{LeavesOnly, Settled};
 ghost use Rattle.store_tables.specs.Rows.{Rows};
-ghost use Rattle.staged_rows.specs.Staging.{with_staged};
+ghost use Rattle.staged_rows.specs.Staging.{AreNew, with_staged};
 ghost use Rattle.import_commits.specs.Commits.{LeavesEither};
 
 use record_text::RefusalKind;
@@ -27,7 +27,8 @@ pub fn stage<S: Alter>(
     requires autocommit { conn.old.in_transaction ≡ false }
     ensures staged { HasCleanDisk (state S.Store conn.new)
         → OnOk result ((rows : Rows) → rows.has_spans ≡ true → Settled (state S.Store conn.old) rows
-        → Settled (state S.Store conn.new) (with_staged (take 256 import.old.left) rows)) }
+        → Settled (state S.Store conn.new) (with_staged (take 256 import.old.left) rows)
+        × AreNew (take 256 import.old.left) rows) }
     ensures left { OnOk result (import.new ≡ record import.old { left = drop 256 import.old.left }) }
     ensures none { import.old.left ≡ [] → (result ≡ Ok false) × (conn.new ≡ conn.old) }
     ensures more { IfOk result (λ more. (more ≡ false) ↔ (import.new.left ≡ [])) }
@@ -61,7 +62,8 @@ fn try_stage<S: Alter>(
     requires autocommit { conn.old.in_transaction ≡ false }
     ensures staged { HasCleanDisk (state S.Store conn.new) → IfOk result (λ committed. OnOk committed
         ((rows : Rows) → rows.has_spans ≡ true → Settled (state S.Store conn.old) rows
-        → Settled (state S.Store conn.new) (with_staged (take 256 import.old.left) rows))) }
+        → Settled (state S.Store conn.new) (with_staged (take 256 import.old.left) rows)
+        × AreNew (take 256 import.old.left) rows)) }
     ensures left { OnOk result (import.new ≡ record import.old { left = drop 256 import.old.left }) }
     ensures crash { HasCleanDisk (state S.Store conn.new)
         → (rows : Rows) → rows.has_spans ≡ true → Settled (state S.Store conn.old) rows

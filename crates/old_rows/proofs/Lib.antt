@@ -1,6 +1,7 @@
 pub mod Settling
 pub mod Steps
 mod Items
+mod Later
 mod Parted
 mod OneOldContent
 mod Rest

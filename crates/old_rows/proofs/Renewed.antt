@@ -32,7 +32,7 @@ use Rattle.archive_state.specs.declared.slip.Change.{Change}
 use Rattle.records_anew.specs.Anew.{IsAnew, OldChange, OldContent, OldSlip, anew, change_anew, slip_anew}
 use Rattle.records_anew.specs.Old.{OldRecord}
 use Rattle.store_tables.specs.Reading.{ReadRows, read_line, read_of, read_record, read_slip_line}
-use Rattle.store_tables.specs.Rows.{Rows, SlipRow, lines_of, slip_lines_of, with_span_table, with_version}
+use Rattle.store_tables.specs.Rows.{Rows, SlipRow, lines_of, slip_lines_of, with_later_tables, with_version}
 use Rattle.store_rows.specs.Grouped.{is_recorded, items_at}
 use Rattle.store_rows.specs.Meaning.{
   AllShallow,
@@ -44,7 +44,9 @@ use Rattle.store_rows.specs.Meaning.{
   is_closed,
   slip_row_at,
 }
+use Rattle.store_rows.specs.Links.{AreLinked}
 use Rattle.store_rows.specs.Sides.{SideLine}
+use Rattle.store_rows.specs.Sought.{IsSought, sought_at}
 use Rattle.store_rows.specs.Spans.{IsSpanned, span_at}
 use Rattle.store_rows.proofs.StateMeant.{lines_same, recorded_same, slip_lines_same}
 use Rattle.store_rows.proofs.StateRecords.{recorded_alike}
@@ -61,7 +63,8 @@ use Rattle.old_rows.specs.Renewing.{
   with_slips_anew,
 }
 use Rattle.old_rows.proofs.Rest.{records_only, slips_only}
-use Rattle.old_rows.proofs.Written.{lines_written, slip_written, span_written}
+use Rattle.old_rows.proofs.Later.{links_written, sought_written, span_written}
+use Rattle.old_rows.proofs.Written.{lines_written, slip_written}
 use Rattle.records_anew.proofs.OldLines.{shallow_still}
 use Rattle.record_shapes.proofs.Each.{each_more}
 
@@ -132,9 +135,10 @@ pub record IsReadOf (rows : Rows) (renewal : Renewal) : Type 0 where
   pub all_slips : (n : ℕ) → list_any (λ (s : SlipRow). s.no == n) rows.slips ≡ true
       → list_any (λ (s : SlipAnew). s.number == n) renewal.slips ≡ true
 
-module _ (rows : Rows) (renewal : Renewal) (read : IsReadOf rows renewal) (none : rows.spans ≡ []) where
+module _ (rows : Rows) (renewal : Renewal) (read : IsReadOf rows renewal) (none : rows.spans ≡ [])
+    (nothing : rows.soughts ≡ []) where
   abbrev undated : Rows
-  undated = with_version 2 (with_span_table rows)
+  undated = with_version 2 (with_later_tables rows)
 
   abbrev mid : Rows
   mid = with_records_anew renewal.records undated
@@ -148,6 +152,8 @@ module _ (rows : Rows) (renewal : Renewal) (read : IsReadOf rows renewal) (none 
     has_spans = true;
     lines = mid.lines;
     spans = mid.spans;
+    links = mid.links;
+    soughts = mid.soughts;
     slip_lines = after.slip_lines;
   }
 
@@ -173,6 +179,20 @@ module _ (rows : Rows) (renewal : Renewal) (read : IsReadOf rows renewal) (none 
       (span_written (λ k. lines_of k rows) n o was.1 renewal.records undated read.records
       (read.all_records n was.0) (ap (span_at n) none))
 
+  sought_is : (n : ℕ) (found : Option OldRecord) (now : Option Record) → now ≡ option_map anew found
+      → WasRecordAt rows n found → IsSought now (sought_at n mid.soughts)
+  sought_is n None now is was = subst (λ (x : Option Record). IsSought x (sought_at n mid.soughts)) (sym is) tt
+  sought_is n (Some o) now is was = subst (λ (x : Option Record). IsSought x (sought_at n mid.soughts)) (sym is)
+      (sought_written (λ k. lines_of k rows) n o was.1 renewal.records undated read.records
+      (read.all_records n was.0) (ap (sought_at n) nothing))
+
+  linked_is : (n : ℕ) (found : Option OldRecord) (now : Option Record) → now ≡ option_map anew found
+      → WasRecordAt rows n found → AreLinked n now mid.links
+  linked_is n None now is was = subst (λ (x : Option Record). AreLinked n x mid.links) (sym is) tt
+  linked_is n (Some o) now is was = subst (λ (x : Option Record). AreLinked n x mid.links) (sym is)
+      (links_written (λ k. lines_of k rows) n o was.1 renewal.records undated read.records
+      (read.all_records n was.0))
+
   slip_is : (n : ℕ) (found : Option OldSlip) (now : Option Slip) → now ≡ option_map slip_anew found
       → WasSlipAt rows n found → IsSlipAt flat n now
   slip_is n None now is was = subst (IsSlipAt flat n) (sym is) was
@@ -196,6 +216,8 @@ module _ (rows : Rows) (renewal : Renewal) (read : IsReadOf rows renewal) (none 
         };
         shallow = all_shallow before c is shallow;
         spans = λ n. spanned_is n (get before.records n) (get c.records n) (is.records n) (old.records n);
+        soughts = λ n. sought_is n (get before.records n) (get c.records n) (is.records n) (old.records n);
+        links = λ n. linked_is n (get before.records n) (get c.records n) (is.records n) (old.records n);
         society = refl;
         batches = refl;
       })

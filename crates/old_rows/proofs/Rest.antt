@@ -1,16 +1,40 @@
 -- What the rows that are written leave of all else.
-use Rattle.std.proofs.Common.{◌≡◌, ℕ, Bool, true, false, List, [], ◌∷◌, Option, Some, None, refl, sym, ap, ◌∙◌, cond}
+use Rattle.std.proofs.Common.{
+  ◌≡◌,
+  ℕ,
+  Bool,
+  true,
+  false,
+  List,
+  [],
+  ◌∷◌,
+  Option,
+  Some,
+  None,
+  refl,
+  sym,
+  ap,
+  ◌∙◌,
+  cond,
+  subst,
+}
 use Rattle.std.specs.List.{list_any}
 use Rattle.gedcom_date.specs.declared.value.Span.{Span}
 use Rattle.stored_lines.specs.Line.{Label}
 use Rattle.store_tables.specs.Rows.{Rows, with_changed_lines, with_slip_lines, without_lines, without_slip_lines}
+use Rattle.store_rows.specs.Links.{with_links}
+use Rattle.store_rows.specs.Sought.{Sought, with_sought_if}
 use Rattle.store_rows.specs.Spans.{with_span_if}
 use Rattle.store_rows.proofs.Puts as puts
 use Rattle.store_rows.proofs.Slips as slips
+use Rattle.store_rows.proofs.SpansAside.{links_only}
 use Rattle.old_rows.specs.Renewing.{
+  Anew,
   RecordAnew,
   SideAnew,
   SlipAnew,
+  with_later_anew,
+  with_lines_anew,
   with_record_anew,
   with_records_anew,
   with_sides_anew,
@@ -31,34 +55,61 @@ lines_if_only : (b : Bool) (n : ℕ) (ls : List (ℕ × Label)) (rows : Rows) �
 lines_if_only true n ls rows = changed_only n ls rows
 lines_if_only false n ls rows = refl
 
-pub spans_stay : (b : Bool) (n : ℕ) (ls : List (ℕ × Label)) (rows : Rows)
-    → (cond b (with_changed_lines n ls rows) rows).spans ≡ rows.spans
-spans_stay b n ls rows = ap (λ (r : Rows). r.spans) (lines_if_only b n ls rows)
+-- the lines of a record change no other table
+pub lines_only_anew : (r : RecordAnew) (rows : Rows) → with_lines_anew r rows
+    ≡ record rows { lines = (with_lines_anew r rows).lines }
+lines_only_anew r rows = lines_if_only r.anew.has_changed r.number r.anew.lines rows
 
-span_only : (n : ℕ) (span : Option Span) (rows : Rows) → with_span_if n span rows
+pub span_only : (n : ℕ) (span : Option Span) (rows : Rows) → with_span_if n span rows
     ≡ record rows { spans = (with_span_if n span rows).spans }
 span_only n None rows = refl
 span_only n (Some s) rows = refl
 
-pub span_lines : (n : ℕ) (span : Option Span) (rows : Rows) → (with_span_if n span rows).lines ≡ rows.lines
-span_lines n span rows = ap (λ (r : Rows). r.lines) (span_only n span rows)
+pub sought_only : (n : ℕ) (sought : Option Sought) (rows : Rows) → with_sought_if n sought rows
+    ≡ record rows { soughts = (with_sought_if n sought rows).soughts }
+sought_only n None rows = refl
+sought_only n (Some s) rows = refl
 
-record_only : (r : RecordAnew) (rows : Rows) → with_record_anew r rows
-    ≡ record rows { lines = (with_record_anew r rows).lines; spans = (with_record_anew r rows).spans }
+-- rows with these tables of other rows: those that go with the records
+abbrev pub like : Rows → Rows → Rows
+like other rows = record rows { spans = other.spans; links = other.links; soughts = other.soughts }
+
+pub later_only : (n : ℕ) (a : Anew) (rows : Rows) → with_later_anew n a rows ≡ like (with_later_anew n a rows) rows
+later_only n a rows =
+    let spanned : Rows = with_span_if n a.span rows in
+    let sought : Rows = with_sought_if n a.sought spanned in
+    let all : Rows = with_links n a.lines sought in
+    subst (λ (r : Rows). r ≡ like r rows)
+    (sym (links_only n a.lines sought
+    ∙ ap (λ (r : Rows). record r { links = all.links }) (sought_only n a.sought spanned)
+    ∙ ap (λ (r : Rows). record r { links = all.links; soughts = sought.soughts }) (span_only n a.span rows))) refl
+
+pub later_lines : (n : ℕ) (a : Anew) (rows : Rows) → (with_later_anew n a rows).lines ≡ rows.lines
+later_lines n a rows = ap (λ (r : Rows). r.lines) (later_only n a rows)
+
+-- and with the lines of other rows too
+abbrev pub alike : Rows → Rows → Rows
+alike other rows = record rows {
+  lines = other.lines;
+  spans = other.spans;
+  links = other.links;
+  soughts = other.soughts;
+}
+
+record_only : (r : RecordAnew) (rows : Rows) → with_record_anew r rows ≡ alike (with_record_anew r rows) rows
 record_only r rows =
-    let mid : Rows = with_lines_if r.anew.has_changed r.number r.anew.lines rows in
-    let after : Rows = with_span_if r.number r.anew.span mid in
-    span_only r.number r.anew.span mid
-    ∙ (λ i. record (lines_if_only r.anew.has_changed r.number r.anew.lines rows i) { spans = after.spans })
-    ∙ sym (λ i. record rows { lines = span_lines r.number r.anew.span mid i; spans = after.spans })
+    let mid : Rows = with_lines_anew r rows in
+    let after : Rows = with_record_anew r rows in
+    let is : after ≡ record (like after rows) { lines = mid.lines } = later_only r.number r.anew mid
+    ∙ ap (like after) (lines_if_only r.anew.has_changed r.number r.anew.lines rows) in
+    subst (λ (x : Rows). x ≡ alike x rows) (sym is) refl
 
 pub records_only : (rs : List RecordAnew) (rows : Rows) → with_records_anew rs rows
-    ≡ record rows { lines = (with_records_anew rs rows).lines; spans = (with_records_anew rs rows).spans }
+    ≡ alike (with_records_anew rs rows) rows
 records_only [] rows = refl
 records_only (r ∷ rs) rows =
     let after : Rows = with_records_anew rs (with_record_anew r rows) in
-    records_only rs (with_record_anew r rows)
-    ∙ ap (λ (x : Rows). record x { lines = after.lines; spans = after.spans }) (record_only r rows)
+    records_only rs (with_record_anew r rows) ∙ ap (alike after) (record_only r rows)
 
 -- ---- slips
 sides_only : (n : ℕ) (ss : List SideAnew) (rows : Rows) → with_sides_anew n ss rows
@@ -94,6 +145,10 @@ slips_only (s ∷ ss) rows =
 -- ---- the table of spans
 pub record_keeps : (r : RecordAnew) (rows : Rows) → rows.has_spans ≡ true → (with_record_anew r rows).has_spans ≡ true
 record_keeps r rows has = ap (λ (x : Rows). x.has_spans) (record_only r rows) ∙ has
+
+pub span_keeps : (n : ℕ) (span : Option Span) (rows : Rows) → rows.has_spans ≡ true
+    → (with_span_if n span rows).has_spans ≡ true
+span_keeps n span rows has = ap (λ (x : Rows). x.has_spans) (span_only n span rows) ∙ has
 
 pub lines_keep : (b : Bool) (n : ℕ) (ls : List (ℕ × Label)) (rows : Rows) → rows.has_spans ≡ true
     → (cond b (with_changed_lines n ls rows) rows).has_spans ≡ true

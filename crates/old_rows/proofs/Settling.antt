@@ -5,7 +5,7 @@ use Rattle.sqlite.specs.State.{Shows, State}
 use Rattle.sqlite.specs.Tree.{Trees}
 use Rattle.archive_state.specs.Content.{Content}
 use Rattle.store_tables.specs.Calls.{FollowsUndated, Good, Settled}
-use Rattle.store_tables.specs.Rows.{HoldsSpans, Rows}
+use Rattle.store_tables.specs.Rows.{HoldsLater, Rows}
 use Rattle.old_rows.specs.Renewing.{IsRenewed, LeavesEither, LeavesRenewed}
 
 pub settles : (old mid new : State) (f : Rows → Rows) (rows : Rows)
@@ -22,9 +22,16 @@ settles old mid new f rows follows shows none was =
       good = subst (Good (f rows)) (sym (ap (λ (d : Database). d.trees) shows.now_is)) inside.good;
     }
 
--- tables without spans have none
+-- tables of the first schema have no spans, no links, and nothing that is looked for
+none_later : (rows : Rows) (t : Trees) → Good rows t → rows.has_spans ≡ false
+    → (rows.spans ≡ []) × (rows.links ≡ []) × (rows.soughts ≡ [])
+none_later rows t good none = subst (λ b. HoldsLater b rows.spans rows.links rows.soughts t) none good.holds.later
+
 pub no_spans : (rows : Rows) (t : Trees) → Good rows t → rows.has_spans ≡ false → rows.spans ≡ []
-no_spans rows t good none = subst (λ b. HoldsSpans b rows.spans t) none good.holds.spans
+no_spans rows t good none = (none_later rows t good none).0
+
+pub no_soughts : (rows : Rows) (t : Trees) → Good rows t → rows.has_spans ≡ false → rows.soughts ≡ []
+no_soughts rows t good none = (none_later rows t good none).2
 
 -- what a stop may leave of one renewal, and of any
 pub left : (s : State) (rows after : Rows) (c : Content) → IsRenewed rows c after → LeavesEither s rows after

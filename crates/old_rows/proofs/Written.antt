@@ -25,30 +25,24 @@ use Rattle.std.proofs.Common.{
 }
 use Rattle.std.specs.Prelude.{◌==◌, ◌||◌}
 use Rattle.std.specs.List.{flat_map, list_any}
-use Rattle.gedcom_date.specs.declared.value.Span.{Span}
 use Rattle.stored_lines.specs.Line.{Label}
 use Rattle.records.specs.Stored.{stored}
 use Rattle.record_shapes.specs.Lists.{EachOf}
-use Rattle.date_spans.specs.Spans.{IsSpanOf, date_in}
 use Rattle.records_anew.specs.Anew.{OldChange, anew, change_anew}
 use Rattle.records_anew.specs.Old.{OldRecord, WasKeptAs}
 use Rattle.store_tables.specs.Rows.{
   Rows,
   SlipLineRow,
-  SpanRow,
   lines_of,
-  put_by,
   slip_line_of,
   slip_lines_of,
   with_changed_lines,
   with_slip_lines,
-  with_span,
   without_slip_lines,
 }
 use Rattle.store_rows.specs.Meaning.{change_lines}
 use Rattle.store_rows.specs.Sides.{SideLine}
-use Rattle.store_rows.specs.Spans.{span_at, with_span_if}
-use Rattle.store_rows.proofs.Own.{none_left, others_left, own, put_elsewhere, put_here}
+use Rattle.store_rows.proofs.Own.{none_left, others_left, own}
 use Rattle.store_rows.proofs.Puts.{line_put}
 use Rattle.store_rows.proofs.Slips as slips
 use Rattle.old_rows.specs.Meaning.{IsOldChange, old_change_lines}
@@ -58,13 +52,14 @@ use Rattle.old_rows.specs.Renewing.{
   RecordAnew,
   SideAnew,
   SlipAnew,
+  with_lines_anew,
   with_record_anew,
   with_records_anew,
   with_sides_anew,
   with_slip_anew,
   with_slips_anew,
 }
-use Rattle.old_rows.proofs.Rest.{span_lines, spans_stay}
+use Rattle.old_rows.proofs.Rest.{later_lines}
 use Rattle.list_laws.proofs.Numbers.{it, not_it}
 
 -- ---- items of numbers, one after the other: what waits for the first of a number is got by it, and is kept
@@ -101,10 +96,8 @@ module _ (lines : ℕ → List (ℕ × Label)) (n : ℕ) (o : OldRecord) (was : 
   lines_after : (r : RecordAnew) (now : Rows) → lines_of n (with_record_anew r now)
       ≡ cond r.anew.has_changed (cond (r.number == n) r.anew.lines (lines_of n now)) (lines_of n now)
   lines_after r now =
-      lines_under (with_span_if r.number r.anew.span (cond r.anew.has_changed
-      (with_changed_lines r.number r.anew.lines now) now))
-      (cond r.anew.has_changed (with_changed_lines r.number r.anew.lines now) now)
-      (span_lines r.number r.anew.span (cond r.anew.has_changed (with_changed_lines r.number r.anew.lines now) now))
+      lines_under (with_record_anew r now) (with_lines_anew r now)
+      (later_lines r.number r.anew (with_lines_anew r now))
       ∙ (elim r.anew.has_changed as (λ b. lines_of n (cond b (with_changed_lines r.number r.anew.lines now) now)
       ≡ cond b (cond (r.number == n) r.anew.lines (lines_of n now)) (lines_of n now)) [
         | true ↦ line_put n r.number r.anew.lines now
@@ -154,98 +147,6 @@ module _ (lines : ℕ → List (ℕ × Label)) (n : ℕ) (o : OldRecord) (was : 
   lines_written rs now each some here =
       got_by_all (λ (r : RecordAnew). r.number) IsRead with_record_anew HasLines HadLines n lines_kept lines_got
       lines_wait with_records_anew (λ _. refl) (λ _ _ _. refl) rs now each some here
-
-  -- ---- its span
-  abbrev span_in : SpanRow → Span
-  span_in s = record { lo = s.lo; hi = s.hi }
-
-  abbrev first : List SpanRow → Option Span
-  first [] = None
-  first (s ∷ ss) = Some (span_in s)
-
-  first_own : (k : ℕ) (ss : List SpanRow) → span_at k ss ≡ first (own (λ (s : SpanRow). s.no) k ss)
-  first_own k [] = refl
-  first_own k (s ∷ ss) =
-      elim (s.no == k) as (λ b. cond b (Some (span_in s)) (span_at k ss) ≡ first
-      (cond b (s ∷ own (λ (j : SpanRow). j.no) k ss) (own (λ (j : SpanRow). j.no) k ss))) [
-        | true ↦ refl
-        | false ↦ first_own k ss
-      ]
-
-  span_put : (k : ℕ) (span : Span) (rows : Rows) → span_at n (with_span k span.lo span.hi rows).spans
-      ≡ cond (k == n) (Some span) (span_at n rows.spans)
-  span_put k span rows =
-      let key = λ (s : SpanRow). s.no in
-      let row : SpanRow = record { no = k; lo = span.lo; hi = span.hi } in
-      first_own n (put_by key row rows.spans) ∙
-      (elim (k == n) as (λ b. (k == n) ≡ b → first (own key n (put_by key row rows.spans)) ≡ cond b (Some span)
-      (span_at n rows.spans)) [
-        | true ↦ λ e. let (more, is) = put_here key n row rows.spans (it k n e) in ap first is
-        | false ↦ λ e. ap first (put_elsewhere key n row rows.spans (not_it k n e)) ∙ sym (first_own n rows.spans)
-      ] refl)
-
-  -- one that is there is put, and none leaves what was there
-  abbrev span_or : Option Span → Option Span → Option Span
-  span_or None before = before
-  span_or (Some s) before = Some s
-
-  span_if : (k : ℕ) (span : Option Span) (rows : Rows) → span_at n (with_span_if k span rows).spans
-      ≡ cond (k == n) (span_or span (span_at n rows.spans)) (span_at n rows.spans)
-  span_if k None rows = elim (k == n) as (λ b. span_at n rows.spans ≡ cond b (span_at n rows.spans)
-      (span_at n rows.spans)) [ true ↦ refl | false ↦ refl ]
-  span_if k (Some s) rows = span_put k s rows
-
-  span_after : (r : RecordAnew) (now : Rows) → span_at n (with_record_anew r now).spans
-      ≡ cond (r.number == n) (span_or r.anew.span (span_at n now.spans)) (span_at n now.spans)
-  span_after r now =
-      let mid : Rows = cond r.anew.has_changed (with_changed_lines r.number r.anew.lines now) now in
-      span_if r.number r.anew.span mid
-      ∙ ap (λ (ss : List SpanRow). cond (r.number == n) (span_or r.anew.span (span_at n ss)) (span_at n ss))
-      (spans_stay r.anew.has_changed r.number r.anew.lines now)
-
-  abbrev Spanned : Option Span → Type 0
-  Spanned span = IsSpanOf (date_in (anew o)) span
-
-  abbrev HasSpan : Rows → Type 0
-  HasSpan now = Spanned (span_at n now.spans)
-
-  abbrev HadNone : Rows → Type 0
-  HadNone now = span_at n now.spans ≡ None
-
-  or_kept : (span before : Option Span) → Spanned span → Spanned before → Spanned (span_or span before)
-  or_kept None before h k = k
-  or_kept (Some s) before h k = h
-
-  or_got : (span before : Option Span) → before ≡ None → Spanned span → Spanned (span_or span before)
-  or_got None before none h = subst Spanned (sym none) h
-  or_got (Some s) before none h = h
-
-  span_kept : (r : RecordAnew) (now : Rows) → IsRead r → HasSpan now → HasSpan (with_record_anew r now)
-  span_kept r now is here = subst Spanned (sym (span_after r now))
-      (elim (r.number == n) as (λ b. (r.number == n) ≡ b
-      → Spanned (cond b (span_or r.anew.span (span_at n now.spans)) (span_at n now.spans))) [
-        | true ↦ λ e. or_kept r.anew.span (span_at n now.spans) ((at_it r is e).spanned o was) here
-        | false ↦ λ e. here
-      ] refl)
-
-  span_got : (r : RecordAnew) (now : Rows) → IsRead r → (r.number == n) ≡ true → HadNone now
-      → HasSpan (with_record_anew r now)
-  span_got r now is e none = subst Spanned
-      (sym (span_after r now
-      ∙ ap (λ b. cond b (span_or r.anew.span (span_at n now.spans)) (span_at n now.spans)) e))
-      (or_got r.anew.span (span_at n now.spans) none ((at_it r is e).spanned o was))
-
-  span_waits : (r : RecordAnew) (now : Rows) → IsRead r → (r.number == n) ≡ false → HadNone now
-      → HadNone (with_record_anew r now)
-  span_waits r now is e none = span_after r now
-      ∙ ap (λ b. cond b (span_or r.anew.span (span_at n now.spans)) (span_at n now.spans)) e ∙ none
-
-  pub span_written : (rs : List RecordAnew) (now : Rows) → EachOf IsRead rs
-      → list_any (λ (r : RecordAnew). r.number == n) rs ≡ true → span_at n now.spans ≡ None
-      → IsSpanOf (date_in (anew o)) (span_at n (with_records_anew rs now).spans)
-  span_written rs now each some none =
-      got_by_all (λ (r : RecordAnew). r.number) IsRead with_record_anew HasSpan HadNone n span_kept span_got
-      span_waits with_records_anew (λ _. refl) (λ _ _ _. refl) rs now each some none
 
 -- ---- the lines of a slip
 sides_more : (n : ℕ) (ss : List SideAnew) (rows : Rows) → slip_lines_of n (with_sides_anew n ss rows)

@@ -14,19 +14,23 @@ use Rattle.store_tables.specs.Calls.{Good}
 use Rattle.store_tables.specs.Rows.{
   Rows,
   with_changed_lines,
+  with_later_tables,
   with_slip_lines,
-  with_span_table,
   with_version,
   without_slip_lines,
 }
+use Rattle.store_rows.specs.Links.{KeepsLinks, with_links}
 use Rattle.store_rows.specs.Meaning.{AllShallow, Means}
+use Rattle.store_rows.specs.Sought.{KeepsSought, Sought, sought_of, with_sought_if}
 use Rattle.store_rows.specs.Spans.{IsDated, KeepsSpans, with_span_if}
 
--- a record as it is kept today, whether its lines are others than they were, and the span of its date
+-- a record as it is kept today, whether its lines are others than they were, the span of its date, and what it is
+-- looked for by
 pub record Anew : Type 0 where
   pub lines : List (ℕ × Label)
   pub has_changed : Bool
   pub span : Option Span
+  pub sought : Option Sought
 
 pub record RecordAnew : Type 0 where
   pub number : ℕ
@@ -51,13 +55,20 @@ pub record Renewal : Type 0 where
 pub record IsAnewOf (lines : List (ℕ × Label)) (a : Anew) : Type 0 where
   pub kept : (o : OldRecord) → WasKeptAs lines o → a.lines ≡ stored (anew o)
   pub spanned : (o : OldRecord) → WasKeptAs lines o → IsSpanOf (date_in (anew o)) a.span
+  pub sought : (o : OldRecord) → WasKeptAs lines o → a.sought ≡ sought_of (anew o)
   pub same : a.has_changed ≡ false → a.lines ≡ lines
 
 -- ---- what is written
--- a record that stays keeps its lines; each has its span
+-- a record that stays keeps its lines
+abbrev pub with_lines_anew : RecordAnew → Rows → Rows
+with_lines_anew r rows = cond r.anew.has_changed (with_changed_lines r.number r.anew.lines rows) rows
+
+-- what goes with a record of a number: its span, what it is looked for by, and its links
+abbrev pub with_later_anew : ℕ → Anew → Rows → Rows
+with_later_anew n a rows = with_links n a.lines (with_sought_if n a.sought (with_span_if n a.span rows))
+
 abbrev pub with_record_anew : RecordAnew → Rows → Rows
-with_record_anew r rows = with_span_if r.number r.anew.span
-    (cond r.anew.has_changed (with_changed_lines r.number r.anew.lines rows) rows)
+with_record_anew r rows = with_later_anew r.number r.anew (with_lines_anew r rows)
 
 abbrev pub with_records_anew : List RecordAnew → Rows → Rows
 with_records_anew [] rows = rows
@@ -78,15 +89,18 @@ with_slips_anew [] rows = rows
 with_slips_anew (s ∷ ss) rows = with_slips_anew ss (with_slip_anew s rows)
 
 abbrev pub with_renewal : Renewal → Rows → Rows
-with_renewal r rows = with_slips_anew r.slips (with_records_anew r.records (with_version 2 (with_span_table rows)))
+with_renewal r rows = with_slips_anew r.slips (with_records_anew r.records (with_version 2 (with_later_tables rows)))
 
 -- ---- what is made by that
--- rows of the second version that mean the content, with its spans; society and batches are those of before
+-- rows of the second version that mean the content, with its spans, what is looked for and its links; society and
+-- batches are those of before
 pub record IsRenewed (rows : Rows) (c : Content) (after : Rows) : Type 0 where
   pub dated : IsDated after
   pub means : Means after c
   pub shallow : AllShallow c
   pub spans : KeepsSpans after c
+  pub soughts : KeepsSought after c
+  pub links : KeepsLinks after c
   pub society : after.society ≡ rows.society
   pub batches : after.batches ≡ rows.batches
 

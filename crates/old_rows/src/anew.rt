@@ -2,6 +2,7 @@
 
 use date_spans::Span;
 use std::marker::Model;
+use store_rows::SoughtText;
 use stored_lines::StoredLine;
 
 /// A record as it is kept today.
@@ -12,6 +13,8 @@ pub struct Anew {
     pub has_changed: bool,
     /// The span of its date, where it has one.
     pub span: Option<Span>,
+    /// What it is looked for by, where it is looked for.
+    pub sought: Option<SoughtText>,
 }
 
 impl Model for Anew {
@@ -19,7 +22,12 @@ impl Model for Anew {
 
     ghost Value = { renewing.Anew };
 
-    ghost view = { λ a. record { lines = a.lines.items; has_changed = a.has_changed; span = a.span } };
+    ghost view = { λ a. record {
+      lines = a.lines.items;
+      has_changed = a.has_changed;
+      span = a.span;
+      sought = a.sought;
+    } };
 }
 
 /// The record of a number.

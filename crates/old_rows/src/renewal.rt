@@ -11,6 +11,7 @@ ghost use Rattle.records_anew.specs.Reading.{WasKeptAsNone};
 ghost use Rattle.store_tables.specs.Reading.{read_of};
 ghost use Rattle.store_tables.specs.Rows as tables;
 ghost use Rattle.store_rows.specs.Grouped.{IsRefusedBy, group_at, items_at, slip_group_at};
+ghost use Rattle.store_rows.specs.Sought.{sought_of};
 ghost use Rattle.old_rows.specs.Meaning.{MeansAnew};
 ghost use Rattle.old_rows.specs.Reading.{
   AreChangesAnewOf,
@@ -31,6 +32,7 @@ use records_anew::{ReadAnew, read_anew};
 use std::alloc::{AllocError, Global};
 use std::collections::{BTreeMap, BTreeSet};
 use store_rows::grouping::{closed_batches, grouped_lines, grouped_slip_lines};
+use store_rows::sought_of;
 use store_tables::{RecordRow, SlipLineRow, SlipRow, StoredRows};
 use stored_lines::StoredLine;
 
@@ -38,7 +40,8 @@ use stored_lines::StoredLine;
 /// 40: these are no rows of an archive of that time.
 pub fn renewal_of(alloc: Global, read: StoredRows) -> Result<Renewal, RefusalKind>
     ensures read { IfOk result (λ renewal. (rows : tables.Rows) (c : Content) → read_of rows ≡ read
-        → rows.spans ≡ [] → MeansAnew rows c → IsRenewed rows c (with_renewal renewal rows)) }
+        → rows.spans ≡ [] → rows.soughts ≡ [] → MeansAnew rows c
+        → IsRenewed rows c (with_renewal renewal rows)) }
     ensures refused { IfErr result (λ kind. (kind ≡ kinds.OutOfMemory) ⊎ ((kind ≡ kinds.BadStored)
         × ((rows : tables.Rows) (c : Content) → read_of rows ≡ read → ¬ (MeansAnew rows c)))) }
 {
@@ -133,16 +136,18 @@ pub(crate) fn anew_of(alloc: Global, lines: &[StoredLine]) -> Result<Anew, Refus
     }
 }
 
-/// A record as it is kept today, with its span.
+/// A record as it is kept today, with its span and what it is looked for by.
 fn kept(alloc: Global, found: &Record, has_changed: bool) -> Result<Anew, AllocError>
     ensures lines { IfOk result (λ anew. anew.lines ≡ stored found.now) }
     ensures changed { IfOk result (λ anew. anew.has_changed ≡ has_changed) }
     ensures span { IfOk result (λ anew. IsSpanOf (date_in found.now) anew.span) }
+    ensures sought { IfOk result (λ anew. anew.sought ≡ sought_of found.now) }
 {
     Ok(Anew {
         lines: lines_of(alloc, found)?,
         has_changed,
         span: span_of(alloc, found)?,
+        sought: sought_of(alloc, found)?,
     })
 }
 

@@ -5,9 +5,11 @@ ghost use Rattle.std.specs.List.{list_any};
 ghost use Rattle.sqlite.specs.Held.{state};
 ghost use Rattle.store_tables.specs.Calls.{LeavesAsBefore, Writes, WritesDated, WritesUndated};
 ghost use Rattle.store_tables.specs.Rows.{with_changed_lines, with_slip_lines};
+ghost use Rattle.store_rows.specs.Sought.{with_sought_if};
 ghost use Rattle.store_rows.specs.Spans.{with_span_if};
 ghost use Rattle.old_rows.specs.Renewing.{
   SideAnew,
+  with_later_anew,
   with_record_anew,
   with_records_anew,
   with_renewal,
@@ -19,24 +21,26 @@ ghost use Rattle.old_rows.specs.Renewing.{
 use crate::anew::{Anew, RecordAnew, Renewal, SideAnew, SlipAnew};
 use date_spans::Span;
 use sqlite::{Alter, Error, Transaction};
+use store_rows::{SoughtText, link_lines};
 use store_tables::lines::{change_lines, insert_slip_lines};
-use store_tables::{rows, spans};
+use store_tables::{create_later_tables, rows, soughts, spans};
 
-/// Writes what is read anew in tables of the first version: the table of spans and the second version, each record
-/// that changes, the spans, and each slip of which a record changes. After an error the transaction is to be given up.
+/// Writes what is read anew in tables of the first version: the tables that the second one has beside and its number,
+/// each record that changes, the spans, what is looked for, the links, and each slip of which a record changes. After
+/// an error the transaction is to be given up.
 pub fn write_renewal<S: Alter>(tx: &mut Transaction<'_, S>, renewal: &Renewal) -> Result<(), Error>
     ensures same_reference { tx.new.conn.ghost_name ≡ tx.old.conn.ghost_name }
     ensures ok { WritesUndated (state S.Store tx.old.conn.now) (state S.Store tx.new.conn.now)
         result (with_renewal renewal.now) }
     ensures survives { LeavesAsBefore (state S.Store tx.old.conn.now) (state S.Store tx.new.conn.now) }
 {
-    spans::create_spans(tx)?;
+    create_later_tables(tx)?;
     spans::set_version(tx)?;
     write_records(tx, &renewal.records)?;
     write_slips(tx, &renewal.slips)
 }
 
-/// The lines of the records that change, and all spans.
+/// The lines of the records that change, and all spans, all that is looked for and all links.
 fn write_records<S: Alter>(tx: &mut Transaction<'_, S>, records: &[RecordAnew]) -> Result<(), Error>
     ensures same_reference { tx.new.conn.ghost_name ≡ tx.old.conn.ghost_name }
     ensures ok { WritesDated (state S.Store tx.old.conn.now) (state S.Store tx.new.conn.now)
@@ -49,7 +53,7 @@ fn write_records<S: Alter>(tx: &mut Transaction<'_, S>, records: &[RecordAnew]) 
     Ok(())
 }
 
-/// The lines of a record, where they change, and its span.
+/// The lines of a record, where they change, its span, what it is looked for by, and its links.
 fn write_record<S: Alter>(tx: &mut Transaction<'_, S>, record: &RecordAnew) -> Result<(), Error>
     ensures same_reference { tx.new.conn.ghost_name ≡ tx.old.conn.ghost_name }
     ensures ok { WritesDated (state S.Store tx.old.conn.now) (state S.Store tx.new.conn.now)
@@ -67,7 +71,7 @@ fn write_anew<S: Alter>(tx: &mut Transaction<'_, S>, number: u32, anew: &Anew) -
     ensures survives { LeavesAsBefore (state S.Store tx.old.conn.now) (state S.Store tx.new.conn.now) }
 {
     write_lines(tx, number, anew)?;
-    write_span(tx, number, anew.span)
+    write_later(tx, number, anew)
 }
 
 /// The lines of a record, where they are others than they were.
@@ -84,6 +88,18 @@ fn write_lines<S: Alter>(tx: &mut Transaction<'_, S>, number: u32, anew: &Anew) 
     }
 }
 
+/// The span of a record, what it is looked for by, and its links.
+fn write_later<S: Alter>(tx: &mut Transaction<'_, S>, number: u32, anew: &Anew) -> Result<(), Error>
+    ensures same_reference { tx.new.conn.ghost_name ≡ tx.old.conn.ghost_name }
+    ensures ok { WritesDated (state S.Store tx.old.conn.now) (state S.Store tx.new.conn.now)
+        result (with_later_anew number anew.now) }
+    ensures survives { LeavesAsBefore (state S.Store tx.old.conn.now) (state S.Store tx.new.conn.now) }
+{
+    write_span(tx, number, anew.span)?;
+    write_sought(tx, number, &anew.sought)?;
+    link_lines(tx, number, &anew.lines)
+}
+
 /// The span of a record, where it has one.
 fn write_span<S: Alter>(
     tx: &mut Transaction<'_, S>,
@@ -97,6 +113,23 @@ fn write_span<S: Alter>(
 {
     match span {
         Some(span) => spans::insert_span(tx, number, span.lo, span.hi),
+        None => Ok(()),
+    }
+}
+
+/// What a record is looked for by, where it is looked for.
+fn write_sought<S: Alter>(
+    tx: &mut Transaction<'_, S>,
+    number: u32,
+    sought: &Option<SoughtText>,
+) -> Result<(), Error>
+    ensures same_reference { tx.new.conn.ghost_name ≡ tx.old.conn.ghost_name }
+    ensures ok { WritesDated (state S.Store tx.old.conn.now) (state S.Store tx.new.conn.now)
+        result (with_sought_if number sought.now) }
+    ensures survives { LeavesAsBefore (state S.Store tx.old.conn.now) (state S.Store tx.new.conn.now) }
+{
+    match sought {
+        Some(sought) => soughts::insert_sought(tx, number, &sought.text, sought.target),
         None => Ok(()),
     }
 }

@@ -12,7 +12,9 @@ use Rattle.store_tables.specs.Rows.{
   BatchRow,
   RecordRow,
   LineRow,
+  LinkRow,
   SlipLineRow,
+  SoughtRow,
   SpanRow,
   lines_of,
   slip_line_of,
@@ -26,6 +28,8 @@ use Rattle.store_rows.specs.Meaning.{
   receipts_in,
   slip_row_at,
 }
+use Rattle.store_rows.specs.Links.{AreLinked, KeepsLinks, has_link}
+use Rattle.store_rows.specs.Sought.{IsSought, KeepsSought, sought_at}
 use Rattle.store_rows.specs.Spans.{IsSpanned, KeepsSpans, span_at}
 use Rattle.staged_rows.specs.Removing.{IsSeenAs}
 use Rattle.list_laws.proofs.Booleans.{or_first, or_second}
@@ -64,6 +68,26 @@ pub seen_spans : (rows other : Rows) (c : Content) → IsSeenAs rows other → M
 seen_spans rows other c seen was keeps =
     λ n. spanned n rows other seen (get c.records n) (was.records n) (keeps n)
 
+linked : (n : ℕ) (rows other : Rows) → IsSeenAs rows other → (o : Option Record) → IsRecordAt rows n o
+    → AreLinked n o rows.links → AreLinked n o other.links
+linked n rows other seen None is h = tt
+linked n rows other seen (Some r) is h = λ target named. seen.links n target is.0 ∙ h target named
+
+pub seen_links : (rows other : Rows) (c : Content) → IsSeenAs rows other → Means rows c → KeepsLinks rows c
+    → KeepsLinks other c
+seen_links rows other c seen was keeps =
+    λ n. linked n rows other seen (get c.records n) (was.records n) (keeps n)
+
+sought : (n : ℕ) (rows other : Rows) → IsSeenAs rows other → (o : Option Record) → IsRecordAt rows n o
+    → IsSought o (sought_at n rows.soughts) → IsSought o (sought_at n other.soughts)
+sought n rows other seen None is h = tt
+sought n rows other seen (Some r) is h = seen.soughts n is.0 ∙ h
+
+pub seen_soughts : (rows other : Rows) (c : Content) → IsSeenAs rows other → Means rows c → KeepsSought rows c
+    → KeepsSought other c
+seen_soughts rows other c seen was keeps =
+    λ n. sought n rows other seen (get c.records n) (was.records n) (keeps n)
+
 pub seen_then : (a b c : Rows) → IsSeenAs a b → IsSeenAs b c → IsSeenAs a c
 seen_then a b c first next = record {
   version = next.version ∙ first.version;
@@ -77,6 +101,8 @@ seen_then a b c first next = record {
   recorded = λ n. next.recorded n ∙ first.recorded n;
   lines = λ n has. next.lines n (first.recorded n ∙ has) ∙ first.lines n has;
   spans = λ n has. next.spans n (first.recorded n ∙ has) ∙ first.spans n has;
+  links = λ n target has. next.links n target (first.recorded n ∙ has) ∙ first.links n target has;
+  soughts = λ n has. next.soughts n (first.recorded n ∙ has) ∙ first.soughts n has;
 }
 
 -- ---- other tables
@@ -102,6 +128,47 @@ seen_alike bs rs ls ss rows closed has lines spans = record {
   recorded = has;
   lines = lines;
   spans = spans;
+  links = λ n target has. refl;
+  soughts = λ n has. refl;
+}
+
+-- other links, and other rows of what is looked for
+pub seen_linked : (ls : List LinkRow) (rows : Rows)
+    → ((n target : ℕ) → has_record n rows ≡ true → has_link target n ls ≡ has_link target n rows.links)
+    → IsSeenAs rows (record rows { links = ls })
+seen_linked ls rows links = record {
+  version = refl;
+  has_spans = refl;
+  next = refl;
+  society = refl;
+  receipts = refl;
+  slips = refl;
+  slip_lines = refl;
+  batch = refl;
+  recorded = λ n. refl;
+  lines = λ n has. refl;
+  spans = λ n has. refl;
+  links = links;
+  soughts = λ n has. refl;
+}
+
+pub seen_sought : (ss : List SoughtRow) (rows : Rows)
+    → ((n : ℕ) → has_record n rows ≡ true → sought_at n ss ≡ sought_at n rows.soughts)
+    → IsSeenAs rows (record rows { soughts = ss })
+seen_sought ss rows soughts = record {
+  version = refl;
+  has_spans = refl;
+  next = refl;
+  society = refl;
+  receipts = refl;
+  slips = refl;
+  slip_lines = refl;
+  batch = refl;
+  recorded = λ n. refl;
+  lines = λ n has. refl;
+  spans = λ n has. refl;
+  links = λ n target has. refl;
+  soughts = soughts;
 }
 
 pub seen_same : (rows : Rows) → IsSeenAs rows rows

@@ -7,7 +7,7 @@ use Rattle.record_shapes.specs.Lists.{EachOf}
 use Rattle.archive_state.specs.Content.{Content}
 use Rattle.archive_state.specs.declared.changes.Numbered.{Numbered}
 use Rattle.store_tables.specs.Batches.{AreOwned}
-use Rattle.store_tables.specs.Rows.{Rows, BatchRow, RecordRow, LineRow, SpanRow}
+use Rattle.store_tables.specs.Rows.{Rows, BatchRow, RecordRow, LineRow, SoughtRow, SpanRow}
 use Rattle.store_rows.specs.Meaning.{Means, has_record, is_closed}
 use Rattle.staged_rows.specs.Staging.{AreAllClosed, AreClosed, IsFresh, numbers_of}
 use Rattle.staged_rows.proofs.Alike.{absent, none_closed}
@@ -92,6 +92,8 @@ fresh batch ps rows c closed unused new was = record {
       closed.lines;
   spans = none_of_puts (λ (s : SpanRow). s.no) rows.records ps rows.spans (no_rows ps rows c closed was new)
       closed.spans;
+  soughts = none_of_puts (λ (s : SoughtRow). s.no) rows.records ps rows.soughts (no_rows ps rows c closed was new)
+      closed.soughts;
 }
 
 -- ---- where every batch is closed
@@ -111,6 +113,7 @@ all_of_closed rows owned closed = record {
   lines = owned.lines;
   records = of_closed rows.batches rows.records closed owned.records;
   spans = owned.spans;
+  soughts = owned.soughts;
 }
 
 -- ---- numbers without a record

@@ -55,13 +55,17 @@ use Rattle.staged_rows.proofs.Lists.{any_put, none_put}
 use Rattle.staged_rows.proofs.Spans.{none_at, put_elsewhere, put_here}
 use Rattle.staged_rows.proofs.Whole.{
   all_lines_beside,
+  Later,
   beside,
   import_staged,
+  later_in,
+  later_put,
   one_span,
   records_put,
   records_written,
   spans_put,
   wholly,
+  with_later,
 }
 use Rattle.list_laws.proofs.Booleans.{or_always, or_first, or_second}
 use Rattle.list_laws.proofs.Numbers.{it, is_not, not_it, other_way}
@@ -183,26 +187,27 @@ published_beside : (kept : Option Kept) (next : ℕ) (bs : List BatchRow) (rs : 
 published_beside None next bs rs rows = refl
 published_beside (Some k) next bs rs rows = refl
 
-published_wholly : (kept : Option Kept) (next : ℕ) (bs : List BatchRow) (rs : List RecordRow) (ss : List SpanRow)
-    (rows : Rows) → with_kept_written kept (with_next next (wholly bs rs ss rows))
-    ≡ wholly bs rs ss (with_kept_written kept (with_next next rows))
-published_wholly None next bs rs ss rows = refl
-published_wholly (Some k) next bs rs ss rows = refl
+published_wholly : (kept : Option Kept) (next : ℕ) (bs : List BatchRow) (rs : List RecordRow) (later : Later)
+    (rows : Rows) → with_kept_written kept (with_next next (wholly bs rs later rows))
+    ≡ wholly bs rs later (with_kept_written kept (with_next next rows))
+published_wholly None next bs rs later rows = refl
+published_wholly (Some k) next bs rs later rows = refl
 
-whole_is : (batch next : ℕ) (ps : List Numbered) (drawn : Drawn) (answer : Answer) (kept : Option Kept) (rows : Rows)
+pub whole_is : (batch next : ℕ) (ps : List Numbered) (drawn : Drawn) (answer : Answer) (kept : Option Kept)
+    (rows : Rows)
     → IsOnce (numbers_of ps) → IsFresh batch ps rows
     → with_whole_import batch (import_changes ps next answer kept) drawn rows
-    ≡ wholly (closed_batches batch rows.batches) (records_put batch ps rows.records) (spans_put drawn rows.spans)
-    (with_kept_written kept (with_next next (with_all_lines ps rows)))
+    ≡ wholly (closed_batches batch rows.batches) (records_put batch ps rows.records)
+    (later_put ps drawn (later_in rows)) (with_kept_written kept (with_next next (with_all_lines ps rows)))
 whole_is batch next ps drawn answer kept rows once fresh =
     ap (λ (r : Rows). with_published batch (import_changes ps next answer kept) r)
     (import_staged batch ps drawn (with_batch batch true rows).batches rows once fresh.lines)
     ∙ published_wholly kept next (closed_batches batch rows.batches) (records_put batch ps rows.records)
-    (spans_put drawn rows.spans) (with_all_lines ps rows)
+    (later_put ps drawn (later_in rows)) (with_all_lines ps rows)
 
--- rows mean the same whatever spans they have
-other_spans : (ss : List SpanRow) (rows : Rows) (c : Content) → Means rows c → Means (record rows { spans = ss }) c
-other_spans ss rows c was = record {
+-- rows mean the same whatever comes behind their lines
+other_later : (later : Later) (rows : Rows) (c : Content) → Means rows c → Means (with_later later rows) c
+other_later later rows c was = record {
   batch = was.batch;
   records = was.records;
   next = was.next;
@@ -238,7 +243,7 @@ whole batch next ps drawn answer kept rows c once fresh are was =
     (others_closed batch 0 rows.batches (apart batch rows was fresh))
     (λ n. any_of_alike f g n rs ss alike) (λ n has. refl) (λ n has. refl) in
     subst (λ (r : Rows). Means r (applied c changes)) (sym (whole_is batch next ps drawn answer kept rows once fresh))
-    (other_spans (spans_put drawn rows.spans) (beside bs rs after) (applied c changes)
+    (other_later (later_put ps drawn (later_in rows)) (beside bs rs after) (applied c changes)
     (seen_means (beside rows.batches ss after) (beside bs rs after) (applied c changes) seen means))
   where
     -- the batch of the import is not that of the commands, which is there

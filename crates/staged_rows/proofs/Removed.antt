@@ -1,21 +1,26 @@
 -- Rows that no record has, taken out: it is not seen.
-use Rattle.std.proofs.Common.{◌≡◌, ℕ, Bool, true, false, not, filter, map, refl, sym, ap, ◌∙◌}
-use Rattle.std.specs.Prelude.{◌==◌, ◌&&◌}
+use Rattle.std.proofs.Common.{◌≡◌, ℕ, Bool, true, false, not, cond, filter, map, refl, sym, ap, ◌∙◌}
+use Rattle.std.specs.Prelude.{◌==◌, ◌&&◌, None}
 use Rattle.store_tables.specs.Rows.{
   Rows,
   BatchRow,
   RecordRow,
   LineRow,
   without_batch_row,
+  without_link,
   without_record_row,
+  without_sought,
   without_span,
 }
+use Rattle.store_rows.specs.Sought.{sought_at}
+use Rattle.store_rows.proofs.SoughtRead.{sought_removed}
 use Rattle.store_rows.specs.Meaning.{has_record, is_closed}
 use Rattle.staged_rows.specs.Removing.{IsSeenAs}
-use Rattle.staged_rows.proofs.Alike.{differ, seen_alike}
+use Rattle.staged_rows.proofs.Alike.{differ, seen_alike, seen_linked, seen_sought}
+use Rattle.staged_rows.proofs.Links.{kept_elsewhere}
 use Rattle.staged_rows.proofs.Lists.{any_kept, none_kept, filter_kept}
 use Rattle.staged_rows.proofs.Spans.{span_kept}
-use Rattle.list_laws.proofs.Numbers.{it}
+use Rattle.list_laws.proofs.Numbers.{is_not, it}
 use Rattle.list_laws.proofs.Lists.{any_alike}
 
 unlike : (l : LineRow) (stays : LineRow → Bool) (m : ℕ) (rows : Rows)
@@ -41,6 +46,17 @@ pub span_gone : (n : ℕ) (rows : Rows) → has_record n rows ≡ false → IsSe
 span_gone n rows none =
     seen_alike rows.batches rows.records rows.lines (without_span n rows).spans rows refl (λ m. refl) (λ m has. refl)
     (λ m has. span_kept m n (differ n m rows none has) rows.spans)
+
+pub sought_gone : (n : ℕ) (rows : Rows) → has_record n rows ≡ false → IsSeenAs rows (without_sought n rows)
+sought_gone n rows none =
+    seen_sought (without_sought n rows).soughts rows
+    (λ m has. sought_removed m n rows
+    ∙ ap (λ b. cond b None (sought_at m rows.soughts)) (is_not n m (differ n m rows none has)))
+
+pub link_gone : (target n : ℕ) (rows : Rows) → has_record n rows ≡ false → IsSeenAs rows (without_link target n rows)
+link_gone target n rows none =
+    seen_linked (without_link target n rows).links rows
+    (λ m t has. kept_elsewhere t m target n (differ n m rows none has) rows.links)
 
 -- a row that is left out is of that number
 pub left_out : (k n : ℕ) → not (k == n) ≡ false → k ≡ n

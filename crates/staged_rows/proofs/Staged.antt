@@ -1,6 +1,24 @@
 -- An import that is open, row by row.
-use Rattle.std.proofs.Common.{◌≡◌, ℕ, zero, suc, true, false, not, List, [], ◌∷◌, ◌++◌, map, refl, sym, ap, ◌∙◌}
-use Rattle.std.specs.Prelude.{◌==◌, ◌&&◌, take}
+use Rattle.std.proofs.Common.{
+  ◌≡◌,
+  ℕ,
+  zero,
+  suc,
+  true,
+  false,
+  not,
+  List,
+  [],
+  ◌∷◌,
+  ◌++◌,
+  cond,
+  map,
+  refl,
+  sym,
+  ap,
+  ◌∙◌,
+}
+use Rattle.std.specs.Prelude.{◌==◌, ◌&&◌, Some, take}
 use Rattle.stored_lines.specs.Line.{Label}
 use Rattle.gedcom_date.specs.declared.value.Span.{Span}
 use Rattle.record_shapes.specs.Lists.{EachOf}
@@ -10,21 +28,28 @@ use Rattle.store_tables.specs.Rows.{
   BatchRow,
   RecordRow,
   LineRow,
+  LinkRow,
   SpanRow,
   next_key,
   put_by,
   with_batch,
   with_line,
+  with_link,
   with_record_row,
+  with_sought,
   with_span,
 }
 use Rattle.store_rows.specs.Meaning.{has_record, is_closed}
+use Rattle.store_rows.specs.Sought.{Sought, sought_at}
 use Rattle.store_rows.specs.Spans.{AreDrawn, Drawn}
+use Rattle.store_rows.proofs.SoughtRead.{sought_put}
 use Rattle.staged_rows.specs.Removing.{AreAside, IsSeenAs}
 use Rattle.staged_rows.specs.Staging.{
   StagedRow,
   a_record,
   a_line,
+  a_link,
+  a_sought,
   a_span,
   numbers_of,
   rows_of_import,
@@ -32,11 +57,12 @@ use Rattle.staged_rows.specs.Staging.{
   with_staged,
   with_open_import,
 }
-use Rattle.staged_rows.proofs.Alike.{differ, seen_alike, seen_then}
+use Rattle.staged_rows.proofs.Alike.{differ, seen_alike, seen_linked, seen_sought, seen_then}
+use Rattle.staged_rows.proofs.Links as links
 use Rattle.staged_rows.proofs.Lists.{any_put, none_put, filter_behind}
 use Rattle.staged_rows.proofs.Numbers.{each_number, of_all_rows}
 use Rattle.staged_rows.proofs.Spans.{put_elsewhere}
-use Rattle.list_laws.proofs.Numbers.{it, not_it}
+use Rattle.list_laws.proofs.Numbers.{is_not, it, not_it}
 use Rattle.list_laws.proofs.Booleans.{and_false}
 use Rattle.list_laws.proofs.Lists.{any_alike}
 
@@ -100,10 +126,26 @@ span_staged n span rows none =
     seen_alike rows.batches rows.records rows.lines (with_span n span.lo span.hi rows).spans rows refl (λ m. refl)
     (λ m has. refl) (λ m has. put_elsewhere m row (differ n m rows none has) rows.spans)
 
+link_staged : (l : LinkRow) (rows : Rows) → has_record l.no rows ≡ false
+    → IsSeenAs rows (with_link l.target l.no rows)
+link_staged l rows none =
+    seen_linked (with_link l.target l.no rows).links rows
+    (λ m target has. links.put_elsewhere target m (record { target = l.target; no = l.no })
+    (differ l.no m rows none has) rows.links)
+
+sought_staged : (n : ℕ) (s : Sought) (rows : Rows) → has_record n rows ≡ false
+    → IsSeenAs rows (with_sought n s.0 s.1 rows)
+sought_staged n s rows none =
+    seen_sought (with_sought n s.0 s.1 rows).soughts rows
+    (λ m has. sought_put m n s rows
+    ∙ ap (λ b. cond b (Some s) (sought_at m rows.soughts)) (is_not n m (differ n m rows none has)))
+
 -- a row of the batch, of a number that has no record in these rows
 abbrev IsAsideOf : ℕ → Rows → StagedRow → Type 0
 IsAsideOf batch rows (a_record r) = (r.batch ≡ batch) × (has_record r.no rows ≡ false)
 IsAsideOf batch rows (a_line n at l) = has_record n rows ≡ false
+IsAsideOf batch rows (a_link l) = has_record l.no rows ≡ false
+IsAsideOf batch rows (a_sought n s) = has_record n rows ≡ false
 IsAsideOf batch rows (a_span n span) = has_record n rows ≡ false
 
 row_staged : (batch : ℕ) (r : StagedRow) (before rows : Rows) → is_closed batch rows.batches ≡ false
@@ -112,11 +154,15 @@ row_staged batch (a_record r) before rows unclosed aside seen = record_staged r.
     (ap (λ b. is_closed b rows.batches) aside.0 ∙ unclosed) (seen.recorded r.no ∙ aside.1)
 row_staged batch (a_line n at line) before rows unclosed aside seen =
     line_staged n at line rows (seen.recorded n ∙ aside)
+row_staged batch (a_link l) before rows unclosed aside seen = link_staged l rows (seen.recorded l.no ∙ aside)
+row_staged batch (a_sought n s) before rows unclosed aside seen = sought_staged n s rows (seen.recorded n ∙ aside)
 row_staged batch (a_span n span) before rows unclosed aside seen = span_staged n span rows (seen.recorded n ∙ aside)
 
 pub batches_stay : (r : StagedRow) (rows : Rows) → (with_staged_row r rows).batches ≡ rows.batches
 batches_stay (a_record r) rows = refl
 batches_stay (a_line n at line) rows = refl
+batches_stay (a_link l) rows = refl
+batches_stay (a_sought n s) rows = refl
 batches_stay (a_span n span) rows = refl
 
 all_staged : (batch : ℕ) (rs : List StagedRow) (before rows : Rows) → is_closed batch rows.batches ≡ false
@@ -128,7 +174,7 @@ all_staged batch (r ∷ rs) before rows unclosed aside seen =
     (seen_then before rows next seen (row_staged batch r before rows unclosed aside.0 seen))
 
 -- ---- the rows of an import
-each_taken : {A : Type 0} (P : A → Type 0) (k : ℕ) (xs : List A) → EachOf P xs → EachOf P (take k xs)
+pub each_taken : {A : Type 0} (P : A → Type 0) (k : ℕ) (xs : List A) → EachOf P xs → EachOf P (take k xs)
 each_taken P zero xs all = tt
 each_taken P (suc k) [] all = tt
 each_taken P (suc k) (x ∷ xs) all = (all.0, each_taken P k xs all.1)
@@ -141,6 +187,7 @@ open_import batch count ps drawn rows none aside are =
     all_staged batch (take count (rows_of_import batch ps drawn)) rows (with_batch batch true rows)
     (still_closed batch rows none batch ∙ none)
     (each_taken (IsAsideOf batch rows) count (rows_of_import batch ps drawn)
-    (of_all_rows has_none (IsAsideOf batch rows) batch (λ p is. (refl, is)) (λ n at l is. is) (λ n span is. is) ps drawn
-    are (each_number has_none ps aside)))
+    (of_all_rows has_none (IsAsideOf batch rows) batch (λ p is. (refl, is)) (λ n at l is. is) (λ l is. is)
+    (λ n s is. is)
+    (λ n span is. is) ps drawn are (each_number has_none ps aside)))
     (batch_opened batch rows none)

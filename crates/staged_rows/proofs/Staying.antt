@@ -12,6 +12,8 @@ use Rattle.staged_rows.specs.Staging.{
   StagedRow,
   a_record,
   a_line,
+  a_link,
+  a_sought,
   a_span,
   rows_of_import,
   with_staged,
@@ -19,7 +21,7 @@ use Rattle.staged_rows.specs.Staging.{
   with_whole_import,
 }
 use Rattle.staged_rows.proofs.Lists.{filter_behind, filter_put}
-use Rattle.staged_rows.proofs.Numbers.{of_any_spans, of_rows}
+use Rattle.staged_rows.proofs.Numbers.{of_any_later, of_rows}
 use Rattle.list_laws.proofs.Numbers.{is_not}
 
 record Stay (m : ℕ) (before after : Rows) : Type 0 where
@@ -33,6 +35,8 @@ then m a b c h k = record { lines = h.lines ∙ k.lines; records = h.records ∙
 abbrev IsOfAnother : ℕ → StagedRow → Type 0
 IsOfAnother m (a_record r) = r.no ≢ m
 IsOfAnother m (a_line n at l) = n ≢ m
+IsOfAnother m (a_link l) = Unit {0}
+IsOfAnother m (a_sought n s) = Unit {0}
 IsOfAnother m (a_span n span) = Unit {0}
 
 row_stays : (m : ℕ) (r : StagedRow) (rows : Rows) → IsOfAnother m r → Stay m rows (with_staged_row r rows)
@@ -47,6 +51,8 @@ row_stays m (a_line n at l) rows off = record {
       (record { id = next_key (λ (k : LineRow). k.id) rows.lines; no = n; at = at; line = l }) (is_not n m off);
   records = refl;
 }
+row_stays m (a_link l) rows off = record { lines = refl; records = refl }
+row_stays m (a_sought n s) rows off = record { lines = refl; records = refl }
 row_stays m (a_span n span) rows off = record { lines = refl; records = refl }
 
 all_stay : (m : ℕ) (rs : List StagedRow) (rows : Rows) → EachOf (IsOfAnother m) rs
@@ -71,7 +77,7 @@ others_stay batch changes drawn rows m off =
     let opened = with_batch batch true rows in
     let staged = with_staged rs opened in
     let others = of_rows (λ n. n ≢ m) (IsOfAnother m) batch (λ p is. is) (λ n at l is. is) changes.puts drawn
-    (of_any_spans (λ n. n ≢ m) (IsOfAnother m) (λ n span. tt) drawn) off in
+    (of_any_later (λ n. n ≢ m) (IsOfAnother m) (λ l. tt) (λ n s. tt) (λ n span. tt) changes.puts drawn) off in
     let early : Stay m opened staged = all_stay m rs opened others in
     let late = kept_stays m changes.kept (with_next changes.next (with_closed batch staged)) in
     (late.lines ∙ early.lines, late.records ∙ early.records)

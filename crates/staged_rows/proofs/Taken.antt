@@ -1,4 +1,5 @@
--- Spans, lines and rows of several numbers that are taken out, where none of them has a record.
+-- Spans, what is looked for, links, lines and rows of several numbers that are taken out, where none of them has a
+-- record.
 use Rattle.std.proofs.Common.{
   ◌≡◌,
   ℕ,
@@ -13,6 +14,7 @@ use Rattle.std.proofs.Common.{
   filter,
   cond,
   refl,
+  subst,
   ap,
   ap₂,
   ◌∙◌,
@@ -30,18 +32,32 @@ use Rattle.store_tables.specs.Rows.{
   BatchRow,
   RecordRow,
   LineRow,
+  LinkRow,
   is_line_from,
   without_lines,
   without_lines_from,
+  without_link,
   without_record_row,
+  without_sought,
   without_span,
 }
 use Rattle.store_rows.specs.Meaning.{has_record, is_closed}
-use Rattle.store_rows.specs.Spans.{without_all_spans}
+use Rattle.store_rows.specs.Links.{without_all_links}
+use Rattle.store_rows.specs.Sought.{without_all_sought}
+use Rattle.store_rows.specs.Spans.{without_all_of, without_all_spans}
 use Rattle.store_rows.specs.Writing.{without_all_lines, without_record_rows, without_records}
-use Rattle.staged_rows.specs.Removing.{AreAside, IsSeenAs, without_batch}
+use Rattle.staged_rows.specs.Removing.{AreAside, AreLinksAside, AreOf, IsSeenAs, is_from, without_batch, without_later}
 use Rattle.staged_rows.proofs.Alike.{seen_same, seen_then}
-use Rattle.staged_rows.proofs.Removed.{batch_gone, left_out, lines_gone, record_gone, span_gone}
+use Rattle.staged_rows.proofs.Removed.{
+  batch_gone,
+  left_out,
+  lines_gone,
+  link_gone,
+  record_gone,
+  sought_gone,
+  span_gone,
+}
+use Rattle.record_shapes.proofs.Each.{each_more}
 use Rattle.list_laws.proofs.Numbers.{it}
 
 -- a line that is left out is of that number
@@ -78,6 +94,39 @@ module _ (before : Rows) where
   spans_out (n ∷ ns) rows none seen = spans_out ns (without_span n rows) none.1
       (seen_then before rows (without_span n rows) seen (span_gone n rows (seen.recorded n ∙ none.0)))
 
+  soughts_out : (ns : List ℕ) (rows : Rows) → AreAside ns before → IsSeenAs before rows
+      → IsSeenAs before (without_all_sought ns rows)
+  soughts_out [] rows none seen = seen
+  soughts_out (n ∷ ns) rows none seen = soughts_out ns (without_sought n rows) none.1
+      (seen_then before rows (without_sought n rows) seen (sought_gone n rows (seen.recorded n ∙ none.0)))
+
+  -- the spans, and what is looked for
+  pub all_of_out : (ns : List ℕ) (rows : Rows) → AreAside ns before → IsSeenAs before rows
+      → IsSeenAs before (without_all_of ns rows)
+  all_of_out ns rows none seen = soughts_out ns (without_all_spans ns rows) none (spans_out ns rows none seen)
+
+  pub links_out : (ls : List LinkRow) (rows : Rows) → AreLinksAside ls before → IsSeenAs before rows
+      → IsSeenAs before (without_all_links ls rows)
+  links_out [] rows none seen = seen
+  links_out (l ∷ ls) rows none seen = links_out ls (without_link l.target l.no rows) none.1
+      (seen_then before rows (without_link l.target l.no rows) seen
+      (link_gone l.target l.no rows (seen.recorded l.no ∙ none.0)))
+
+-- links from numbers that have no record
+among_has : (P : ℕ → Type 0) (n : ℕ) (ns : List ℕ) → list_any (λ k. k == n) ns ≡ true → EachOf P ns → P n
+among_has P n [] is all = absurd cc
+among_has P n (k ∷ ks) is all =
+    elim (k == n) as (λ b. (k == n) ≡ b → (b || list_any (λ k. k == n) ks) ≡ true → P n) [
+      | true ↦ λ e _. subst P (it k n e) all.0
+      | false ↦ λ e more. among_has P n ks more all.1
+    ] refl is
+
+pub links_aside : (ns : List ℕ) (ls : List LinkRow) (rows : Rows) → AreAside ns rows → AreOf ns ls
+    → AreLinksAside ls rows
+links_aside ns ls rows none are = each_more (λ (l : LinkRow). is_from ns l ≡ true)
+    (λ (l : LinkRow). has_record l.no rows ≡ false) (λ l is. among_has (λ n. has_record n rows ≡ false) l.no ns is none)
+    ls are
+
 -- ---- the batches stay
 lines_only : (ks : List ℕ) (rows : Rows) → (without_all_lines ks rows).batches ≡ rows.batches
 lines_only [] rows = refl
@@ -91,25 +140,39 @@ spans_only : (ks : List ℕ) (rows : Rows) → (without_all_spans ks rows).batch
 spans_only [] rows = refl
 spans_only (k ∷ ks) rows = spans_only ks (without_span k rows)
 
-pub batches_stay : (ks : List ℕ) (rows : Rows)
-    → (without_records ks (without_all_spans ks rows)).batches ≡ rows.batches
-batches_stay ks rows =
-    let less = without_all_spans ks rows in
-    rows_only ks (without_all_lines ks less) ∙ lines_only ks less ∙ spans_only ks rows
+soughts_only : (ks : List ℕ) (rows : Rows) → (without_all_sought ks rows).batches ≡ rows.batches
+soughts_only [] rows = refl
+soughts_only (k ∷ ks) rows = soughts_only ks (without_sought k rows)
 
-pub records_out : (ns : List ℕ) (rows : Rows) → AreAside ns rows
-    → IsSeenAs rows (without_records ns (without_all_spans ns rows))
-records_out ns rows none =
-    let less = without_all_spans ns rows in
-    rows_out rows ns (without_all_lines ns less) none
-    (lines_out rows ns less none (spans_out rows ns rows none (seen_same rows)))
+links_only : (ls : List LinkRow) (rows : Rows) → (without_all_links ls rows).batches ≡ rows.batches
+links_only [] rows = refl
+links_only (l ∷ ls) rows = links_only ls (without_link l.target l.no rows)
 
-pub taken_out : (batch : ℕ) (ns : List ℕ) (rows : Rows) → AreAside ns rows → is_closed batch rows.batches ≡ false
-    → IsSeenAs rows (without_batch batch ns rows)
-taken_out batch ns rows none unclosed =
-    let less = without_records ns (without_all_spans ns rows) in
-    seen_then rows less (without_batch batch ns rows) (records_out ns rows none)
-    (batch_gone batch less (ap (is_closed batch) (batches_stay ns rows) ∙ unclosed))
+pub batches_stay : (ks : List ℕ) (ls : List LinkRow) (rows : Rows)
+    → (without_records ks (without_later ks ls rows)).batches ≡ rows.batches
+batches_stay ks ls rows =
+    let less = without_later ks ls rows in
+    rows_only ks (without_all_lines ks less) ∙ lines_only ks less ∙ links_only ls (without_all_of ks rows)
+    ∙ soughts_only ks (without_all_spans ks rows) ∙ spans_only ks rows
+
+-- what goes first
+pub later_out : (ns : List ℕ) (ls : List LinkRow) (rows : Rows) → AreAside ns rows → AreOf ns ls
+    → IsSeenAs rows (without_later ns ls rows)
+later_out ns ls rows none are = links_out rows ls (without_all_of ns rows) (links_aside ns ls rows none are)
+    (all_of_out rows ns rows none (seen_same rows))
+
+pub records_out : (ns : List ℕ) (ls : List LinkRow) (rows : Rows) → AreAside ns rows → AreOf ns ls
+    → IsSeenAs rows (without_records ns (without_later ns ls rows))
+records_out ns ls rows none are =
+    let less = without_later ns ls rows in
+    rows_out rows ns (without_all_lines ns less) none (lines_out rows ns less none (later_out ns ls rows none are))
+
+pub taken_out : (batch : ℕ) (ns : List ℕ) (ls : List LinkRow) (rows : Rows) → AreAside ns rows → AreOf ns ls
+    → is_closed batch rows.batches ≡ false → IsSeenAs rows (without_batch batch ns ls rows)
+taken_out batch ns ls rows none are unclosed =
+    let less = without_records ns (without_later ns ls rows) in
+    seen_then rows less (without_batch batch ns ls rows) (records_out ns ls rows none are)
+    (batch_gone batch less (ap (is_closed batch) (batches_stay ns ls rows) ∙ unclosed))
 
 -- ---- the numbers of a batch that is not closed
 none_equal : (n : ℕ) (q : RecordRow → Bool) (rs : List RecordRow) → AllByRecursion (λ (r : RecordRow). n < r.no) rs

@@ -28,6 +28,8 @@ use Rattle.store_tables.specs.Rows.{
   BatchRow,
   RecordRow,
   LineRow,
+  LinkRow,
+  SoughtRow,
   SpanRow,
   next_key,
   put_by,
@@ -35,16 +37,22 @@ use Rattle.store_tables.specs.Rows.{
   without_batch_row,
   without_lines,
   without_record_row,
+  without_sought,
   without_span,
 }
+use Rattle.store_rows.specs.Links.{without_all_links}
+use Rattle.store_rows.specs.Sought.{without_all_sought}
 use Rattle.store_rows.specs.Spans.{AreDrawn, Drawn, without_all_spans}
 use Rattle.store_rows.specs.Writing.{without_all_lines, without_record_rows, without_records}
-use Rattle.staged_rows.specs.Removing.{without_batch}
+use Rattle.staged_rows.specs.Removing.{links_among, without_batch}
 use Rattle.staged_rows.specs.Staging.{
+  AreNew,
   IsFresh,
   StagedRow,
   a_record,
   a_line,
+  a_link,
+  a_sought,
   a_span,
   numbers_of,
   rows_of_import,
@@ -52,16 +60,23 @@ use Rattle.staged_rows.specs.Staging.{
   with_staged_row,
 }
 use Rattle.staged_rows.proofs.Lists.{filter_behind, filter_put, is_outside, none_of_it, none_of_them, one_more}
+use Rattle.staged_rows.proofs.LinksGone.{left_of, links_less, links_staged, new_are_free, put_and_gone}
 use Rattle.staged_rows.proofs.Numbers.{are_among, number_of, of_import, of_numbers}
 use Rattle.list_laws.proofs.Lists.{filter_all}
 use Rattle.record_shapes.proofs.Each.{each_front}
 
--- ---- spans, lines and rows of several numbers
+-- ---- spans, what is looked for, lines and rows of several numbers
 spans_less : (ns : List ℕ) (rows : Rows) → without_all_spans ns rows
     ≡ record rows { spans = filter (λ (s : SpanRow). is_outside ns s.no) rows.spans }
 spans_less [] rows = sym (ap (λ (ss : List SpanRow). record rows { spans = ss }) (filter_all rows.spans))
 spans_less (n ∷ ns) rows = spans_less ns (without_span n rows)
     ∙ ap (λ (ss : List SpanRow). record rows { spans = ss }) (one_more (λ (s : SpanRow). s.no) n ns rows.spans)
+
+soughts_less : (ns : List ℕ) (rows : Rows) → without_all_sought ns rows
+    ≡ record rows { soughts = filter (λ (s : SoughtRow). is_outside ns s.no) rows.soughts }
+soughts_less [] rows = sym (ap (λ (ss : List SoughtRow). record rows { soughts = ss }) (filter_all rows.soughts))
+soughts_less (n ∷ ns) rows = soughts_less ns (without_sought n rows)
+    ∙ ap (λ (ss : List SoughtRow). record rows { soughts = ss }) (one_more (λ (s : SoughtRow). s.no) n ns rows.soughts)
 
 lines_less : (ns : List ℕ) (rows : Rows) → without_all_lines ns rows
     ≡ record rows { lines = filter (λ (l : LineRow). is_outside ns l.no) rows.lines }
@@ -75,6 +90,16 @@ rows_less [] rows = sym (ap (λ (rs : List RecordRow). record rows { records = r
 rows_less (n ∷ ns) rows = rows_less ns (without_record_row n rows)
     ∙ ap (λ (rs : List RecordRow). record rows { records = rs }) (one_more (λ (r : RecordRow). r.no) n ns rows.records)
 
+-- rows with the tables that staging writes of others
+abbrev like : Rows → Rows → Rows
+like other rows = record rows {
+  records = other.records;
+  lines = other.lines;
+  links = other.links;
+  soughts = other.soughts;
+  spans = other.spans;
+}
+
 -- ---- rows that are staged, of these numbers
 record More (ns : List ℕ) (before after : Rows) : Type 0 where
   lines : filter (λ (l : LineRow). is_outside ns l.no) after.lines
@@ -83,7 +108,9 @@ record More (ns : List ℕ) (before after : Rows) : Type 0 where
       ≡ filter (λ (r : RecordRow). is_outside ns r.no) before.records
   spans : filter (λ (s : SpanRow). is_outside ns s.no) after.spans
       ≡ filter (λ (s : SpanRow). is_outside ns s.no) before.spans
-  beside : after ≡ record before { records = after.records; lines = after.lines; spans = after.spans }
+  soughts : filter (λ (s : SoughtRow). is_outside ns s.no) after.soughts
+      ≡ filter (λ (s : SoughtRow). is_outside ns s.no) before.soughts
+  beside : after ≡ like after before
 
 row_more : (ns : List ℕ) (r : StagedRow) (rows : Rows) → list_any (λ k. k == number_of r) ns ≡ true
     → More ns rows (with_staged_row r rows)
@@ -93,6 +120,7 @@ row_more ns (a_record r) rows is = record {
       (record { no = r.no; kind = r.kind; batch = r.batch }) (λ y same. ap (is_outside ns) same ∙ ap not is)
       rows.records;
   spans = refl;
+  soughts = refl;
   beside = refl;
 }
 row_more ns (a_line n at l) rows is = record {
@@ -100,6 +128,22 @@ row_more ns (a_line n at l) rows is = record {
       (record { id = next_key (λ (k : LineRow). k.id) rows.lines; no = n; at = at; line = l }) (ap not is);
   records = refl;
   spans = refl;
+  soughts = refl;
+  beside = refl;
+}
+row_more ns (a_link l) rows is = record {
+  lines = refl;
+  records = refl;
+  spans = refl;
+  soughts = refl;
+  beside = refl;
+}
+row_more ns (a_sought n s) rows is = record {
+  lines = refl;
+  records = refl;
+  spans = refl;
+  soughts = filter_put (λ (x : SoughtRow). x.no) (λ (x : SoughtRow). is_outside ns x.no)
+      (record { no = n; text = s.0; target = s.1 }) (λ y same. ap (is_outside ns) same ∙ ap not is) rows.soughts;
   beside = refl;
 }
 row_more ns (a_span n span) rows is = record {
@@ -107,12 +151,13 @@ row_more ns (a_span n span) rows is = record {
   records = refl;
   spans = filter_put (λ (x : SpanRow). x.no) (λ (x : SpanRow). is_outside ns x.no)
       (record { no = n; lo = span.lo; hi = span.hi }) (λ y same. ap (is_outside ns) same ∙ ap not is) rows.spans;
+  soughts = refl;
   beside = refl;
 }
 
 all_more : (ns : List ℕ) (rs : List StagedRow) (rows : Rows)
     → EachOf (λ r. list_any (λ k. k == number_of r) ns ≡ true) rs → More ns rows (with_staged rs rows)
-all_more ns [] rows is = record { lines = refl; records = refl; spans = refl; beside = refl }
+all_more ns [] rows is = record { lines = refl; records = refl; spans = refl; soughts = refl; beside = refl }
 all_more ns (r ∷ rs) rows is =
     let one = row_more ns r rows is.0 in
     let next = with_staged_row r rows in
@@ -122,8 +167,8 @@ all_more ns (r ∷ rs) rows is =
       lines = more.lines ∙ one.lines;
       records = more.records ∙ one.records;
       spans = more.spans ∙ one.spans;
-      beside = more.beside ∙ ap (λ (rows : Rows).
-          record rows { records = after.records; lines = after.lines; spans = after.spans }) one.beside;
+      soughts = more.soughts ∙ one.soughts;
+      beside = more.beside ∙ ap (like after) one.beside;
     }
 
 -- ---- the batch
@@ -139,9 +184,11 @@ batch_gone n bs none =
 
 pub no_trace : (batch : ℕ) (ps : List Numbered) (drawn : Drawn) (done left : List StagedRow) (rows : Rows)
     → rows_of_import batch ps drawn ≡ done ++ left → IsFresh batch ps rows → AreDrawn ps drawn
-    → without_batch batch (numbers_of ps) (with_staged done (with_batch batch true rows)) ≡ rows
-no_trace batch ps drawn done left rows parts fresh are =
+    → AreNew done (with_batch batch true rows)
+    → without_batch batch (numbers_of ps) (links_among done) (with_staged done (with_batch batch true rows)) ≡ rows
+no_trace batch ps drawn done left rows parts fresh are new =
     let ns = numbers_of ps in
+    let written = links_among done in
     let opened = with_batch batch true rows in
     let staged = with_staged done opened in
     let among = λ (r : StagedRow). list_any (λ k. k == number_of r) ns ≡ true in
@@ -152,19 +199,35 @@ no_trace batch ps drawn done left rows parts fresh are =
     let ls = filter (λ (l : LineRow). is_outside ns l.no) staged.lines in
     let rs = filter (λ (r : RecordRow). is_outside ns r.no) staged.records in
     let ss = filter (λ (s : SpanRow). is_outside ns s.no) staged.spans in
+    let qs = filter (λ (s : SoughtRow). is_outside ns s.no) staged.soughts in
+    let ks = left_of written staged.links in
     let old_lines : ls ≡ rows.lines = more.lines ∙ none_of_them (λ (l : LineRow). l.no) ns rows.lines
     (of_numbers (λ n. list_any (λ (l : LineRow). l.no == n) rows.lines ≡ false) ps fresh.lines) in
     let old_records : rs ≡ rows.records = more.records ∙ none_of_them (λ (r : RecordRow). r.no) ns rows.records
     (of_numbers (λ n. list_any (λ (r : RecordRow). r.no == n) rows.records ≡ false) ps fresh.numbers) in
     let old_spans : ss ≡ rows.spans = more.spans ∙ none_of_them (λ (s : SpanRow). s.no) ns rows.spans
     (of_numbers (λ n. list_any (λ (s : SpanRow). s.no == n) rows.spans ≡ false) ps fresh.spans) in
-    ap (λ (r : Rows). without_batch_row batch (without_records ns r)) (spans_less ns staged)
+    let old_soughts : qs ≡ rows.soughts = more.soughts ∙ none_of_them (λ (s : SoughtRow). s.no) ns rows.soughts
+    (of_numbers (λ n. list_any (λ (s : SoughtRow). s.no == n) rows.soughts ≡ false) ps fresh.soughts) in
+    let old_links : ks ≡ rows.links = ap (left_of written) (links_staged done opened)
+    ∙ put_and_gone written rows.links (new_are_free done opened new) in
+    let less : Rows = record staged { spans = ss; soughts = qs } in
+    ap
+    (λ (r : Rows). without_batch_row batch (without_records ns (without_all_links written (without_all_sought ns r))))
+    (spans_less ns staged)
+    ∙ ap (λ (r : Rows). without_batch_row batch (without_records ns (without_all_links written r)))
+    (soughts_less ns (record staged { spans = ss }))
+    ∙ ap (λ (r : Rows). without_batch_row batch (without_records ns r)) (links_less written less)
     ∙ ap (λ (r : Rows). without_batch_row batch (without_record_rows ns r))
-    (lines_less ns (record staged { spans = ss }))
-    ∙ ap (without_batch_row batch) (rows_less ns (record staged { lines = ls; spans = ss }))
-    ∙ ap (λ (r : Rows). without_batch_row batch (record r { lines = ls; records = rs; spans = ss })) more.beside
-    ∙ ap (λ (ss : List SpanRow). without_batch_row batch (record opened { lines = ls; records = rs; spans = ss }))
-    old_spans
-    ∙ ap₂ (λ (ls : List LineRow) (rs : List RecordRow).
-    without_batch_row batch (record opened { lines = ls; records = rs })) old_lines old_records
+    (lines_less ns (record less { links = ks }))
+    ∙ ap (without_batch_row batch) (rows_less ns (record less { links = ks; lines = ls }))
+    ∙ ap (λ (r : Rows). without_batch_row batch
+    (record r { lines = ls; records = rs; spans = ss; soughts = qs; links = ks })) more.beside
+    ∙ (λ i. without_batch_row batch (record opened {
+      lines = old_lines i;
+      records = old_records i;
+      spans = old_spans i;
+      soughts = old_soughts i;
+      links = old_links i;
+    }))
     ∙ ap (λ (bs : List BatchRow). record rows { batches = bs }) (batch_gone batch rows.batches fresh.unused)

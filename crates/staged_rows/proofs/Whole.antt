@@ -1,4 +1,5 @@
--- All rows of an import are the lines that its puts would be written as, a row of `record` for each, and their spans.
+-- All rows of an import are the lines that its puts would be written as, a row of `record` for each, their links, what
+-- they are looked for by, and their spans.
 use Rattle.std.proofs.Common.{
   ◌≡◌,
   ◌≢◌,
@@ -32,23 +33,32 @@ use Rattle.store_tables.specs.Rows.{
   BatchRow,
   RecordRow,
   LineRow,
+  LinkRow,
+  SoughtRow,
   SpanRow,
   next_key,
   put_by,
+  put_pair,
   with_line,
   with_lines,
   without_lines,
   with_changed_lines,
 }
+use Rattle.store_rows.specs.Sought.{Sought, sought_of}
 use Rattle.store_rows.specs.Spans.{Drawn}
 use Rattle.store_rows.specs.Writing.{kind_word, with_record_rows, with_all_lines}
 use Rattle.staged_rows.specs.Staging.{
   StagedRow,
+  a_link,
+  later_rows,
   record_of,
   lines_from,
   lines_of_put,
+  links_of,
   numbers_of,
+  row_of_sought,
   rows_of_import,
+  sought_row,
   span_row,
   with_staged,
   with_staged_row,
@@ -176,34 +186,96 @@ spans_staged (d ∷ ds) rows =
     ∙ ap (with_staged (flat_map span_row ds)) (span_staged d.0 d.1 rows)
     ∙ spans_staged ds (record rows { spans = one_span d.0 d.1 rows.spans })
 
+-- ---- links
+abbrev pub links_put : List LinkRow → List LinkRow → List LinkRow
+links_put [] ks = ks
+links_put (l ∷ ls) ks = links_put ls (put_pair (record { target = l.target; no = l.no }) ks)
+
+links_staged : (ls : List LinkRow) (rows : Rows) → with_staged (map a_link ls) rows
+    ≡ record rows { links = links_put ls rows.links }
+links_staged [] rows = refl
+links_staged (l ∷ ls) rows = links_staged ls (with_staged_row (a_link l) rows)
+
+-- ---- what is looked for
+-- what a number is looked for by, put where there is something
+abbrev pub one_sought : ℕ → Option Sought → List SoughtRow → List SoughtRow
+one_sought n None qs = qs
+one_sought n (Some s) qs = put_by (λ (q : SoughtRow). q.no) (record { no = n; text = s.0; target = s.1 }) qs
+
+abbrev pub soughts_put : List Numbered → List SoughtRow → List SoughtRow
+soughts_put [] qs = qs
+soughts_put (p ∷ ps) qs = soughts_put ps (one_sought p.number (sought_of p.«record») qs)
+
+sought_staged : (n : ℕ) (o : Option Sought) (rows : Rows) → with_staged (row_of_sought n o) rows
+    ≡ record rows { soughts = one_sought n o rows.soughts }
+sought_staged n None rows = refl
+sought_staged n (Some s) rows = refl
+
+soughts_staged : (ps : List Numbered) (rows : Rows) → with_staged (flat_map sought_row ps) rows
+    ≡ record rows { soughts = soughts_put ps rows.soughts }
+soughts_staged [] rows = refl
+soughts_staged (p ∷ ps) rows =
+    let found : Option Sought = sought_of p.«record» in
+    joined (sought_row p) (flat_map sought_row ps) rows
+    ∙ ap (with_staged (flat_map sought_row ps)) (sought_staged p.number found rows)
+    ∙ soughts_staged ps (record rows { soughts = one_sought p.number found rows.soughts })
+
+-- ---- all rows that come behind the lines
+-- what is in the tables of these rows
+abbrev pub Later : Type 0
+Later = List SpanRow × (List LinkRow × List SoughtRow)
+
+abbrev pub later_in : Rows → Later
+later_in rows = (rows.spans, (rows.links, rows.soughts))
+
+abbrev pub later_put : List Numbered → Drawn → Later → Later
+later_put ps drawn before = (spans_put drawn before.0, (links_put (links_of ps) before.1.0, soughts_put ps before.1.1))
+
+abbrev pub with_later : Later → Rows → Rows
+with_later later rows = record rows { spans = later.0; links = later.1.0; soughts = later.1.1 }
+
+later_staged : (ps : List Numbered) (drawn : Drawn) (rows : Rows) → with_staged (later_rows ps drawn) rows
+    ≡ with_later (later_put ps drawn (later_in rows)) rows
+later_staged ps drawn rows =
+    let links = map a_link (links_of ps) in
+    let soughts = flat_map sought_row ps in
+    let spans = flat_map span_row drawn in
+    let linked : Rows = record rows { links = links_put (links_of ps) rows.links } in
+    let found : Rows = record linked { soughts = soughts_put ps rows.soughts } in
+    joined links (soughts ++ spans) rows
+    ∙ ap (with_staged (soughts ++ spans)) (links_staged (links_of ps) rows)
+    ∙ joined soughts spans linked
+    ∙ ap (with_staged spans) (soughts_staged ps linked)
+    ∙ spans_staged drawn found
+
 -- ---- all rows of an import
--- the rows with these batches, rows of `record` and spans
-abbrev pub wholly : List BatchRow → List RecordRow → List SpanRow → Rows → Rows
-wholly bs rs ss rows = record rows { batches = bs; records = rs; spans = ss }
+-- the rows with these batches, rows of `record` and later ones
+abbrev pub wholly : List BatchRow → List RecordRow → Later → Rows → Rows
+wholly bs rs later rows = with_later later (beside bs rs rows)
 
--- lines change no span
-line_spans : (n at : ℕ) (ls : List (ℕ × Label)) (rows : Rows) → (with_lines n at ls rows).spans ≡ rows.spans
-line_spans n at [] rows = refl
-line_spans n at (l ∷ ls) rows = line_spans n (at + 1) ls (with_line n at l rows)
+-- lines change nothing of those
+line_later : (n at : ℕ) (ls : List (ℕ × Label)) (rows : Rows) → later_in (with_lines n at ls rows) ≡ later_in rows
+line_later n at [] rows = refl
+line_later n at (l ∷ ls) rows = line_later n (at + 1) ls (with_line n at l rows)
 
-all_line_spans : (ps : List Numbered) (rows : Rows) → (with_all_lines ps rows).spans ≡ rows.spans
-all_line_spans [] rows = refl
-all_line_spans (p ∷ ps) rows =
-    all_line_spans ps (with_changed_lines p.number (stored p.«record») rows)
-    ∙ line_spans p.number 0 (stored p.«record») (without_lines p.number rows)
+all_line_later : (ps : List Numbered) (rows : Rows) → later_in (with_all_lines ps rows) ≡ later_in rows
+all_line_later [] rows = refl
+all_line_later (p ∷ ps) rows =
+    all_line_later ps (with_changed_lines p.number (stored p.«record») rows)
+    ∙ line_later p.number 0 (stored p.«record») (without_lines p.number rows)
 
 pub import_staged : (batch : ℕ) (ps : List Numbered) (drawn : Drawn) (bs : List BatchRow) (rows : Rows)
     → IsOnce (numbers_of ps) → EachOf (λ (p : Numbered). HasNoLine rows p.number) ps
     → with_staged (rows_of_import batch ps drawn) (record rows { batches = bs })
-    ≡ wholly bs (records_put batch ps rows.records) (spans_put drawn rows.spans) (with_all_lines ps rows)
+    ≡ wholly bs (records_put batch ps rows.records) (later_put ps drawn (later_in rows)) (with_all_lines ps rows)
 import_staged batch ps drawn bs rows once none =
     let rs = records_put batch ps rows.records in
     let all = with_all_lines ps rows in
     let lines = flat_map lines_of_put ps in
-    let spans = flat_map span_row drawn in
-    joined (map (record_of batch) ps) (lines ++ spans) (record rows { batches = bs })
-    ∙ ap (with_staged (lines ++ spans)) (records_staged batch ps (record rows { batches = bs }))
-    ∙ joined lines spans (beside bs rs rows)
-    ∙ ap (with_staged spans) (lines_staged ps (beside bs rs rows) once none ∙ all_lines_beside ps bs rs rows)
-    ∙ spans_staged drawn (beside bs rs all)
-    ∙ ap (λ (ss : List SpanRow). wholly bs rs (spans_put drawn ss) all) (all_line_spans ps rows)
+    let later = later_rows ps drawn in
+    joined (map (record_of batch) ps) (lines ++ later) (record rows { batches = bs })
+    ∙ ap (with_staged (lines ++ later)) (records_staged batch ps (record rows { batches = bs }))
+    ∙ joined lines later (beside bs rs rows)
+    ∙ ap (with_staged later) (lines_staged ps (beside bs rs rows) once none ∙ all_lines_beside ps bs rs rows)
+    ∙ later_staged ps drawn (beside bs rs all)
+    ∙ ap (λ (before : Later). wholly bs rs (later_put ps drawn before) all) (all_line_later ps rows)

@@ -17,21 +17,28 @@ ghost use Rattle.store_tables.specs.Rows.{
   Rows,
   BatchRow,
   LineRow,
+  LinkRow,
   RecordRow,
   with_batch,
   without_batch_row,
+  without_link,
   without_record_row,
+  without_sought,
   without_span,
 };
+ghost use Rattle.store_rows.specs.Links.{KeepsLinks};
 ghost use Rattle.store_rows.specs.Meaning.{Means, has_record, is_closed};
+ghost use Rattle.store_rows.specs.Sought.{KeepsSought};
 ghost use Rattle.store_rows.specs.Spans.{AreDrawn, Drawn, KeepsSpans};
-ghost use Rattle.staged_rows.specs.Removing.{AreAside, IsSeenAs, without_batch};
+ghost use Rattle.staged_rows.specs.Removing.{AreAside, AreOf, IsSeenAs, links_among, without_batch};
 ghost use Rattle.staged_rows.specs.Staging.{
   AreAllClosed,
   AreClosed,
+  AreNew,
   IsFresh,
   StagedRow,
   import_changes,
+  links_of,
   numbers_of,
   rows_of_import,
   with_open_import,
@@ -39,11 +46,15 @@ ghost use Rattle.staged_rows.specs.Staging.{
   with_whole_import,
 };
 
-/// Rows of which the same is seen mean the same, and have the same spans.
+/// Rows of which the same is seen mean the same, and have the same spans, links and rows of what is looked for.
 pub fn what_is_seen_means_the_same()
     ensures means { (rows other : Rows) (c : Content) → IsSeenAs rows other → Means rows c → Means other c }
     ensures spans { (rows other : Rows) (c : Content) → IsSeenAs rows other → Means rows c → KeepsSpans rows c
         → KeepsSpans other c }
+    ensures links { (rows other : Rows) (c : Content) → IsSeenAs rows other → Means rows c → KeepsLinks rows c
+        → KeepsLinks other c }
+    ensures soughts { (rows other : Rows) (c : Content) → IsSeenAs rows other → Means rows c → KeepsSought rows c
+        → KeepsSought other c }
     ensures then { (a b c : Rows) → IsSeenAs a b → IsSeenAs b c → IsSeenAs a c }
 {}
 
@@ -68,7 +79,7 @@ pub fn rows_of_closed_batches()
 {}
 
 /// An import of which nothing was there, staged to its end and published: the rows mean what the import makes of what
-/// they meant; and where each record had its span, each has it.
+/// they meant; and where each record had its span, its links or the row of what it is looked for by, each has it.
 pub fn a_published_import_means_what_it_makes()
     ensures means { (batch next : ℕ) (puts : List Numbered) (drawn : Drawn) (answer : Answer) (kept : Option Kept)
         (rows : Rows) (c : Content) → IsOnce (numbers_of puts) → IsFresh batch puts rows → AreDrawn puts drawn
@@ -78,14 +89,26 @@ pub fn a_published_import_means_what_it_makes()
         (rows : Rows) (c : Content) → IsOnce (numbers_of puts) → IsFresh batch puts rows → AreDrawn puts drawn
         → KeepsSpans rows c → KeepsSpans (with_whole_import batch (import_changes puts next answer kept) drawn rows)
         (applied c (import_changes puts next answer kept)) }
+    ensures links { (batch next : ℕ) (puts : List Numbered) (drawn : Drawn) (answer : Answer) (kept : Option Kept)
+        (rows : Rows) (c : Content) → IsOnce (numbers_of puts) → IsFresh batch puts rows
+        → KeepsLinks rows c → KeepsLinks (with_whole_import batch (import_changes puts next answer kept) drawn rows)
+        (applied c (import_changes puts next answer kept)) }
+    ensures soughts { (batch next : ℕ) (puts : List Numbered) (drawn : Drawn) (answer : Answer) (kept : Option Kept)
+        (rows : Rows) (c : Content) → IsOnce (numbers_of puts) → IsFresh batch puts rows
+        → KeepsSought rows c → KeepsSought (with_whole_import batch (import_changes puts next answer kept) drawn rows)
+        (applied c (import_changes puts next answer kept)) }
 {}
 
-/// Lines of numbers that have no record can go, whichever of them, and so can spans: it is not seen.
+/// Lines of numbers that have no record can go, whichever of them, and so can spans, what is looked for and links: it
+/// is not seen.
 pub fn what_no_record_has_is_not_seen()
     ensures lines { (stays : LineRow → Bool) (rows : Rows)
         → ((l : LineRow) → stays l ≡ false → has_record l.no rows ≡ false)
         → IsSeenAs rows (record rows { lines = filter stays rows.lines }) }
     ensures spans { (n : ℕ) (rows : Rows) → has_record n rows ≡ false → IsSeenAs rows (without_span n rows) }
+    ensures soughts { (n : ℕ) (rows : Rows) → has_record n rows ≡ false → IsSeenAs rows (without_sought n rows) }
+    ensures links { (target n : ℕ) (rows : Rows) → has_record n rows ≡ false
+        → IsSeenAs rows (without_link target n rows) }
     ensures record_row { (n : ℕ) (rows : Rows) → has_record n rows ≡ false → IsSeenAs rows (without_record_row n rows) }
     ensures batch_row { (n : ℕ) (rows : Rows) → is_closed n rows.batches ≡ false
         → IsSeenAs rows (without_batch_row n rows) }
@@ -102,17 +125,25 @@ pub fn an_import_leaves_the_rows_of_other_numbers()
         (λ (r : RecordRow). r.no == m) rows.records) }
 {}
 
-/// An import of which nothing was there, staged to any row and taken out, leaves the rows as they were.
+/// An import of which nothing was there, staged to any row and taken out, leaves the rows as they were, where no link
+/// was there that was written.
 pub fn an_import_that_is_taken_out_leaves_nothing()
     ensures { (batch : ℕ) (puts : List Numbered) (drawn : Drawn) (done left : List StagedRow) (rows : Rows)
         → rows_of_import batch puts drawn ≡ done ++ left → IsFresh batch puts rows → AreDrawn puts drawn
-        → without_batch batch (numbers_of puts) (with_staged done (with_batch batch true rows)) ≡ rows }
+        → AreNew done (with_batch batch true rows)
+        → without_batch batch (numbers_of puts) (links_among done) (with_staged done (with_batch batch true rows))
+        ≡ rows }
 {}
 
-/// A batch that is not closed can be taken out with all of its numbers: it is not seen.
+/// A batch that is not closed can be taken out with all of its numbers, and with links from these: it is not seen.
 pub fn a_batch_that_is_taken_out_is_not_seen()
-    ensures { (batch : ℕ) (ns : List ℕ) (rows : Rows) → AreAside ns rows → is_closed batch rows.batches ≡ false
-        → IsSeenAs rows (without_batch batch ns rows) }
+    ensures { (batch : ℕ) (ns : List ℕ) (ls : List LinkRow) (rows : Rows) → AreAside ns rows → AreOf ns ls
+        → is_closed batch rows.batches ≡ false → IsSeenAs rows (without_batch batch ns ls rows) }
+{}
+
+/// The links of an import are from its numbers.
+pub fn links_of_an_import_are_from_its_numbers()
+    ensures { (puts : List Numbered) → AreOf (numbers_of puts) (links_of puts) }
 {}
 
 /// The numbers of an import whose numbers have no record in a content have none in the rows that mean it.

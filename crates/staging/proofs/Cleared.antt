@@ -1,18 +1,20 @@
 -- Commits that take rows of numbers out, one after the other.
-use Rattle.std.proofs.Common.{◌≡◌, ◌⊎◌, inl, inr, ℕ, Bool, false, ap, subst, ◌∙◌, List, Result, Ok, Err, OnOk}
+use Rattle.std.proofs.Common.{◌≡◌, ◌⊎◌, inl, inr, ℕ, Bool, true, false, ap, subst, ◌∙◌, List, Result, Ok, Err, OnOk}
 use Rattle.std.specs.Result.{IsErr}
 use Rattle.sqlite.specs.State.{State, HasCleanDisk}
 use Rattle.sqlite.specs.Tree.{Trees}
 use Rattle.record_text.specs.declared.refusal.RefusalKind.{RefusalKind}
 use Rattle.store_tables.specs.Calls.{Good, LeavesOnly, Settled}
 use Rattle.store_tables.specs.Looking.{Looks}
-use Rattle.store_tables.specs.Rows.{Rows, without_batch_row}
+use Rattle.store_tables.specs.Rows.{LinkRow, Rows, without_batch_row}
 use Rattle.store_tables.proofs.Calls.{on_ok}
 use Rattle.store_rows.specs.Meaning.{is_closed}
-use Rattle.store_rows.specs.Spans.{without_all_spans}
+use Rattle.store_rows.specs.Links.{without_all_links}
+use Rattle.store_rows.specs.Spans.{without_all_of, without_all_spans}
+use Rattle.store_rows.proofs.SpansAside.{left_has, sought_left_has}
 use Rattle.store_rows.specs.Writing.{without_records}
-use Rattle.staged_rows.specs.Removing.{AreAside, IsSeenAs, without_batch}
-use Rattle.staged_rows.proofs.Taken.{batches_stay, spans_out}
+use Rattle.staged_rows.specs.Removing.{AreAside, AreLinksAside, AreOf, IsSeenAs, without_batch, without_later}
+use Rattle.staged_rows.proofs.Taken.{all_of_out, batches_stay, later_out, links_aside}
 use Rattle.staging.specs.Clearing.{Clears, LeavesEither, LeavesSeen}
 use Rattle.staging.proofs.Seen.{aside_seen}
 use Rattle.staged_rows.proofs.Removed.{batch_gone}
@@ -133,48 +135,72 @@ pub nothing_done : {A E : Type 0} (P : Type 0) (result : Result A E) → IsErr r
 nothing_done P (Ok a) is = absurd cc
 nothing_done P (Err e) is = tt
 
--- ---- a batch: the spans of its numbers, then their lines and rows, and its own row behind all others
-module _ {A E : Type 0} (has_spans : Bool) (ns : List ℕ) (old mid new : State) (result : Result A E)
+-- ---- a batch: what goes first, then the lines and rows of its numbers, and its own row behind all others
+module _ {A E : Type 0} (has_spans : Bool) (ns : List ℕ) (ls : List LinkRow) (old mid new : State) (result : Result A E)
     (undated : HasCleanDisk mid → (rows : Rows) → Settled old rows → rows.has_spans ≡ has_spans
-    → Settled mid (without_all_spans ns rows)) where
-  -- the spans are gone, and the lines and the rows are being taken out
+    → Settled mid (without_later ns ls rows)) where
+  -- the spans and the links are gone, and the lines and the rows are being taken out
   pub rows_leave : {Is : Rows → Rows → Type 0} → Clears ns Is mid new result → HasCleanDisk new → (rows : Rows)
-      → Settled old rows → rows.has_spans ≡ has_spans → AreAside ns rows → LeavesSeen new rows
-  rows_leave takes ok rows was has aside =
-      let less = without_all_spans ns rows in
-      let seen = spans_out rows ns rows aside (seen_same rows) in
+      → Settled old rows → rows.has_spans ≡ has_spans → AreAside ns rows → AreOf ns ls → LeavesSeen new rows
+  rows_leave takes ok rows was has aside are =
+      let less = without_later ns ls rows in
+      let seen = later_out ns ls rows aside are in
       seen_on rows less new seen
       (takes.crash ok less (undated (takes.clean ok) rows was has) (aside_seen ns rows less seen aside))
 
-module _ {A E : Type 0} (has_spans : Bool) (batch : ℕ) (ns : List ℕ) (old one mid new : State) (result : Result A E)
+module _ {A E : Type 0} (has_spans : Bool) (batch : ℕ) (ns : List ℕ) (ls : List LinkRow) (old one mid new : State)
+    (result : Result A E)
     (undated : HasCleanDisk one → (rows : Rows) → Settled old rows → rows.has_spans ≡ has_spans
-    → Settled one (without_all_spans ns rows))
+    → Settled one (without_later ns ls rows))
     (way : IsOnTheWay ns (λ rows after. after ≡ without_records ns rows) one mid)
     (clean : HasCleanDisk new → HasCleanDisk mid) where
   pub batch_taken : (HasCleanDisk new
       → OnOk result ((rows : Rows) → Settled mid rows → Settled new (without_batch_row batch rows)))
       → HasCleanDisk new
       → OnOk result ((rows : Rows) → Settled old rows → rows.has_spans ≡ has_spans
-      → Settled new (without_batch batch ns rows))
+      → Settled new (without_batch batch ns ls rows))
   batch_taken done ok = on_ok result
       (λ d rows was has.
       let here = undated (way.clean (clean ok)) rows was has in
-      let came = way.done (clean ok) (without_all_spans ns rows) here in
+      let came = way.done (clean ok) (without_later ns ls rows) here in
       subst (λ less. Settled new (without_batch_row batch less)) came.2 (d came.0 came.1))
       (done ok)
 
   pub batch_leaves : (HasCleanDisk new → (rows : Rows) → Settled mid rows
       → LeavesEither new rows (without_batch_row batch rows))
       → HasCleanDisk new → (rows : Rows) → Settled old rows → rows.has_spans ≡ has_spans
-      → is_closed batch rows.batches ≡ false → AreAside ns rows → LeavesSeen new rows
-  batch_leaves crash ok rows was has unclosed aside =
-      let less = without_all_spans ns rows in
+      → is_closed batch rows.batches ≡ false → AreAside ns rows → AreOf ns ls → LeavesSeen new rows
+  batch_leaves crash ok rows was has unclosed aside are =
+      let less = without_later ns ls rows in
       let here = undated (way.clean (clean ok)) rows was has in
-      let one = spans_out rows ns rows aside (seen_same rows) in
+      let one = later_out ns ls rows aside are in
       let came = way.done (clean ok) less here in
       let two = came.3 (aside_seen ns rows less one aside) in
       let open_still : is_closed batch came.0.batches ≡ false = ap (λ (r : Rows). is_closed batch r.batches) came.2
-      ∙ ap (is_closed batch) (batches_stay ns rows) ∙ unclosed in
+      ∙ ap (is_closed batch) (batches_stay ns ls rows) ∙ unclosed in
       seen_on rows came.0 new (seen_then rows less came.0 one two)
       (either_seen came.0 (without_batch_row batch came.0) new (batch_gone batch came.0 open_still)
       (crash ok came.0 came.1))
+
+-- ---- spans first, and then links, of tables that have spans
+module _ {A E : Type 0} (ns : List ℕ) (ls : List LinkRow) (old mid new : State) (result : Result A E)
+    (first : HasCleanDisk mid → (rows : Rows) → Settled old rows → rows.has_spans ≡ true
+    → Settled mid (without_all_of ns rows)) (clean : HasCleanDisk new → HasCleanDisk mid) where
+  has_still : (rows : Rows) → (without_all_of ns rows).has_spans ≡ rows.has_spans
+  has_still rows = sought_left_has ns (without_all_spans ns rows) ∙ left_has ns rows
+
+  pub later_taken : (HasCleanDisk new → OnOk result ((rows : Rows) → Settled mid rows → rows.has_spans ≡ true
+      → Settled new (without_all_links ls rows))) → HasCleanDisk new
+      → OnOk result ((rows : Rows) → Settled old rows → rows.has_spans ≡ true
+      → Settled new (without_later ns ls rows))
+  later_taken done ok = on_ok result (λ d rows was has.
+      d (without_all_of ns rows) (first (clean ok) rows was has) (has_still rows ∙ has)) (done ok)
+
+  pub later_leaves : (HasCleanDisk new → (rows : Rows) → Settled mid rows → rows.has_spans ≡ true
+      → AreLinksAside ls rows → LeavesSeen new rows) → HasCleanDisk new → (rows : Rows) → Settled old rows
+      → rows.has_spans ≡ true → AreAside ns rows → AreOf ns ls → LeavesSeen new rows
+  later_leaves crash ok rows was has aside are =
+      let less = without_all_of ns rows in
+      let seen = all_of_out rows ns rows aside (seen_same rows) in
+      seen_on rows less new seen (crash ok less (first (clean ok) rows was has) (has_still rows ∙ has)
+      (links_aside ns ls less (aside_seen ns rows less seen aside) are))

@@ -37,9 +37,20 @@ use Rattle.record_fields.specs.declared.date.Date.{Date}
 use Rattle.records.specs.Stored.{stored}
 use Rattle.archive_state.specs.declared.changes.Numbered.{Numbered}
 use Rattle.store_rows.specs.Spans.{AreDrawn, Drawn}
-use Rattle.staged_rows.specs.Staging.{lines_from, lines_of_put, record_of, rows_of_import, span_row}
-use Rattle.staging.specs.Opened.{AreDated, row_of_span}
+use Rattle.staged_rows.specs.Staging.{
+  a_link,
+  later_rows,
+  lines_from,
+  lines_of_put,
+  links_of,
+  record_of,
+  rows_of_import,
+  sought_row,
+  span_row,
+}
+use Rattle.staging.specs.Opened.{AreDated, AreLater, row_of_sought_row, row_of_span}
 use Rattle.staging.specs.declared.dated.Dated.{Dated}
+use Rattle.staging.specs.declared.later.Later.{Later}
 
 -- how many lines these records have
 abbrev pub line_count : List Numbered → ℕ
@@ -64,11 +75,11 @@ one_more ps p =
     ∙ ap (λ k. line_count ps + k) (lines_of_one p)
 
 all_rows : (batch : ℕ) (ps : List Numbered) (drawn : Drawn) → length (rows_of_import batch ps drawn)
-    ≡ length ps + (line_count ps + length (flat_map span_row drawn))
+    ≡ length ps + (line_count ps + length (later_rows ps drawn))
 all_rows batch ps drawn =
-    length-append (map (record_of batch) ps) (flat_map lines_of_put ps ++ flat_map span_row drawn)
+    length-append (map (record_of batch) ps) (flat_map lines_of_put ps ++ later_rows ps drawn)
     ∙ ap₂ (λ k n. k + n) (length-map ps (record_of batch))
-    (length-append (flat_map lines_of_put ps) (flat_map span_row drawn))
+    (length-append (flat_map lines_of_put ps) (later_rows ps drawn))
 
 -- a date has one span
 as_many : (date : Option Date) (n m : ℕ) (o p : Option Span) → IsSpanOf date o → IsSpanOf date p
@@ -97,6 +108,19 @@ span_count : (ps : List Numbered) (ds : List Dated) (drawn : Drawn) → AreDated
 span_count ps ds drawn are other =
     sym (length-map ds row_of_span) ∙ ap length are.2 ∙ as_many_spans ps are.0 drawn are.1 other
 
+-- how many rows come behind the lines
+abbrev pub later_count : Later → ℕ
+later_count later = length later.links.items + (length later.soughts.items + length later.spans.items)
+
+later_all : (ps : List Numbered) (later : Later) (drawn : Drawn) → AreLater ps later → AreDrawn ps drawn
+    → later_count later ≡ length (later_rows ps drawn)
+later_all ps later drawn are other =
+    ap₂ (λ k n. k + n) (ap length are.links ∙ sym (length-map (links_of ps) a_link))
+    (ap₂ (λ k n. k + n) (sym (length-map later.soughts.items row_of_sought_row) ∙ ap length are.soughts)
+    (span_count ps later.spans.items drawn are.spans other)
+    ∙ sym (length-append (flat_map sought_row ps) (flat_map span_row drawn)))
+    ∙ sym (length-append (map a_link (links_of ps)) (flat_map sought_row ps ++ flat_map span_row drawn))
+
 -- a sum that stops at its bound
 goes_on : (count all more most : ℕ) → count ≡ min all most → min (count + more) most ≡ min (all + more) most
 goes_on count all more most is = omega (arith, is)
@@ -121,16 +145,16 @@ next_counted ps i p count more new most low is lines sum was =
     (arith, taken, lines) in
     sum ∙ goes_on count (length ps + line_count (take i ps)) more most was ∙ ap (λ n. min n most) all
 
--- all records are, and then the spans
-pub all_counted : (batch : ℕ) (ps : List Numbered) (ds : List Dated) (drawn : Drawn) (i count new most : ℕ)
-    → AreDated ps ds → AreDrawn ps drawn → length ps ≤ i → count ≡ min (length ps + line_count (take i ps)) most
-    → new ≡ min (count + length ds) most → new ≡ min (length (rows_of_import batch ps drawn)) most
-all_counted batch ps ds drawn i count new most are other past was sum =
+-- all records are, and then what comes behind their lines
+pub all_counted : (batch : ℕ) (ps : List Numbered) (later : Later) (drawn : Drawn) (i count new most : ℕ)
+    → AreLater ps later → AreDrawn ps drawn → length ps ≤ i → count ≡ min (length ps + line_count (take i ps)) most
+    → new ≡ min (count + later_count later) most → new ≡ min (length (rows_of_import batch ps drawn)) most
+all_counted batch ps later drawn i count new most are other past was sum =
     let rows = all_rows batch ps drawn in
-    let spans = span_count ps ds drawn are other in
-    let all : (length ps + line_count ps) + length ds ≡ length (rows_of_import batch ps drawn) = omega
-    (arith, rows, spans) in
+    let behind = later_all ps later drawn are other in
+    let all : (length ps + line_count ps) + later_count later ≡ length (rows_of_import batch ps drawn) = omega
+    (arith, rows, behind) in
     sum
-    ∙ goes_on count (length ps + line_count ps) (length ds) most
+    ∙ goes_on count (length ps + line_count ps) (later_count later) most
     (was ∙ ap (λ (qs : List Numbered). min (length ps + line_count qs) most) (take_all i ps past))
     ∙ ap (λ n. min n most) all

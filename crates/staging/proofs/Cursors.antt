@@ -45,20 +45,25 @@ use Rattle.std.specs.List.{flat_map}
 use Rattle.std.proofs.lemmas.Bool.Decides.{nat_tests}
 use Rattle.std.proofs.lemmas.List.{drop_all}
 use Rattle.sqlite.specs.State.{State, HasCleanDisk, Survives}
+use Rattle.sqlite.proofs.StateLemmas.{survives_then}
 use Rattle.stored_lines.specs.Line.{Label}
 use Rattle.records.specs.Stored.{stored}
 use Rattle.record_shapes.specs.Lists.{EachOf}
 use Rattle.archive_state.specs.declared.changes.Numbered.{Numbered}
 use Rattle.store_tables.specs.Calls.{Follows, FollowsDated, Inside}
-use Rattle.store_tables.specs.Rows.{Rows}
+use Rattle.store_tables.specs.Rows.{LinkRow, Rows, SoughtRow, with_link, with_record_row, with_sought, with_span}
 use Rattle.store_tables.proofs.Calls.{follows_then}
 use Rattle.store_tables.proofs.Loops.{and_last}
 use Rattle.store_rows.specs.Shallow.{IsShallowPut}
-use Rattle.store_rows.proofs.Dated.{IsOnItsWay, goes_on}
+use Rattle.store_rows.specs.Writing.{kind_word}
+use Rattle.store_rows.proofs.Dated.{nothing_done}
 use Rattle.staged_rows.specs.Staging.{
   StagedRow,
+  AreNew,
   a_line,
+  a_link,
   a_record,
+  a_sought,
   a_span,
   record_of,
   lines_from,
@@ -66,9 +71,22 @@ use Rattle.staged_rows.specs.Staging.{
   with_staged,
   with_staged_row,
 }
-use Rattle.staging.specs.Opened.{IsNext, IsPlaced, left_of, lines_left, row_of_span}
+use Rattle.staged_rows.proofs.Whole.{joined}
+use Rattle.staging.specs.Opened.{
+  FollowsStaged,
+  GoesOnLater,
+  IsNext,
+  IsPlaced,
+  StaysLater,
+  later_left,
+  left_of,
+  lines_left,
+  row_of_sought_row,
+  row_of_span,
+}
 use Rattle.staging.specs.declared.cursor.Cursor.{Cursor}
 use Rattle.staging.specs.declared.dated.Dated.{Dated}
+use Rattle.staging.specs.declared.later.Later.{Later}
 use Rattle.list_laws.proofs.Numbers.{below_is}
 
 -- ---- lists
@@ -119,36 +137,51 @@ of_any old new f g same did rows has was = follows_as old new f g same did rows 
 row_has : (r : StagedRow) (rows : Rows) → (with_staged_row r rows).has_spans ≡ rows.has_spans
 row_has (a_record r) rows = refl
 row_has (a_line n at l) rows = refl
+row_has (a_link l) rows = refl
+row_has (a_sought n s) rows = refl
 row_has (a_span n span) rows = refl
 
 pub staged_has : (rs : List StagedRow) (rows : Rows) → (with_staged rs rows).has_spans ≡ rows.has_spans
 staged_has [] rows = refl
 staged_has (r ∷ rs) rows = staged_has rs (with_staged_row r rows) ∙ row_has r rows
 
-pub one_then : (k : ℕ) (rs : List StagedRow) (rows : Rows) → with_staged (take (suc k) rs) rows
-    ≡ with_staged (take k (drop 1 rs)) (with_staged (take 1 rs) rows)
-one_then zero [] rows = refl
-one_then (suc k) [] rows = refl
-one_then k (r ∷ rs) rows = refl
+-- ---- rows of an import, each written behind those before it
+new_then : (xs ys : List StagedRow) (rows : Rows) → AreNew xs rows → AreNew ys (with_staged xs rows)
+    → AreNew (xs ++ ys) rows
+new_then [] ys rows a b = b
+new_then (x ∷ xs) ys rows a b = (a.0, new_then xs ys (with_staged_row x rows) a.1 b)
 
-pub one_turn : (old mid now : State) (n k : ℕ) (all rs : List StagedRow) → k < n
-    → IsOnItsWay old mid (with_staged (take n all)) (with_staged (take (n - k) rs))
-    → (HasCleanDisk now → FollowsDated mid now (with_staged (take 1 rs))) → Survives mid now (λ _. ⊥)
-    → IsOnItsWay old now (with_staged (take n all)) (with_staged (take (n - (k + 1)) (drop 1 rs)))
-one_turn old mid now n k all rs low way step kept =
-    let one_less : n - k ≡ suc (n - (k + 1)) = omega (arith, low) in
-    goes_on old mid now (with_staged (take n all)) (with_staged (take (n - k) rs)) (with_staged (take 1 rs))
-    (with_staged (take (n - (k + 1)) (drop 1 rs))) way (λ rows has. staged_has (take 1 rs) rows ∙ has) step kept
-    (λ rows. ap (λ m. with_staged (take m rs) rows) one_less ∙ one_then (n - (k + 1)) rs rows)
+taken_more : {A : Type 0} (k : ℕ) (xs : List A) → take (suc k) xs ≡ take k xs ++ take 1 (drop k xs)
+taken_more zero xs = refl
+taken_more (suc k) [] = refl
+taken_more (suc k) (x ∷ xs) = ap (λ ys. x ∷ ys) (taken_more k xs)
 
-pub arrived : (old now : State) (n k : ℕ) (all rs : List StagedRow) → n ≤ k
-    → IsOnItsWay old now (with_staged (take n all)) (with_staged (take (n - k) rs)) → HasCleanDisk now
-    → FollowsDated old now (with_staged (take n all))
-arrived old now n k all rs past way clean rows has was =
-    let came = way.leads clean rows has was in
-    let none : n - k ≡ 0 = omega (arith, past) in
-    let same : came.0 ≡ with_staged (take n all) rows = sym (ap (λ m. with_staged (take m rs) came.0) none) ∙ came.4 in
-    (subst (Inside now) same came.2, came.3)
+-- so many of all rows are written
+pub record IsStaged (old now : State) (all : List StagedRow) (k : ℕ) : Type 0 where
+  pub survives : Survives old now (λ _. ⊥)
+  pub leads : HasCleanDisk now → FollowsStaged old now (take k all)
+
+pub none_staged : (s : State) (all : List StagedRow) → IsStaged s s all 0
+none_staged s all = record { survives = nothing_done s; leads = λ clean rows has was. (was, refl, tt) }
+
+pub one_turn : (old mid now : State) (all rest : List StagedRow) (k : ℕ) → rest ≡ drop k all → IsStaged old mid all k
+    → (HasCleanDisk now → FollowsStaged mid now (take 1 rest)) → Survives mid now (λ _. ⊥)
+    → IsStaged old now all (k + 1)
+one_turn old mid now all rest k is way step kept = record {
+  survives = survives_then old mid now _ _ (λ _. ⊥) (λ _ db none. none) (λ _ db none. none) way.survives kept;
+  leads = λ clean rows has was.
+      let one = way.leads (omega (arith, kept.clean)) rows has was in
+      let here = with_staged (take k all) rows in
+      let next = subst (λ rs. FollowsStaged mid now (take 1 rs)) is (step clean) here
+      (staged_has (take k all) rows ∙ has) one.0 in
+      let both : take (k + 1) all ≡ take k all ++ take 1 (drop k all) = ap (λ n. take n all) (sym (add_one k))
+      ∙ taken_more k all in (
+        subst (λ rs. Inside now (with_staged rs rows)) (sym both)
+            (subst (Inside now) (sym (joined (take k all) (take 1 (drop k all)) rows)) next.0),
+        next.1 ∙ one.1,
+        subst (λ rs. AreNew rs rows) (sym both) (new_then (take k all) (take 1 (drop k all)) rows one.2 next.2),
+      );
+}
 
 pub always : {A E : Type 0} {P : Type 0} (r : Result A E) → P → OnOk r P
 always (Ok a) p = p
@@ -172,6 +205,13 @@ line_next n place ls x low is =
 
 -- ---- the cursor
 
+-- what comes behind the lines is left as it was
+later_stays : (later : Later) (old new : Cursor) → StaysLater old new → later_left later new ≡ later_left later old
+later_stays later old new same =
+    ap₂ (λ k ys. map a_link (drop k later.links.items) ++ ys) same.0
+    (ap₂ (λ k d. map row_of_sought_row (drop k later.soughts.items) ++ map row_of_span (drop d later.spans.items))
+    same.1 same.2)
+
 pub begun : (ps : List Numbered) → lines_left 0 ps ≡ flat_map lines_of_put ps
 begun [] = refl
 begun (p ∷ ps) = refl
@@ -191,12 +231,12 @@ back_none : {A : Type 0} (xs ys : List A) → xs ++ ys ≡ [] → ys ≡ []
 back_none [] ys is = is
 back_none (x ∷ xs) ys is = absurd cc
 
-pub rows_more : (batch : ℕ) (ps : List Numbered) (ds : List Dated) (c : Cursor) → c.rows < length ps
-    → left_of batch ps ds c ≡ [] → ⊥
-rows_more batch ps ds c low none =
+pub rows_more : (batch : ℕ) (ps : List Numbered) (later : Later) (c : Cursor) → c.rows < length ps
+    → left_of batch ps later c ≡ [] → ⊥
+rows_more batch ps later c low none =
     let found = some_behind c.rows ps low in
     let gone : map (record_of batch) (drop c.rows ps) ≡ [] = front_none _
-    (lines_left c.place (drop c.done ps) ++ map row_of_span (drop c.spans ds)) none in
+    (lines_left c.place (drop c.done ps) ++ later_left later c) none in
     let both : record_of batch found.0 ∷ map (record_of batch) (drop (suc c.rows) ps) ≡ [] = sym
     (ap (map (record_of batch)) found.1) ∙ gone in cc
 
@@ -209,68 +249,100 @@ lines_some place lines p ps next none =
     let both : a_line p.number place found.0 ∷ lines_from p.number (place + 1) (drop (suc place) ls) ≡ [] = sym
     (ap (lines_from p.number place) found.1) ∙ gone in cc
 
--- behind the rows of `record`, nothing is left of lines and spans
-behind_none : (batch : ℕ) (ps : List Numbered) (ds : List Dated) (c : Cursor) → left_of batch ps ds c ≡ []
-    → lines_left c.place (drop c.done ps) ++ map row_of_span (drop c.spans ds) ≡ []
-behind_none batch ps ds c none = back_none (map (record_of batch) (drop c.rows ps))
-    (lines_left c.place (drop c.done ps) ++ map row_of_span (drop c.spans ds)) none
+-- behind the rows of `record`, nothing is left of lines and of what comes behind them
+behind_none : (batch : ℕ) (ps : List Numbered) (later : Later) (c : Cursor) → left_of batch ps later c ≡ []
+    → lines_left c.place (drop c.done ps) ++ later_left later c ≡ []
+behind_none batch ps later c none = back_none (map (record_of batch) (drop c.rows ps))
+    (lines_left c.place (drop c.done ps) ++ later_left later c) none
 
-pub lines_more : (batch : ℕ) (ps : List Numbered) (ds : List Dated) (c : Cursor) → IsPlaced ps c → c.done < length ps
-    → left_of batch ps ds c ≡ [] → ⊥
-lines_more batch ps ds c placed low none =
+pub lines_more : (batch : ℕ) (ps : List Numbered) (later : Later) (c : Cursor) → IsPlaced ps c → c.done < length ps
+    → left_of batch ps later c ≡ [] → ⊥
+lines_more batch ps later c placed low none =
     let found = some_behind c.done ps low in
     lines_some c.place c.lines.items found.0 (drop (suc c.done) ps)
     (subst (IsNext c.place c.lines.items) found.1 placed.next)
     (ap (lines_left c.place) (sym found.1)
-    ∙ front_none (lines_left c.place (drop c.done ps)) (map row_of_span (drop c.spans ds))
-    (behind_none batch ps ds c none))
+    ∙ front_none (lines_left c.place (drop c.done ps)) (later_left later c)
+    (behind_none batch ps later c none))
 
-pub spans_more : (batch : ℕ) (ps : List Numbered) (ds : List Dated) (c : Cursor) → c.spans < length ds
-    → left_of batch ps ds c ≡ [] → ⊥
-spans_more batch ps ds c low none =
-    let found = some_behind c.spans ds low in
-    let gone : map row_of_span (drop c.spans ds) ≡ [] = back_none (lines_left c.place (drop c.done ps))
-    (map row_of_span (drop c.spans ds)) (behind_none batch ps ds c none) in
-    let both : row_of_span found.0 ∷ map row_of_span (drop (suc c.spans) ds) ≡ [] = sym
-    (ap (map row_of_span) found.1) ∙ gone in cc
+-- what comes behind the lines, where rows of it are left
+map_some : {A : Type 0} (f : A → StagedRow) (k : ℕ) (xs : List A) → k < length xs → map f (drop k xs) ≡ [] → ⊥
+map_some f k xs low none =
+    let found = some_behind k xs low in
+    let both : f found.0 ∷ map f (drop (suc k) xs) ≡ [] = sym (ap (map f) found.1) ∙ none in cc
 
--- where all rows of `record` and all lines are written, spans are left alone
-pub spans_left : (batch : ℕ) (ps : List Numbered) (ds : List Dated) (c : Cursor) → length ps ≤ c.rows
-    → length ps ≤ c.done → left_of batch ps ds c ≡ map row_of_span (drop c.spans ds)
-spans_left batch ps ds c rows done =
-    ap₂ (λ qs rs. map (record_of batch) qs ++ (lines_left c.place rs ++ map row_of_span (drop c.spans ds)))
+module _ (later : Later) (c : Cursor) where
+  abbrev links_in : List StagedRow
+  links_in = map a_link (drop c.links later.links.items)
+
+  abbrev soughts_in : List StagedRow
+  soughts_in = map row_of_sought_row (drop c.soughts later.soughts.items)
+
+  abbrev spans_in : List StagedRow
+  spans_in = map row_of_span (drop c.spans later.spans.items)
+
+  pub links_more : c.links < length later.links.items → later_left later c ≡ [] → ⊥
+  links_more low none = map_some a_link c.links later.links.items low
+      (front_none links_in (soughts_in ++ spans_in) none)
+
+  pub soughts_more : c.soughts < length later.soughts.items → later_left later c ≡ [] → ⊥
+  soughts_more low none = map_some row_of_sought_row c.soughts later.soughts.items low
+      (front_none soughts_in spans_in (back_none links_in (soughts_in ++ spans_in) none))
+
+  pub spans_more : c.spans < length later.spans.items → later_left later c ≡ [] → ⊥
+  spans_more low none = map_some row_of_span c.spans later.spans.items low
+      (back_none soughts_in spans_in (back_none links_in (soughts_in ++ spans_in) none))
+
+  links_past : length later.links.items ≤ c.links → later_left later c ≡ soughts_in ++ spans_in
+  links_past past = ap (λ ls. map a_link ls ++ (soughts_in ++ spans_in)) (drop_all c.links later.links.items past)
+
+  pub soughts_past : length later.links.items ≤ c.links → length later.soughts.items ≤ c.soughts
+      → later_left later c ≡ spans_in
+  soughts_past past more = links_past past
+      ∙ ap (λ ss. map row_of_sought_row ss ++ spans_in) (drop_all c.soughts later.soughts.items more)
+
+  pub later_past : length later.links.items ≤ c.links → length later.soughts.items ≤ c.soughts
+      → length later.spans.items ≤ c.spans → later_left later c ≡ []
+  later_past past more last = soughts_past past more ∙ ap (map row_of_span) (drop_all c.spans later.spans.items last)
+
+-- where all rows of `record` and all lines are written, those behind them are left alone
+pub later_alone : (batch : ℕ) (ps : List Numbered) (later : Later) (c : Cursor) → length ps ≤ c.rows
+    → length ps ≤ c.done → left_of batch ps later c ≡ later_left later c
+later_alone batch ps later c rows done =
+    ap₂ (λ qs rs. map (record_of batch) qs ++ (lines_left c.place rs ++ later_left later c))
     (drop_all c.rows ps rows) (drop_all c.done ps done)
-
-nothing_left : (batch : ℕ) (ps : List Numbered) (ds : List Dated) (c : Cursor) → length ps ≤ c.rows
-    → length ps ≤ c.done → length ds ≤ c.spans → left_of batch ps ds c ≡ []
-nothing_left batch ps ds c rows done spans =
-    spans_left batch ps ds c rows done ∙ ap (map row_of_span) (drop_all c.spans ds spans)
 
 pub at_end : (k n : ℕ) → nat_lt k n ≡ false → n ≤ k
 at_end k n off = let past : n ≤ k = grind (arith, nat_tests, off) in past
 
--- where rows of `record` or lines are left
-pub some_first : (batch : ℕ) (ps : List Numbered) (ds : List Dated) (c : Cursor) (more : Bool) → more ≡ true
-    → (left_of batch ps ds c ≡ [] → ⊥)
-    → (more ≡ false → left_of batch ps ds c ≡ []) × (left_of batch ps ds c ≡ [] → more ≡ false)
-some_first batch ps ds c more on never = (
+-- where some rows are left, and where it is those that come behind the lines, or none
+pub some_first : (rs : List StagedRow) (more : Bool) → more ≡ true → (rs ≡ [] → ⊥)
+    → (more ≡ false → rs ≡ []) × (rs ≡ [] → more ≡ false)
+some_first rs more on never = (
   λ off. absurd (let both : true ≡ false = sym on ∙ off in cc),
   λ none. absurd (never none),
 )
 
-pub some_spans : (batch : ℕ) (ps : List Numbered) (ds : List Dated) (c : Cursor) → length ps ≤ c.rows
-    → length ps ≤ c.done
-    → (nat_lt c.spans (length ds) ≡ false → left_of batch ps ds c ≡ [])
-    × (left_of batch ps ds c ≡ [] → nat_lt c.spans (length ds) ≡ false)
-some_spans batch ps ds c past done = (
-  λ off. nothing_left batch ps ds c past done
-      (at_end c.spans (length ds) off),
-  λ none. unless (nat_lt c.spans (length ds)) refl none,
+pub some_later : (batch : ℕ) (ps : List Numbered) (later : Later) (c : Cursor) (more : Bool) → length ps ≤ c.rows
+    → length ps ≤ c.done → (more ≡ false → later_left later c ≡ []) × (later_left later c ≡ [] → more ≡ false)
+    → (more ≡ false → left_of batch ps later c ≡ []) × (left_of batch ps later c ≡ [] → more ≡ false)
+some_later batch ps later c more rows done is = (
+  λ off. later_alone batch ps later c rows done ∙ is.0 off,
+  λ none. is.1 (sym (later_alone batch ps later c rows done) ∙ none),
+)
+
+pub some_spans : (later : Later) (c : Cursor) → length later.links.items ≤ c.links
+    → length later.soughts.items ≤ c.soughts
+    → (nat_lt c.spans (length later.spans.items) ≡ false → later_left later c ≡ [])
+    × (later_left later c ≡ [] → nat_lt c.spans (length later.spans.items) ≡ false)
+some_spans later c past more = (
+  λ off. later_past later c past more (at_end c.spans (length later.spans.items) off),
+  λ none. unless (nat_lt c.spans (length later.spans.items)) refl none,
 )
   where
-    unless : (b : Bool) → nat_lt c.spans (length ds) ≡ b → left_of batch ps ds c ≡ [] → b ≡ false
+    unless : (b : Bool) → nat_lt c.spans (length later.spans.items) ≡ b → later_left later c ≡ [] → b ≡ false
     unless false e none = refl
-    unless true e none = absurd (spans_more batch ps ds c (below_is c.spans (length ds) e) none)
+    unless true e none = absurd (spans_more later c (below_is c.spans (length later.spans.items) e) none)
 
 -- the first of the records that are left has a line at the place, and the lines at hand are known
 pub next_is : (ps : List Numbered) (c : Cursor) (p : Numbered) → IsPlaced ps c → c.done < length ps
@@ -278,23 +350,29 @@ pub next_is : (ps : List Numbered) (c : Cursor) (p : Numbered) → IsPlaced ps c
 next_is ps c p placed more is = subst (IsNext c.place c.lines.items) (item_and_rest c.done ps p more is) placed.next
 
 -- ---- one row of `record` more
-module _ (batch : ℕ) (ps : List Numbered) (ds : List Dated) (old : Cursor) (p : Numbered) (low : old.rows < length ps)
+module _ (batch : ℕ) (ps : List Numbered) (later : Later) (old : Cursor) (p : Numbered) (low : old.rows < length ps)
     (is : p ≡ get_or ps old.rows p) where
   abbrev beside : List StagedRow
-  beside = lines_left old.place (drop old.done ps) ++ map row_of_span (drop old.spans ds)
+  beside = lines_left old.place (drop old.done ps) ++ later_left later old
 
-  row_left : left_of batch ps ds old ≡ record_of batch p ∷ (map (record_of batch) (drop (old.rows + 1) ps) ++ beside)
+  row_left : left_of batch ps later old ≡ record_of batch p ∷ (map (record_of batch) (drop (old.rows + 1) ps) ++ beside)
   row_left = ap (λ qs. map (record_of batch) qs ++ beside) (item_and_rest old.rows ps p low is)
 
-  pub first_record : (rows : Rows) → with_staged (take 1 (left_of batch ps ds old)) rows
-      ≡ with_staged_row (record_of batch p) rows
-  first_record rows = ap (λ rs. with_staged (take 1 rs) rows) row_left
+  pub record_written : (a b : State) → Follows a b (with_record_row p.number (kind_word p.«record») batch)
+      → FollowsStaged a b (take 1 (left_of batch ps later old))
+  record_written a b did rows has was =
+      let done = did rows was in
+      let first : take 1 (left_of batch ps later old) ≡ record_of batch p ∷ [] = ap (take 1) row_left in (
+        subst (λ rs. Inside b (with_staged rs rows)) (sym first) done.0,
+        done.1,
+        subst (λ rs. AreNew rs rows) (sym first) (tt, tt),
+      )
 
-  pub record_behind : map (record_of batch) (drop (old.rows + 1) ps) ++ beside ≡ drop 1 (left_of batch ps ds old)
+  pub record_behind : map (record_of batch) (drop (old.rows + 1) ps) ++ beside ≡ drop 1 (left_of batch ps later old)
   record_behind = sym (ap (drop 1) row_left)
 
 -- ---- one line more, where all rows of `record` are written
-module _ (batch : ℕ) (ps : List Numbered) (ds : List Dated) (old : Cursor) (p : Numbered) (past : length ps ≤ old.rows)
+module _ (batch : ℕ) (ps : List Numbered) (later : Later) (old : Cursor) (p : Numbered) (past : length ps ≤ old.rows)
     (more : old.done < length ps) (is : p ≡ get_or ps old.done p) (low : old.place < length (stored p.«record»)) where
   abbrev ls : List (ℕ × Label)
   ls = stored p.«record»
@@ -302,11 +380,8 @@ module _ (batch : ℕ) (ps : List Numbered) (ds : List Dated) (old : Cursor) (p 
   abbrev others : List Numbered
   others = drop (old.done + 1) ps
 
-  abbrev later : List StagedRow
-  later = lines_from p.number (old.place + 1) (drop (old.place + 1) ls) ++ flat_map lines_of_put others
-
-  abbrev spans : List StagedRow
-  spans = map row_of_span (drop old.spans ds)
+  abbrev next_lines : List StagedRow
+  next_lines = lines_from p.number (old.place + 1) (drop (old.place + 1) ls) ++ flat_map lines_of_put others
 
   abbrev line : ℕ × Label
   line = (some_behind old.place ls low).0
@@ -320,40 +395,148 @@ module _ (batch : ℕ) (ps : List Numbered) (ds : List Dated) (old : Cursor) (p 
       ap (lines_from p.number old.place)
       ((some_behind old.place ls low).1 ∙ ap (λ k. line ∷ drop k ls) (add_one old.place))
 
-  old_is : left_of batch ps ds old ≡ a_line p.number old.place line ∷ (later ++ spans)
+  old_is : left_of batch ps later old ≡ a_line p.number old.place line ∷ (next_lines ++ later_left later old)
   old_is =
-      ap₂ (λ qs rs. map (record_of batch) qs ++ (lines_left old.place rs ++ spans)) (drop_all old.rows ps past) puts_are
-      ∙ ap (λ rs. (rs ++ flat_map lines_of_put others) ++ spans) lines_are
+      ap₂ (λ qs rs. map (record_of batch) qs ++ (lines_left old.place rs ++ later_left later old))
+      (drop_all old.rows ps past) puts_are
+      ∙ ap (λ rs. (rs ++ flat_map lines_of_put others) ++ later_left later old) lines_are
 
-  pub first_behind : (rows : Rows) → with_staged (take 1 (left_of batch ps ds old)) rows
-      ≡ with_staged (take 1 (lines_from p.number old.place (drop old.place ls))) rows
-  first_behind rows = ap (λ rs. with_staged (take 1 rs) rows) old_is
-      ∙ sym (ap (λ rs. with_staged (take 1 rs) rows) lines_are)
+  pub line_written : (a b : State)
+      → Follows a b (with_staged (take 1 (lines_from p.number old.place (drop old.place ls))))
+      → FollowsStaged a b (take 1 (left_of batch ps later old))
+  line_written a b did rows has was =
+      let done = did rows was in (
+        subst (λ rs. Inside b (with_staged rs rows)) (ap (take 1) lines_are ∙ sym (ap (take 1) old_is)) done.0,
+        done.1,
+        subst (λ rs. AreNew rs rows) (sym (ap (take 1) old_is)) (tt, tt),
+      )
 
   pub left_behind : (new : Cursor) (ml : List (ℕ × Label)) → ml ≡ ls
-      → (new.rows ≡ old.rows) × (new.spans ≡ old.spans)
+      → (new.rows ≡ old.rows) × StaysLater old new
       × (((old.place + 1 < length ml) × (new.place ≡ old.place + 1) × (new.done ≡ old.done)
       × (new.lines.items ≡ ml))
       ⊎ ((length ml ≤ old.place + 1) × (new.place ≡ 0) × (new.done ≡ old.done + 1)
       × (new.lines.items ≡ [])))
-      → left_of batch ps ds new ≡ drop 1 (left_of batch ps ds old)
+      → left_of batch ps later new ≡ drop 1 (left_of batch ps later old)
   left_behind new ml made went =
       let records : map (record_of batch) (drop new.rows ps) ≡ [] = ap (λ k. map (record_of batch) (drop k ps)) went.0
       ∙ ap (map (record_of batch)) (drop_all old.rows ps past) in
-      let spans_are : map row_of_span (drop new.spans ds) ≡ spans = ap (λ k. map row_of_span (drop k ds)) went.1 in
-      let new_is : lines_left new.place (drop new.done ps) ≡ later = elim went.2 [
+      let stays : later_left later new ≡ later_left later old = later_stays later old new went.1 in
+      let new_is : lines_left new.place (drop new.done ps) ≡ next_lines = elim went.2 [
         | inl next ↦ ap₂ (λ k d. lines_left k (drop d ps)) next.1 next.2
             ∙ ap (lines_left (old.place + 1)) puts_are
         | inr past ↦ ap₂ (λ k d. lines_left k (drop d ps)) past.1 past.2 ∙ begun others
             ∙ sym (ap (λ rs. lines_from p.number (old.place + 1) rs ++ flat_map lines_of_put others)
             (drop_all (old.place + 1) ls (subst (λ ms. length ms ≤ old.place + 1) made past.0)))
       ] in
-      ap₂ (λ xs ys. xs ++ ys) records (ap₂ (λ xs ys. xs ++ ys) new_is spans_are) ∙ sym (ap (drop 1) old_is)
+      ap₂ (λ xs ys. xs ++ ys) records (ap₂ (λ xs ys. xs ++ ys) new_is stays) ∙ sym (ap (drop 1) old_is)
 
--- ---- one span more
-module _ (ds : List Dated) (k : ℕ) (d : Dated) (low : k < length ds) (is : d ≡ get_or ds k d) where
-  pub span_next : map row_of_span (drop k ds) ≡ row_of_span d ∷ map row_of_span (drop (k + 1) ds)
-  span_next = ap (map row_of_span) (item_and_rest k ds d low is)
+-- ---- one row more that comes behind the lines
+first_of : {A : Type 0} (xs ys : List A) (x : A) (more : List A) → xs ≡ x ∷ more → take 1 (xs ++ ys) ≡ take 1 xs
+first_of xs ys x more e = ap (λ zs. take 1 (zs ++ ys)) e ∙ sym (ap (take 1) e)
+
+rest_of : {A : Type 0} (xs ys : List A) (x : A) (more : List A) → xs ≡ x ∷ more → drop 1 (xs ++ ys) ≡ more ++ ys
+rest_of xs ys x more e = ap (λ zs. drop 1 (zs ++ ys)) e
+
+-- of rows that are not all written
+module _ {A : Type 0} (f : A → StagedRow) (k : ℕ) (xs : List A) (low : k < length xs) (ys : List StagedRow) where
+  abbrev next_row : StagedRow
+  next_row = f (some_behind k xs low).0
+
+  rows_are : map f (drop k xs) ≡ next_row ∷ map f (drop (k + 1) xs)
+  rows_are = ap (map f) ((some_behind k xs low).1
+      ∙ ap (λ n. (some_behind k xs low).0 ∷ drop n xs) (add_one k))
+
+  pub first_is : take 1 (map f (drop k xs) ++ ys) ≡ take 1 (map f (drop k xs))
+  first_is = first_of (map f (drop k xs)) ys next_row (map f (drop (k + 1) xs)) rows_are
+
+  pub rest_is : map f (drop (k + 1) xs) ++ ys ≡ drop 1 (map f (drop k xs) ++ ys)
+  rest_is = sym (rest_of (map f (drop k xs)) ys next_row (map f (drop (k + 1) xs)) rows_are)
+
+module _ (later : Later) (old : Cursor) where
+  pub link_written : old.links < length later.links.items → (a b : State)
+      → FollowsStaged a b (take 1 (map a_link (drop old.links later.links.items)))
+      → FollowsStaged a b (take 1 (later_left later old))
+  link_written low a b did = subst (FollowsStaged a b)
+      (sym (first_is a_link old.links later.links.items low (soughts_in later old ++ spans_in later old))) did
+
+  pub link_behind : old.links < length later.links.items
+      → later_left later (record old { links = old.links + 1 }) ≡ drop 1 (later_left later old)
+  link_behind low = rest_is a_link old.links later.links.items low (soughts_in later old ++ spans_in later old)
+
+  pub sought_written : length later.links.items ≤ old.links → old.soughts < length later.soughts.items → (a b : State)
+      → FollowsDated a b (with_staged (take 1 (map row_of_sought_row (drop old.soughts later.soughts.items))))
+      → FollowsStaged a b (take 1 (later_left later old))
+  sought_written past low a b did rows has was =
+      let done = did rows has was in
+      let first : take 1 (later_left later old) ≡ take 1 (soughts_in later old) = ap (take 1)
+      (links_past later old past)
+      ∙ first_is row_of_sought_row old.soughts later.soughts.items low (spans_in later old) in
+      let one : take 1 (soughts_in later old)
+      ≡ row_of_sought_row (some_behind old.soughts later.soughts.items low).0 ∷ [] = ap (take 1)
+      (rows_are row_of_sought_row old.soughts later.soughts.items low []) in (
+        subst (λ rs. Inside b (with_staged rs rows)) (sym first) done.0,
+        done.1,
+        subst (λ rs. AreNew rs rows) (sym (first ∙ one)) (tt, tt),
+      )
+
+  pub sought_behind : length later.links.items ≤ old.links → old.soughts < length later.soughts.items
+      → later_left later (record old { soughts = old.soughts + 1 }) ≡ drop 1 (later_left later old)
+  sought_behind past low =
+      links_past later (record old { soughts = old.soughts + 1 }) past
+      ∙ rest_is row_of_sought_row old.soughts later.soughts.items low (spans_in later old)
+      ∙ sym (ap (drop 1) (links_past later old past))
+
+  spans_new : (k : ℕ) (ds : List Dated) (rows : Rows) → AreNew (take 1 (map row_of_span (drop k ds))) rows
+  spans_new k ds rows = of_any (drop k ds)
+    where
+      of_any : (es : List Dated) → AreNew (take 1 (map row_of_span es)) rows
+      of_any [] = tt
+      of_any (e ∷ es) = (tt, tt)
+
+  pub span_written : length later.links.items ≤ old.links → length later.soughts.items ≤ old.soughts → (a b : State)
+      → FollowsDated a b (with_staged (take 1 (map row_of_span (drop old.spans later.spans.items))))
+      → FollowsStaged a b (take 1 (later_left later old))
+  span_written past more a b did rows has was =
+      let done = did rows has was in
+      let first : take 1 (later_left later old) ≡ take 1 (spans_in later old) = ap (take 1)
+      (soughts_past later old past more) in (
+        subst (λ rs. Inside b (with_staged rs rows)) (sym first) done.0,
+        done.1,
+        subst (λ rs. AreNew rs rows) (sym first) (spans_new old.spans later.spans.items rows),
+      )
+
+  pub span_behind : length later.links.items ≤ old.links → length later.soughts.items ≤ old.soughts → (new : Cursor)
+      → new ≡ record old { spans = new.spans }
+      → map row_of_span (drop new.spans later.spans.items) ≡ drop 1 (map row_of_span (drop old.spans later.spans.items))
+      → later_left later new ≡ drop 1 (later_left later old)
+  span_behind past more new is left =
+      ap (later_left later) is ∙ soughts_past later (record old { spans = new.spans }) past more ∙ left
+      ∙ sym (ap (drop 1) (soughts_past later old past more))
+
+pub goes_later : (old new : Cursor) → new ≡ record old { spans = new.spans } → GoesOnLater old new
+goes_later old new is = subst (λ (c : Cursor). c ≡ record old { links = c.links; soughts = c.soughts; spans = c.spans })
+    (sym is) refl
+
+-- where it is written, and the rows before it are all
+module _ (batch : ℕ) (ps : List Numbered) (later : Later) (old : Cursor) (rows : length ps ≤ old.rows)
+    (done : length ps ≤ old.done) where
+  pub later_written : (a b : State) → FollowsStaged a b (take 1 (later_left later old))
+      → FollowsStaged a b (take 1 (left_of batch ps later old))
+  later_written a b did = subst (λ rs. FollowsStaged a b (take 1 rs)) (sym (later_alone batch ps later old rows done))
+      did
+
+  pub later_behind : (new : Cursor) → GoesOnLater old new → later_left later new ≡ drop 1 (later_left later old)
+      → left_of batch ps later new ≡ drop 1 (left_of batch ps later old)
+  later_behind new is left =
+      ap (left_of batch ps later) is
+      ∙ later_alone batch ps later (record old { links = new.links; soughts = new.soughts; spans = new.spans }) rows
+      done
+      ∙ sym (ap (later_left later) is) ∙ left ∙ sym (ap (drop 1) (later_alone batch ps later old rows done))
+
+pub later_placed : (ps : List Numbered) (old new : Cursor) → GoesOnLater old new → IsPlaced ps old → IsPlaced ps new
+later_placed ps old new is placed = subst (IsPlaced ps) (sym is)
+    (record { next = placed.next; shallow = placed.shallow })
 
 -- where nothing is left, all records were written, and can be read again
 take_all : {A : Type 0} (k : ℕ) (xs : List A) → length xs ≤ k → take k xs ≡ xs
@@ -362,10 +545,10 @@ take_all zero (x ∷ xs) past = absurd (omega (arith, past))
 take_all (suc k) [] past = refl
 take_all (suc k) (x ∷ xs) past = ap (λ ys. x ∷ ys) (take_all k xs (omega (arith, past)))
 
-pub all_shallow : (batch : ℕ) (ps : List Numbered) (ds : List Dated) (c : Cursor) → IsPlaced ps c
-    → left_of batch ps ds c ≡ [] → EachOf IsShallowPut ps
-all_shallow batch ps ds c placed none = past (nat_lt c.done (length ps)) refl
+pub all_shallow : (batch : ℕ) (ps : List Numbered) (later : Later) (c : Cursor) → IsPlaced ps c
+    → left_of batch ps later c ≡ [] → EachOf IsShallowPut ps
+all_shallow batch ps later c placed none = past (nat_lt c.done (length ps)) refl
   where
     past : (b : Bool) → nat_lt c.done (length ps) ≡ b → EachOf IsShallowPut ps
-    past true e = absurd (lines_more batch ps ds c placed (below_is c.done (length ps) e) none)
+    past true e = absurd (lines_more batch ps later c placed (below_is c.done (length ps) e) none)
     past false e = subst (EachOf IsShallowPut) (take_all c.done ps (at_end c.done (length ps) e)) placed.shallow

@@ -3,8 +3,12 @@ pub mod Commits
 mod Counting
 pub mod Cursors
 mod Drawing
+mod Linking
 mod Opening
+mod Owned
 pub mod Seen
+mod Seeking
 mod Spans
 mod Steps
 mod Thinned
+mod Written

@@ -32,9 +32,9 @@ use Rattle.sqlite.specs.State.{State, HasCleanDisk}
 use Rattle.sqlite.specs.Tree.{IsAscending}
 use Rattle.store_tables.specs.Batches.{numbers_in}
 use Rattle.store_tables.specs.Calls.{Settled}
-use Rattle.store_tables.specs.Rows.{Rows, BatchRow}
+use Rattle.store_tables.specs.Rows.{LinkRow, Rows, BatchRow}
 use Rattle.store_rows.specs.Meaning.{is_closed}
-use Rattle.staged_rows.specs.Removing.{AreAside, IsSeenAs, without_batch}
+use Rattle.staged_rows.specs.Removing.{AreAside, AreOf, IsSeenAs, is_from, links_from, without_batch}
 use Rattle.staged_rows.specs.Staging.{AreAllClosed}
 use Rattle.staged_rows.proofs.Taken.{batches_stay, numbers_unrecorded, taken_out}
 use Rattle.staging.specs.Clearing.{IsCleared}
@@ -138,18 +138,32 @@ next_is_open s b left rows here is settled was =
     ap (is_closed b.no) was.batches
     ∙ it_is_open b is was.before left (subst Rises was.batches settled.good.holds.batches.rise)
 
+-- a batch is taken out with all that it has
+abbrev pub without_open : ℕ → Rows → Rows
+without_open batch rows =
+    without_batch batch (numbers_in batch rows) (links_from (numbers_in batch rows) rows) rows
+
+-- the links that are from some numbers are from these
+pub are_from : (ns : List ℕ) (ls : List LinkRow) → AreOf ns (filter (is_from ns) ls)
+are_from ns [] = tt
+are_from ns (l ∷ ls) =
+    elim (is_from ns l) as (λ b. is_from ns l ≡ b → AreOf ns (cond b (l ∷ filter (is_from ns) ls)
+    (filter (is_from ns) ls))) [ true ↦ λ e. (e, are_from ns ls) | false ↦ λ e. are_from ns ls ] refl
+
 one_gone : (s : State) (b : BatchRow) (left : List BatchRow) (rows here : Rows) → b.is_open ≡ true → Settled s here
-    → HasCleared (b ∷ left) rows here → HasCleared left rows (without_batch b.no (numbers_in b.no here) here)
+    → HasCleared (b ∷ left) rows here → HasCleared left rows (without_open b.no here)
 one_gone s b left rows here is settled was =
     let ns = numbers_in b.no here in
+    let ls = links_from ns here in
     let rise : Rises (was.before ++ b ∷ left) = subst Rises was.batches settled.good.holds.batches.rise in
     let unclosed = next_is_open s b left rows here is settled was in
     record {
-      seen = seen_then rows here (without_batch b.no ns here) was.seen
-          (taken_out b.no ns here (numbers_aside s b.no ns here settled unclosed refl) unclosed);
+      seen = seen_then rows here (without_open b.no here) was.seen
+          (taken_out b.no ns ls here (numbers_aside s b.no ns here settled unclosed refl) (are_from ns here.links)
+          unclosed);
       before = was.before;
       closed = was.closed;
-      batches = ap (filter (λ (x : BatchRow). not (x.no == b.no))) (batches_stay ns here ∙ was.batches)
+      batches = ap (filter (λ (x : BatchRow). not (x.no == b.no))) (batches_stay ns ls here ∙ was.batches)
           ∙ it_goes b was.before left rise;
       untouched = λ all. absurd (none_is_open b left rows here is was all);
     }
@@ -186,12 +200,12 @@ has_as_said has_spans b left rows here is was (inr closed) = absurd (none_is_ope
 pub takes_out : (has_spans : Bool) (old mid new : State) (b : BatchRow) (left : List BatchRow) → b.is_open ≡ true
     → IsClearing has_spans old mid (b ∷ left)
     → (HasCleanDisk new → (rows : Rows) → Settled mid rows → rows.has_spans ≡ has_spans
-    → Settled new (without_batch b.no (numbers_in b.no rows) rows))
+    → Settled new (without_open b.no rows))
     → (HasCleanDisk new → HasCleanDisk mid) → IsClearing has_spans old new left
 takes_out has_spans old mid new b left is way gone kept = record {
   leads = λ clean rows was fit.
       let came = way.leads (kept clean) rows was fit in (
-        without_batch b.no (numbers_in b.no came.0) came.0,
+        without_open b.no came.0,
         gone clean came.0 came.1 (has_as_said has_spans b left rows came.0 is came.2 fit),
         one_gone mid b left rows came.0 is came.1 came.2,
       );

@@ -1,5 +1,23 @@
 -- An import that is open, and how far its rows are written. Rules of our own.
-use Rattle.std.specs.Prelude.{ℕ, ◌≡◌, ◌<◌, ◌≤◌, ◌+◌, ◌⊎◌, List, [], ◌∷◌, ◌++◌, map, take, drop, length, Option}
+use Rattle.std.specs.Prelude.{
+  ℕ,
+  ◌≡◌,
+  ◌<◌,
+  ◌≤◌,
+  ◌+◌,
+  ◌-◌,
+  ◌⊎◌,
+  true,
+  List,
+  [],
+  ◌∷◌,
+  ◌++◌,
+  map,
+  take,
+  drop,
+  length,
+  Option,
+}
 use Rattle.std.specs.List.{flat_map}
 use Rattle.stored_lines.specs.Line.{Label}
 use Rattle.record_kinds.specs.declared.record.Record.{Record}
@@ -12,15 +30,54 @@ use Rattle.archive_state.specs.Changes.{Changes}
 use Rattle.archive_state.specs.declared.changes.Numbered.{Numbered}
 use Rattle.store_rows.specs.Shallow.{IsShallowPut}
 use Rattle.store_rows.specs.Spans.{AreDrawn, Drawn}
-use Rattle.staged_rows.specs.Staging.{StagedRow, a_span, record_of, lines_from, lines_of_put, span_row}
+use Rattle.sqlite.specs.State.{State}
+use Rattle.store_tables.specs.Calls.{Inside}
+use Rattle.store_tables.specs.Rows.{LinkRow, Rows, SoughtRow}
+use Rattle.staged_rows.specs.Removing.{links_among}
+use Rattle.staged_rows.specs.Staging.{
+  AreNew,
+  StagedRow,
+  a_link,
+  a_sought,
+  a_span,
+  lines_from,
+  lines_of_put,
+  links_of,
+  record_of,
+  sought_row,
+  span_row,
+  with_staged,
+}
 use Rattle.staging.specs.declared.cursor.Cursor.{Cursor}
 use Rattle.staging.specs.declared.dated.Dated.{Dated}
+use Rattle.staging.specs.declared.later.Later.{Later}
 
 -- an import that is open: its batch, what it changes, and which of its rows are still to be written
 pub record Import : Type 0 where
   pub batch : ℕ
   pub changes : Changes
   pub left : List StagedRow
+
+-- the links of its records that are written: they are written in their order, and so many are left
+abbrev pub links_written : Import → List LinkRow
+links_written i = take (length (links_of i.changes.puts) - length (links_among i.left)) (links_of i.changes.puts)
+
+-- calls in a transaction over tables that have spans: they write these rows of an import, of which no link was there,
+-- and commit nothing
+abbrev pub FollowsStaged : State → State → List StagedRow → Type 0
+FollowsStaged old new rs = (rows : Rows) → rows.has_spans ≡ true → Inside old rows
+    → Inside new (with_staged rs rows) × (new.committed ≡ old.committed) × AreNew rs rows
+
+-- ---- the links of the records that it puts, as pairs of the number that is named and the one of the record
+abbrev pub link_of : ℕ × ℕ → LinkRow
+link_of pair = record { target = pair.0; no = pair.1 }
+
+abbrev pub pairs_as_links : List (ℕ × ℕ) → List LinkRow
+pairs_as_links = map link_of
+
+-- ---- what they are looked for by
+abbrev pub row_of_sought_row : SoughtRow → StagedRow
+row_of_sought_row s = a_sought s.no (s.text, s.target)
 
 -- ---- the spans of the records that it puts
 abbrev pub row_of_span : Dated → StagedRow
@@ -38,15 +95,27 @@ IsOneMore n span old new = map row_of_span new ≡ map row_of_span old ++ span_r
 abbrev pub DrawsOne : Numbered → List Dated → List Dated → Type 0
 DrawsOne p old new = (span : Option Span) × IsSpanOf (date_in p.«record») span × IsOneMore p.number span old new
 
+-- ---- the rows that come behind the lines
+pub record AreLater (ps : List Numbered) (later : Later) : Type 0 where
+  pub links : later.links.items ≡ links_of ps
+  pub soughts : map row_of_sought_row later.soughts.items ≡ flat_map sought_row ps
+  pub spans : AreDated ps later.spans.items
+
 -- ---- how far the rows are written
 -- the lines of these records that are left, of the first from a place on
 abbrev pub lines_left : ℕ → List Numbered → List StagedRow
 lines_left place [] = []
 lines_left place (p ∷ ps) = lines_from p.number place (drop place (stored p.«record»)) ++ flat_map lines_of_put ps
 
-abbrev pub left_of : ℕ → List Numbered → List Dated → Cursor → List StagedRow
-left_of batch ps ds cursor = map (record_of batch) (drop cursor.rows ps)
-    ++ (lines_left cursor.place (drop cursor.done ps) ++ map row_of_span (drop cursor.spans ds))
+-- those that come behind the lines
+abbrev pub later_left : Later → Cursor → List StagedRow
+later_left later cursor = map a_link (drop cursor.links later.links.items)
+    ++ (map row_of_sought_row (drop cursor.soughts later.soughts.items)
+    ++ map row_of_span (drop cursor.spans later.spans.items))
+
+abbrev pub left_of : ℕ → List Numbered → Later → Cursor → List StagedRow
+left_of batch ps later cursor = map (record_of batch) (drop cursor.rows ps)
+    ++ (lines_left cursor.place (drop cursor.done ps) ++ later_left later cursor)
 
 -- lines at hand are none yet, or those of a record, which can be read again
 abbrev pub AreKnownOf : List (ℕ × Label) → Record → Type 0
@@ -62,9 +131,17 @@ pub record IsPlaced (ps : List Numbered) (cursor : Cursor) : Type 0 where
   -- records whose lines are written can be read
   pub shallow : EachOf IsShallowPut (take cursor.done ps)
 
+-- a row more that comes behind the lines
+abbrev pub GoesOnLater : Cursor → Cursor → Type 0
+GoesOnLater old new = new ≡ record old { links = new.links; soughts = new.soughts; spans = new.spans }
+
+-- what comes behind the lines stays as far as it was
+abbrev pub StaysLater : Cursor → Cursor → Type 0
+StaysLater old new = (new.links ≡ old.links) × (new.soughts ≡ old.soughts) × (new.spans ≡ old.spans)
+
 -- one line more of the record whose lines are at hand: it has a next one, or they are all written
 abbrev pub GoesOn : Cursor → Cursor → Type 0
-GoesOn old new = (new.rows ≡ old.rows) × (new.spans ≡ old.spans)
+GoesOn old new = (new.rows ≡ old.rows) × StaysLater old new
     × (((old.place + 1 < length old.lines.items) × (new.place ≡ old.place + 1) × (new.done ≡ old.done)
     × (new.lines.items ≡ old.lines.items))
     ⊎ ((length old.lines.items ≤ old.place + 1) × (new.place ≡ 0) × (new.done ≡ old.done + 1)

@@ -5,14 +5,15 @@ ghost use Rattle.sqlite.specs.State.{HasCleanDisk};
 ghost use Rattle.sqlite.specs.Held.{state};
 ghost use Rattle.store_tables.specs.Calls.{Settled};
 ghost use Rattle.store_tables.specs.Rows.{Rows, without_batch_row, without_lines_from};
-ghost use Rattle.store_rows.specs.Spans.{without_all_spans};
+ghost use Rattle.store_rows.specs.Links.{without_all_links};
+ghost use Rattle.store_rows.specs.Spans.{without_all_of};
 ghost use Rattle.store_rows.specs.Writing.{without_all_lines, without_record_rows};
 ghost use Rattle.staging.specs.Clearing.{LeavesEither};
 
 use record_text::RefusalKind;
 use sqlite::{Alter, Connection, Error};
-use store_rows::{remove_lines, remove_rows, remove_spans};
-use store_tables::batches;
+use store_rows::{remove_all_of, remove_lines, remove_links, remove_rows};
+use store_tables::{LinkRow, batches};
 
 /// The database failed.
 #[derive(Drop)]
@@ -38,21 +39,43 @@ impl From<RefusalKind> for Failed {
     }
 }
 
-/// Takes the spans of these numbers out of tables that have spans, in one commit.
+/// Takes the spans of these numbers and what they are looked for by out of tables that have spans, in one commit.
 #[tactic(auto, using(crate::proofs::Commits::settles_dated))]
 pub(crate) fn clear_spans<S: Alter>(conn: &mut Connection<S>, numbers: &[u32]) -> Result<(), Failed>
     requires autocommit { conn.old.in_transaction ≡ false }
     ensures done { HasCleanDisk (state S.Store conn.new) → OnOk result ((rows : Rows)
         → Settled (state S.Store conn.old) rows → rows.has_spans ≡ true
-        → Settled (state S.Store conn.new) (without_all_spans numbers.now rows)) }
+        → Settled (state S.Store conn.new) (without_all_of numbers.now rows)) }
     ensures crash { HasCleanDisk (state S.Store conn.new) → (rows : Rows) → Settled (state S.Store conn.old) rows
         → rows.has_spans ≡ true
-        → LeavesEither (state S.Store conn.new) rows (without_all_spans numbers.now rows) }
+        → LeavesEither (state S.Store conn.new) rows (without_all_of numbers.now rows) }
     ensures clean { HasCleanDisk (state S.Store conn.new) → HasCleanDisk (state S.Store conn.old) }
     ensures ended { conn.new.in_transaction ≡ false }
 {
     let mut tx = conn.transaction();
-    remove_spans(&mut tx, numbers)?;
+    remove_all_of(&mut tx, numbers)?;
+    tx.commit()?;
+    Ok(())
+}
+
+/// Takes these links out of tables that have spans, in one commit.
+#[tactic(auto, using(crate::proofs::Commits::settles_dated))]
+pub(crate) fn clear_links<S: Alter>(
+    conn: &mut Connection<S>,
+    links: &[LinkRow],
+) -> Result<(), Failed>
+    requires autocommit { conn.old.in_transaction ≡ false }
+    ensures done { HasCleanDisk (state S.Store conn.new) → OnOk result ((rows : Rows)
+        → Settled (state S.Store conn.old) rows → rows.has_spans ≡ true
+        → Settled (state S.Store conn.new) (without_all_links links.now rows)) }
+    ensures crash { HasCleanDisk (state S.Store conn.new) → (rows : Rows) → Settled (state S.Store conn.old) rows
+        → rows.has_spans ≡ true
+        → LeavesEither (state S.Store conn.new) rows (without_all_links links.now rows) }
+    ensures clean { HasCleanDisk (state S.Store conn.new) → HasCleanDisk (state S.Store conn.old) }
+    ensures ended { conn.new.in_transaction ≡ false }
+{
+    let mut tx = conn.transaction();
+    remove_links(&mut tx, links)?;
     tx.commit()?;
     Ok(())
 }

@@ -4,6 +4,10 @@
 mod clearing;
 mod cursor;
 mod dated;
+mod finding;
+mod later;
+mod linked;
+mod looked_for;
 mod opened;
 mod progress;
 mod removing;

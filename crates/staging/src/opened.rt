@@ -3,12 +3,14 @@
 ghost use Rattle.std.specs.Prelude.{◌≡◌, ◌↔◌, ◌∷◌, ◌++◌, [], ℕ, IfOk, OnOk, false};
 ghost use Rattle.store_rows.specs.Spans.{AreDrawn, Drawn};
 ghost use Rattle.staged_rows.specs.Staging.{numbers_of, rows_of_import};
+ghost use Rattle.staging.specs.Opened.{links_written};
 
 use crate::cursor::Cursor;
-use crate::dated::{Dated, spans_of_puts};
+use crate::later::{Later, later_of_puts};
 use archive_state::{Changes, Numbered};
 use std::alloc::{AllocError, Global};
 use std::marker::Model;
+use store_tables::LinkRow;
 
 /// An import that is open: its batch, what it changes, and how far its rows are written.
 ///
@@ -19,15 +21,15 @@ pub struct OpenImport {
     pub(crate) changes: Changes,
     /// The numbers that it puts, so that taking it out again needs no memory.
     pub(crate) numbers: Vec<u32>,
-    /// The spans of the records that it puts, of those that have a date.
-    pub(crate) spans: Vec<Dated>,
+    /// The rows that come behind the lines of the records that it puts.
+    pub(crate) later: Later,
     pub(crate) cursor: Cursor,
 }
 
 impl Model for OpenImport {
     ghost use Rattle.std.specs.Prelude.{◌≡◌};
     ghost use Rattle.staged_rows.specs.Staging.{numbers_of};
-    ghost use Rattle.staging.specs.Opened.{AreDated, Import, IsPlaced, left_of};
+    ghost use Rattle.staging.specs.Opened.{AreLater, Import, IsPlaced, left_of};
     ghost use Rattle.std.specs.Coded.{codes};
     ghost use Rattle.stored_lines.specs.Line.{lines_code, value_code};
 
@@ -38,11 +40,11 @@ impl Model for OpenImport {
     ghost view = { λ a. record {
       batch = a.batch;
       changes = a.changes;
-      left = left_of a.batch a.changes.puts a.spans.items a.cursor;
+      left = left_of a.batch a.changes.puts a.later a.cursor;
     } };
 
     ghost invariant = { λ a. (a.numbers.items ≡ numbers_of a.changes.puts) × IsPlaced a.changes.puts a.cursor
-        × AreDated a.changes.puts a.spans.items };
+        × AreLater a.changes.puts a.later };
 }
 
 impl OpenImport {
@@ -52,12 +54,12 @@ impl OpenImport {
             × (i ≡ record { batch = batch; changes = changes; left = rows_of_import batch changes.puts drawn })) }
     {
         let numbers = numbers_of(alloc, &changes.puts)?;
-        let spans = spans_of_puts(alloc, &changes.puts)?;
+        let later = later_of_puts(alloc, &changes.puts)?;
         Ok(OpenImport {
             batch,
             changes,
             numbers,
-            spans,
+            later,
             cursor: Cursor::new(alloc),
         })
     }
@@ -83,11 +85,19 @@ impl OpenImport {
         &self.numbers
     }
 
+    /// The links of the records that it puts, of those that are written.
+    pub fn links(&self) -> &[LinkRow]
+        ensures { result.now ≡ links_written self.now }
+    {
+        let all = self.later.links.as_slice();
+        &all[..self.cursor.links.min(all.len())]
+    }
+
     /// Whether rows are left to be written.
     pub fn has_more(&self) -> bool
         ensures { (result ≡ false) ↔ (self.now.left ≡ []) }
     {
-        self.cursor.has_more(&self.changes.puts, &self.spans)
+        self.cursor.has_more(&self.changes.puts, &self.later)
     }
 }
 

@@ -4,9 +4,9 @@ ghost use Rattle.std.specs.Prelude.{◌≡◌, ◌+◌, ◌-◌, ◌^◌, ℕ, I
 ghost use Rattle.records.specs.Stored.{stored};
 ghost use Rattle.store_rows.specs.Spans.{AreDrawn, Drawn};
 ghost use Rattle.staged_rows.specs.Staging.{rows_of_import};
-ghost use Rattle.staging.specs.Opened.{AreDated};
+ghost use Rattle.staging.specs.Opened.{AreLater};
 
-use crate::dated::Dated;
+use crate::later::Later;
 use crate::opened::OpenImport;
 use crate::writing::STAGE;
 use archive_state::Numbered;
@@ -48,7 +48,7 @@ impl RowCount {
     {
         Ok(RowCount {
             written: 0,
-            all: count_rows(alloc, &import.changes.puts, &import.spans)?,
+            all: count_rows(alloc, &import.changes.puts, &import.later)?,
         })
     }
 
@@ -62,10 +62,10 @@ impl RowCount {
     }
 }
 
-/// How many rows the import of these records has: one for each record, one for each of its lines, and one for each
-/// span.
-fn count_rows(alloc: Global, puts: &[Numbered], spans: &[Dated]) -> Result<usize, AllocError>
-    requires dated { AreDated puts.now spans.now }
+/// How many rows the import of these records has: one for each record, one for each of its lines, and those that come
+/// behind the lines.
+fn count_rows(alloc: Global, puts: &[Numbered], later: &Later) -> Result<usize, AllocError>
+    requires later { AreLater puts.now later.now }
     ensures { IfOk result (λ n. (batch : ℕ) (drawn : Drawn) → AreDrawn puts.now drawn
         → n ≡ min (length (rows_of_import batch puts.now drawn)) (2 ^ 64 - 1)) }
 {
@@ -73,7 +73,18 @@ fn count_rows(alloc: Global, puts: &[Numbered], spans: &[Dated]) -> Result<usize
     'puts: for put in puts {
         count = count.saturating_add(count_lines(alloc, &put.record)?);
     }
-    Ok(count.saturating_add(spans.len()))
+    Ok(count_later(count, later))
+}
+
+/// A count, and as many more as there are rows that come behind the lines.
+fn count_later(count: usize, later: &Later) -> usize
+    ensures { result ≡ min (count + (length later.now.links.items
+        + (length later.now.soughts.items + length later.now.spans.items))) (2 ^ 64 - 1) }
+{
+    count
+        .saturating_add(later.links.len())
+        .saturating_add(later.soughts.len())
+        .saturating_add(later.spans.len())
 }
 
 /// How many lines a record is kept as.

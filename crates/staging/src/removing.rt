@@ -7,27 +7,39 @@ ghost use Rattle.sqlite.specs.Held.{state};
 ghost use Rattle.record_text.specs.declared.refusal.RefusalKind.TheVariants.{OutOfMemory, Storage};
 ghost use Rattle.store_tables.specs.Batches as rows_of;
 ghost use Rattle.store_tables.specs.Calls.{LeavesOnly, Settled};
-ghost use Rattle.store_tables.specs.Looking.{IsFailure, Looks};
+ghost use Rattle.store_tables.specs.Looking.{IsFailure};
 ghost use Rattle.store_tables.specs.Rows.{Rows};
 ghost use Rattle.store_rows.specs.Meaning.{is_closed};
-ghost use Rattle.store_rows.specs.Spans.{without_all_spans};
+ghost use Rattle.store_rows.specs.Links.{without_all_links};
+ghost use Rattle.store_rows.specs.Spans.{without_all_of};
 ghost use Rattle.store_rows.specs.Writing.{without_all_lines, without_record_rows, without_records};
-ghost use Rattle.staged_rows.specs.Removing.{AreAside, without_batch};
+ghost use Rattle.staged_rows.specs.Removing.{
+  AreAside,
+  AreLinksAside,
+  AreOf,
+  links_from,
+  without_batch,
+  without_later,
+};
 ghost use Rattle.staged_rows.specs.Staging.{AreAllClosed};
 ghost use Rattle.staging.specs.Clearing.{Clears, IsCleared, IsThinned, LeavesSeen};
 ghost use Rattle.staging.specs.Opening.{LeavesOne};
 
 use crate::clearing::{
-    Failed, clear_batch, clear_lines, clear_lines_from, clear_rows, clear_spans,
+    Failed, clear_batch, clear_lines, clear_lines_from, clear_links, clear_rows, clear_spans,
 };
+use crate::finding::{find_links, find_numbers};
 use record_text::RefusalKind;
 use sqlite::{Alter, Connection};
 use std::alloc::Global;
-use store_tables::batches::{count_lines, numbers_in};
-use store_tables::read_batches;
+use store_tables::batches::count_lines;
+use store_tables::{LinkRow, read_batches};
 
 /// How many rows a commit takes out, at most.
 const ROOM: usize = 256;
+
+/// Of so many numbers a commit takes out what goes first, since each may have a span and be looked for.
+const HALF: usize = 128;
 
 /// Takes every open batch out with its rows, in commits of at most 256 rows, of tables that have spans or none. Where
 /// all are closed, nothing is written.
@@ -78,7 +90,8 @@ fn remove_found<S: Alter>(
     requires autocommit { conn.old.in_transaction ≡ false }
     ensures gone { HasCleanDisk (state S.Store conn.new)
         → OnOk result ((rows : Rows) → Settled (state S.Store conn.old) rows → rows.has_spans ≡ has_spans
-        → Settled (state S.Store conn.new) (without_batch batch (rows_of.numbers_in batch rows) rows)) }
+        → Settled (state S.Store conn.new) (without_batch batch (rows_of.numbers_in batch rows)
+        (links_from (rows_of.numbers_in batch rows) rows) rows)) }
     ensures crash { HasCleanDisk (state S.Store conn.new) → (rows : Rows) → Settled (state S.Store conn.old) rows
         → rows.has_spans ≡ has_spans → is_closed batch rows.batches ≡ false
         → LeavesSeen (state S.Store conn.new) rows }
@@ -89,31 +102,13 @@ fn remove_found<S: Alter>(
     ensures ended { conn.new.in_transaction ≡ false }
 {
     let numbers = find_numbers(alloc, conn, batch)?;
-    remove_batch(conn, has_spans, batch, &numbers)
+    let links = find_links(alloc, conn, has_spans, &numbers)?;
+    remove_batch(conn, has_spans, batch, &numbers, &links)
 }
 
-/// The numbers of a batch, in order. 1: memory was refused. 80: any other error.
-fn find_numbers<S: Alter>(
-    alloc: Global,
-    conn: &mut Connection<S>,
-    batch: u32,
-) -> Result<Vec<u32>, RefusalKind>
-    requires autocommit { conn.old.in_transaction ≡ false }
-    ensures looks { Looks (λ rows items. items.items ≡ rows_of.numbers_in batch rows) (state S.Store conn.old)
-        (state S.Store conn.new) result }
-    ensures failure { IfErr result IsFailure }
-    ensures ended { conn.new.in_transaction ≡ false }
-{
-    match numbers_in(alloc, conn, batch) {
-        Ok(numbers) => Ok(numbers),
-        Err(RefusalKind::OutOfMemory) => Err(RefusalKind::OutOfMemory),
-        Err(_) => Err(RefusalKind::Storage),
-    }
-}
-
-/// Takes a batch out, of tables that have spans or none: the spans of its numbers, then their lines, then their rows in
-/// `record`, then its own row, in commits of at most 256 rows. Of a batch that is open nothing is seen, whatever a stop
-/// leaves of it.
+/// Takes a batch out, of tables that have spans or none: the spans of its numbers and what they are looked for by, then
+/// its links, then the lines of its numbers, then their rows in `record`, then its own row, in commits of at most 256
+/// rows. Of a batch that is open nothing is seen, whatever a stop leaves of it.
 ///
 /// 80: the database failed, and some of the rows may be left. Takes no memory outside of it.
 pub fn remove_batch<S: Alter>(
@@ -121,19 +116,20 @@ pub fn remove_batch<S: Alter>(
     has_spans: bool,
     batch: u32,
     numbers: &[u32],
+    links: &[LinkRow],
 ) -> Result<(), RefusalKind>
     requires autocommit { conn.old.in_transaction ≡ false }
     ensures gone { HasCleanDisk (state S.Store conn.new)
         → OnOk result ((rows : Rows) → Settled (state S.Store conn.old) rows → rows.has_spans ≡ has_spans
-        → Settled (state S.Store conn.new) (without_batch batch numbers.now rows)) }
+        → Settled (state S.Store conn.new) (without_batch batch numbers.now links.now rows)) }
     ensures crash { HasCleanDisk (state S.Store conn.new) → (rows : Rows) → Settled (state S.Store conn.old) rows
         → rows.has_spans ≡ has_spans → is_closed batch rows.batches ≡ false → AreAside numbers.now rows
-        → LeavesSeen (state S.Store conn.new) rows }
+        → AreOf numbers.now links.now → LeavesSeen (state S.Store conn.new) rows }
     ensures refused { IfErr result (λ kind. kind ≡ Storage) }
     ensures clean { HasCleanDisk (state S.Store conn.new) → HasCleanDisk (state S.Store conn.old) }
     ensures ended { conn.new.in_transaction ≡ false }
 {
-    match take_out(conn, has_spans, batch, numbers) {
+    match take_out(conn, has_spans, batch, numbers, links) {
         Ok(()) => Ok(()),
         Err(_) => Err(RefusalKind::Storage),
     }
@@ -145,50 +141,73 @@ fn take_out<S: Alter>(
     has_spans: bool,
     batch: u32,
     numbers: &[u32],
+    links: &[LinkRow],
 ) -> Result<(), Failed>
     requires autocommit { conn.old.in_transaction ≡ false }
     ensures gone { HasCleanDisk (state S.Store conn.new)
         → OnOk result ((rows : Rows) → Settled (state S.Store conn.old) rows → rows.has_spans ≡ has_spans
-        → Settled (state S.Store conn.new) (without_batch batch numbers.now rows)) }
+        → Settled (state S.Store conn.new) (without_batch batch numbers.now links.now rows)) }
     ensures crash { HasCleanDisk (state S.Store conn.new) → (rows : Rows) → Settled (state S.Store conn.old) rows
         → rows.has_spans ≡ has_spans → is_closed batch rows.batches ≡ false → AreAside numbers.now rows
-        → LeavesSeen (state S.Store conn.new) rows }
+        → AreOf numbers.now links.now → LeavesSeen (state S.Store conn.new) rows }
     ensures clean { HasCleanDisk (state S.Store conn.new) → HasCleanDisk (state S.Store conn.old) }
     ensures ended { conn.new.in_transaction ≡ false }
 {
-    take_spans_if(conn, has_spans, numbers)?;
+    take_later_if(conn, has_spans, numbers, links)?;
     take_rows_out(conn, numbers)?;
     clear_batch(conn, batch)
 }
 
-/// Takes the spans of these numbers out, where the tables have spans.
-fn take_spans_if<S: Alter>(
+/// Takes the spans of these numbers out, what they are looked for by and these links, where the tables have spans.
+fn take_later_if<S: Alter>(
     conn: &mut Connection<S>,
     has_spans: bool,
     numbers: &[u32],
+    links: &[LinkRow],
 ) -> Result<(), Failed>
     requires autocommit { conn.old.in_transaction ≡ false }
     ensures done { HasCleanDisk (state S.Store conn.new)
         → OnOk result ((rows : Rows) → Settled (state S.Store conn.old) rows → rows.has_spans ≡ has_spans
-        → Settled (state S.Store conn.new) (without_all_spans numbers.now rows)) }
+        → Settled (state S.Store conn.new) (without_later numbers.now links.now rows)) }
     ensures crash { HasCleanDisk (state S.Store conn.new) → (rows : Rows) → Settled (state S.Store conn.old) rows
-        → rows.has_spans ≡ has_spans → AreAside numbers.now rows → LeavesSeen (state S.Store conn.new) rows }
+        → rows.has_spans ≡ has_spans → AreAside numbers.now rows → AreOf numbers.now links.now
+        → LeavesSeen (state S.Store conn.new) rows }
     ensures clean { HasCleanDisk (state S.Store conn.new) → HasCleanDisk (state S.Store conn.old) }
     ensures ended { conn.new.in_transaction ≡ false }
 {
     if has_spans {
-        take_spans(conn, numbers)
+        take_later(conn, numbers, links)
     } else {
         Ok(())
     }
 }
 
-/// Takes the spans of these numbers out of tables that have spans.
+/// The same of tables that have spans.
+fn take_later<S: Alter>(
+    conn: &mut Connection<S>,
+    numbers: &[u32],
+    links: &[LinkRow],
+) -> Result<(), Failed>
+    requires autocommit { conn.old.in_transaction ≡ false }
+    ensures done { HasCleanDisk (state S.Store conn.new)
+        → OnOk result ((rows : Rows) → Settled (state S.Store conn.old) rows → rows.has_spans ≡ true
+        → Settled (state S.Store conn.new) (without_later numbers.now links.now rows)) }
+    ensures crash { HasCleanDisk (state S.Store conn.new) → (rows : Rows) → Settled (state S.Store conn.old) rows
+        → rows.has_spans ≡ true → AreAside numbers.now rows → AreOf numbers.now links.now
+        → LeavesSeen (state S.Store conn.new) rows }
+    ensures clean { HasCleanDisk (state S.Store conn.new) → HasCleanDisk (state S.Store conn.old) }
+    ensures ended { conn.new.in_transaction ≡ false }
+{
+    take_spans(conn, numbers)?;
+    take_links(conn, links)
+}
+
+/// Takes the spans of these numbers, and what they are looked for by, out of tables that have spans.
 fn take_spans<S: Alter>(conn: &mut Connection<S>, numbers: &[u32]) -> Result<(), Failed>
     requires autocommit { conn.old.in_transaction ≡ false }
     ensures done { HasCleanDisk (state S.Store conn.new)
         → OnOk result ((rows : Rows) → Settled (state S.Store conn.old) rows → rows.has_spans ≡ true
-        → Settled (state S.Store conn.new) (without_all_spans numbers.now rows)) }
+        → Settled (state S.Store conn.new) (without_all_of numbers.now rows)) }
     ensures crash { HasCleanDisk (state S.Store conn.new) → (rows : Rows) → Settled (state S.Store conn.old) rows
         → rows.has_spans ≡ true → AreAside numbers.now rows → LeavesSeen (state S.Store conn.new) rows }
     ensures clean { HasCleanDisk (state S.Store conn.new) → HasCleanDisk (state S.Store conn.old) }
@@ -196,8 +215,29 @@ fn take_spans<S: Alter>(conn: &mut Connection<S>, numbers: &[u32]) -> Result<(),
 {
     let mut rest = numbers;
     'spans: while !rest.is_empty() {
-        let (part, more) = rest.split_at(rest.len().min(ROOM));
+        let (part, more) = rest.split_at(rest.len().min(HALF));
         clear_spans(conn, part)?;
+        rest = more;
+    }
+    Ok(())
+}
+
+/// Takes these links out of tables that have spans.
+fn take_links<S: Alter>(conn: &mut Connection<S>, links: &[LinkRow]) -> Result<(), Failed>
+    requires autocommit { conn.old.in_transaction ≡ false }
+    ensures done { HasCleanDisk (state S.Store conn.new)
+        → OnOk result ((rows : Rows) → Settled (state S.Store conn.old) rows → rows.has_spans ≡ true
+        → Settled (state S.Store conn.new) (without_all_links links.now rows)) }
+    ensures crash { HasCleanDisk (state S.Store conn.new) → (rows : Rows) → Settled (state S.Store conn.old) rows
+        → rows.has_spans ≡ true → AreLinksAside links.now rows
+        → LeavesSeen (state S.Store conn.new) rows }
+    ensures clean { HasCleanDisk (state S.Store conn.new) → HasCleanDisk (state S.Store conn.old) }
+    ensures ended { conn.new.in_transaction ≡ false }
+{
+    let mut rest = links;
+    'links: while !rest.is_empty() {
+        let (part, more) = rest.split_at(rest.len().min(ROOM));
+        clear_links(conn, part)?;
         rest = more;
     }
     Ok(())

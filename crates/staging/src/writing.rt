@@ -1,7 +1,8 @@
 //! The rows of an import, written inside a transaction.
 
-ghost use Rattle.std.specs.Prelude.{◌≡◌, ◌⊎◌, ◌<◌, [], length, map, take, drop, OnOk, IfErr};
+ghost use Rattle.std.specs.Prelude.{◌≡◌, ◌⊎◌, ◌<◌, ◌+◌, [], length, map, take, drop, OnOk, IfErr};
 ghost use Rattle.sqlite.specs.Held.{state};
+ghost use Rattle.sqlite.specs.State.{HasCleanDisk};
 ghost use Rattle.record_text.specs.declared.refusal.RefusalKind.TheVariants.{OutOfMemory, Storage};
 ghost use Rattle.record_shapes.specs.Lists.{EachOf};
 ghost use Rattle.records.specs.Shallow.{IsShallow};
@@ -10,11 +11,21 @@ ghost use Rattle.store_tables.specs.Calls.{LeavesAsBefore, Writes, WritesDated};
 ghost use Rattle.store_tables.specs.Rows.{with_closed, with_next};
 ghost use Rattle.store_rows.specs.Shallow.{IsShallowPut};
 ghost use Rattle.store_rows.specs.Writing.{with_kept_written};
-ghost use Rattle.staged_rows.specs.Staging.{lines_from, with_published, with_staged};
-ghost use Rattle.staging.specs.Opened.{AreKnownOf, IsPlaced, left_of, row_of_span};
+ghost use Rattle.staged_rows.specs.Staging.{a_link, lines_from, with_published, with_staged};
+ghost use Rattle.staging.specs.Opened.{
+  AreKnownOf,
+  FollowsStaged,
+  GoesOnLater,
+  IsPlaced,
+  later_left,
+  left_of,
+  row_of_sought_row,
+  row_of_span,
+};
 
 use crate::cursor::Cursor;
 use crate::dated::Dated;
+use crate::later::Later;
 use crate::opened::OpenImport;
 use archive_state::{Kept, Numbered};
 use record_text::RefusalKind;
@@ -22,7 +33,7 @@ use records::{Record, lines_of};
 use sqlite::{Alter, Error, Transaction};
 use std::alloc::{AllocError, Global};
 use store_rows::{Unwritten, kind_of, kind_word, write_kept};
-use store_tables::{batches, rows, spans};
+use store_tables::{LinkRow, SoughtRow, batches, links, rows, soughts, spans};
 use stored_lines::StoredLine;
 
 /// How many rows a stage writes.
@@ -38,21 +49,22 @@ pub fn stage_rows<S: Alter>(
     import: &mut OpenImport,
 ) -> Result<(), RefusalKind>
     ensures same_reference { tx.new.conn.ghost_name ≡ tx.old.conn.ghost_name }
-    ensures ok { WritesDated (state S.Store tx.old.conn.now) (state S.Store tx.new.conn.now)
-        result (with_staged (take 256 import.old.left)) }
+    ensures ok { HasCleanDisk (state S.Store tx.new.conn.now) → OnOk result
+        (FollowsStaged (state S.Store tx.old.conn.now) (state S.Store tx.new.conn.now) (take 256 import.old.left)) }
     ensures left { OnOk result (import.new ≡ record import.old { left = drop 256 import.old.left }) }
     ensures kept { IfErr result (λ _. import.new ≡ import.old) }
     ensures survives { LeavesAsBefore (state S.Store tx.old.conn.now) (state S.Store tx.new.conn.now) }
     ensures refused { IfErr result (λ kind. (kind ≡ OutOfMemory) ⊎ (kind ≡ Storage)) }
 {
     let (rows, done, place) = (import.cursor.rows, import.cursor.done, import.cursor.place);
+    let (links, soughts) = (import.cursor.links, import.cursor.soughts);
     let spans = import.cursor.spans;
     let written = write_rows(
         alloc,
         tx,
         import.batch,
         &import.changes.puts,
-        &import.spans,
+        &import.later,
         &mut import.cursor,
     );
     match written {
@@ -63,6 +75,8 @@ pub fn stage_rows<S: Alter>(
                 done,
                 place,
                 lines: Vec::new(alloc),
+                links,
+                soughts,
                 spans,
             };
             Err(kind_of(why))
@@ -105,20 +119,21 @@ fn write_rows<S: Alter>(
     tx: &mut Transaction<'_, S>,
     batch: u32,
     puts: &[Numbered],
-    spans: &[Dated],
+    later: &Later,
     cursor: &mut Cursor,
 ) -> Result<(), Unwritten>
     requires placed { IsPlaced puts.now cursor.old }
     ensures same_reference { tx.new.conn.ghost_name ≡ tx.old.conn.ghost_name }
-    ensures ok { WritesDated (state S.Store tx.old.conn.now) (state S.Store tx.new.conn.now)
-        result (with_staged (take 256 (left_of batch puts.now spans.now cursor.old))) }
-    ensures left { OnOk result (left_of batch puts.now spans.now cursor.new
-        ≡ drop 256 (left_of batch puts.now spans.now cursor.old)) }
+    ensures ok { HasCleanDisk (state S.Store tx.new.conn.now) → OnOk result
+        (FollowsStaged (state S.Store tx.old.conn.now) (state S.Store tx.new.conn.now)
+        (take 256 (left_of batch puts.now later.now cursor.old))) }
+    ensures left { OnOk result (left_of batch puts.now later.now cursor.new
+        ≡ drop 256 (left_of batch puts.now later.now cursor.old)) }
     ensures placed { OnOk result (IsPlaced puts.now cursor.new) }
     ensures survives { LeavesAsBefore (state S.Store tx.old.conn.now) (state S.Store tx.new.conn.now) }
 {
     'rows: for row in 0..STAGE {
-        write_next(alloc, tx, batch, puts, spans, cursor)?;
+        write_next(alloc, tx, batch, puts, later, cursor)?;
     }
     Ok(())
 }
@@ -129,15 +144,16 @@ fn write_next<S: Alter>(
     tx: &mut Transaction<'_, S>,
     batch: u32,
     puts: &[Numbered],
-    spans: &[Dated],
+    later: &Later,
     cursor: &mut Cursor,
 ) -> Result<(), Unwritten>
     requires placed { IsPlaced puts.now cursor.old }
     ensures same_reference { tx.new.conn.ghost_name ≡ tx.old.conn.ghost_name }
-    ensures ok { WritesDated (state S.Store tx.old.conn.now) (state S.Store tx.new.conn.now)
-        result (with_staged (take 1 (left_of batch puts.now spans.now cursor.old))) }
-    ensures left { OnOk result (left_of batch puts.now spans.now cursor.new
-        ≡ drop 1 (left_of batch puts.now spans.now cursor.old)) }
+    ensures ok { HasCleanDisk (state S.Store tx.new.conn.now) → OnOk result
+        (FollowsStaged (state S.Store tx.old.conn.now) (state S.Store tx.new.conn.now)
+        (take 1 (left_of batch puts.now later.now cursor.old))) }
+    ensures left { OnOk result (left_of batch puts.now later.now cursor.new
+        ≡ drop 1 (left_of batch puts.now later.now cursor.old)) }
     ensures placed { OnOk result (IsPlaced puts.now cursor.new) }
     ensures survives { LeavesAsBefore (state S.Store tx.old.conn.now) (state S.Store tx.new.conn.now) }
 {
@@ -147,11 +163,76 @@ fn write_next<S: Alter>(
         return Ok(());
     }
     let Some(put) = puts.get(cursor.done) else {
-        write_span(tx, spans, cursor)?;
+        write_later(tx, later, cursor)?;
         return Ok(());
     };
     write_line(alloc, tx, put, cursor.place, &mut cursor.lines)?;
     cursor.go_on()?;
+    Ok(())
+}
+
+/// Writes the next row that comes behind the lines, where one is left.
+fn write_later<S: Alter>(
+    tx: &mut Transaction<'_, S>,
+    later: &Later,
+    cursor: &mut Cursor,
+) -> Result<(), Error>
+    ensures same_reference { tx.new.conn.ghost_name ≡ tx.old.conn.ghost_name }
+    ensures ok { HasCleanDisk (state S.Store tx.new.conn.now) → OnOk result
+        (FollowsStaged (state S.Store tx.old.conn.now) (state S.Store tx.new.conn.now)
+        (take 1 (later_left later.now cursor.old))) }
+    ensures left { OnOk result (later_left later.now cursor.new ≡ drop 1 (later_left later.now cursor.old)) }
+    ensures others { OnOk result (GoesOnLater cursor.old cursor.new) }
+    ensures survives { LeavesAsBefore (state S.Store tx.old.conn.now) (state S.Store tx.new.conn.now) }
+{
+    let links = later.links.as_slice();
+    if cursor.links < links.len() {
+        return write_link(tx, links, cursor);
+    }
+    let soughts = later.soughts.as_slice();
+    if cursor.soughts < soughts.len() {
+        return write_sought(tx, soughts, cursor);
+    }
+    let spans = later.spans.as_slice();
+    write_span(tx, spans, cursor)
+}
+
+/// Writes the next link.
+fn write_link<S: Alter>(
+    tx: &mut Transaction<'_, S>,
+    links: &[LinkRow],
+    cursor: &mut Cursor,
+) -> Result<(), Error>
+    requires there { cursor.old.links < length links.now }
+    ensures same_reference { tx.new.conn.ghost_name ≡ tx.old.conn.ghost_name }
+    ensures ok { HasCleanDisk (state S.Store tx.new.conn.now) → OnOk result
+        (FollowsStaged (state S.Store tx.old.conn.now) (state S.Store tx.new.conn.now)
+        (take 1 (map a_link (drop cursor.old.links links.now)))) }
+    ensures next { OnOk result (cursor.new ≡ record cursor.old { links = cursor.old.links + 1 }) }
+    ensures survives { LeavesAsBefore (state S.Store tx.old.conn.now) (state S.Store tx.new.conn.now) }
+{
+    let link = &links[cursor.links];
+    links::insert_link(tx, link.target, link.number)?;
+    cursor.links += 1;
+    Ok(())
+}
+
+/// Writes what the next record is looked for by.
+fn write_sought<S: Alter>(
+    tx: &mut Transaction<'_, S>,
+    soughts: &[SoughtRow],
+    cursor: &mut Cursor,
+) -> Result<(), Error>
+    requires there { cursor.old.soughts < length soughts.now }
+    ensures same_reference { tx.new.conn.ghost_name ≡ tx.old.conn.ghost_name }
+    ensures ok { WritesDated (state S.Store tx.old.conn.now) (state S.Store tx.new.conn.now)
+        result (with_staged (take 1 (map row_of_sought_row (drop cursor.old.soughts soughts.now)))) }
+    ensures next { OnOk result (cursor.new ≡ record cursor.old { soughts = cursor.old.soughts + 1 }) }
+    ensures survives { LeavesAsBefore (state S.Store tx.old.conn.now) (state S.Store tx.new.conn.now) }
+{
+    let sought = &soughts[cursor.soughts];
+    soughts::insert_sought(tx, sought.number, &sought.text, sought.target)?;
+    cursor.soughts += 1;
     Ok(())
 }
 

@@ -37,7 +37,9 @@ use Rattle.archive_state.specs.Sound.{IsSound}
 use Rattle.record_text.specs.declared.refusal.RefusalKind.{RefusalKind}
 use Rattle.record_text.specs.declared.refusal.RefusalKind.TheVariants.{BadStored, Storage}
 use Rattle.records_anew.specs.Anew.{IsAnew, IsSoundOld, OldContent}
+use Rattle.store_rows.specs.Links.{KeepsLinks}
 use Rattle.store_rows.specs.Meaning.{Means, is_closed}
+use Rattle.store_rows.specs.Sought.{KeepsSought}
 use Rattle.store_rows.specs.Spans.{IsDated, KeepsSpans}
 use Rattle.store_tables.specs.Calls.{Good, LeavesOnly, Settled}
 use Rattle.store_tables.specs.Looking.{IsFailure, Looks}
@@ -240,7 +242,11 @@ not_both_versions n one two = omega (arith, one, two)
 
 module _ (means : (rows other : Rows) (c : Content) → IsSeenAs rows other → Means rows c → Means other c)
     (spans : (rows other : Rows) (c : Content) → IsSeenAs rows other → Means rows c → KeepsSpans rows c
-    → KeepsSpans other c) where
+    → KeepsSpans other c)
+    (links : (rows other : Rows) (c : Content) → IsSeenAs rows other → Means rows c → KeepsLinks rows c
+    → KeepsLinks other c)
+    (soughts : (rows other : Rows) (c : Content) → IsSeenAs rows other → Means rows c → KeepsSought rows c
+    → KeepsSought other c) where
   seen_keeps : (society : List ℕ) (c : Content) (rows other : Rows) → IsSeenAs rows other → Keeps society c rows
       → Keeps society c other
   seen_keeps society c rows other seen keeps = record {
@@ -253,6 +259,8 @@ module _ (means : (rows other : Rows) (c : Content) → IsSeenAs rows other → 
       has_spans = seen.has_spans ∙ keeps.dated.has_spans;
     };
     spans = spans rows other c seen keeps.means keeps.spans;
+    links = links rows other c seen keeps.means keeps.links;
+    soughts = soughts rows other c seen keeps.means keeps.soughts;
   }
 
   module _ (old mid new : State) (r : Result (Unit {0}) RefusalKind) (still : Stays old false mid)
@@ -407,6 +415,8 @@ module _ (alike : (rows other : Rows) (before : OldContent) → AreSeenAlike row
         society_is = is.society ∙ keeps_old.society_is;
         dated = is.dated;
         spans = is.spans;
+        links = is.links;
+        soughts = is.soughts;
       }
 
       none_open_anew : (after : Rows) → IsRenewed cleared.0 c after → list_any is_open after.batches ≡ false

@@ -52,7 +52,8 @@ module _ (old : State) where
     failed : (society : List ℕ) (c : Content) → HasArchive society c old → IsFailure kind
     failed society c has = elim (judges.bad has.0 has.1) [
       | inl failure ↦ failure
-      | inr none ↦ absurd (none.1 c has.2.means has.2.shallow has.2.sound has.2.dated.has_spans has.2.spans)
+      | inr none ↦ absurd (none.1 c has.2.means has.2.shallow has.2.sound has.2.dated.has_spans
+          (record { spans = has.2.spans; links = has.2.links; soughts = has.2.soughts }))
     ]
 
     pub refused_reads : (mid new : State) → KeepsTables old mid

@@ -41,7 +41,17 @@ use Rattle.store_rows.specs.Writing.{
 use Rattle.store_rows.proofs.Meaning.{puts_only, removed_only}
 use Rattle.store_rows.proofs.Slips.{made_only}
 use Rattle.store_rows.proofs.SpansAside.{dated_only}
-use Rattle.staged_rows.specs.Staging.{StagedRow, a_line, a_record, a_span, with_published, with_staged, with_staged_row}
+use Rattle.staged_rows.specs.Staging.{
+  StagedRow,
+  a_line,
+  a_link,
+  a_record,
+  a_sought,
+  a_span,
+  with_published,
+  with_staged,
+  with_staged_row,
+}
 use Rattle.staging.specs.Opened.{Import}
 use Rattle.import_commits.specs.Commits.{IsBegun}
 use Rattle.store.specs.Calls.{StaysClosed}
@@ -78,6 +88,8 @@ staged_batches : (rs : List StagedRow) (rows : Rows) → (with_staged rs rows).b
 staged_batches [] rows = refl
 staged_batches (a_record r ∷ rs) rows = staged_batches rs (with_staged_row (a_record r) rows)
 staged_batches (a_line n at l ∷ rs) rows = staged_batches rs (with_staged_row (a_line n at l) rows)
+staged_batches (a_link l ∷ rs) rows = staged_batches rs (with_staged_row (a_link l) rows)
+staged_batches (a_sought n s ∷ rs) rows = staged_batches rs (with_staged_row (a_sought n s) rows)
 staged_batches (a_span n span ∷ rs) rows = staged_batches rs (with_staged_row (a_span n span) rows)
 
 -- ---- the batch of an import is closed when it is published

@@ -53,7 +53,14 @@ use Rattle.store_tables.specs.Rows.{Rows}
 use Rattle.store_rows.specs.Meaning.{AllShallow}
 use Rattle.store_rows.specs.Spans.{AreDrawn, Drawn, FollowsDrawn, with_dated_changes}
 use Rattle.store_rows.proofs.Meaning.{changes_mean}
-use Rattle.store_rows.proofs.SpansAside.{dated_means, dated_society, spans_kept, stays_dated}
+use Rattle.store_rows.proofs.SpansAside.{
+  dated_means,
+  dated_society,
+  links_kept,
+  sought_kept,
+  spans_kept,
+  stays_dated,
+}
 use Rattle.store.specs.Archives.{HasArchive, IsArchive, Keeps}
 use Rattle.store.specs.Calls.{
   AcknowledgedBy,
@@ -99,6 +106,8 @@ module _ (society : List ℕ) (c : Content) (rows : Rows) (r : Request) (changes
     society_is = dated_society changes drawn rows ∙ keeps.society_is;
     dated = stays_dated changes drawn rows keeps.dated;
     spans = spans_kept changes drawn rows c are keeps.spans;
+    links = links_kept changes drawn rows c keeps.links;
+    soughts = sought_kept changes drawn rows c keeps.soughts;
   }
 
   pub acknowledged_anew : (new : State) → IsExactFor c r changes → (AllShallow c → AllShallow (applied c changes))

@@ -46,14 +46,24 @@ use Rattle.archive_core.proofs.Serving.{request_sound}
 use Rattle.record_shapes.specs.Lists.{EachOf}
 use Rattle.store_tables.specs.Calls.{Good, LeavesOnly, Settled}
 use Rattle.store_tables.specs.Rows.{LineRow, RecordRow, Rows, with_batch}
+use Rattle.store_rows.specs.Links.{KeepsLinks}
 use Rattle.store_rows.specs.Meaning.{AllShallow, Means, is_closed}
 use Rattle.store_rows.specs.Shallow.{IsShallowPut}
+use Rattle.store_rows.specs.Sought.{KeepsSought}
 use Rattle.store_rows.specs.Spans.{AreDrawn, Drawn, IsDated, KeepsSpans}
-use Rattle.staged_rows.specs.Removing.{AreAside, IsSeenAs, without_batch}
-use Rattle.staged_rows.specs.Staging.{IsFresh, numbers_of, rows_of_import, with_published, with_staged}
-use Rattle.staging.specs.Opened.{Import}
+use Rattle.staged_rows.specs.Removing.{AreAside, AreOf, IsSeenAs, without_batch}
+use Rattle.staged_rows.specs.Staging.{
+  AreNew,
+  IsFresh,
+  numbers_of,
+  rows_of_import,
+  with_published,
+  with_staged,
+}
+use Rattle.staging.specs.Opened.{Import, links_written}
 use Rattle.staging.specs.Clearing.{LeavesSeen}
 use Rattle.import_commits.specs.Commits.{
+  AreWrittenAnew,
   IsAddition,
   IsBegun,
   IsNextBatch,
@@ -82,6 +92,12 @@ abbrev pub GoesOn : Type 0
 GoesOn = (n : ℕ) (before rows : Rows) (i : Import) → IsBegun before i rows
     → IsBegun before (record i { left = drop n i.left }) (with_staged (take n i.left) rows)
 
+abbrev pub GoesOnAnew : Type 0
+GoesOnAnew = (n : ℕ) (before rows : Rows) (i : Import) → (begun : IsBegun before i rows)
+    → AreWrittenAnew before i rows begun → AreNew (take n i.left) rows
+    → (next : IsBegun before (record i { left = drop n i.left }) (with_staged (take n i.left) rows))
+    × AreWrittenAnew before (record i { left = drop n i.left }) (with_staged (take n i.left) rows) next
+
 abbrev pub IsWhole : Type 0
 IsWhole = (before rows : Rows) (i : Import) (c : Content) → IsBegun before i rows
     → IsFresh i.batch i.changes.puts before → IsAddition c i.changes → Means before c → i.left ≡ []
@@ -93,6 +109,22 @@ IsSpanned = (before rows : Rows) (i : Import) (c : Content) → IsBegun before i
     → IsFresh i.batch i.changes.puts before → IsAddition c i.changes → i.left ≡ [] → IsDated before
     → KeepsSpans before c → IsDated (with_published i.batch i.changes rows)
     × KeepsSpans (with_published i.batch i.changes rows) (applied c i.changes)
+
+abbrev pub IsLinked : Type 0
+IsLinked = (before rows : Rows) (i : Import) (c : Content) → IsBegun before i rows
+    → IsFresh i.batch i.changes.puts before → IsAddition c i.changes → i.left ≡ [] → KeepsLinks before c
+    → KeepsLinks (with_published i.batch i.changes rows) (applied c i.changes)
+
+abbrev pub IsSoughtOut : Type 0
+IsSoughtOut = (before rows : Rows) (i : Import) (c : Content) → IsBegun before i rows
+    → IsFresh i.batch i.changes.puts before → IsAddition c i.changes → i.left ≡ [] → KeepsSought before c
+    → KeepsSought (with_published i.batch i.changes rows) (applied c i.changes)
+
+-- what each record has beside its lines when an import is published
+pub record IsPublishedWith : Type 0 where
+  pub spans : IsSpanned
+  pub links : IsLinked
+  pub soughts : IsSoughtOut
 
 abbrev pub LeavesOthers : Type 0
 LeavesOthers = (before rows : Rows) (i : Import) (c : Content) (m : ℕ) → IsBegun before i rows
@@ -110,11 +142,13 @@ abbrev pub CanBeTakenOut : Type 0
 CanBeTakenOut = (before rows : Rows) (i : Import) (c : Content) → IsBegun before i rows
     → IsFresh i.batch i.changes.puts before → IsAddition c i.changes → Means before c
     → AreAside (numbers_of i.changes.puts) rows × (is_closed i.batch rows.batches ≡ false)
+    × AreOf (numbers_of i.changes.puts) (links_written i)
 
 abbrev pub LeavesWhatWas : Type 0
-LeavesWhatWas = (before rows : Rows) (i : Import) (c : Content) → IsBegun before i rows
+LeavesWhatWas = (before rows : Rows) (i : Import) (c : Content) → (begun : IsBegun before i rows)
+    → AreWrittenAnew before i rows begun
     → IsFresh i.batch i.changes.puts before → IsAddition c i.changes → Means before c
-    → without_batch i.batch (numbers_of i.changes.puts) rows ≡ before
+    → without_batch i.batch (numbers_of i.changes.puts) (links_written i) rows ≡ before
 
 -- ---- while it is open
 still_keeps : InNoView → (society : List ℕ) (c : Content) (before rows : Rows) (i : Import) → IsBegun before i rows
@@ -211,7 +245,7 @@ module _ (seen : InNoView) (law : IsNew) (society : List ℕ) (c : Content) (row
 
   fresh_none : (batch : ℕ) → IsFresh batch changes.puts rows → IsFresh batch none.puts rows
   fresh_none batch fresh =
-      record { unused = fresh.unused; records = fresh.records; numbers = tt; lines = tt; spans = tt }
+      record { unused = fresh.unused; records = fresh.records; numbers = tt; lines = tt; spans = tt; soughts = tt }
 
   adds_none : IsAddition c none
   adds_none = record { once = tt; free = tt; removals = adds.removals; slip = adds.slip }
@@ -231,6 +265,7 @@ module _ (seen : InNoView) (law : IsNew) (society : List ℕ) (c : Content) (row
         keeps = keeps;
         fresh = fresh_of batch next;
         begun = begins batch changes drawn rows are;
+        anew = tt;
         accepted = record {
           new = none_is_kept c r changes exact anew;
           accepted = decided;
@@ -267,21 +302,25 @@ pub only_leaves : (society : List ℕ) (c : Content) (rows : Rows) (s : State) �
 only_leaves society c rows s keeps only t l = (c, refl, (rows, only t l, keeps))
 
 -- ---- a stage
-abbrev pub stage_keeps : GoesOn → (n : ℕ) (society : List ℕ) (c : Content) (r : Request) (i : Import) (rows : Rows)
-    → KeepsImport society c r i rows
+-- it goes on by rows of which no link was there
+abbrev pub stage_keeps : GoesOnAnew → (n : ℕ) (society : List ℕ) (c : Content) (r : Request) (i : Import) (rows : Rows)
+    → KeepsImport society c r i rows → AreNew (take n i.left) rows
     → KeepsImport society c r (record i { left = drop n i.left }) (with_staged (take n i.left) rows)
-stage_keeps law n society c r i rows has = record {
-  before = has.before;
-  keeps = has.keeps;
-  fresh = has.fresh;
-  begun = law n has.before rows i has.begun;
-  accepted = record {
-    new = has.accepted.new;
-    accepted = has.accepted.accepted;
-    words = has.accepted.words;
-    adds = has.accepted.adds;
-  };
-}
+stage_keeps law n society c r i rows has new =
+    let next = law n has.before rows i has.begun has.anew new in
+    record {
+      before = has.before;
+      keeps = has.keeps;
+      fresh = has.fresh;
+      begun = next.0;
+      anew = next.1;
+      accepted = record {
+        new = has.accepted.new;
+        accepted = has.accepted.accepted;
+        words = has.accepted.words;
+        adds = has.accepted.adds;
+      };
+    }
 
 -- whatever a stop leaves of a stage is the archive of before
 pub stage_leaves : InNoView → GoesOn → (n : ℕ) (society : List ℕ) (c : Content) (r : Request) (i : Import) (rows : Rows)
@@ -291,18 +330,26 @@ stage_leaves seen goes n society c r i rows s has either t l = elim (either t l)
   | inl good ↦ (c, refl, (rows, good, keeps_archive seen society c r i rows has))
   | inr good ↦
       let next : Import = record i { left = drop n i.left } in
-      let after = with_staged (take n i.left) rows in
-      (c, refl, (after, good, keeps_archive seen society c r next after (stage_keeps goes n society c r i rows has)))
+      let after = with_staged (take n i.left) rows in (
+        c,
+        refl,
+        (
+          after,
+          good,
+          still_keeps seen society c has.before after next (goes n has.before rows i has.begun) has.fresh
+              has.accepted.adds has.keeps,
+        ),
+      )
 ]
 
 -- ---- it is published
-pub published_keeps : IsWhole → IsSpanned → CanBeRead → (society : List ℕ) (c : Content) (r : Request) (i : Import)
-    (rows : Rows)
+pub published_keeps : IsWhole → IsPublishedWith → CanBeRead → (society : List ℕ) (c : Content) (r : Request)
+    (i : Import) (rows : Rows)
     → KeepsImport society c r i rows → i.left ≡ [] → EachOf IsShallowPut i.changes.puts
     → Keeps society (applied c i.changes) (with_published i.batch i.changes rows)
-published_keeps whole spanned read society c r i rows has none puts =
+published_keeps whole beside read society c r i rows has none puts =
     let made = whole has.before rows i c has.begun has.fresh has.accepted.adds has.keeps.means none in
-    let spans = spanned has.before rows i c has.begun has.fresh has.accepted.adds none has.keeps.dated
+    let spans = beside.spans has.before rows i c has.begun has.fresh has.accepted.adds none has.keeps.dated
     has.keeps.spans in
     record {
       means = made.0;
@@ -312,6 +359,8 @@ published_keeps whole spanned read society c r i rows has none puts =
       society_is = made.1 ∙ has.keeps.society_is;
       dated = spans.0;
       spans = spans.1;
+      links = beside.links has.before rows i c has.begun has.fresh has.accepted.adds none has.keeps.links;
+      soughts = beside.soughts has.before rows i c has.begun has.fresh has.accepted.adds none has.keeps.soughts;
     }
 
 pub published_rows : LeavesOthers → (society : List ℕ) (c : Content) (r : Request) (i : Import) (rows : Rows)
@@ -320,11 +369,11 @@ pub published_rows : LeavesOthers → (society : List ℕ) (c : Content) (r : Re
 published_rows law society c r i rows has none m same =
     law has.before rows i c m has.begun has.accepted.adds none same
 
-pub publish_leaves : InNoView → IsWhole → IsSpanned → CanBeRead → (society : List ℕ) (c : Content) (r : Request)
+pub publish_leaves : InNoView → IsWhole → IsPublishedWith → CanBeRead → (society : List ℕ) (c : Content) (r : Request)
     (i : Import)
     (rows : Rows) (s : State) → KeepsImport society c r i rows → i.left ≡ [] → LeavesPublished s rows i
     → LeavesArchive s society (λ found. (found ≡ c) ⊎ (found ≡ applied c i.changes))
-publish_leaves seen whole spanned read society c r i rows s has none either t l = elim (either t l) [
+publish_leaves seen whole beside read society c r i rows s has none either t l = elim (either t l) [
   | inl good ↦ (c, inl refl, (rows, good, keeps_archive seen society c r i rows has))
   | inr good ↦ (
     applied c i.changes,
@@ -332,7 +381,7 @@ publish_leaves seen whole spanned read society c r i rows s has none either t l 
     (
       with_published i.batch i.changes rows,
       good.0,
-      published_keeps whole spanned read society c r i rows has none (good.1 none),
+      published_keeps whole beside read society c r i rows has none (good.1 none),
     ),
   )
 ]
@@ -341,15 +390,16 @@ publish_leaves seen whole spanned read society c r i rows s has none either t l 
 pub aside_of : CanBeTakenOut → (society : List ℕ) (c : Content) (r : Request) (i : Import) (rows : Rows)
     → KeepsImport society c r i rows
     → AreAside (numbers_of i.changes.puts) rows × (is_closed i.batch rows.batches ≡ false)
+    × AreOf (numbers_of i.changes.puts) (links_written i)
 aside_of law society c r i rows has =
     law has.before rows i c has.begun has.fresh has.accepted.adds has.keeps.means
 
 pub gone_of : LeavesWhatWas → (society : List ℕ) (c : Content) (r : Request) (i : Import) (rows : Rows) (s : State)
     → (has : KeepsImport society c r i rows)
-    → Settled s (without_batch i.batch (numbers_of i.changes.puts) rows)
+    → Settled s (without_batch i.batch (numbers_of i.changes.puts) (links_written i) rows)
     → Settled s has.before
 gone_of law society c r i rows s has now =
-    subst (Settled s) (law has.before rows i c has.begun has.fresh has.accepted.adds has.keeps.means) now
+    subst (Settled s) (law has.before rows i c has.begun has.anew has.fresh has.accepted.adds has.keeps.means) now
 
 pub abandon_leaves : InNoView → (society : List ℕ) (c : Content) (r : Request) (i : Import) (rows : Rows) (s : State)
     → KeepsImport society c r i rows → LeavesSeen s rows → LeavesArchive s society (λ found. found ≡ c)

@@ -7,6 +7,7 @@ use Rattle.std.proofs.Common.{
   Bool,
   true,
   false,
+  [],
   List,
   Result,
   Ok,
@@ -32,7 +33,9 @@ use Rattle.archive_state.proofs.Soundness.{none_there, nothing_is_sound}
 use Rattle.store_tables.specs.Calls.{LeavesOnly, Settled}
 use Rattle.store_tables.specs.Looking.{IsFailure}
 use Rattle.store_tables.specs.Rows.{Rows, nothing_yet}
+use Rattle.store_rows.specs.Links.{AreLinked}
 use Rattle.store_rows.specs.Meaning.{AllShallow, IsRecordAt, IsSlipAt, Means}
+use Rattle.store_rows.specs.Sought.{IsSought, Sought}
 use Rattle.store_rows.specs.Spans.{IsSpanned}
 use Rattle.store.specs.Archives.{HasArchive, Keeps}
 use Rattle.store.specs.Calls.{Reads}
@@ -95,6 +98,21 @@ none_spanned (Some r) span e = absurd cc
 new_spans : (n : ℕ) → IsSpanned (get nothing.records n) None
 new_spans n = none_spanned (get nothing.records n) None (get-empty nat_cmp n)
 
+-- and none without its links, or without what it is looked for by
+none_linked : (n : ℕ) (o : Option Record) → o ≡ None → AreLinked n o []
+none_linked n None e = tt
+none_linked n (Some r) e = absurd cc
+
+new_links : (n : ℕ) → AreLinked n (get nothing.records n) []
+new_links n = none_linked n (get nothing.records n) (get-empty nat_cmp n)
+
+none_sought : (o : Option Record) (found : Option Sought) → o ≡ None → IsSought o found
+none_sought None found e = tt
+none_sought (Some r) found e = absurd cc
+
+new_soughts : (n : ℕ) → IsSought (get nothing.records n) None
+new_soughts n = none_sought (get nothing.records n) None (get-empty nat_cmp n)
+
 pub new_keeps : (society : List ℕ) → Keeps society nothing (nothing_yet society)
 new_keeps society = record {
   means = new_means society;
@@ -103,6 +121,8 @@ new_keeps society = record {
   society_is = refl;
   dated = record { version = refl; has_spans = refl };
   spans = new_spans;
+  links = new_links;
+  soughts = new_soughts;
 }
 
 -- ---- days

@@ -20,6 +20,7 @@ use Rattle.store.specs.Standing.{Standing}
 use Rattle.store.specs.Viewing.{OnReadable}
 use Rattle.store.proofs.Imports.{InNoView, has_the_archive, keeps_archive}
 use Rattle.store.proofs.Looked.{storage_is}
+use Rattle.store.proofs.Viewed.{seen_of}
 
 -- where the connection was asked afterwards whether it answers still
 unread_by : (rows : Rows) (b : Bool) (kind result : RefusalKind) → is_storage result ≡ b → (b ≡ false → result ≡ kind)
@@ -37,10 +38,10 @@ unread_as s kind result same bad rows was = unread_by rows (is_storage result) k
 still_readable : InNoView → (o : Option (Request × Import)) (old new : State) (society : List ℕ) (c : Content)
     → OnReadable old (λ rows _. Settled new rows) → Has society c o old → Has society c o new
 still_readable view None old new society c same has =
-    (has.0, same has.0 c has.1 has.2.means has.2.shallow, has.2)
+    (has.0, same has.0 c has.1 (seen_of has.2), has.2)
 still_readable view (Some (r, i)) old new society c same has =
     let keeps = keeps_archive view society c r i has.0 has.2 in
-    (has.0, same has.0 c has.1 keeps.means keeps.shallow, has.2)
+    (has.0, same has.0 c has.1 (seen_of keeps), has.2)
 
 pub look_call : {S : Type 0} (g : Ghosts S) → InNoView → (old new : Held S) (was is : Standing) → was.is_lost ≡ false
     → is.import ≡ was.import
@@ -60,7 +61,7 @@ look_call g view old new was is kept same did = inl (record {
         refl,
         (
           archive.0,
-          (did clean).crash archive.0 c archive.1 archive.2.means archive.2.shallow t l,
+          (did clean).crash archive.0 c archive.1 (seen_of archive.2) t l,
           archive.2,
         ),
       );

@@ -3,7 +3,7 @@ use Rattle.std.proofs.Common.{ℕ, List, ◌∙◌}
 use Rattle.archive_state.specs.Content.{Content}
 use Rattle.store_tables.specs.Rows.{Rows}
 use Rattle.staged_rows.specs.Removing.{IsSeenAs}
-use Rattle.staged_rows.proofs.Alike.{seen_means, seen_spans}
+use Rattle.staged_rows.proofs.Alike.{seen_links, seen_means, seen_soughts, seen_spans}
 use Rattle.store.specs.Archives.{Keeps}
 
 pub seen_keeps : (society : List ℕ) (c : Content) (before rows : Rows) → IsSeenAs before rows → Keeps society c before
@@ -18,4 +18,6 @@ seen_keeps society c before rows seen keeps = record {
     has_spans = seen.has_spans ∙ keeps.dated.has_spans;
   };
   spans = seen_spans before rows c seen keeps.means keeps.spans;
+  links = seen_links before rows c seen keeps.means keeps.links;
+  soughts = seen_soughts before rows c seen keeps.means keeps.soughts;
 }

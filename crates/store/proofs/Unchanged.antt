@@ -122,7 +122,7 @@ module _ (c : Content) (changes : Changes) (exact : IsExact c changes) where
       changes.removals exact.there
       (gone changes.removals (with_puts c.records changes.puts)))
 
-  -- spans are no rows of records
+  -- spans, links and what is looked for are no rows of records
   pub rows_stay : (drawn : Drawn) (rows : Rows) → IsSound c
       → KeepsRows c (applied c changes) rows (with_dated_changes changes drawn rows)
   rows_stay drawn rows sound m same =

@@ -11,6 +11,7 @@ use Rattle.std.proofs.Common.{
   inr,
   ℕ,
   Bool,
+  List,
   true,
   false,
   Ok,
@@ -33,13 +34,23 @@ use Rattle.archive_view.specs.Looks.{is_failure, is_stop}
 use Rattle.store_tables.specs.Calls.{LeavesOnly, Settled}
 use Rattle.store_tables.specs.Looking.{IsFailure}
 use Rattle.store_tables.specs.Rows.{Rows}
-use Rattle.store_rows.specs.Looking.{Sees}
-use Rattle.store_rows.specs.Meaning.{AllShallow, AreReadable, Means}
+use Rattle.store_rows.specs.Looking.{Sees, SeesBy}
+use Rattle.store_rows.specs.Meaning.{AreReadable}
+use Rattle.store.specs.Archives.{Keeps}
 use Rattle.store.specs.Histories.{is_storage}
-use Rattle.store.specs.Viewing.{Kept, Shows}
+use Rattle.store.specs.Viewing.{AreSeen, Kept, Shows}
 
-abbrev pub kept_of : (rows : Rows) (c : Content) → Means rows c → AllShallow c → Kept
-kept_of rows c means shallow = record { rows = rows; content = c; means = means; shallow = shallow }
+-- the rows of an archive
+abbrev pub seen_of : {society : List ℕ} {c : Content} {rows : Rows} → Keeps society c rows → AreSeen rows c
+seen_of keeps = record {
+  means = keeps.means;
+  shallow = keeps.shallow;
+  links = keeps.links;
+  soughts = keeps.soughts;
+}
+
+abbrev pub kept_of : (rows : Rows) (c : Content) → AreSeen rows c → Kept
+kept_of rows c seen = record { rows = rows; content = c; seen = seen }
 
 -- before the first look
 abbrev pub shown_of : (s : State) (lost : Bool) (kept : Kept) → Settled s kept.rows → LeavesOnly s kept.rows
@@ -47,11 +58,13 @@ abbrev pub shown_of : (s : State) (lost : Bool) (kept : Kept) → Settled s kept
 shown_of s lost kept was leaves = record { crash = leaves; settled = λ _. was; none = λ _. refl }
 
 -- ---- a look that answers
-pub ok_shown : {A : Type 0} (Is : Content → A → Type 0) (old new : State) (lost : Bool) (failures : ℕ) (a : A)
-    → lost ≡ false → Sees Is old new (Ok a) → HasCleanDisk new
+-- where it is so of rows that keep something which all that are seen keep
+pub ok_shown_by : {A : Type 0} (Keeps : Rows → Content → Type 0) (Is : Content → A → Type 0) (old new : State)
+    (lost : Bool) (failures : ℕ) (a : A) → lost ≡ false
+    → ((rows : Rows) (c : Content) → AreSeen rows c → Keeps rows c) → SeesBy Keeps Is old new (Ok a) → HasCleanDisk new
     → HasCleanDisk old × ((kept : Kept) → Shows old lost failures kept → Shows new lost failures kept
     × Is kept.content a)
-ok_shown Is old new lost failures a on sees clean = (
+ok_shown_by Keeps Is old new lost failures a on keeps sees clean = (
   sees.clean clean,
   λ kept shown.
       let was = shown.settled on in (
@@ -60,9 +73,22 @@ ok_shown Is old new lost failures a on sees clean = (
           settled = λ _. sees.same clean kept.rows was;
           none = shown.none;
         },
-        sees.read clean kept.rows was kept.content kept.means,
+        sees.read clean kept.rows was kept.content kept.seen.means (keeps kept.rows kept.content kept.seen),
       ),
 )
+
+pub ok_shown : {A : Type 0} (Is : Content → A → Type 0) (old new : State) (lost : Bool) (failures : ℕ) (a : A)
+    → lost ≡ false → Sees Is old new (Ok a) → HasCleanDisk new
+    → HasCleanDisk old × ((kept : Kept) → Shows old lost failures kept → Shows new lost failures kept
+    × Is kept.content a)
+ok_shown Is old new lost failures a on sees =
+    ok_shown_by (λ _ _. Unit {0}) Is old new lost failures a on (λ rows c seen. tt) (record {
+      read = λ clean rows was c means _. sees.read clean rows was c means;
+      same = sees.same;
+      refused = λ clean. tt;
+      crash = sees.crash;
+      clean = sees.clean;
+    })
 
 -- ---- a look that is refused
 storage_is : (k : RefusalKind) → is_storage k ≡ true → k ≡ Storage
@@ -89,6 +115,17 @@ stops_as : (b : Bool) (kind result : RefusalKind) → is_storage result ≡ b �
 stops_as true kind result e same failure = ap is_stop (storage_is result e)
 stops_as false kind result e same failure = ap is_stop (want_is kind result e same failure)
 
+-- whatever is kept of the content, of a refusal the same is said
+pub refused_by : {A : Type 0} (Keeps : Rows → Content → Type 0) (Is : Content → A → Type 0) (old new : State)
+    (kind : RefusalKind) → SeesBy Keeps Is old new (Err kind) → Sees Is old new (Err kind)
+refused_by Keeps Is old new kind sees = record {
+  read = λ clean. tt;
+  same = λ clean. tt;
+  refused = sees.refused;
+  crash = sees.crash;
+  clean = sees.clean;
+}
+
 -- the connection was asked afterwards whether it answers still
 pub err_shown : {A : Type 0} (Is : Content → A → Type 0) (old mid new : State) (lost lost_now : Bool)
     (failures failures_now : ℕ) (kind result : RefusalKind) → lost ≡ false
@@ -102,7 +139,8 @@ err_shown Is old mid new lost lost_now failures failures_now kind result on sees
   sees.clean clean,
   λ kept shown.
       let was = shown.settled on in
-      let failure = fails kept.rows kind (kept.content, kept.means, kept.shallow) (sees.refused clean kept.rows was) in
+      let readable : AreReadable kept.rows = (kept.content, kept.seen.means, kept.seen.shallow) in
+      let failure = fails kept.rows kind readable (sees.refused clean kept.rows was) in
       let leaves = sees.crash clean kept.rows was in
       let sure : lost_now ≡ false → is_storage result ≡ false = λ e. not_storage lost result (sym now ∙ e) in (
         record {

@@ -6,11 +6,13 @@ use Rattle.archive_state.specs.Content.{Content}
 use Rattle.archive_state.specs.Sound.{IsSound}
 use Rattle.store_tables.specs.Calls.{Good, Settled}
 use Rattle.store_tables.specs.Rows.{Rows}
+use Rattle.store_rows.specs.Links.{KeepsLinks}
 use Rattle.store_rows.specs.Meaning.{Means, AllShallow}
+use Rattle.store_rows.specs.Sought.{KeepsSought}
 use Rattle.store_rows.specs.Spans.{IsDated, KeepsSpans}
 
 -- the rows of a society's archive, of the version that this program writes: they mean what it holds, all of it can be
--- read, it is sound, and each record with a date has its span
+-- read, it is sound, and each record has its links, the row of what it is looked for by, and the span of its date
 pub record Keeps (society : List ℕ) (c : Content) (rows : Rows) : Type 0 where
   pub means : Means rows c
   pub shallow : AllShallow c
@@ -18,6 +20,8 @@ pub record Keeps (society : List ℕ) (c : Content) (rows : Rows) : Type 0 where
   pub society_is : rows.society ≡ society
   pub dated : IsDated rows
   pub spans : KeepsSpans rows c
+  pub links : KeepsLinks rows c
+  pub soughts : KeepsSought rows c
 
 -- good tables: they list the archive's schema and obey it, and have such rows
 abbrev pub IsArchive : List ℕ → Content → Trees → Type 0

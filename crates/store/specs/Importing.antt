@@ -12,7 +12,7 @@ use Rattle.store_tables.specs.Calls.{Settled}
 use Rattle.store_tables.specs.Rows.{Rows}
 use Rattle.staged_rows.specs.Staging.{IsFresh, rows_of_import}
 use Rattle.staging.specs.Opened.{Import}
-use Rattle.import_commits.specs.Commits.{IsAddition, IsBegun}
+use Rattle.import_commits.specs.Commits.{AreWrittenAnew, IsAddition, IsBegun}
 use Rattle.store.specs.Archives.{HasArchive, Keeps}
 use Rattle.store.specs.Calls.{KeepsRows, StaysClosed}
 
@@ -24,12 +24,13 @@ pub record IsAccepted (c : Content) (r : Request) (i : Import) : Type 0 where
   pub adds : IsAddition c i.changes
 
 -- the rows of a society's archive, with an import on them that a request was accepted for: its batch, which is open,
--- and a beginning of its rows
+-- and a beginning of its rows, of which no link was there
 pub record KeepsImport (society : List ℕ) (c : Content) (r : Request) (i : Import) (rows : Rows) : Type 0 where
   pub before : Rows
   pub keeps : Keeps society c before
   pub fresh : IsFresh i.batch i.changes.puts before
   pub begun : IsBegun before i rows
+  pub anew : AreWrittenAnew before i rows begun
   pub accepted : IsAccepted c r i
 
 -- a connection over the tables of an archive with an import on it

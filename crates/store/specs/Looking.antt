@@ -18,8 +18,9 @@ IsRead s held = (rows : Rows) → Settled s rows → Means rows held
 abbrev pub IsUnread : State → RefusalKind → Type 0
 IsUnread s kind = (rows : Rows) → Settled s rows → IsFailure kind ⊎ ((kind ≡ BadStored) × ¬ (AreReadable rows))
 
--- looks, which write nothing: unless the database failed, settled tables that can be read stay settled, with the rows
--- that they have; a crash leaves these rows in any case
+-- looks, which write nothing: unless the database failed, settled tables that can be read, and in which each record has
+-- its links and the row of what it is looked for by, stay settled, with the rows that they have; a crash leaves these
+-- rows in any case
 pub record StaysReadable (old : State) (failed : Bool) (new : State) : Type 0 where
   pub same : failed ≡ false → OnReadable old (λ rows _. Settled new rows)
   pub crash : OnReadable old (λ rows _. LeavesOnly new rows)

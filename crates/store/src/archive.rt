@@ -553,7 +553,7 @@ impl<S: Alter> Archive<S> {
     }
 
     /// The same, and what is wrong, where a 40 says that what the tables mean is not sound, or that a record does not
-    /// have the span of its date.
+    /// have the span of its date, a link for each number that it names, or the row of what it is looked for by.
     pub fn audit_with_fault(&mut self, alloc: Global) -> Result<u32, (RefusalKind, Option<Flaw>)>
         ensures judged { HasCleanDisk (state S.Store self.new.conn) → self.old.is_lost ≡ false
             → Judges (state S.Store self.old.conn) (without_fault result) }

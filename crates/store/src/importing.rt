@@ -104,5 +104,5 @@ pub(crate) fn abandon_on<S: Alter>(
     an_import_that_is_begun_can_be_taken_out();
     an_import_that_is_begun_is_in_no_view();
     an_import_that_is_taken_out_leaves_what_was();
-    remove_batch(conn, true, import.batch(), import.numbers())
+    remove_batch(conn, true, import.batch(), import.numbers(), import.links())
 }

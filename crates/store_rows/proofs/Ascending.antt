@@ -1,5 +1,4 @@
--- The referrers of a number, from the numbers of the lines that name it: two ascending lists with the same members are
--- one.
+-- The referrers of a number, from the links to it: two ascending lists with the same members are one.
 use Rattle.std.proofs.Common.{
   ◌≡◌,
   ℕ,
@@ -17,18 +16,22 @@ use Rattle.std.proofs.Common.{
   refl,
   sym,
   ap,
+  subst,
   ◌∙◌,
+  ◌<◌,
+  arith,
   Less,
 }
-use Rattle.std.specs.Prelude.{◌==◌, ◌&&◌, ◌||◌, T}
+use Rattle.std.specs.Prelude.{◌==◌, ◌&&◌, ◌||◌, Option, Some, None, T}
 use Rattle.std.specs.List.{list_any, AllByRecursion}
 use Rattle.std.specs.List.Sorted.{IsStrictlySortedBy}
 use Rattle.std.specs.BTreeSet as set
 use Rattle.std.specs.BTreeSet.{BTreeSet}
-use Rattle.std.specs.FinMap.{entries, entries_sorted, is_sorted}
+use Rattle.std.specs.FinMap.{entries, entries_sorted, get, get-entries, is_sorted}
 use Rattle.std.specs.FinMap.Entries.{below_all}
 use Rattle.std.specs.Ordering.{nat_cmp, is_eq, is_lt}
 use Rattle.std.specs.Cmp.{nat_cmp_total, unsigned_tied}
+use Rattle.std.proofs.lemmas.Bool.Decides.{nat_tests}
 use Rattle.std.proofs.lemmas.List.{append-nil}
 use Rattle.std.proofs.lemmas.List.Kept.{IsStrictlySortedBy-filter}
 use Rattle.std.proofs.lemmas.Map.Lookups.{btree_set_from_contains}
@@ -37,15 +40,16 @@ use Rattle.record_kinds.specs.declared.record.Record.{Record}
 use Rattle.record_links.specs.Links.{is_among, links}
 use Rattle.archive_state.specs.Content.{Content}
 use Rattle.archive_state.specs.Referrers.{referrers, naming}
-use Rattle.store_tables.specs.Keyed.{lines_naming}
-use Rattle.store_tables.specs.Rows.{Rows}
-use Rattle.store_rows.specs.Meaning.{Means, has_record}
-use Rattle.store_rows.proofs.Naming.{tell_referrers}
+use Rattle.sqlite.specs.Tree.{IsAscending}
+use Rattle.store_tables.specs.Keyed.{links_to}
+use Rattle.store_tables.specs.Rows.{Rows, LinkRow, link_place, pair_place}
+use Rattle.store_rows.specs.Links.{AreLinked, KeepsLinks, has_link, linked_naming, names_at}
+use Rattle.store_rows.proofs.Naming.{named_found}
 use Rattle.store_rows.proofs.Own.{either_way}
 use Rattle.archive_state.proofs.Rising.{less_is}
 use Rattle.list_laws.proofs.Numbers.{it}
 use Rattle.list_laws.proofs.Booleans.{first_holds, rest_holds}
-use Rattle.list_laws.proofs.Lists.{any_alike}
+use Rattle.list_laws.proofs.Lists.{any_alike, any_kept, any_mapped}
 
 -- ---- the referrers ascend
 below_named : (n x : ℕ) (es : List (ℕ × Record)) → T (below_all nat_cmp x es)
@@ -80,16 +84,6 @@ named_rises n (e ∷ es) h =
 abbrev as_set : List ℕ → BTreeSet ℕ
 as_set ks = record { keys = ks }
 
-pub inserted : (key n : ℕ) (now before : Bool) → now ≡ cond (is_eq (nat_cmp key n)) true before
-    → now ≡ (before || (key == n))
-inserted key n now before is = is ∙ ap (λ b. cond b true before) (unsigned_tied key n) ∙ go (key == n) before
-  where
-    go : (a b : Bool) → cond a true b ≡ (b || a)
-    go true true = refl
-    go true false = refl
-    go false true = refl
-    go false false = refl
-
 has_it : (ks : List ℕ) (q : ℕ) → set.contains nat_cmp (as_set ks) q ≡ list_any (λ k. k == q) ks
 has_it ks q = any_alike (λ k. is_eq (nat_cmp q k)) (λ k. k == q) (λ k. unsigned_tied q k ∙ either_way q k) ks
 
@@ -121,38 +115,91 @@ any_passed p q (k ∷ ks) =
           ]
     ] refl
 
--- ---- those that have a record, one number after the other
-module _ (rows : Rows) (all found before rest : List ℕ) (k : ℕ) (b : Bool)
-    (so_far : found ++ filter (λ m. has_record m rows) before ≡ filter (λ m. has_record m rows) all)
-    (steps : before ≡ k ∷ rest) (is : b ≡ has_record k rows) where
+-- ---- those whose records name a number, one link after the other
+module _ (n : ℕ) (c : Content) (all : List LinkRow) (found : List ℕ) (before rest : List LinkRow) (l : LinkRow)
+    (b : Bool) (so_far : found ++ linked_naming n c before ≡ linked_naming n c all)
+    (steps : before ≡ l ∷ rest) (is : b ≡ names_at n (get c.records l.no)) where
   abbrev after_it : Bool → List ℕ
-  after_it there = found ++ cond there (k ∷ filter (λ m. has_record m rows) rest) (filter (λ m. has_record m rows) rest)
+  after_it there = found ++ cond there (l.no ∷ linked_naming n c rest) (linked_naming n c rest)
 
-  step : after_it b ≡ filter (λ m. has_record m rows) all
-  step = ap after_it is ∙ sym (ap (λ ks. found ++ filter (λ m. has_record m rows) ks) steps) ∙ so_far
+  step : after_it b ≡ linked_naming n c all
+  step = ap after_it is ∙ sym (ap (λ ls. found ++ linked_naming n c ls) steps) ∙ so_far
 
-  pub one_more : (now : List ℕ) → b ≡ true → now ≡ found ++ k ∷ [] → now ++ filter (λ m. has_record m rows) rest
-      ≡ filter (λ m. has_record m rows) all
-  one_more now there pushed = ap (λ ks. ks ++ filter (λ m. has_record m rows) rest) pushed
-      ∙ append_assoc found (k ∷ []) (filter (λ m. has_record m rows) rest) ∙ ap after_it (sym there) ∙ step
+  pub one_more : (now : List ℕ) → b ≡ true → now ≡ found ++ l.no ∷ [] → now ++ linked_naming n c rest
+      ≡ linked_naming n c all
+  one_more now there pushed = ap (λ ks. ks ++ linked_naming n c rest) pushed
+      ∙ append_assoc found (l.no ∷ []) (linked_naming n c rest) ∙ ap after_it (sym there) ∙ step
 
-  pub none_more : b ≡ false → found ++ filter (λ m. has_record m rows) rest ≡ filter (λ m. has_record m rows) all
+  pub none_more : b ≡ false → found ++ linked_naming n c rest ≡ linked_naming n c all
   none_more off = ap after_it (sym off) ∙ step
 
-pub all_found : (rows : Rows) (all found rest : List ℕ) → found ++ filter (λ m. has_record m rows) rest
-    ≡ filter (λ m. has_record m rows) all → rest ≡ [] → found ≡ filter (λ m. has_record m rows) all
-all_found rows all found rest so_far done =
-    sym (ap (λ ks. found ++ filter (λ m. has_record m rows) ks) done ∙ append-nil found) ∙ so_far
+pub all_found : (n : ℕ) (c : Content) (all : List LinkRow) (found : List ℕ) (rest : List LinkRow)
+    → found ++ linked_naming n c rest ≡ linked_naming n c all → rest ≡ [] → found ≡ linked_naming n c all
+all_found n c all found rest so_far done =
+    sym (ap (λ ls. found ++ linked_naming n c ls) done ∙ append-nil found) ∙ so_far
 
--- ---- all together: the numbers of the lines, each once, of which those that have a record are kept
-pub same_referrers : (rows : Rows) (c : Content) (n : ℕ) (all : BTreeSet ℕ) → Means rows c → set.IsOrdered nat_cmp all
-    → ((m : ℕ) → set.contains nat_cmp all m ≡ list_any (λ k. k == m) (lines_naming n rows))
-    → filter (λ m. has_record m rows) all.keys ≡ referrers c n
-same_referrers rows c n all means rises has =
-    let kept = filter (λ m. has_record m rows) all.keys in
+-- ---- the links to a number are in the order of the records that name it
+lower_no : (n m k : ℕ) → pair_place n m < pair_place n k → nat_cmp m k ≡ Less
+lower_no n m k low = let under : m < k = omega (arith, low) in grind (arith, nat_tests, under)
+
+all_higher : (n m : ℕ) (ls : List LinkRow) → AllByRecursion (λ l. pair_place n m < link_place l) ls
+    → AllByRecursion (λ k. nat_cmp m k ≡ Less)
+    (map (λ (l : LinkRow). l.no) (filter (λ (l : LinkRow). l.target == n) ls))
+all_higher n m [] h = tt
+all_higher n m (l ∷ ls) h =
+    elim (l.target == n) as (λ b. (l.target == n) ≡ b → AllByRecursion (λ k. nat_cmp m k ≡ Less)
+    (map (λ (l : LinkRow). l.no) (cond b (l ∷ filter (λ (l : LinkRow). l.target == n) ls)
+    (filter (λ (l : LinkRow). l.target == n) ls)))) [
+      | true ↦ λ here. (
+        lower_no n m l.no (subst (λ t. pair_place n m < pair_place t l.no) (it l.target n here) h.0),
+        all_higher n m ls h.1,
+      )
+      | false ↦ λ off. all_higher n m ls h.1
+    ] refl
+
+links_ascend : (n : ℕ) (ls : List LinkRow) → IsAscending (λ a b. link_place a < link_place b) ls
+    → IsStrictlySortedBy nat_cmp (map (λ (l : LinkRow). l.no) (filter (λ (l : LinkRow). l.target == n) ls))
+unfolding IsStrictlySortedBy
+links_ascend n [] h = tt
+links_ascend n (l ∷ ls) h =
+    elim (l.target == n) as (λ b. (l.target == n) ≡ b → IsStrictlySortedBy nat_cmp
+    (map (λ (l : LinkRow). l.no) (cond b (l ∷ filter (λ (l : LinkRow). l.target == n) ls)
+    (filter (λ (l : LinkRow). l.target == n) ls)))) [
+      | true ↦ λ here. (
+        all_higher n l.no ls (subst (λ t. AllByRecursion (λ m. pair_place t l.no < link_place m) ls)
+            (it l.target n here) h.0),
+        links_ascend n ls h.1,
+      )
+      | false ↦ λ off. links_ascend n ls h.1
+    ] refl
+
+-- ---- all together: the records of the links to a number, of which those that name it are kept
+linked : (n q : ℕ) (o : Option Record) (ls : List LinkRow) → AreLinked q o ls
+    → (names_at n o
+    && list_any (λ k. k == q) (map (λ (l : LinkRow). l.no) (filter (λ (l : LinkRow). l.target == n) ls)))
+    ≡ names_at n o
+linked n q None ls h = refl
+linked n q (Some r) ls h =
+    let there : list_any (λ k. k == q) (map (λ (l : LinkRow). l.no) (filter (λ (l : LinkRow). l.target == n) ls))
+    ≡ has_link n q ls =
+    any_mapped (λ k. k == q) (λ (l : LinkRow). l.no) (filter (λ (l : LinkRow). l.target == n) ls)
+    ∙ sym (any_kept (λ (l : LinkRow). l.target == n) (λ (l : LinkRow). l.no == q) ls) in
+    elim (is_among n (links r)) as (λ b. is_among n (links r) ≡ b → (b && list_any (λ k. k == q)
+    (map (λ (l : LinkRow). l.no) (filter (λ (l : LinkRow). l.target == n) ls))) ≡ b) [
+      | true ↦ λ named. there ∙ h n named
+      | false ↦ λ off. refl
+    ] refl
+
+pub same_referrers : (rows : Rows) (c : Content) (n : ℕ) → KeepsLinks rows c
+    → IsAscending (λ a b. link_place a < link_place b) rows.links → linked_naming n c (links_to n rows) ≡ referrers c n
+same_referrers rows c n keeps rise =
+    let all = map (λ (l : LinkRow). l.no) (links_to n rows) in
+    let kept = linked_naming n c (links_to n rows) in
     btree_set_from_contains nat_cmp_total (as_set kept) (as_set (referrers c n))
-    (IsStrictlySortedBy-filter nat_cmp _ all.keys rises)
+    (IsStrictlySortedBy-filter nat_cmp _ all (links_ascend n rows.links rise))
     (named_rises n (entries c.records) (entries_sorted c.records))
-    (λ q. has_it kept q ∙ any_passed (λ m. has_record m rows) q all.keys ∙ ap (λ b. has_record q rows && b)
-    (sym (has_it all.keys q) ∙ has q) ∙ sym (tell_referrers rows c n q means) ∙ sym (has_it (referrers c n) q))
+    (λ q. has_it kept q ∙ any_passed (λ m. names_at n (get c.records m)) q all
+    ∙ linked n q (get c.records q) rows.links (keeps q)
+    ∙ ap (names_at n) (get-entries c.records q)
+    ∙ sym (named_found n q (entries c.records) (entries_sorted c.records)) ∙ sym (has_it (referrers c n) q))
     nat_cmp-IsAntisymmetric

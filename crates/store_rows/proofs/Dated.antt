@@ -24,9 +24,18 @@ use Rattle.archive_state.specs.declared.changes.Numbered.{Numbered}
 use Rattle.store_tables.specs.Calls.{Inside, Follows, FollowsDated}
 use Rattle.store_tables.specs.Rows.{Rows, without_span}
 use Rattle.store_tables.proofs.Calls.{on_ok}
-use Rattle.store_rows.specs.Spans.{AreDrawn, Drawn, FollowsDrawn, with_drawn, with_span_if, without_all_spans}
+use Rattle.store_rows.specs.Spans.{
+  AreDrawn,
+  Drawn,
+  FollowsDrawn,
+  with_all_of,
+  with_drawn,
+  with_span_if,
+  without_all_of,
+  without_all_spans,
+}
 use Rattle.store_rows.specs.Writing.{with_changes}
-use Rattle.store_rows.proofs.SpansAside.{changed_has, drawn_has, left_has}
+use Rattle.store_rows.proofs.SpansAside.{changed_has, drawn_has, left_has, sought_left_has}
 
 -- the tables have spans afterwards, where they had some
 abbrev pub KeepsTable : (Rows → Rows) → Type 0
@@ -114,15 +123,16 @@ none_drawn s all = record {
   draws = λ clean. ([], λ more are. are, λ rows has was. (was, refl));
 }
 
--- ---- all changes: the spans of what is taken out, the changes, and the spans of what is put
+-- ---- all changes: what goes with what is taken out, the changes, and what goes with what is put
 pub dated_all : {A E : Type 0} (r : Result A E) (a b c d : State) (changes : Changes)
-    → FollowsDated a b (without_all_spans changes.removals) → Follows b c (with_changes changes)
-    → OnOk r ((drawn : Drawn) × AreDrawn changes.puts drawn × FollowsDated c d (with_drawn drawn))
+    → FollowsDated a b (without_all_of changes.removals) → Follows b c (with_changes changes)
+    → OnOk r ((drawn : Drawn) × AreDrawn changes.puts drawn × FollowsDated c d (with_all_of changes.puts drawn))
     → OnOk r (FollowsDrawn a d changes)
 dated_all r a b c d changes p q = on_ok r (λ last rows has was.
-    let left : Rows = without_all_spans changes.removals rows in
+    let left : Rows = without_all_of changes.removals rows in
     let one = p rows has was in
     let two = q left one.0 in
-    let three = last.2 (with_changes changes left) (changed_has changes left ∙ left_has changes.removals rows ∙ has)
-    two.0 in
+    let three = last.2 (with_changes changes left) (changed_has changes left
+    ∙ sought_left_has changes.removals (without_all_spans changes.removals rows)
+    ∙ left_has changes.removals rows ∙ has) two.0 in
     (last.0, last.1, three.0, three.1 ∙ two.1 ∙ one.1))

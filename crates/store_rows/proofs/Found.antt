@@ -40,22 +40,20 @@ use Rattle.std.proofs.lemmas.List.Folds.{list_any-append}
 use Rattle.std.proofs.lemmas.Bool.{or_right, or_left, or_cases}
 use Rattle.std.proofs.lemmas.Result.{IfErr-weaker}
 use Rattle.sqlite.specs.State.{State}
-use Rattle.stored_lines.specs.Line.{Label}
 use Rattle.record_text.specs.declared.refusal.RefusalKind.{RefusalKind}
-use Rattle.record_fields.specs.Words.{entry_kind_word}
 use Rattle.record_fields.specs.declared.entry_words.EntryKind.{EntryKind}
 use Rattle.record_fields.specs.declared.item.Item.{Item}
 use Rattle.record_kinds.specs.Model as model
 use Rattle.record_kinds.specs.declared.record.Record.{Record}
 use Rattle.record_kinds.specs.declared.record.Record.TheVariants as kind
-use Rattle.records.specs.Stored.{stored, key_words}
+use Rattle.records.specs.Stored.{key_words}
 use Rattle.archive_state.specs.Content.{Content, Records}
 use Rattle.archive_state.specs.Entries.{IsEntryAt, HasKey}
 use Rattle.archive_state.specs.Paths.{HasPath, IsPlaceAt, IsLowest}
 use Rattle.archive_state.proofs.Climbing.{Goes, path_goes, none_iff}
-use Rattle.store_tables.specs.Keyed.{is_text, is_number, lines_saying, lines_saying_of}
+use Rattle.store_tables.specs.Keyed.{is_number, sought_by, sought_by_of}
 use Rattle.store_tables.specs.Looking.{Looks}
-use Rattle.store_tables.specs.Rows.{Rows, LineRow, lines_of}
+use Rattle.store_tables.specs.Rows.{Rows, SoughtRow}
 use Rattle.store_tables.proofs.Calls.{if_ok}
 use Rattle.store_rows.specs.Finding.{
   IsAmong,
@@ -68,11 +66,9 @@ use Rattle.store_rows.specs.Finding.{
   lower,
 }
 use Rattle.store_rows.specs.declared.finding.Climb.TheVariants as climb
-use Rattle.store_rows.specs.Looking.{Sees}
-use Rattle.store_rows.specs.Meaning.{Means, IsRecordAt}
-use Rattle.store_rows.proofs.Naming.{and_swap}
+use Rattle.store_rows.specs.Looking.{Sees, SeesBy}
+use Rattle.store_rows.specs.Sought.{IsSought, KeepsSought, Sought, sought_at, sought_of}
 use Rattle.list_laws.proofs.Numbers.{below_is, it}
-use Rattle.list_laws.proofs.Lists.{any_kept, any_mapped, any_alike}
 
 -- ---- one look after another
 pub sees_then : {A B : Type 0} {P : Content → A → Type 0} {Q : Content → B
@@ -101,13 +97,13 @@ sees_where result f h = record {
   clean = h.clean;
 }
 
--- a look after rows were read
-pub sees_after : {A B : Type 0} {P : Rows → A → Type 0} {Q Is : Content → B → Type 0} {old mid new : State} {a : A}
-    (result : Result B RefusalKind)
-    → ((rows : Rows) (c : Content) (b : B) → P rows a → Means rows c → Q c b → Is c b) → Looks P old mid (Ok a)
-    → Sees Q mid new result → Sees Is old new result
+-- a look after rows were read, which keep something of the content
+pub sees_after : {A B : Type 0} {Keeps : Rows → Content → Type 0} {P : Rows → A → Type 0} {Q Is : Content → B → Type 0}
+    {old mid new : State} {a : A} (result : Result B RefusalKind)
+    → ((rows : Rows) (c : Content) (b : B) → P rows a → Keeps rows c → Q c b → Is c b) → Looks P old mid (Ok a)
+    → Sees Q mid new result → SeesBy Keeps Is old new result
 sees_after {a = a} result f h k = record {
-  read = λ clean. if_ok result (λ b is rows was c means. f rows c b (h.read (k.clean clean) rows was) means
+  read = λ clean. if_ok result (λ b is rows was c means keeps. f rows c b (h.read (k.clean clean) rows was) keeps
       (is rows (h.same (k.clean clean) rows was) c means)) (k.read clean);
   same = λ clean. if_ok result (λ b is rows was. is rows (h.same (k.clean clean) rows was)) (k.same clean);
   refused = λ clean. IfErr-weaker result _ _ (λ kind is rows was. is rows (h.same (k.clean clean) rows was))
@@ -176,11 +172,11 @@ IsFrontBelow at name path = (path ≡ name) ⊎ ((rest : List ℕ) × (path ≡ 
 
 abbrev pub HasBelow : ℕ → List ℕ → Rows → List ℕ → Type 0
 HasBelow at path rows ns = (n : ℕ) (name : List ℕ) → IsFrontBelow at name path
-    → IsAmong n (lines_saying name rows) → IsAmong n ns
+    → IsAmong n (sought_by name rows) → IsAmong n ns
 
-pub first_fronts : (path : List ℕ) (rows : Rows) (ns : List ℕ) → ns ≡ lines_saying path rows → HasBelow 0 path rows ns
+pub first_fronts : (path : List ℕ) (rows : Rows) (ns : List ℕ) → ns ≡ sought_by path rows → HasBelow 0 path rows ns
 first_fronts path rows ns is n name (inl whole) among = subst (IsAmong n) (sym is)
-    (subst (λ t. IsAmong n (lines_saying t rows)) (sym whole) among)
+    (subst (λ t. IsAmong n (sought_by t rows)) (sym whole) among)
 first_fronts path rows ns is n name (inr (rest, e, low)) among = absurd (omega (arith, low))
 
 pub more_fronts : (at : ℕ) (path : List ℕ) (rows : Rows) (ns more all : List ℕ) → HasBelow at path rows ns
@@ -205,33 +201,38 @@ all_fronts at path rows ns is h n name (inr (rest, e)) among =
     let low : length name < at = omega (arith, long, is) in
     h n name (inr (rest, e, low)) among
 
--- ---- the line of a place's name
+-- ---- the row of a place's name
 same_bytes : (xs : List ℕ) → bytes_eq xs xs ≡ true
 same_bytes [] = refl
 same_bytes (x ∷ xs) = let here : (x == x) ≡ true = grind (arith, nat_tests) in rw here (same_bytes xs)
 
-pub said_where : (says : Label → Bool) (n : ℕ) (rows : Rows) → list_any (λ k. k == n)
-    (map (λ (l : LineRow). l.no) (filter (λ (l : LineRow). says l.line.1) rows.lines)) ≡ list_any
-    (λ (x : ℕ × Label). says x.1) (lines_of n rows)
-said_where says n rows =
-    let told = (λ (l : LineRow). says l.line.1) in
-    let own = (λ (l : LineRow). l.no == n) in
-    any_mapped (λ k. k == n) (λ (l : LineRow). l.no) (filter told rows.lines) ∙ sym (any_kept told own rows.lines)
-    ∙ any_alike (λ l. told l && own l) (λ l. own l && told l) (λ l. and_swap (told l) (own l)) rows.lines
-    ∙ any_kept own told rows.lines
-    ∙ sym (any_mapped (λ (x : ℕ × Label). says x.1) (λ (l : LineRow). l.line) (filter own rows.lines))
+-- a number that has a row passes where its row does
+found_where : (q : SoughtRow → Bool) (n : ℕ) (ss : List SoughtRow) (found : Sought)
+    → ((s : SoughtRow) → (s.text, s.target) ≡ found → q s ≡ true) → sought_at n ss ≡ Some found
+    → IsAmong n (map (λ (s : SoughtRow). s.no) (filter q ss))
+found_where q n [] found passes at = absurd cc
+found_where q n (s ∷ ss) found passes at =
+    elim (s.no == n) as (λ b. (s.no == n) ≡ b → cond b (Some (s.text, s.target)) (sought_at n ss) ≡ Some found
+    → list_any (λ k. k == n) (map (λ (s : SoughtRow). s.no) (cond (q s) (s ∷ filter q ss) (filter q ss))) ≡ true) [
+      | true ↦ λ here e. let same : (s.text, s.target) ≡ found = cc in
+          rw (passes s same) (or_left (s.no == n) _ here)
+      | false ↦ λ off e. elim (q s) as (λ b. list_any (λ k. k == n)
+          (map (λ (s : SoughtRow). s.no) (cond b (s ∷ filter q ss) (filter q ss))) ≡ true) [
+            | true ↦ or_right (s.no == n) _ (found_where q n ss found passes e)
+            | false ↦ found_where q n ss found passes e
+          ]
+    ] refl at
 
-pub kept_as : (n : ℕ) (rows : Rows) (c : Content) (r : Record) → Means rows c → get c.records n ≡ Some r
-    → lines_of n rows ≡ stored r
-kept_as n rows c r means at = let is : IsRecordAt rows n (Some r) = subst (IsRecordAt rows n) at (means.records n) in
-    is.1
+kept_by : (n : ℕ) (rows : Rows) (c : Content) (r : Record) → KeepsSought rows c → get c.records n ≡ Some r
+    → sought_at n rows.soughts ≡ sought_of r
+kept_by n rows c r keeps at = subst (λ o. IsSought o (sought_at n rows.soughts)) at (keeps n)
 
-name_said : (n : ℕ) (rows : Rows) (c : Content) (p : model.Place) → Means rows c → IsPlaceAt c.records n p
-    → IsAmong n (lines_saying p.name rows)
-name_said n rows c p means at =
-    said_where (λ (l : Label). is_text p.name l.text) n rows
-    ∙ ap (list_any (λ (x : ℕ × Label). is_text p.name x.1.text)) (kept_as n rows c (kind.Place p) means at)
-    ∙ or_left (bytes_eq p.name p.name) _ (same_bytes p.name)
+name_sought : (n : ℕ) (rows : Rows) (c : Content) (p : model.Place) → KeepsSought rows c → IsPlaceAt c.records n p
+    → IsAmong n (sought_by p.name rows)
+name_sought n rows c p keeps at =
+    found_where (λ (s : SoughtRow). bytes_eq s.text p.name) n rows.soughts (p.name, None)
+    (λ s same. let text : s.text ≡ p.name = ap (λ (f : Sought). f.0) same in rw text (same_bytes p.name))
+    (kept_by n rows c (kind.Place p) keeps at)
 
 place_there : (m : Records) (n : ℕ) (path : List ℕ) → HasPath m n path → (p : model.Place) × IsPlaceAt m n p
 place_there m n path ([], h, e) = absurd h
@@ -243,12 +244,12 @@ front_of : (m : Records) (n : ℕ) (name : List ℕ) (parent : Option ℕ) (path
 front_of m n name None path e = inl e
 front_of m n name (Some q) path (less, (rest, e, h)) = inr (rest, e)
 
-path_among : (path : List ℕ) (rows : Rows) (c : Content) (ns : List ℕ) (n : ℕ) → Means rows c
+path_among : (path : List ℕ) (rows : Rows) (c : Content) (ns : List ℕ) (n : ℕ) → KeepsSought rows c
     → HasAllSaying path rows ns → HasPath c.records n path → IsAmong n ns
-path_among path rows c ns n means all h =
+path_among path rows c ns n keeps all h =
     let there = place_there c.records n path h in
     all n there.0.name (front_of c.records n there.0.name there.0.parent path
-    (path_goes c.records n there.0 path there.1 h)) (name_said n rows c there.0 means there.1)
+    (path_goes c.records n there.0 path there.1 h)) (name_sought n rows c there.0 keeps there.1)
 
 -- the lowest of numbers among which each with P is, is the lowest of all
 pub lowest_of_all : (P : ℕ → Type 0) (ns : List ℕ) (found : Option ℕ) → ((n : ℕ) → P n → IsAmong n ns)
@@ -256,38 +257,41 @@ pub lowest_of_all : (P : ℕ → Type 0) (ns : List ℕ) (found : Option ℕ) �
 lowest_of_all P ns None among none = λ n p. none n (among n p) p
 lowest_of_all P ns (Some k) among (there, low) = (there, λ j less p. low j (among j p) less p)
 
-pub place_found : (path : List ℕ) (rows : Rows) (c : Content) (ns : List ℕ) (found : Option ℕ) → Means rows c
+pub place_found : (path : List ℕ) (rows : Rows) (c : Content) (ns : List ℕ) (found : Option ℕ) → KeepsSought rows c
     → HasAllSaying path rows ns → IsLowestAmong (λ n. HasPath c.records n path) ns found
     → IsLowest (λ n. HasPath c.records n path) found
-place_found path rows c ns found means all low = lowest_of_all (λ n. HasPath c.records n path) ns found
-    (λ n h. path_among path rows c ns n means all h) low
+place_found path rows c ns found keeps all low = lowest_of_all (λ n. HasPath c.records n path) ns found
+    (λ n h. path_among path rows c ns n keeps all h) low
 
--- ---- the line of an entry's key
-key_said : (n : ℕ) (rows : Rows) (c : Content) (e : model.Entry) → Means rows c → get c.records n ≡ Some (kind.Entry e)
-    → IsAmong n (lines_saying_of (key_words e.item e.page) e.source rows)
-key_said n rows c e means at =
+-- ---- the row of an entry's key
+key_sought : (n : ℕ) (rows : Rows) (c : Content) (e : model.Entry) → KeepsSought rows c
+    → get c.records n ≡ Some (kind.Entry e) → IsAmong n (sought_by_of (key_words e.item e.page) e.source rows)
+key_sought n rows c e keeps at =
     let words = key_words e.item e.page in
-    let says = (λ (l : Label). is_text words l.text && is_number e.source l.target) in
     let of : (e.source == e.source) ≡ true = grind (arith, nat_tests) in
-    said_where says n rows ∙ ap (list_any (λ (x : ℕ × Label). says x.1)) (kept_as n rows c (kind.Entry e) means at)
-    ∙ or_right (is_text words (Some (entry_kind_word e.kind)) && false) _
-    (or_left (bytes_eq words words && (e.source == e.source)) _ (ap₂ (λ a b. a && b) (same_bytes words) of))
+    found_where (λ (s : SoughtRow). bytes_eq s.text words && is_number e.source s.target) n rows.soughts
+    (words, Some e.source)
+    (λ s same.
+    let text : s.text ≡ words = ap (λ (f : Sought). f.0) same in
+    let target : s.target ≡ Some e.source = ap (λ (f : Sought). f.1) same in
+    rw (text, target) (ap₂ (λ a b. a && b) (same_bytes words) of))
+    (kept_by n rows c (kind.Entry e) keeps at)
 
 key_among : (source : ℕ) (k : EntryKind) (page : List ℕ) (item : Item) (rows : Rows) (c : Content) (ns : List ℕ) (n : ℕ)
-    → Means rows c → ns ≡ lines_saying_of (key_words item page) source rows
+    → KeepsSought rows c → ns ≡ sought_by_of (key_words item page) source rows
     → IsEntryAt c.records source k page item n → IsAmong n ns
-key_among source k page item rows c ns n means is (e, at, (from, same, on, of)) =
+key_among source k page item rows c ns n keeps is (e, at, (from, same, on, of)) =
     let words : key_words e.item e.page ≡ key_words item page = ap₂ key_words of on in
-    subst (IsAmong n) (sym is) (subst (λ t. IsAmong n (lines_saying_of t source rows)) words
-    (subst (λ m. IsAmong n (lines_saying_of (key_words e.item e.page) m rows)) from (key_said n rows c e means at)))
+    subst (IsAmong n) (sym is) (subst (λ t. IsAmong n (sought_by_of t source rows)) words
+    (subst (λ m. IsAmong n (sought_by_of (key_words e.item e.page) m rows)) from (key_sought n rows c e keeps at)))
 
 pub key_found : (source : ℕ) (k : EntryKind) (page : List ℕ) (item : Item) (rows : Rows) (c : Content) (ns : List ℕ)
-    (found : Option ℕ) → Means rows c → ns ≡ lines_saying_of (key_words item page) source rows
+    (found : Option ℕ) → KeepsSought rows c → ns ≡ sought_by_of (key_words item page) source rows
     → IsLowestAmong (λ n. IsEntryAt c.records source k page item n) ns found
     → IsLowest (λ n. IsEntryAt c.records source k page item n) found
-key_found source k page item rows c ns found means is low =
+key_found source k page item rows c ns found keeps is low =
     lowest_of_all (λ n. IsEntryAt c.records source k page item n) ns found
-    (λ n h. key_among source k page item rows c ns n means is h) low
+    (λ n h. key_among source k page item rows c ns n keeps is h) low
 
 -- ---- what was found is an entry of a key
 pub key_seen : {b : Bool} {found : Option Record} {r : Record} (source : ℕ) (k : EntryKind) (page : List ℕ)

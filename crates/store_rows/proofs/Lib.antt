@@ -2,6 +2,7 @@ pub mod Ascending
 pub mod Dated
 pub mod Found
 pub mod Got
+pub mod LinksRead
 pub mod Meaning
 pub mod Naming
 pub mod OneContent
@@ -12,6 +13,7 @@ mod Showing
 pub mod SidesParted
 pub mod SidesRead
 pub mod Slips
+pub mod SoughtRead
 pub mod SpansAside
 pub mod SpansRead
 pub mod StateMeant

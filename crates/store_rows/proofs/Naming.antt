@@ -34,22 +34,18 @@ use Rattle.archive_state.specs.Content.{Content}
 use Rattle.archive_state.specs.Referrers.{referrers, naming}
 use Rattle.store_tables.specs.Keyed.{is_number, lines_naming}
 use Rattle.store_tables.specs.Rows.{Rows, LineRow, lines_of}
+use Rattle.store_rows.specs.Links.{names_at}
 use Rattle.store_rows.specs.Meaning.{Means, IsRecordAt, has_record}
 use Rattle.store_rows.proofs.Own.{either_way}
 use Rattle.archive_state.proofs.Rising.{not_found}
 use Rattle.list_laws.proofs.Lists.{any_kept, any_mapped, any_alike}
 use Rattle.list_laws.proofs.Booleans.{first_holds, rest_holds}
 
--- whether a record that may be missing names a number
-abbrev names_at : ℕ → Option Record → Bool
-names_at n None = false
-names_at n (Some r) = is_among n (links r)
-
 is_it : (m k : ℕ) → (k == m) ≡ true → m ≡ k
 is_it m k e = grind (arith, nat_tests, e)
 
 -- a number is among those of entries that name another exactly where the record that is found under it does
-named_found : (n m : ℕ) (es : List (ℕ × Record)) → T (is_sorted nat_cmp es) → list_any (λ k. k == m) (naming n es)
+pub named_found : (n m : ℕ) (es : List (ℕ × Record)) → T (is_sorted nat_cmp es) → list_any (λ k. k == m) (naming n es)
     ≡ names_at n (find nat_cmp m es)
 named_found n m [] h = refl
 named_found n m (e ∷ es) h =

@@ -10,7 +10,7 @@ use Rattle.store_tables.specs.Showing.{ShowsRead, ShowsRows}
 use Rattle.store_rows.specs.Meaning.{Means}
 
 -- what no reader looks at is left empty or is that of a new archive: the version, the kinds, the keys and the places of
--- lines, and the spans
+-- lines, the spans, the links and what is looked for
 abbrev record_of : ℕ × ℕ → RecordRow
 record_of r = record { no = r.0; kind = []; batch = r.1 }
 
@@ -36,6 +36,8 @@ rows_of has_spans read = record {
   slips = read.slips;
   slip_lines = map slip_line_row read.slip_lines;
   spans = [];
+  links = [];
+  soughts = [];
 }
 
 back : {X Y : Type 0} (make : Y → X) (read : X → Y) (same : (y : Y) → read (make y) ≡ y) (ys : List Y)

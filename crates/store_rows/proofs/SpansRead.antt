@@ -35,7 +35,7 @@ first_own n (s ∷ ss) =
       | false ↦ first_own n ss
     ]
 
-span_put : (n k : ℕ) (span : Span) (rows : Rows) → span_at n (with_span k span.lo span.hi rows).spans
+pub span_put : (n k : ℕ) (span : Span) (rows : Rows) → span_at n (with_span k span.lo span.hi rows).spans
     ≡ cond (k == n) (Some span) (span_at n rows.spans)
 span_put n k span rows =
     let key = λ (s : SpanRow). s.no in
@@ -84,14 +84,14 @@ spans_drawn n (d ∷ ds) rows =
 
 -- ---- what is at a number, with its span
 -- a number that is taken out has no record, and each other keeps its record and its span
-abbrev IsGone : ℕ → List ℕ → Type 0
+abbrev pub IsGone : ℕ → List ℕ → Type 0
 IsGone n ns = (o : Option Record) → last_of (λ k. k) (λ _. None) n ns o ≡ None
 
-abbrev IsLeft : ℕ → List ℕ → Option Span → Type 0
+abbrev pub IsLeft : {X : Type 0} → ℕ → List ℕ → Option X → Type 0
 IsLeft n ns span = ((o : Option Record) → last_of (λ k. k) (λ _. None) n ns o ≡ o)
     × (last_of (λ k. k) (λ _. None) n ns span ≡ span)
 
-gone_or_left : (n : ℕ) (ns : List ℕ) (span : Option Span) → IsGone n ns ⊎ IsLeft n ns span
+pub gone_or_left : {X : Type 0} (n : ℕ) (ns : List ℕ) (span : Option X) → IsGone n ns ⊎ IsLeft n ns span
 gone_or_left n [] span = inr (λ o. refl, refl)
 gone_or_left n (k ∷ ns) span =
     elim (k == n) as (λ b. ((o : Option Record) → last_of (λ k. k) (λ _. None) n ns (cond b None o) ≡ None)

@@ -31,7 +31,7 @@ use Rattle.record_kinds.specs.declared.record.Record.TheVariants as kind
 use Rattle.archive_state.specs.Content.{Records}
 use Rattle.archive_state.specs.Entries.{HasKey}
 use Rattle.archive_state.specs.Paths.{HasPath}
-use Rattle.store_tables.specs.Keyed.{lines_saying}
+use Rattle.store_tables.specs.Keyed.{sought_by}
 use Rattle.store_tables.specs.Rows.{Rows}
 use Rattle.store_rows.specs.declared.finding.Climb.{Climb}
 use Rattle.store_rows.specs.declared.finding.Climb.TheVariants as climb
@@ -54,15 +54,15 @@ lower (Some m) n = cond (nat_lt m n) m n
 abbrev pub IsFront : List ℕ → List ℕ → Type 0
 IsFront name path = (path ≡ name) ⊎ ((rest : List ℕ) × (path ≡ name ++ (codes ", " ++ rest)))
 
--- among these are the numbers of all lines whose text is such a name
+-- among these are all numbers that are looked for by such a name
 abbrev pub HasAllSaying : List ℕ → Rows → List ℕ → Type 0
 HasAllSaying path rows ns = (n : ℕ) (name : List ℕ) → IsFront name path
-    → IsAmong n (lines_saying name rows) → IsAmong n ns
+    → IsAmong n (sought_by name rows) → IsAmong n ns
 
 -- the same of names with so many bytes that stand before comma and space
 abbrev pub HasSaying : ℕ → List ℕ → Rows → List ℕ → Type 0
 HasSaying at path rows ns = (n : ℕ) (name rest : List ℕ) → path ≡ name ++ (codes ", " ++ rest) → length name ≡ at
-    → IsAmong n (lines_saying name rows) → IsAmong n ns
+    → IsAmong n (sought_by name rows) → IsAmong n ns
 
 -- what one step up says of records in which this place is at the number: whether it has the path, or that it has where
 -- its parent has the rest

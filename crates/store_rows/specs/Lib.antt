@@ -1,8 +1,10 @@
 pub mod Finding
 pub mod Grouped
+pub mod Links
 pub mod Looking
 pub mod Meaning
 pub mod Shallow
 pub mod Sides
+pub mod Sought
 pub mod Spans
 pub mod Writing

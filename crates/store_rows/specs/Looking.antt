@@ -20,3 +20,14 @@ pub record Sees {A : Type 0} (Is : Content → A → Type 0) (old new : State)
       ⊎ ((kind ≡ BadStored) × ¬ (AreReadable rows)))
   pub crash : HasCleanDisk new → (rows : Rows) → Settled old rows → LeavesOnly new rows
   pub clean : HasCleanDisk new → HasCleanDisk old
+
+-- the same, where the rows keep something of the content
+pub record SeesBy {A : Type 0} (Keeps : Rows → Content → Type 0) (Is : Content → A → Type 0) (old new : State)
+    (result : Result A RefusalKind) : Type 0 where
+  pub read : HasCleanDisk new → IfOk result (λ (a : A). (rows : Rows) → Settled old rows → (c : Content)
+      → Means rows c → Keeps rows c → Is c a)
+  pub same : HasCleanDisk new → IfOk result (λ (_ : A). (rows : Rows) → Settled old rows → Settled new rows)
+  pub refused : HasCleanDisk new → IfErr result (λ kind. (rows : Rows) → Settled old rows → IsFailure kind
+      ⊎ ((kind ≡ BadStored) × ¬ (AreReadable rows)))
+  pub crash : HasCleanDisk new → (rows : Rows) → Settled old rows → LeavesOnly new rows
+  pub clean : HasCleanDisk new → HasCleanDisk old

@@ -12,6 +12,8 @@ use Rattle.sqlite.specs.State.{State}
 use Rattle.store_tables.specs.Calls.{Inside}
 use Rattle.store_tables.specs.Conversion.{EachWith}
 use Rattle.store_tables.specs.Rows.{Rows, SpanRow, with_span, without_span}
+use Rattle.store_rows.specs.Links.{with_all_links}
+use Rattle.store_rows.specs.Sought.{with_all_sought, without_all_sought}
 use Rattle.store_rows.specs.Writing.{with_changes}
 
 -- rows of the second version: the one that this program writes, with a table of spans
@@ -58,11 +60,18 @@ abbrev pub without_all_spans : List ℕ → Rows → Rows
 without_all_spans [] rows = rows
 without_all_spans (n ∷ ns) rows = without_all_spans ns (without_span n rows)
 
--- all changes of a request, with the spans of what it puts: the spans of what is taken out go first, since each is of a
--- row in `record`
+-- the spans of what is taken out, and what it is looked for by, which go first, since each is of a row in `record`
+abbrev pub without_all_of : List ℕ → Rows → Rows
+without_all_of ns rows = without_all_sought ns (without_all_spans ns rows)
+
+-- the spans of what is put, what it is looked for by, and its links
+abbrev pub with_all_of : List Numbered → Drawn → Rows → Rows
+with_all_of puts drawn rows = with_all_links puts (with_all_sought puts (with_drawn drawn rows))
+
+-- all changes of a request, with the spans of what it puts, with what this is looked for by, and with its links
 abbrev pub with_dated_changes : Changes → Drawn → Rows → Rows
 with_dated_changes changes drawn rows =
-    with_drawn drawn (with_changes changes (without_all_spans changes.removals rows))
+    with_all_of changes.puts drawn (with_changes changes (without_all_of changes.removals rows))
 
 -- calls in a transaction over tables that have spans: they write the changes, with the spans of what is put, and commit
 -- nothing

@@ -24,11 +24,11 @@ use record_text::{RefusalKind, Text};
 use records::{EntryKind, Item, Place, Record};
 use sqlite::{Alter, Connection};
 use std::alloc::{AllocError, Global};
-use store_tables::keyed;
+use store_tables::soughts;
 
-/// The numbers of all lines whose text is a name that a place with this path may have: the whole path, or what stands
-/// before a comma in it.
-pub(crate) fn lines_with_a_front<S: Alter>(
+/// The numbers of all places with a name that a place with this path may have: the whole path, or what stands before a
+/// comma in it.
+pub(crate) fn numbers_with_a_front<S: Alter>(
     alloc: Global,
     conn: &mut Connection<S>,
     path: &str,
@@ -38,16 +38,16 @@ pub(crate) fn lines_with_a_front<S: Alter>(
         (state S.Store conn.new) result }
     ensures ended { conn.new.in_transaction ≡ false }
 {
-    let mut found = keyed::lines_saying(alloc, conn, path)?;
+    let mut found = soughts::sought_by(alloc, conn, path)?;
     'bytes: for at in 0..path.len() {
-        let more = lines_before(alloc, conn, path, at)?;
+        let more = numbers_before(alloc, conn, path, at)?;
         append(&mut found, &more)?;
     }
     Ok(found)
 }
 
-/// The numbers of all lines whose text is what stands before a comma at this byte; none where there is no comma.
-fn lines_before<S: Alter>(
+/// The numbers that are looked for by what stands before a comma at this byte; none where there is no comma.
+fn numbers_before<S: Alter>(
     alloc: Global,
     conn: &mut Connection<S>,
     path: &str,
@@ -62,7 +62,7 @@ fn lines_before<S: Alter>(
     if path.as_bytes()[at] != b',' {
         return Ok(Vec::new(alloc));
     }
-    keyed::lines_saying(alloc, conn, &path[..at])
+    soughts::sought_by(alloc, conn, &path[..at])
 }
 
 fn append(numbers: &mut Vec<u32>, more: &[u32]) -> Result<(), AllocError>

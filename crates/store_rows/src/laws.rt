@@ -10,7 +10,9 @@ ghost use Rattle.record_shapes.specs.Lists.{EachOf};
 ghost use Rattle.archive_state.specs.declared.changes.Numbered.{Numbered};
 ghost use Rattle.store_tables.specs.Keyed.{lines_naming};
 ghost use Rattle.store_tables.specs.Rows.{Rows, LineRow, RecordRow};
+ghost use Rattle.store_rows.specs.Links.{KeepsLinks};
 ghost use Rattle.store_rows.specs.Meaning.{Means, has_record};
+ghost use Rattle.store_rows.specs.Sought.{KeepsSought};
 ghost use Rattle.store_rows.specs.Spans.{AreDrawn, Drawn, IsDated, KeepsSpans, with_dated_changes};
 ghost use Rattle.store_rows.specs.Writing.{with_changes};
 
@@ -31,7 +33,19 @@ pub fn written_spans_are_those_of_the_records()
         → KeepsSpans rows c → KeepsSpans (with_dated_changes changes drawn rows) (applied c changes) }
 {}
 
-/// The spans change nothing of what rows mean, and no row in `record` and no line.
+/// Where each record had its links, each has them when the changes of a request are written.
+pub fn written_links_are_those_of_the_records()
+    ensures { (changes : Changes) (drawn : Drawn) (rows : Rows) (c : Content)
+        → KeepsLinks rows c → KeepsLinks (with_dated_changes changes drawn rows) (applied c changes) }
+{}
+
+/// Where each record had the row of what it is looked for by, each has it when the changes of a request are written.
+pub fn written_rows_of_what_is_looked_for_are_those_of_the_records()
+    ensures { (changes : Changes) (drawn : Drawn) (rows : Rows) (c : Content)
+        → KeepsSought rows c → KeepsSought (with_dated_changes changes drawn rows) (applied c changes) }
+{}
+
+/// The spans, the links and what is looked for change nothing of what rows mean, and no row in `record` and no line.
 pub fn spans_say_nothing_of_records()
     ensures means { (changes : Changes) (drawn : Drawn) (rows : Rows) (c : Content)
         → Means (with_changes changes rows) c → Means (with_dated_changes changes drawn rows) c }

@@ -8,11 +8,13 @@ pub mod laws;
 pub mod looking;
 mod reading;
 pub mod sides;
+mod sought_texts;
 mod state;
 mod writing;
 
 pub use reading::read_state;
+pub use sought_texts::{SoughtText, sought_of};
 pub use writing::{
-    Unwritten, kind_of, kind_word, remove_lines, remove_rows, remove_spans, write_changes,
-    write_kept,
+    Unwritten, kind_of, kind_word, link_lines, remove_all_of, remove_lines, remove_links,
+    remove_rows, write_changes, write_kept,
 };

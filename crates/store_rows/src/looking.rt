@@ -1,29 +1,28 @@
 //! Single records, receipts and slips of an archive, each read of its own rows.
 
-ghost use Rattle.std.specs.Prelude.{◌≡◌, ◌==◌, ◌++◌, ◌∷◌, [], ℕ, false, filter, IfOk, OnOk};
-ghost use Rattle.std.specs.List.{list_any};
-ghost use Rattle.std.specs.BTreeSet as set;
-ghost use Rattle.std.specs.Ordering.{nat_cmp};
+ghost use Rattle.std.specs.Prelude.{◌≡◌, ◌++◌, ◌∷◌, [], false, OnOk};
 ghost use Rattle.std.specs.FinMap as map;
 ghost use Rattle.sqlite.specs.Held.{state};
 ghost use Rattle.archive_state.specs.Entries.{IsEntryAt};
 ghost use Rattle.archive_state.specs.Paths.{HasPath, IsLowest};
 ghost use Rattle.archive_state.specs.Referrers.{referrers};
 ghost use Rattle.store_tables.specs.Looking.{Looks};
-ghost use Rattle.store_rows.specs.Looking.{Sees};
+ghost use Rattle.store_rows.specs.Links.{KeepsLinks, linked_naming, names_at};
+ghost use Rattle.store_rows.specs.Looking.{Sees, SeesBy};
 ghost use Rattle.store_rows.specs.Grouped.{last_kept};
 ghost use Rattle.store_rows.specs.Meaning.{has_record, is_closed};
+ghost use Rattle.store_rows.specs.Sought.{KeepsSought};
 
 use crate::finding;
 use crate::sides::changes_of;
 use archive_state::Slip;
 use receipts::{Receipt, Token};
+use record_links::is_naming;
 use record_text::{RefusalKind, Text};
 use records::{EntryKind, Item, Record, entry_key, record_of};
 use sqlite::{Alter, Connection};
 use std::alloc::{AllocError, Global};
-use std::collections::BTreeSet;
-use store_tables::{ReceiptRow, keyed};
+use store_tables::{LinkRow, ReceiptRow, keyed, links, soughts};
 
 /// The record of a number, read of the rows of this number alone. No transaction may be open.
 ///
@@ -46,21 +45,69 @@ pub fn record_at<S: Alter>(
     Ok(Some(record_of(alloc, &lines)?))
 }
 
-/// The numbers of the records that name a number, ascending, read of the rows of the lines that name it and of the
-/// numbers that these are of.
+/// The numbers of the records that name a number, ascending, read of the links to it and of the records that these are
+/// of: of a link that says more than its record the record is right.
 pub fn referrers_of<S: Alter>(
     alloc: Global,
     conn: &mut Connection<S>,
     number: u32,
 ) -> Result<Vec<u32>, RefusalKind>
     requires autocommit { conn.old.in_transaction ≡ false }
-    ensures sees { Sees (λ c found. found.items ≡ referrers c number) (state S.Store conn.old)
+    ensures sees { SeesBy KeepsLinks (λ c found. found.items ≡ referrers c number) (state S.Store conn.old)
         (state S.Store conn.new) result }
     ensures ended { conn.new.in_transaction ≡ false }
 {
-    let lines = keyed::lines_naming(alloc, conn, number)?;
-    let numbers = distinct(alloc, &lines)?;
-    recorded(alloc, conn, &numbers)
+    let links = links::links_to(alloc, conn, number)?;
+    naming_of(alloc, conn, &links, number)
+}
+
+/// The records of these links that name a number, in the order of the links.
+fn naming_of<S: Alter>(
+    alloc: Global,
+    conn: &mut Connection<S>,
+    links: &[LinkRow],
+    number: u32,
+) -> Result<Vec<u32>, RefusalKind>
+    requires autocommit { conn.old.in_transaction ≡ false }
+    ensures sees { Sees (λ c found. found.items ≡ linked_naming number c links.now) (state S.Store conn.old)
+        (state S.Store conn.new) result }
+    ensures ended { conn.new.in_transaction ≡ false }
+{
+    let mut found = Vec::new(alloc);
+    'links: for link in links {
+        if is_naming_at(alloc, conn, link.number, number)? {
+            push(&mut found, link.number)?;
+        }
+    }
+    Ok(found)
+}
+
+/// Whether there is a record of a number that names another one.
+fn is_naming_at<S: Alter>(
+    alloc: Global,
+    conn: &mut Connection<S>,
+    number: u32,
+    named: u32,
+) -> Result<bool, RefusalKind>
+    requires autocommit { conn.old.in_transaction ≡ false }
+    ensures sees { Sees (λ c is. is ≡ names_at named (map.get c.records number)) (state S.Store conn.old)
+        (state S.Store conn.new) result }
+    ensures ended { conn.new.in_transaction ≡ false }
+{
+    let found = record_at(alloc, conn, number)?;
+    let is = is_naming_found(&found, named);
+    drop(found);
+    Ok(is)
+}
+
+/// Whether what was found names a number.
+fn is_naming_found(found: &Option<Record>, named: u32) -> bool
+    ensures { result ≡ names_at named found.now }
+{
+    match found {
+        Some(record) => is_naming(record, named),
+        None => false,
+    }
 }
 
 /// What is kept under a token, read of the rows of this token alone. Of two rows the later one is meant.
@@ -109,25 +156,24 @@ pub fn next<S: Alter>(alloc: Global, conn: &mut Connection<S>) -> Result<u64, Re
     keyed::next(alloc, conn)
 }
 
-/// The lowest number of a place that has this path, read of the records that an index gives: those with a line whose
-/// text is what stands before a comma in the path, or the whole path. Of each the places that it is within are read
-/// too.
+/// The lowest number of a place that has this path, read of the records that an index gives: those that are looked for
+/// by what stands before a comma in the path, or by the whole path. Of each the places that it is within are read too.
 pub fn place_at<S: Alter>(
     alloc: Global,
     conn: &mut Connection<S>,
     path: &Text,
 ) -> Result<Option<u32>, RefusalKind>
     requires autocommit { conn.old.in_transaction ≡ false }
-    ensures sees { Sees (λ c found. IsLowest (λ n. HasPath c.records n path.now) found) (state S.Store conn.old)
-        (state S.Store conn.new) result }
+    ensures sees { SeesBy KeepsSought (λ c found. IsLowest (λ n. HasPath c.records n path.now) found)
+        (state S.Store conn.old) (state S.Store conn.new) result }
     ensures ended { conn.new.in_transaction ≡ false }
 {
-    let numbers = finding::lines_with_a_front(alloc, conn, path.as_str())?;
+    let numbers = finding::numbers_with_a_front(alloc, conn, path.as_str())?;
     finding::lowest_place(alloc, conn, &numbers, path.as_str().as_bytes())
 }
 
 /// The lowest number of an entry of this source, kind, page and item, read of the records that an index gives: those
-/// with a line that has the words of its key and names the source.
+/// that are looked for by the words of its key and the source.
 pub fn entry_at<S: Alter>(
     alloc: Global,
     conn: &mut Connection<S>,
@@ -137,45 +183,13 @@ pub fn entry_at<S: Alter>(
     item: Item,
 ) -> Result<Option<u32>, RefusalKind>
     requires autocommit { conn.old.in_transaction ≡ false }
-    ensures sees { Sees (λ c found. IsLowest (λ n. IsEntryAt c.records source kind page.now item n) found)
+    ensures sees { SeesBy KeepsSought (λ c found. IsLowest (λ n. IsEntryAt c.records source kind page.now item n) found)
         (state S.Store conn.old) (state S.Store conn.new) result }
     ensures ended { conn.new.in_transaction ≡ false }
 {
     let words = entry_key(alloc, item, page)?;
-    let numbers = keyed::lines_saying_of(alloc, conn, words.as_str(), source)?;
+    let numbers = soughts::sought_by_of(alloc, conn, words.as_str(), source)?;
     finding::lowest_entry(alloc, conn, &numbers, source, kind, page, item)
-}
-
-/// The numbers, each once, in order.
-fn distinct(alloc: Global, numbers: &[u32]) -> Result<BTreeSet<u32>, AllocError>
-    ensures { IfOk result (λ all. (n : ℕ) → set.contains nat_cmp all n ≡ list_any (λ k. k == n) numbers.now) }
-{
-    let mut all: BTreeSet<u32> = BTreeSet::new(alloc);
-    'numbers: for number in numbers {
-        all.insert(*number)?;
-    }
-    Ok(all)
-}
-
-/// Those of the numbers that have a record, in order. That the numbers of a set ascend is what its iteration says.
-fn recorded<S: Alter>(
-    alloc: Global,
-    conn: &mut Connection<S>,
-    numbers: &BTreeSet<u32>,
-) -> Result<Vec<u32>, RefusalKind>
-    requires autocommit { conn.old.in_transaction ≡ false }
-    ensures looks { Looks (λ rows found. found.items ≡ filter (λ m. has_record m rows) numbers.now.keys)
-        (state S.Store conn.old) (state S.Store conn.new) result }
-    ensures ordered { set.IsOrdered nat_cmp numbers.now }
-    ensures ended { conn.new.in_transaction ≡ false }
-{
-    let mut found = Vec::new(alloc);
-    'numbers: for number in numbers {
-        if has_record(alloc, conn, *number)? {
-            push(&mut found, *number)?;
-        }
-    }
-    Ok(found)
 }
 
 /// Adds a number at the end.

@@ -1,26 +1,28 @@
 //! The changes of a request, written as rows inside a transaction.
 
+mod link_rows;
 mod record_rows;
 mod slip_rows;
+mod sought_rows;
 mod span_rows;
 
 ghost use Rattle.std.specs.Prelude.{◌≡◌, ◌⊎◌, OnOk, IfErr};
 ghost use Rattle.sqlite.specs.State.{HasCleanDisk};
 ghost use Rattle.sqlite.specs.Held.{state};
-ghost use Rattle.store_tables.specs.Calls.{LeavesAsBefore, Writes};
+ghost use Rattle.store_tables.specs.Calls.{FollowsDated, LeavesAsBefore, Writes, WritesDated};
 ghost use Rattle.record_text.specs.declared.refusal.RefusalKind.TheVariants.{OutOfMemory, Storage};
 ghost use Rattle.archive_state.specs.Applied.{applied};
 ghost use Rattle.archive_state.specs.Content.{Content};
 ghost use Rattle.store_rows.specs.Meaning.{AllShallow};
 ghost use Rattle.store_rows.specs.Shallow.{AreShallowChanges};
-ghost use Rattle.store_rows.specs.Spans.{FollowsDrawn};
+ghost use Rattle.store_rows.specs.Spans.{AreDrawn, Drawn, FollowsDrawn, with_all_of, without_all_of};
 ghost use Rattle.store_rows.specs.Writing.{with_changes, with_kept_written};
 ghost use Rattle.store_rows.specs.declared.writing.Unwritten.TheVariants as unwritten;
 
-use archive_state::{Changes, Kept};
+use archive_state::{Changes, Kept, Numbered};
+pub use link_rows::{link_lines, remove_links};
 pub use record_rows::{kind_word, remove_lines, remove_rows};
 use record_text::RefusalKind;
-pub use span_rows::remove_spans;
 use sqlite::{Alter, Error, Transaction};
 use std::alloc::{AllocError, Global};
 use store_tables::rows;
@@ -104,9 +106,37 @@ fn write_dated<S: Alter>(
     ensures survives { LeavesAsBefore (state S.Store tx.old.conn.now) (state S.Store tx.new.conn.now) }
     ensures shallow { OnOk result (AreShallowChanges changes.now) }
 {
-    span_rows::remove_spans(tx, &changes.removals)?;
+    remove_all_of(tx, &changes.removals)?;
     write_all(alloc, tx, changes)?;
-    span_rows::put_spans(alloc, tx, &changes.puts)
+    put_all_of(alloc, tx, &changes.puts)
+}
+
+/// Takes out the spans of these numbers, and what they are looked for by. Both go before the rows in `record`.
+pub fn remove_all_of<S: Alter>(tx: &mut Transaction<'_, S>, numbers: &[u32]) -> Result<(), Error>
+    ensures same_reference { tx.new.conn.ghost_name ≡ tx.old.conn.ghost_name }
+    ensures ok { WritesDated (state S.Store tx.old.conn.now) (state S.Store tx.new.conn.now)
+        result (without_all_of numbers.now) }
+    ensures survives { LeavesAsBefore (state S.Store tx.old.conn.now) (state S.Store tx.new.conn.now) }
+{
+    span_rows::remove_spans(tx, numbers)?;
+    sought_rows::remove_sought(tx, numbers)
+}
+
+/// The spans of the records that are put, what they are looked for by, and their links.
+fn put_all_of<S: Alter>(
+    alloc: Global,
+    tx: &mut Transaction<'_, S>,
+    puts: &[Numbered],
+) -> Result<(), Unwritten>
+    ensures same_reference { tx.new.conn.ghost_name ≡ tx.old.conn.ghost_name }
+    ensures ok { HasCleanDisk (state S.Store tx.new.conn.now)
+        → OnOk result ((drawn : Drawn) × AreDrawn puts.now drawn
+        × FollowsDated (state S.Store tx.old.conn.now) (state S.Store tx.new.conn.now) (with_all_of puts.now drawn)) }
+    ensures survives { LeavesAsBefore (state S.Store tx.old.conn.now) (state S.Store tx.new.conn.now) }
+{
+    span_rows::put_spans(alloc, tx, puts)?;
+    sought_rows::put_sought(alloc, tx, puts)?;
+    link_rows::put_links(alloc, tx, puts)
 }
 
 /// The changes without the spans.

@@ -86,7 +86,7 @@ use Rattle.store_tables.proofs.Writing.{updates, deletes, cast_int, cast_null, R
 use Rattle.store_tables.proofs.Finding.{simple, answered}
 use Rattle.store_tables.proofs.Coded.{same_int, int_order, keeps_less, keeps_on}
 use Rattle.store_tables.proofs.Changing.{at_key, none_changed, keeps_changed}
-use Rattle.store_tables.proofs.Statements.{Becomes, becomes, no_work, others_of, spans_on, truth_of}
+use Rattle.store_tables.proofs.Statements.{Becomes, becomes, no_work, others_of, later_on, truth_of}
 use Rattle.list_laws.proofs.Lists.{map_map}
 
 permutation_none : {X : Type 0} (ys : List X) → IsPermutation [] ys → ys ≡ []
@@ -148,7 +148,7 @@ closes_batch old new n count b has h =
             receipts = keeps_on _ _ _ (same 4 (omega arith) (omega arith)) was.receipts;
             slips = keeps_on _ _ _ (same 5 (omega arith) (omega arith)) was.slips;
             slip_lines = keeps_on _ _ _ (same 6 (omega arith) (omega arith)) was.slip_lines;
-            spans = spans_on b rows db now edit applied (omega arith) was.spans;
+            later = later_on b rows db now edit applied (omega arith) was.later;
           }
       | inr (x, one, here) ↦
           let single : read ≡ shown x ∷ [] = one_permutation _ read
@@ -171,7 +171,7 @@ closes_batch old new n count b has h =
             receipts = keeps_on _ _ _ (same 4 (omega arith) (omega arith)) was.receipts;
             slips = keeps_on _ _ _ (same 5 (omega arith) (omega arith)) was.slips;
             slip_lines = keeps_on _ _ _ (same 6 (omega arith) (omega arith)) was.slip_lines;
-            spans = spans_on b rows db now edit applied (omega arith) was.spans;
+            later = later_on b rows db now edit applied (omega arith) was.later;
           }
     ])
 
@@ -210,7 +210,7 @@ deletes_batch old new n count b has h =
       receipts = keeps_on _ _ _ (same 4 (omega arith) (omega arith)) was.receipts;
       slips = keeps_on _ _ _ (same 5 (omega arith) (omega arith)) was.slips;
       slip_lines = keeps_on _ _ _ (same 6 (omega arith) (omega arith)) was.slip_lines;
-      spans = spans_on b rows db now edit applied (omega arith) was.spans;
+      later = later_on b rows db now edit applied (omega arith) was.later;
     })
 
 -- ---- the lines of a number from a place on
@@ -268,5 +268,5 @@ deletes_lines_from old new n at count b has h =
       receipts = keeps_on _ _ _ (same 4 (omega arith) (omega arith)) was.receipts;
       slips = keeps_on _ _ _ (same 5 (omega arith) (omega arith)) was.slips;
       slip_lines = keeps_on _ _ _ (same 6 (omega arith) (omega arith)) was.slip_lines;
-      spans = spans_on b rows db now edit applied (omega arith) was.spans;
+      later = later_on b rows db now edit applied (omega arith) was.later;
     })

@@ -19,8 +19,9 @@ use Rattle.std.proofs.Common.{
   IfOk,
   refl,
   sym,
+  ap,
   subst,
-  inr,
+  inl,
   ◌∙◌,
   arith,
   Bor,
@@ -33,8 +34,9 @@ use Rattle.std.proofs.Common.{
 use Rattle.std.specs.List.{AllByRecursion}
 use Rattle.sqlite.specs.declared.types.Value.TheVariants.{Text, Int}
 use Rattle.sqlite.specs.Order.{Row}
+use Rattle.sqlite.specs.Effect.{Database}
 use Rattle.sqlite.specs.Schema.{Schema}
-use Rattle.sqlite.specs.State.{State, Executes, ExecutesInside}
+use Rattle.sqlite.specs.State.{State, Executes, ExecutesInside, Shows}
 use Rattle.sqlite.specs.Table.{Table}
 use Rattle.sqlite.specs.Tree.{Trees}
 use Rattle.sqlite.specs.Values.{or_null, bound_value}
@@ -42,10 +44,10 @@ use Rattle.sqlite_catalog.specs.Listing.{IsSound}
 use Rattle.sqlite_catalog.specs.Change.{indexed, created, next_tree, KeepsRows}
 use Rattle.sqlite_schema.specs.declared.schema.Index.{Index}
 use Rattle.record_text.specs.Text.{IsText}
-use Rattle.store_tables.specs.Calls.{Inside, Follows, Built, Builds}
+use Rattle.store_tables.specs.Calls.{Good, Inside, Follows, Built, Builds, Settled}
 use Rattle.store_tables.specs.Creating.{IsCreate, IsCreateIndex}
 use Rattle.store_tables.specs.Reading.{AreTyped}
-use Rattle.store_tables.specs.Rows.{Rows, bare, words_or_null, number_or_null}
+use Rattle.store_tables.specs.Rows.{Rows, bare_first, words_or_null, number_or_null}
 use Rattle.store_tables.specs.Schema.{archive_schema, all_tables}
 use Rattle.store_tables.proofs.Created.{creates, creates_index}
 use Rattle.store_tables.proofs.Statements.{Becomes, inserts_meta}
@@ -104,7 +106,7 @@ number_bound None = refl
 number_bound (Some n) = refl
 
 -- ---- a new archive
-stay_empty : (old new : Trees) (ts : List Table) → KeepsRows ts old new
+pub stay_empty : (old new : Trees) (ts : List Table) → KeepsRows ts old new
     → AllByRecursion (λ (t : Table). old t.tree ≡ []) ts → AllByRecursion (λ (t : Table). new t.tree ≡ []) ts
 stay_empty old new [] keeps empty = tt
 stay_empty old new (t ∷ ts) keeps empty = (keeps.0 ∙ empty.0, stay_empty old new ts keeps.1 empty.1)
@@ -141,7 +143,7 @@ builds_index schema at table index text old new count is ran was =
       ran.1.committed_is,
     )
 
-of_seven : (t : Trees) → AllByRecursion (λ (table : Table). t table.tree ≡ []) (all_tables true) → (n : ℕ)
+of_seven : (t : Trees) → AllByRecursion (λ (table : Table). t table.tree ≡ []) (all_tables false) → (n : ℕ)
     → n < 7 → t n ≡ []
 of_seven t all zero low = all.0
 of_seven t all (suc zero) low = all.1.0
@@ -154,13 +156,12 @@ of_seven t all (suc (suc (suc (suc (suc (suc (suc n))))))) low = absurd (omega (
 
 pub begins : (society : List ℕ) (old new : State) (count : ℕ) → IsText society
     → ExecutesInside 0 insert_meta (Text society ∷ []) old new (Ok count)
-    → Built old (archive_schema true) → Inside new (bare society) × (new.committed ≡ old.committed)
+    → Built old (archive_schema false) → Inside new (bare_first society) × (new.committed ≡ old.committed)
 begins society old new count text ran was =
-    let did = inserts_meta old new society count was.schema (of_seven old.now.trees was.empty)
-    was.empty.1.1.1.1.1.1.1.0 ran.0 in
-    let typed : AreTyped (bare society) = record {
-      version = inr refl;
-      dated = λ second. refl;
+    let did = inserts_meta old new society count was.schema (of_seven old.now.trees was.empty) ran.0 in
+    let typed : AreTyped (bare_first society) = record {
+      version = inl refl;
+      dated = λ second. absurd (cc);
       society = text;
       batches = tt;
       records = tt;
@@ -169,6 +170,8 @@ begins society old new count text ran was =
       slips = tt;
       slip_lines = tt;
       spans = tt;
+      links = tt;
+      soughts = tt;
     } in (
       record {
         is_open = ran.1.is_open;
@@ -184,3 +187,14 @@ builds_then a b c r s t p q was =
     let one = p was in
     let two = q one.0 in
     (two.0, two.1 ∙ one.1)
+
+-- ---- a transaction that is committed
+pub committed : (mid new : State) (rows : Rows) → Inside mid rows → Shows mid new mid.now mid.now false
+    → Settled new rows
+committed mid new rows in_it shows = record {
+  is_open = shows.is_open;
+  autocommit = shows.mode;
+  settled = shows.committed_is ∙ sym shows.now_is;
+  schema = ap (λ (d : Database). d.schema) shows.now_is ∙ in_it.schema;
+  good = subst (Good rows) (sym (ap (λ (d : Database). d.trees) shows.now_is)) in_it.good;
+}

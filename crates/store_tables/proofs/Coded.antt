@@ -123,14 +123,20 @@ module _ {X : Type 0} (key : X → ℕ) where
           go true = let off : (key z == key x) ≡ false = grind (arith, nat_tests, low) in rw off ih
           go false = ih
 
-module _ {X : Type 0} (enc : X → Row) (key : X → ℕ) (keyed : (x : X) → rowid (enc x) ≡ Int (pos (key x))) where
-  is_row : (x y : X) → has_rowid (pos (key y)) (enc x) ≡ (key y == key x)
-  is_row x y = ap (λ v. is_eq (value_cmp v (Int (pos (key y))))) (keyed x) ∙ same_int (key x) (key y)
+-- integers that are in the order of numbers: `at n` is the one of n
+module _ (at : ℕ → ℤ) (order : (m n : ℕ) → value_cmp (Int (at m)) (Int (at n)) ≡ nat_cmp m n) where
+  pub same_at : (m n : ℕ) → is_eq (value_cmp (Int (at m)) (Int (at n))) ≡ (m == n)
+  same_at m n = ap is_eq (order m n) ∙ grind (arith, nat_tests)
+
+module _ (at : ℕ → ℤ) (order : (m n : ℕ) → value_cmp (Int (at m)) (Int (at n)) ≡ nat_cmp m n) {X : Type 0}
+    (enc : X → Row) (key : X → ℕ) (keyed : (x : X) → rowid (enc x) ≡ Int (at (key x))) where
+  is_row : (x y : X) → has_rowid (at (key y)) (enc x) ≡ (key y == key x)
+  is_row x y = ap (λ v. is_eq (value_cmp v (Int (at (key y))))) (keyed x) ∙ same_at at order (key x) (key y)
       ∙ grind (arith, nat_tests)
 
   -- the rows that a DELETE finds, in any order, are taken out
   pub deleted : (q : X → Bool) (xs : List X) (ids : List ℤ) → IsAscending (λ a b. key a < key b) xs
-      → IsPermutation (map (λ x. pos (key x)) (filter q xs)) ids
+      → IsPermutation (map (λ x. at (key x)) (filter q xs)) ids
       → without_all (map enc xs) ids ≡ map enc (filter (λ x. not (q x)) xs)
   deleted q xs ids rise found =
       taken_out ids (map enc xs) ∙ filter-map _ enc xs
@@ -140,6 +146,7 @@ module _ {X : Type 0} (enc : X → Row) (key : X → ℕ) (keyed : (x : X) → r
       ∙ any_mapped _ _ (filter q xs) ∙ any_alike _ _ (is_row x) (filter q xs) ∙ h)) xs
       (key_passes key q xs rise) (all_true _ (λ _. tt) xs)))
 
+module _ {X : Type 0} (enc : X → Row) (key : X → ℕ) (keyed : (x : X) → rowid (enc x) ≡ Int (pos (key x))) where
   -- a row that comes after all others is put last
   pub put_last : (new : X) (xs : List X) → AllByRecursion (λ x. key x < key new) xs
       → put_row (enc new) (map enc xs) ≡ map enc (xs ++ new ∷ [])
@@ -210,12 +217,13 @@ module _ {X : Type 0} (key : X → ℕ) where
       go Equal e ih = (subst (λ k. AllByRecursion (λ r. k < key r) qs) (same_if (key q) (key p) e) h.0, h.1)
       go Greater e ih = ((above_if (key q) (key p) e, all_lower (key p) (key q) qs (above_if (key q) (key p) e) h.0), h)
 
-module _ {X : Type 0} (enc : X → Row) (key : X → ℕ) (keyed : (x : X) → rowid (enc x) ≡ Int (pos (key x))) where
+module _ (at : ℕ → ℤ) (order : (m n : ℕ) → value_cmp (Int (at m)) (Int (at n)) ≡ nat_cmp m n) {X : Type 0}
+    (enc : X → Row) (key : X → ℕ) (keyed : (x : X) → rowid (enc x) ≡ Int (at (key x))) where
   put_is : (p : X) (qs : List X) → put_row (enc p) (map enc qs) ≡ map enc (put_by key p qs)
   put_is p [] = refl
   put_is p (q ∷ qs) =
       ap (λ o. match_ordering o (enc q ∷ put_row (enc p) (map enc qs)) (enc p ∷ map enc qs)
-      (enc p ∷ enc q ∷ map enc qs)) (ap₂ value_cmp (keyed q) (keyed p) ∙ int_order (key q) (key p))
+      (enc p ∷ enc q ∷ map enc qs)) (ap₂ value_cmp (keyed q) (keyed p) ∙ order (key q) (key p))
       ∙ go (nat_cmp (key q) (key p)) (put_is p qs)
     where
       go : (o : Ordering) → put_row (enc p) (map enc qs) ≡ map enc (put_by key p qs)
@@ -226,12 +234,28 @@ module _ {X : Type 0} (enc : X → Row) (key : X → ℕ) (keyed : (x : X) → r
       go Greater ih = refl
 
   -- a row with a given key
-  pub keeps_put : (p : X) (xs : List X) (rows : List Row) → Keeps enc key xs rows
+  pub keeps_put_at : (p : X) (xs : List X) (rows : List Row) → Keeps enc key xs rows
       → Keeps enc key (put_by key p xs) (put_row (enc p) rows)
-  keeps_put p xs rows was = record {
+  keeps_put_at p xs rows was = record {
     is = ap (put_row (enc p)) was.is ∙ put_is p xs;
     rise = put_rises key p xs was.rise;
   }
+
+  -- the rows that a query found, in any order, taken out
+  pub keeps_less_at : (q : X → Bool) (xs : List X) (rows : List Row) (ids : List ℤ)
+      → IsPermutation (map (λ x. at (key x)) (filter q xs)) ids → Keeps enc key xs rows
+      → Keeps enc key (filter (λ x. not (q x)) xs) (without_all rows ids)
+  keeps_less_at q xs rows ids found was =
+      record {
+        is = ap (λ rs. without_all rs ids) was.is ∙ deleted at order enc key keyed q xs ids was.rise found;
+        rise = still_ascends _ _ xs was.rise;
+      }
+
+-- keys that are numbers
+module _ {X : Type 0} (enc : X → Row) (key : X → ℕ) (keyed : (x : X) → rowid (enc x) ≡ Int (pos (key x))) where
+  pub keeps_put : (p : X) (xs : List X) (rows : List Row) → Keeps enc key xs rows
+      → Keeps enc key (put_by key p xs) (put_row (enc p) rows)
+  keeps_put = keeps_put_at pos int_order enc key keyed
 
   next_from : (a : ℕ) (xs : List X) → fold (λ _ r. id_in (rowid r) +ℤ pos 1) (pos a) (map enc xs)
       ≡ pos (fold (λ _ x. key x + 1) a xs)
@@ -262,15 +286,10 @@ module _ {X : Type 0} (enc : X → Row) (key : X → ℕ) (keyed : (x : X) → r
         rise = rises_then _ xs new was.rise below;
       }
 
-  -- the rows that a query found, in any order, taken out
   pub keeps_less : (q : X → Bool) (xs : List X) (rows : List Row) (ids : List ℤ)
       → IsPermutation (map (λ x. pos (key x)) (filter q xs)) ids → Keeps enc key xs rows
       → Keeps enc key (filter (λ x. not (q x)) xs) (without_all rows ids)
-  keeps_less q xs rows ids found was =
-      record {
-        is = ap (λ rs. without_all rs ids) was.is ∙ deleted enc key keyed q xs ids was.rise found;
-        rise = still_ascends _ _ xs was.rise;
-      }
+  keeps_less = keeps_less_at pos int_order enc key keyed
 
 -- a table that is not touched
 pub keeps_on : {X : Type 0} {enc : X → Row} {key : X → ℕ} (xs : List X) (rows now : List Row) → now ≡ rows

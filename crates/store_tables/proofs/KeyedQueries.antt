@@ -2,6 +2,8 @@
 use Rattle.std.proofs.Common.{
   ◌≡◌,
   ℕ,
+  ℤ,
+  nat_cmp,
   ◌==◌,
   ◌&&◌,
   pos,
@@ -113,19 +115,29 @@ use Rattle.store_tables.proofs.KeyedTexts.{
 }
 
 -- the rows of a table that pass the tests, in the order of its key
+module _ (at : ℕ → ℤ) (order : (m n : ℕ) → value_cmp (Int (at m)) (Int (at n)) ≡ nat_cmp m n) {X : Type 0}
+    (enc : X → Row) (key : X → ℕ) (keyed : (x : X) → rowid (enc x) ≡ Int (at (key x))) (params : Row)
+    (tests : List Term) (q : X → Bool)
+    (passes : (x : X) → list_all (holds (params ∷ enc x ∷ [])) tests ≡ q x) where
+  pub found_by_order : (tree : ℕ) (project : List Term) (db : Trees) (xs : List X) (rows : List Row)
+      → Keeps enc key xs (db tree) → IsAnswer (simple tree tests project by_key) db params rows
+      → rows ≡ map (λ x. eval_all project (params ∷ enc x ∷ [])) (filter q xs)
+  found_by_order tree project db xs rows was answer =
+      let it = simple tree tests project by_key in
+      let rise = ascending_weaker _ (λ (x y : X). output_cmp it (output it (params ∷ enc x ∷ []))
+      (output it (params ∷ enc y ∷ [])) ≡ Less)
+      (λ x y low. ap (λ o. ordering_then o Equal) (ap₂ value_cmp (keyed x) (keyed y) ∙ order (key x) (key y)
+      ∙ less (key x) (key y) low)) (filter q xs) (still_ascends _ q xs was.rise) in
+      in_order enc params tests q passes tree project by_key db xs rows was.is rise answer
+
+-- the same where the keys are numbers
 module _ {X : Type 0} (enc : X → Row) (key : X → ℕ) (keyed : (x : X) → rowid (enc x) ≡ Int (pos (key x))) (params : Row)
     (tests : List Term) (q : X → Bool)
     (passes : (x : X) → list_all (holds (params ∷ enc x ∷ [])) tests ≡ q x) where
   pub found_in_order : (tree : ℕ) (project : List Term) (db : Trees) (xs : List X) (rows : List Row)
       → Keeps enc key xs (db tree) → IsAnswer (simple tree tests project by_key) db params rows
       → rows ≡ map (λ x. eval_all project (params ∷ enc x ∷ [])) (filter q xs)
-  found_in_order tree project db xs rows was answer =
-      let it = simple tree tests project by_key in
-      let rise = ascending_weaker _ (λ (x y : X). output_cmp it (output it (params ∷ enc x ∷ []))
-      (output it (params ∷ enc y ∷ [])) ≡ Less)
-      (λ x y low. ap (λ o. ordering_then o Equal) (ap₂ value_cmp (keyed x) (keyed y) ∙ int_order (key x) (key y)
-      ∙ less (key x) (key y) low)) (filter q xs) (still_ascends _ q xs was.rise) in
-      in_order enc params tests q passes tree project by_key db xs rows was.is rise answer
+  found_in_order = found_by_order pos int_order enc key keyed params tests q passes
 
 -- no more than one row has a key
 pub one_at_most : {X : Type 0} (key : X → ℕ) (n : ℕ) (xs : List X) → IsAscending (λ a b. key a < key b) xs
@@ -137,7 +149,7 @@ one_at_most key n xs rise = elim (at_key key n xs rise) [
 
 -- ---- what each row's test says
 
-same_text : (s t : List ℕ) → is_eq (value_cmp (Text s) (Text t)) ≡ bytes_eq s t
+pub same_text : (s t : List ℕ) → is_eq (value_cmp (Text s) (Text t)) ≡ bytes_eq s t
 same_text s t = ap is_eq (value_cmp-Text s t) ∙ is_eq-slice_cmp s t
 
 batch_passes : (n : ℕ) (x : BatchRow) → list_all (holds ((Int (pos n) ∷ []) ∷ batch_values x ∷ []))

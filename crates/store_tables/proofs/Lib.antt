@@ -2,6 +2,7 @@ pub mod Asking
 mod BatchQueries
 mod BatchStatements
 mod BatchTexts
+mod Begun
 pub mod Calls
 mod Changing
 pub mod Coded
@@ -10,14 +11,25 @@ mod Failing
 mod Finding
 mod KeyedQueries
 mod KeyedTexts
+mod LaterQueries
+mod LaterStatements
+mod LaterTexts
+mod LaterTyped
+mod LinkQueries
+mod LinkStatements
+mod LinkTexts
 pub mod Loops
 mod Owning
+pub mod Pairing
 pub mod Preparing
 pub mod Queries
 pub mod ReadingRows
 pub mod Reopening
 pub mod Showing
-pub mod ShowingSpans
+pub mod ShowingLater
+mod SoughtQueries
+mod SoughtStatements
+mod SoughtTexts
 mod SpanQueries
 mod SpanStatements
 mod SpanTexts
@@ -26,4 +38,5 @@ mod Statements
 mod Texts
 mod Typed
 mod Updates
+mod Widening
 mod Writing

@@ -17,13 +17,16 @@ use Rattle.store_tables.specs.Rows.{
   RecordRow,
   LineRow,
   SpanRow,
-  HoldsSpans,
+  LinkRow,
+  SoughtRow,
+  HoldsLater,
   batch_values,
   record_values,
   line_values,
+  sought_values,
   span_values,
 }
-use Rattle.store_tables.specs.Schema.{archive_schema, later_tables, lines, records, spans}
+use Rattle.store_tables.specs.Schema.{archive_schema, later_tables, lines, records, soughts, spans}
 use Rattle.store_tables.proofs.Coded.{same_int}
 use Rattle.store_tables.proofs.Statements.{truth_of}
 use Rattle.list_laws.proofs.Lists.{any_mapped, any_alike}
@@ -94,18 +97,53 @@ spanned_there db rs is s h =
     ∙ any_alike (λ r. test (record_values r)) (λ (r : RecordRow). r.no == s.no) (agrees_span s) rs)
     ∙ span_refers db s h
 
+agrees_sought : (s : SoughtRow) (r : RecordRow) → agree plain (0 ∷ []) (record_values r) (0 ∷ []) (sought_values s)
+    ≡ (r.no == s.no)
+unfolding binary first_key
+agrees_sought s r = ap (λ t. is_true (from_truth (Some t)) && true) (same_int r.no s.no) ∙ truth_of (r.no == s.no)
+
+sought_refers : (db : Trees) (s : SoughtRow)
+    → passes ForeignKey (archive_schema true) db soughts (sought_values s) ≡ true
+    → list_any (λ parent. agree plain (0 ∷ []) parent (0 ∷ []) (sought_values s)) (db 2) ≡ true
+unfolding same_name joined
+sought_refers db s h = and_first _ _ h
+
+sought_there : (db : Trees) (rs : List RecordRow) → db 2 ≡ map record_values rs → (s : SoughtRow)
+    → passes ForeignKey (archive_schema true) db soughts (sought_values s) ≡ true
+    → list_any (λ (r : RecordRow). r.no == s.no) rs ≡ true
+sought_there db rs is s h =
+    let test = (λ (parent : Row). agree plain (0 ∷ []) parent (0 ∷ []) (sought_values s)) in
+    sym (ap (list_any test) is ∙ any_mapped test record_values rs
+    ∙ any_alike (λ r. test (record_values r)) (λ (r : RecordRow). r.no == s.no) (agrees_sought s) rs)
+    ∙ sought_refers db s h
+
+abbrev AreLaterKept : Bool → Trees → Type 0
+AreLaterKept b db = AllByRecursion (λ (t : Table). AllByRecursion
+    (λ row. passes ForeignKey (archive_schema b) db t row ≡ true) (db t.tree)) (later_tables b)
+
+-- the first schema has nothing that is looked for
+soughts_owned : (b : Bool) (db : Trees) (rs : List RecordRow) (ss : List SpanRow) (ls : List LinkRow)
+    (qs : List SoughtRow) → db 2 ≡ map record_values rs → HoldsLater b ss ls qs db → AreLaterKept b db
+    → AllByRecursion (λ (s : SoughtRow). list_any (λ (r : RecordRow). r.no == s.no) rs ≡ true) qs
+soughts_owned false db rs ss ls qs is holds keys =
+    subst (AllByRecursion (λ (s : SoughtRow). list_any (λ (r : RecordRow). r.no == s.no) rs ≡ true)) (sym holds.2) tt
+soughts_owned true db rs ss ls qs is holds keys =
+    all_mapped (λ row. passes ForeignKey (archive_schema true) db soughts row ≡ true)
+    (λ (s : SoughtRow). list_any (λ (r : RecordRow). r.no == s.no) rs ≡ true) sought_values (sought_there db rs is) qs
+    (subst (AllByRecursion (λ row. passes ForeignKey (archive_schema true) db soughts row ≡ true))
+    holds.soughts_kept.is keys.1.1.0)
+
 -- the first schema has no spans
-spans_owned : (b : Bool) (db : Trees) (rs : List RecordRow) (ss : List SpanRow) → db 2 ≡ map record_values rs
-    → HoldsSpans b ss db
-    → AllByRecursion (λ (t : Table). AllByRecursion (λ row. passes ForeignKey (archive_schema b) db t row ≡ true)
-    (db t.tree)) (later_tables b)
+spans_owned : (b : Bool) (db : Trees) (rs : List RecordRow) (ss : List SpanRow) (ls : List LinkRow)
+    (qs : List SoughtRow) → db 2 ≡ map record_values rs → HoldsLater b ss ls qs db → AreLaterKept b db
     → AllByRecursion (λ (s : SpanRow). list_any (λ (r : RecordRow). r.no == s.no) rs ≡ true) ss
-spans_owned false db rs ss is holds keys =
-    subst (AllByRecursion (λ (s : SpanRow). list_any (λ (r : RecordRow). r.no == s.no) rs ≡ true)) (sym holds) tt
-spans_owned true db rs ss is holds keys =
+spans_owned false db rs ss ls qs is holds keys =
+    subst (AllByRecursion (λ (s : SpanRow). list_any (λ (r : RecordRow). r.no == s.no) rs ≡ true)) (sym holds.0) tt
+spans_owned true db rs ss ls qs is holds keys =
     all_mapped (λ row. passes ForeignKey (archive_schema true) db spans row ≡ true)
     (λ (s : SpanRow). list_any (λ (r : RecordRow). r.no == s.no) rs ≡ true) span_values (spanned_there db rs is) ss
-    (subst (AllByRecursion (λ row. passes ForeignKey (archive_schema true) db spans row ≡ true)) holds.is keys.0)
+    (subst (AllByRecursion (λ row. passes ForeignKey (archive_schema true) db spans row ≡ true)) holds.spans_kept.is
+    keys.0)
 
 pub owned : (rows : Rows) (t : Trees) → Good rows t → AreOwned rows
 owned rows t good =
@@ -123,5 +161,8 @@ owned rows t good =
           (subst (AllByRecursion (λ row. passes ForeignKey (archive_schema b) t records row ≡ true))
           good.holds.records.is
           keys.1.1.0);
-      spans = spans_owned b t rows.records rows.spans good.holds.records.is good.holds.spans keys.1.1.1.1.1.1.1;
+      spans = spans_owned b t rows.records rows.spans rows.links rows.soughts good.holds.records.is good.holds.later
+          keys.1.1.1.1.1.1.1;
+      soughts = soughts_owned b t rows.records rows.spans rows.links rows.soughts good.holds.records.is
+          good.holds.later keys.1.1.1.1.1.1.1;
     }

@@ -46,7 +46,7 @@ use Rattle.store_tables.proofs.Texts.{
 }
 
 -- a plain query between two states shows the same between two others that see the same
-shown_between : (sql : List ℕ) (params : Row) (x a b y : State) (rows : List Row)
+pub shown_between : (sql : List ℕ) (params : Row) (x a b y : State) (rows : List Row)
     → IsPlain (understood a.now.schema sql) → IsUnchanged x a → IsUnchanged b y → Shown sql params a b rows
     → Shown sql params x y rows
 unfolding Shown

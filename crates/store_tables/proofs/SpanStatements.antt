@@ -13,20 +13,15 @@ use Rattle.std.proofs.Common.{
   filter,
   Bool,
   true,
-  false,
   Ok,
   Some,
   None,
-  ◌<◌,
   refl,
-  sym,
   ap,
   subst,
   ◌∙◌,
   Option,
   arith,
-  zero,
-  suc,
   not,
   cond,
 }
@@ -37,14 +32,13 @@ use Rattle.sqlite.specs.declared.types.Value.TheVariants.{Null, Int, Text}
 use Rattle.sqlite.specs.Order.{Row}
 use Rattle.sqlite.specs.Ops.{is_true, from_truth, binary}
 use Rattle.sqlite.specs.Term.{holds, col, lit}
-use Rattle.sqlite.specs.Tree.{Trees, rowid, put_row}
+use Rattle.sqlite.specs.Tree.{rowid, put_row}
 use Rattle.sqlite_schema.specs.Names.{same_name}
 use Rattle.sqlite_value.specs.Keys.{joined}
 use Rattle.sqlite.specs.Command.TheVariants.{Delete, Insert, Update}
 use Rattle.sqlite.specs.Source.TheVariants.{Values}
 use Rattle.sqlite.specs.Effect.{value_rows}
 use Rattle.sqlite_catalog.specs.Listing.{IsSound}
-use Rattle.sqlite.specs.Change.{KeepsRows}
 use Rattle.sqlite_schema.specs.declared.program.Program.{Program}
 use Rattle.sqlite.specs.Program.{overlay}
 use Rattle.sqlite_schema.specs.declared.schema.Keys.TheVariants.{Enforced}
@@ -56,32 +50,24 @@ use Rattle.sqlite_rules.specs.Action.{works, Writes}
 use Rattle.sqlite.specs.Values.{bound_value, or_null}
 use Rattle.sqlite.specs.Cast.{cast}
 use Rattle.sqlite.specs.Kind.TheVariants.{Integer}
-use Rattle.sqlite.specs.State.{State, Executes, ExecutesInside}
+use Rattle.sqlite.specs.State.{State, Executes}
 use Rattle.sqlite.proofs.Callers.{runs_as, one_step, one_permutation, statement_of}
 use Rattle.sqlite.specs.Listing.{understood}
-use Rattle.store_tables.specs.Calls.{FollowsDated, FollowsUndated}
-use Rattle.store_tables.specs.Reading.{AreTyped}
 use Rattle.store_tables.specs.Schema.{archive_schema, meta, spans}
 use Rattle.store_tables.specs.Rows.{
   Rows,
   SpanRow,
-  Holds,
-  HoldsSpans,
-  Keeps,
+  put_by,
   meta_values,
   span_values,
   day_or_null,
   with_span,
-  with_span_table,
   with_version,
   without_span,
 }
 use Rattle.store_tables.proofs.Texts.{with_key}
-use Rattle.store_tables.proofs.SpanTyped.{typed_span_table}
-use Rattle.store_tables.proofs.Created.{creates}
+use Rattle.store_tables.proofs.LaterStatements.{BecomesDated, beside, kept_of, late_same}
 use Rattle.store_tables.proofs.SpanTexts.{
-  create_spans,
-  makes_spans,
   insert_span,
   insert_span_is,
   insert_span_plain,
@@ -94,48 +80,9 @@ use Rattle.store_tables.proofs.SpanTexts.{
 }
 use Rattle.store_tables.proofs.Writing.{inserts, deletes, updates, cast_int, cast_null}
 use Rattle.store_tables.proofs.Finding.{simple, answered}
-use Rattle.store_tables.proofs.Statements.{Becomes, becomes, no_work, others_of, spans_on, truth_of}
+use Rattle.store_tables.proofs.Statements.{Becomes, becomes, no_work, others_of, later_on, truth_of}
 use Rattle.store_tables.proofs.Coded.{same_int, keeps_put, keeps_less, keeps_on}
 use Rattle.list_laws.proofs.Lists.{map_map}
-
--- what a statement makes of tables that have spans
-pub record BecomesDated (old new : State) (f : Rows → Rows) : Type 0 where
-  pub schema : new.now.schema ≡ archive_schema true
-  pub sound : IsSound (archive_schema true) new.now.trees
-  pub same : (rows : Rows) → (f rows).has_spans ≡ rows.has_spans
-  pub holds : (rows : Rows) → rows.has_spans ≡ true → Holds rows old.now.trees → Holds (f rows) new.now.trees
-
--- one statement in a transaction
-pub followed_dated : (sql : List ℕ) (params : Row) (old new : State) (count : ℕ) (f : Rows → Rows)
-    → (old.now.schema ≡ archive_schema true → Executes sql params old new (Ok count) → BecomesDated old new f)
-    → ((rows : Rows) → rows.has_spans ≡ true → AreTyped rows → AreTyped (f rows))
-    → ExecutesInside 0 sql params old new (Ok count) → FollowsDated old new f
-followed_dated sql params old new count f means typed ran rows dated was =
-    let did = means (was.schema ∙ ap archive_schema dated) ran.0 in
-    let same : true ≡ (f rows).has_spans = sym (did.same rows ∙ dated) in (
-      record {
-        is_open = ran.1.is_open;
-        inside = ran.1.mode;
-        schema = did.schema ∙ ap archive_schema same;
-        good = record {
-          sound = subst (λ b. IsSound (archive_schema b) new.now.trees) same did.sound;
-          holds = did.holds rows dated was.good.holds;
-          typed = typed rows dated was.good.typed;
-        };
-      },
-      ran.1.committed_is,
-    )
-
--- ---- the table of spans, where there is one
-pub of_dated : (b : Bool) (xs : List SpanRow) (t : Trees) → b ≡ true → HoldsSpans b xs t
-    → Keeps span_values (λ (s : SpanRow). s.no) xs (t 12)
-of_dated true xs t e h = h
-of_dated false xs t e h = absurd cc
-
-pub in_dated : (b : Bool) (xs : List SpanRow) (t : Trees) → b ≡ true
-    → Keeps span_values (λ (s : SpanRow). s.no) xs (t 12) → HoldsSpans b xs t
-in_dated true xs t e h = h
-in_dated false xs t e h = absurd cc
 
 cast_day : (o : Option ℤ) → cast Integer (day_or_null o) ≡ day_or_null o
 cast_day None = cast_null
@@ -155,7 +102,7 @@ inserts_span old new n lo hi count has h =
     let now = new.now.trees in
     let edit = edit_of db spans [] Chosen 0 (value_rows params 4 1 terms) in
     let applied = one_step (archive_schema true) Enforced db now edit refl did.1 in
-    let same = others_of true db now edit applied in
+    let late = late_same db now edit applied in
     let item : SpanRow = record { no = n; lo = lo; hi = hi } in
     let row : edited db edit ≡ put_row (span_values item) (db 12) = rw (
       cast_int (pos n),
@@ -167,18 +114,15 @@ inserts_span old new n lo hi count has h =
       schema = did.0;
       sound = subst (λ s. IsSound s now) did.0 w.sound;
       same = λ _. refl;
-      holds = λ rows dated was. record {
-        meta = same 0 (omega arith) (omega arith) ∙ was.meta;
-        batches = keeps_on _ _ _ (same 1 (omega arith) (omega arith)) was.batches;
-        records = keeps_on _ _ _ (same 2 (omega arith) (omega arith)) was.records;
-        lines = keeps_on _ _ _ (same 3 (omega arith) (omega arith)) was.lines;
-        receipts = keeps_on _ _ _ (same 4 (omega arith) (omega arith)) was.receipts;
-        slips = keeps_on _ _ _ (same 5 (omega arith) (omega arith)) was.slips;
-        slip_lines = keeps_on _ _ _ (same 6 (omega arith) (omega arith)) was.slip_lines;
-        spans = in_dated rows.has_spans _ now dated (keeps_on _ _ (now 12) (applied.rows ∙ row)
-            (keeps_put span_values (λ (s : SpanRow). s.no) (λ _. refl) item rows.spans (db 12)
-            (of_dated rows.has_spans rows.spans db dated was.spans)));
-      };
+      holds = λ rows dated typed was.
+          let kept = kept_of rows db dated was in
+          let after = put_by (λ (s : SpanRow). s.no) item rows.spans in
+          beside rows after rows.links rows.soughts db now edit applied (omega arith) dated (record {
+            spans_kept = keeps_on _ _ (now 12) (applied.rows ∙ row)
+                (keeps_put span_values (λ (s : SpanRow). s.no) (λ _. refl) item rows.spans (db 12) kept.spans_kept);
+            links_kept = keeps_on _ _ _ (late 13 (omega arith) (omega arith) (omega arith)) kept.links_kept;
+            soughts_kept = keeps_on _ _ _ (late 14 (omega arith) (omega arith) (omega arith)) kept.soughts_kept;
+          }) was;
     }
 
 passes_12 : (n : ℕ) (x : SpanRow) → list_all (holds ((Int (pos n) ∷ []) ∷ span_values x ∷ []))
@@ -204,83 +148,29 @@ deletes_span old new n count has h =
     let now = new.now.trees in
     let edit = edit_of db spans (ids_of found) Given 0 [] in
     let applied = one_step (archive_schema true) Enforced db now edit (no_work_12 (taken_by db edit)) did.3 in
-    let same = others_of true db now edit applied in
+    let late = late_same db now edit applied in
     record {
       schema = did.0;
       sound = subst (λ s. IsSound s now) did.0 w.sound;
       same = λ _. refl;
-      holds = λ rows dated was.
-          let kept = of_dated rows.has_spans rows.spans db dated was.spans in
+      holds = λ rows dated typed was.
+          let kept = kept_of rows db dated was in
           let all = answered span_values params (with_key 0) (λ x. x.no == n) (passes_12 n) 12 (col 1 0 ∷ []) []
-          (overlay db []) rows.spans found kept.is (did.2.answer Null) in
+          (overlay db []) rows.spans found kept.spans_kept.is (did.2.answer Null) in
           let ids : IsPermutation
           (map (λ x. pos ((λ (s : SpanRow). s.no) x)) (filter (λ (x : SpanRow). x.no == n) rows.spans))
           (ids_of found) =
           subst (λ k. IsPermutation k (ids_of found)) (map_map _ _ (filter (λ (x : SpanRow). x.no == n) rows.spans))
           (IsPermutation-map (λ r. id_in (rowid r)) _ _ all) in
-          record {
-            meta = same 0 (omega arith) (omega arith) ∙ was.meta;
-            batches = keeps_on _ _ _ (same 1 (omega arith) (omega arith)) was.batches;
-            records = keeps_on _ _ _ (same 2 (omega arith) (omega arith)) was.records;
-            lines = keeps_on _ _ _ (same 3 (omega arith) (omega arith)) was.lines;
-            receipts = keeps_on _ _ _ (same 4 (omega arith) (omega arith)) was.receipts;
-            slips = keeps_on _ _ _ (same 5 (omega arith) (omega arith)) was.slips;
-            slip_lines = keeps_on _ _ _ (same 6 (omega arith) (omega arith)) was.slip_lines;
-            spans = in_dated rows.has_spans _ now dated (keeps_on _ _ (now 12) applied.rows
+          let after = filter (λ (x : SpanRow). not (x.no == n)) rows.spans in
+          beside rows after rows.links rows.soughts db now edit applied (omega arith) dated (record {
+            spans_kept = keeps_on _ _ (now 12) applied.rows
                 (keeps_less span_values (λ (s : SpanRow). s.no) (λ _. refl) (λ x. x.no == n) rows.spans (db 12)
-                (ids_of found) ids kept));
-          };
+                (ids_of found) ids kept.spans_kept);
+            links_kept = keeps_on _ _ _ (late 13 (omega arith) (omega arith) (omega arith)) kept.links_kept;
+            soughts_kept = keeps_on _ _ _ (late 14 (omega arith) (omega arith) (omega arith)) kept.soughts_kept;
+          }) was;
     }
-
--- ---- the table of spans, which is made without rows
-only_seven : (old new : Trees) → KeepsRows (archive_schema false).tables old new → (n : ℕ) → n < 7 → new n ≡ old n
-only_seven old new all zero low = all.0
-only_seven old new all (suc zero) low = all.1.0
-only_seven old new all (suc (suc zero)) low = all.1.1.0
-only_seven old new all (suc (suc (suc zero))) low = all.1.1.1.0
-only_seven old new all (suc (suc (suc (suc zero)))) low = all.1.1.1.1.0
-only_seven old new all (suc (suc (suc (suc (suc zero))))) low = all.1.1.1.1.1.0
-only_seven old new all (suc (suc (suc (suc (suc (suc zero)))))) low = all.1.1.1.1.1.1.0
-only_seven old new all (suc (suc (suc (suc (suc (suc (suc n))))))) low = absurd (omega (arith, low))
-
-none_yet : (b : Bool) (xs : List SpanRow) (t : Trees) → b ≡ false → HoldsSpans b xs t → xs ≡ []
-none_yet false xs t e h = h
-none_yet true xs t e h = absurd cc
-
-no_rows : (xs : List SpanRow) (rows : List Row) → xs ≡ [] → rows ≡ []
-    → Keeps span_values (λ (s : SpanRow). s.no) xs rows
-no_rows xs rows none empty = subst (λ ys. Keeps span_values (λ (s : SpanRow). s.no) ys rows) (sym none)
-    (record { is = empty; rise = tt })
-
-pub makes_span_table : (old new : State) (count : ℕ) → ExecutesInside 0 create_spans [] old new (Ok count)
-    → FollowsUndated old new with_span_table
-makes_span_table old new count ran rows undated was =
-    let did = creates (archive_schema false) create_spans (record spans { tree = 0 }) old new count makes_spans
-    (was.schema ∙ ap archive_schema undated) ran.0 in
-    let same = only_seven old.now.trees new.now.trees did.others in
-    let held = was.good.holds in (
-      record {
-        is_open = ran.1.is_open;
-        inside = ran.1.mode;
-        schema = did.schema_is;
-        good = record {
-          sound = did.sound;
-          holds = record {
-            meta = same 0 (omega arith) ∙ held.meta;
-            batches = keeps_on _ _ _ (same 1 (omega arith)) held.batches;
-            records = keeps_on _ _ _ (same 2 (omega arith)) held.records;
-            lines = keeps_on _ _ _ (same 3 (omega arith)) held.lines;
-            receipts = keeps_on _ _ _ (same 4 (omega arith)) held.receipts;
-            slips = keeps_on _ _ _ (same 5 (omega arith)) held.slips;
-            slip_lines = keeps_on _ _ _ (same 6 (omega arith)) held.slip_lines;
-            spans = no_rows rows.spans (new.now.trees 12) (none_yet rows.has_spans rows.spans old.now.trees undated
-                held.spans) did.empty;
-          };
-          typed = typed_span_table rows was.good.typed;
-        };
-      },
-      ran.1.committed_is,
-    )
 
 -- ---- UPDATE of the version in the one row of meta
 only_one : (c : Rows) → without_all (meta_values c ∷ []) (pos 1 ∷ []) ≡ []
@@ -321,14 +211,19 @@ sets_either old new count b has h =
       receipts = keeps_on _ _ _ (same 4 (omega arith) (omega arith)) was.receipts;
       slips = keeps_on _ _ _ (same 5 (omega arith) (omega arith)) was.slips;
       slip_lines = keeps_on _ _ _ (same 6 (omega arith) (omega arith)) was.slip_lines;
-      spans = spans_on b c db now edit applied (omega arith) was.spans;
+      later = later_on b c db now edit applied (omega arith) was.later;
     })
 
 pub sets_version : (old new : State) (count : ℕ) → old.now.schema ≡ archive_schema true
     → Executes set_version [] old new (Ok count) → BecomesDated old new (with_version 2)
 sets_version old new count has h =
     let did = sets_either old new count true has h in
-    record { schema = did.schema; sound = did.sound; same = did.same; holds = λ rows dated was. did.holds rows was }
+    record {
+      schema = did.schema;
+      sound = did.sound;
+      same = did.same;
+      holds = λ rows dated typed was. did.holds rows was;
+    }
 
 -- a day that may be missing, as it is bound
 pub day_bound : (o : Option ℤ) → bound_value (or_null Int o) ≡ day_or_null o

@@ -1,30 +1,17 @@
--- What each text of SQL on spans means under the second schema, and what makes their table.
-use Rattle.std.proofs.Common.{◌≡◌, pos, List, ℕ, [], ◌∷◌, Bool, true, false, codes, Ok, Err, refl}
+-- What each text of SQL on spans means under the second schema.
+use Rattle.std.proofs.Common.{◌≡◌, pos, List, ℕ, [], ◌∷◌, Bool, true, false, codes, Err, refl}
 use Rattle.sqlite.specs.declared.types.Value.TheVariants.{Null, Int}
 use Rattle.sqlite.specs.Term.{lit, col}
 use Rattle.sqlite.specs.Source.TheVariants.{Values}
 use Rattle.sqlite.specs.Command.TheVariants.{Insert, Select, Delete, Update}
-use Rattle.sqlite.specs.Compile.{table_defined_by}
 use Rattle.sqlite_resolve.specs.declared.error.CompileError.TheVariants.{NoSuchTable}
 use Rattle.sqlite_tied.specs.Compute.{everything}
 use Rattle.sqlite.specs.Listing.{understood, reads_listing, listing_schema}
 use Rattle.sqlite.proofs.Callers.{IsPlain, command_of}
 use Rattle.store_tables.proofs.Finding.{simple}
 use Rattle.store_tables.proofs.Texts.{by_key, with_key}
-use Rattle.store_tables.specs.Creating.{IsCreate}
-use Rattle.store_tables.specs.Schema.{archive_schema, spans}
-
-abbrev pub create_spans : List ℕ
-create_spans = codes
-    "CREATE TABLE span (no INTEGER PRIMARY KEY REFERENCES record (no) ON DELETE RESTRICT, lo INTEGER, hi INTEGER) STRICT"
-
-pub spans_is : (table_defined_by create_spans ≡ Ok (record spans { tree = 0 }))
-unfolding understood everything
-spans_is = refl
-
-pub makes_spans : IsCreate (archive_schema false) create_spans (record spans { tree = 0 })
-unfolding understood everything
-makes_spans = record { command = refl; whole = refl; plain = (refl, refl); defined = spans_is; counts = refl }
+use Rattle.store_tables.specs.Prepared.{IsOfSecond}
+use Rattle.store_tables.specs.Schema.{archive_schema}
 
 abbrev pub insert_span : List ℕ
 insert_span = codes "INSERT INTO span (no, lo, hi) VALUES (?1, ?2, ?3)"
@@ -84,6 +71,9 @@ unfolding understood everything
 select_spans_unlisted = refl
 
 -- the first schema has no such table
-pub select_spans_unknown : understood (archive_schema false) select_spans ≡ Err NoSuchTable
+select_spans_unknown : understood (archive_schema false) select_spans ≡ Err NoSuchTable
 unfolding understood everything listing_schema
 select_spans_unknown = refl
+
+pub spans_of_second : IsOfSecond select_spans
+spans_of_second = (select_spans_plain, select_spans_unknown)

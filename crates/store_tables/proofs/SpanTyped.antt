@@ -1,7 +1,7 @@
 -- What each statement on spans, and on the version, makes of rows whose values are of their types has such values.
 use Rattle.std.proofs.Common.{◌≡◌, inr, refl, ℕ, ℤ, true, Option, IfSome}
 use Rattle.store_tables.specs.Reading.{AreTyped, IsDay, IsU32}
-use Rattle.store_tables.specs.Rows.{Rows, SpanRow, with_span, with_span_table, with_version, without_span}
+use Rattle.store_tables.specs.Rows.{Rows, SpanRow, with_span, with_later_tables, with_version, without_span}
 use Rattle.store_tables.proofs.Coded.{kept_by}
 use Rattle.store_tables.proofs.Typed.{put_all}
 
@@ -18,6 +18,8 @@ typed_span n lo hi low first last rows t = record {
   slips = t.slips;
   slip_lines = t.slip_lines;
   spans = put_all _ (λ (s : SpanRow). s.no) _ rows.spans (low, first, last) t.spans;
+  links = t.links;
+  soughts = t.soughts;
 }
 
 pub typed_less_span : (n : ℕ) (rows : Rows) → AreTyped rows → AreTyped (without_span n rows)
@@ -32,10 +34,12 @@ typed_less_span n rows t = record {
   slips = t.slips;
   slip_lines = t.slip_lines;
   spans = kept_by _ _ rows.spans t.spans;
+  links = t.links;
+  soughts = t.soughts;
 }
 
-pub typed_span_table : (rows : Rows) → AreTyped rows → AreTyped (with_span_table rows)
-typed_span_table rows t = record {
+pub typed_later_tables : (rows : Rows) → AreTyped rows → AreTyped (with_later_tables rows)
+typed_later_tables rows t = record {
   version = t.version;
   dated = λ second. refl;
   society = t.society;
@@ -46,6 +50,8 @@ typed_span_table rows t = record {
   slips = t.slips;
   slip_lines = t.slip_lines;
   spans = t.spans;
+  links = t.links;
+  soughts = t.soughts;
 }
 
 pub typed_second : (rows : Rows) → rows.has_spans ≡ true → AreTyped rows → AreTyped (with_version 2 rows)
@@ -60,4 +66,6 @@ typed_second rows dated t = record {
   slips = t.slips;
   slip_lines = t.slip_lines;
   spans = t.spans;
+  links = t.links;
+  soughts = t.soughts;
 }

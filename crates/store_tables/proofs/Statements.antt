@@ -32,7 +32,7 @@ use Rattle.std.proofs.Common.{
 use Rattle.std.specs.List.{list_all, AllByRecursion, cons_option}
 use Rattle.std.specs.List.Sorted.{IsPermutation}
 use Rattle.std.proofs.lemmas.List.Sorted.{IsPermutation-map}
-use Rattle.sqlite_rules.specs.Edit.{without_all, Applies}
+use Rattle.sqlite_rules.specs.Edit.{without_all, Applies, IsNoIndex}
 use Rattle.sqlite.specs.declared.types.Value.TheVariants.{Null, Int, Text}
 use Rattle.sqlite.specs.Order.{Row}
 use Rattle.sqlite.specs.Ops.{is_true, from_truth, binary, unary}
@@ -68,8 +68,10 @@ use Rattle.store_tables.specs.Rows.{
   SlipRow,
   SlipLineRow,
   SpanRow,
+  LinkRow,
+  SoughtRow,
   Holds,
-  HoldsSpans,
+  HoldsLater,
   meta_values,
   batch_values,
   line_values,
@@ -83,7 +85,7 @@ use Rattle.store_tables.specs.Rows.{
   words_or_null,
   flag,
   next_key,
-  bare,
+  bare_first,
   with_batch,
   without_lines,
   with_record_row,
@@ -170,25 +172,58 @@ cast_words (Some t) = refl
 abbrev pub Others : Trees → Trees → ℕ → Type 0
 Others old new at = (t : ℕ) → t < 7 → t ≢ at → new t ≡ old t
 
+-- no tree of the tables that the first schema has is one of an index
+no_early_index : (b : Bool) (t : ℕ) → t < 7 → IsNoIndex (archive_schema b) t
+no_early_index false t low = (
+  omega (arith, low),
+  (omega (arith, low), (omega (arith, low), (omega (arith, low), (omega (arith, low), tt)))),
+)
+no_early_index true t low = (
+  omega (arith, low),
+  (
+    omega (arith, low),
+    (omega (arith, low), (omega (arith, low), (omega (arith, low), (omega (arith, low), tt)))),
+  ),
+)
+
 pub others_of : (b : Bool) (old new : Trees) (edit : Edit) → Applies (archive_schema b) Enforced old edit new
     → Others old new edit.table.tree
-others_of b old new edit a t low off =
-    a.others t off (
-      omega (arith, low),
-      (omega (arith, low), (omega (arith, low), (omega (arith, low), (omega (arith, low), tt)))),
-    )
+others_of b old new edit a t low off = a.others t off (no_early_index b t low)
 
--- a change of another table leaves the spans
-same_spans : (b : Bool) (xs : List SpanRow) (old new : Trees) → new 12 ≡ old 12 → HoldsSpans b xs old
-    → HoldsSpans b xs new
-same_spans false xs old new same was = was
-same_spans true xs old new same was = keeps_on _ _ _ same was
+-- nor is one of those that the second schema has beside them
+pub no_late_index : (b : Bool) (t : ℕ) → 11 < t → t < 16 → IsNoIndex (archive_schema b) t
+no_late_index false t high low = (
+  omega (arith, high),
+  (omega (arith, high), (omega (arith, high), (omega (arith, high), (omega (arith, high), tt)))),
+)
+no_late_index true t high low = (
+  omega (arith, high),
+  (
+    omega (arith, high),
+    (omega (arith, high), (omega (arith, high), (omega (arith, high), (omega (arith, low), tt)))),
+  ),
+)
 
-pub spans_on : (b : Bool) (rows : Rows) (old new : Trees) (edit : Edit)
-    → Applies (archive_schema b) Enforced old edit new → 12 ≢ edit.table.tree
-    → HoldsSpans rows.has_spans rows.spans old → HoldsSpans rows.has_spans rows.spans new
-spans_on b rows old new edit a off was = same_spans rows.has_spans rows.spans old new
-    (a.others 12 off (omega arith, (omega arith, (omega arith, (omega arith, (omega arith, tt)))))) was
+-- a change of a table of the first schema leaves those of the second one
+same_later : (b : Bool) (spans : List SpanRow) (links : List LinkRow) (soughts : List SoughtRow) (old new : Trees)
+    → new 12 ≡ old 12 → new 13 ≡ old 13 → new 14 ≡ old 14 → HoldsLater b spans links soughts old
+    → HoldsLater b spans links soughts new
+same_later false spans links soughts old new p q r was = was
+same_later true spans links soughts old new p q r was = record {
+  spans_kept = keeps_on _ _ _ p was.spans_kept;
+  links_kept = keeps_on _ _ _ q was.links_kept;
+  soughts_kept = keeps_on _ _ _ r was.soughts_kept;
+}
+
+pub later_on : (b : Bool) (rows : Rows) (old new : Trees) (edit : Edit)
+    → Applies (archive_schema b) Enforced old edit new → edit.table.tree < 7
+    → HoldsLater rows.has_spans rows.spans rows.links rows.soughts old
+    → HoldsLater rows.has_spans rows.spans rows.links rows.soughts new
+later_on b rows old new edit a low was =
+    same_later rows.has_spans rows.spans rows.links rows.soughts old new
+    (a.others 12 (omega (arith, low)) (no_late_index b 12 (omega arith) (omega arith)))
+    (a.others 13 (omega (arith, low)) (no_late_index b 13 (omega arith) (omega arith)))
+    (a.others 14 (omega (arith, low)) (no_late_index b 14 (omega arith) (omega arith))) was
 
 -- what sets off nothing in either schema
 pub no_work : (b : Bool) (db : Trees) (edit : Edit)
@@ -231,7 +266,7 @@ inserts_batch old new n is_open count b has h =
       receipts = keeps_on _ _ _ (same 4 (omega arith) (omega arith)) was.receipts;
       slips = keeps_on _ _ _ (same 5 (omega arith) (omega arith)) was.slips;
       slip_lines = keeps_on _ _ _ (same 6 (omega arith) (omega arith)) was.slip_lines;
-      spans = spans_on b rows db now edit applied (omega arith) was.spans;
+      later = later_on b rows db now edit applied (omega arith) was.later;
     })
 
 pub inserts_record : (old new : State) (n : ℕ) (kind : List ℕ) (batch : ℕ) (count : ℕ) (b : Bool)
@@ -265,7 +300,7 @@ inserts_record old new n kind batch count b has h =
       receipts = keeps_on _ _ _ (same 4 (omega arith) (omega arith)) was.receipts;
       slips = keeps_on _ _ _ (same 5 (omega arith) (omega arith)) was.slips;
       slip_lines = keeps_on _ _ _ (same 6 (omega arith) (omega arith)) was.slip_lines;
-      spans = spans_on b rows db now edit applied (omega arith) was.spans;
+      later = later_on b rows db now edit applied (omega arith) was.later;
     })
 
 pub inserts_slip : (old new : State) (n keep gone : ℕ) (is_undone : Bool) (count : ℕ) (b : Bool)
@@ -302,7 +337,7 @@ inserts_slip old new n keep gone is_undone count b has h =
       slips = keeps_on _ _ (now 5) (applied.rows ∙ row)
           (keeps_put slip_values (λ (s : SlipRow). s.no) (λ _. refl) item rows.slips (db 5) was.slips);
       slip_lines = keeps_on _ _ _ (same 6 (omega arith) (omega arith)) was.slip_lines;
-      spans = spans_on b rows db now edit applied (omega arith) was.spans;
+      later = later_on b rows db now edit applied (omega arith) was.later;
     })
 
 -- ---- rows whose key is chosen
@@ -344,7 +379,7 @@ inserts_line old new n at line count b has h =
       receipts = keeps_on _ _ _ (same 4 (omega arith) (omega arith)) was.receipts;
       slips = keeps_on _ _ _ (same 5 (omega arith) (omega arith)) was.slips;
       slip_lines = keeps_on _ _ _ (same 6 (omega arith) (omega arith)) was.slip_lines;
-      spans = spans_on b rows db now edit applied (omega arith) was.spans;
+      later = later_on b rows db now edit applied (omega arith) was.later;
     })
 
 pub inserts_receipt : (old new : State) (token : List ℕ) (receipt : Receipt) (count : ℕ)
@@ -384,7 +419,7 @@ inserts_receipt old new token receipt count b has h =
           (db 4) refl was.receipts);
       slips = keeps_on _ _ _ (same 5 (omega arith) (omega arith)) was.slips;
       slip_lines = keeps_on _ _ _ (same 6 (omega arith) (omega arith)) was.slip_lines;
-      spans = spans_on b rows db now edit applied (omega arith) was.spans;
+      later = later_on b rows db now edit applied (omega arith) was.later;
     })
 
 pub inserts_slip_line : (old new : State) (slip : ℕ) (is_new : Bool) (n at : ℕ) (line : ℕ × Label) (count : ℕ)
@@ -436,7 +471,7 @@ inserts_slip_line old new slip is_new n at line count b has h =
           (chosen_key slip_line_values (λ (s : SlipLineRow). s.id) (λ _. refl) rows.slip_lines
           (db 6) was.slip_lines.is)) (keeps_last slip_line_values (λ (s : SlipLineRow). s.id)
           (λ _. refl) item rows.slip_lines (db 6) refl was.slip_lines);
-      spans = spans_on b rows db now edit applied (omega arith) was.spans;
+      later = later_on b rows db now edit applied (omega arith) was.later;
     })
 
 -- ---- DELETE
@@ -482,7 +517,7 @@ deletes_lines old new n count b has h =
       receipts = keeps_on _ _ _ (same 4 (omega arith) (omega arith)) was.receipts;
       slips = keeps_on _ _ _ (same 5 (omega arith) (omega arith)) was.slips;
       slip_lines = keeps_on _ _ _ (same 6 (omega arith) (omega arith)) was.slip_lines;
-      spans = spans_on b rows db now edit applied (omega arith) was.spans;
+      later = later_on b rows db now edit applied (omega arith) was.later;
     })
 
 passes_6 : (n : ℕ) (x : SlipLineRow) → list_all (holds ((Int (pos n) ∷ []) ∷ slip_line_values x ∷ []))
@@ -529,7 +564,7 @@ deletes_slip_lines old new n count b has h =
       slip_lines = keeps_on _ _ (now 6) applied.rows
           (keeps_less slip_line_values (λ (s : SlipLineRow). s.id) (λ _. refl) (λ x. x.slip == n) rows.slip_lines (db 6)
           (ids_of found) ids was.slip_lines);
-      spans = spans_on b rows db now edit applied (omega arith) was.spans;
+      later = later_on b rows db now edit applied (omega arith) was.later;
     })
 
 passes_2 : (n : ℕ) (x : RecordRow) → list_all (holds ((Int (pos n) ∷ []) ∷ record_values x ∷ []))
@@ -547,18 +582,19 @@ two_refuse : (b : Bool) (v w : Work) → Restrict v → Restrict w → AllByRecu
 two_refuse true v w p q = (p, (q, tt))
 two_refuse false v w p q = tt
 
-three_refuse : (b : Bool) (v w x : Work) → Restrict v → Restrict w → Restrict x → AllByRecursion Restrict
+four_refuse : (b : Bool) (v w x y : Work) → Restrict v → Restrict w → Restrict x → Restrict y
+    → AllByRecursion Restrict
     (cons_option (if b then Some v else None) (cons_option (if b then Some w else None) [])
-    ++ (cons_option (if b then Some x else None) [] ++ []))
-three_refuse true v w x p q r = (p, (q, (r, tt)))
-three_refuse false v w x p q r = tt
+    ++ (cons_option (if b then Some x else None) [] ++ (cons_option (if b then Some y else None) [] ++ [])))
+four_refuse true v w x y p q r s = (p, (q, (r, (s, tt))))
+four_refuse false v w x y p q r s = tt
 
 -- what refers to a record, or to a slip, restricts its deletion
 pub only_restricted : (b : Bool) (olds : List Row)
     → AllByRecursion Restrict (works (archive_schema b) Enforced 0 2 olds [])
 unfolding same_name joined
 only_restricted false olds = two_refuse _ _ _ refl refl
-only_restricted true olds = three_refuse _ _ _ _ refl refl refl
+only_restricted true olds = four_refuse _ _ _ _ _ refl refl refl refl
 
 pub only_restricted_slips : (b : Bool) (olds : List Row)
     → AllByRecursion Restrict (works (archive_schema b) Enforced 0 5 olds [])
@@ -600,7 +636,7 @@ deletes_record old new n count b has h =
       receipts = keeps_on _ _ _ (same 4 (omega arith) (omega arith)) was.receipts;
       slips = keeps_on _ _ _ (same 5 (omega arith) (omega arith)) was.slips;
       slip_lines = keeps_on _ _ _ (same 6 (omega arith) (omega arith)) was.slip_lines;
-      spans = spans_on b rows db now edit applied (omega arith) was.spans;
+      later = later_on b rows db now edit applied (omega arith) was.later;
     })
 
 -- ---- UPDATE of the one row of meta
@@ -643,55 +679,42 @@ sets_next old new n count b has h =
       receipts = keeps_on _ _ _ (same 4 (omega arith) (omega arith)) was.receipts;
       slips = keeps_on _ _ _ (same 5 (omega arith) (omega arith)) was.slips;
       slip_lines = keeps_on _ _ _ (same 6 (omega arith) (omega arith)) was.slip_lines;
-      spans = spans_on b c db now edit applied (omega arith) was.spans;
+      later = later_on b c db now edit applied (omega arith) was.later;
     })
 
 -- ---- the first row, in a store whose tables have none
 
-pub inserts_meta : (old new : State) (society : List ℕ) (count : ℕ) → old.now.schema ≡ archive_schema true
-    → ((t : ℕ) → t < 7 → old.now.trees t ≡ []) → old.now.trees 12 ≡ []
+pub inserts_meta : (old new : State) (society : List ℕ) (count : ℕ) → old.now.schema ≡ archive_schema false
+    → ((t : ℕ) → t < 7 → old.now.trees t ≡ [])
     → Executes insert_meta (Text society ∷ []) old new (Ok count)
-    → (new.now.schema ≡ archive_schema true) × IsSound (archive_schema true) new.now.trees × Holds (bare society)
-    new.now.trees
-inserts_meta old new society count has empty none h =
+    → (new.now.schema ≡ archive_schema false) × IsSound (archive_schema false) new.now.trees
+    × Holds (bare_first society) new.now.trees
+inserts_meta old new society count has empty h =
     let params = Text society ∷ [] in
-    let terms = lit (Int (pos 1)) ∷ lit Null ∷ lit (Int (pos 2)) ∷ lit (Int (pos 1)) ∷ col 0 0 ∷ [] in
-    let w = runs_as insert_meta params old new (archive_schema true) has (Insert 0 (Values terms 5))
-    (insert_meta_is true)
-    (insert_meta_plain true) count h in
-    let did = inserts (archive_schema true) meta 0 refl refl old new.now w.tally params
-    (statement_of insert_meta (understood (archive_schema true) insert_meta)) terms 5 has w.changed in
+    let terms = lit (Int (pos 1)) ∷ lit Null ∷ lit (Int (pos 1)) ∷ lit (Int (pos 1)) ∷ col 0 0 ∷ [] in
+    let w = runs_as insert_meta params old new (archive_schema false) has (Insert 0 (Values terms 5))
+    (insert_meta_is false)
+    (insert_meta_plain false) count h in
+    let did = inserts (archive_schema false) meta 0 refl refl old new.now w.tally params
+    (statement_of insert_meta (understood (archive_schema false) insert_meta)) terms 5 has w.changed in
     let db = old.now.trees in
     let now = new.now.trees in
     let edit = edit_of db meta [] Chosen 0 (value_rows params 5 1 terms) in
-    let applied = one_step (archive_schema true) Enforced db now edit refl did.1 in
-    let same = others_of true db now edit applied in
-    let row : edited db edit ≡ put_row (meta_values (bare society)) (db 0) = rw
-    (cast_int (pos 1), cast_int (pos 2), cast_null) refl in
+    let applied = one_step (archive_schema false) Enforced db now edit refl did.1 in
+    let same = others_of false db now edit applied in
+    let row : edited db edit ≡ put_row (meta_values (bare_first society)) (db 0) = rw
+    (cast_int (pos 1), cast_null) refl in
     let each = (λ (t : ℕ) (low : t < 7) (off : t ≢ 0). same t low off ∙ empty t low) in (
       did.0,
       subst (λ s. IsSound s now) did.0 w.sound,
       record {
-        meta = applied.rows ∙ row ∙ ap (put_row (meta_values (bare society))) (empty 0 (omega arith));
+        meta = applied.rows ∙ row ∙ ap (put_row (meta_values (bare_first society))) (empty 0 (omega arith));
         batches = record { is = each 1 (omega arith) (omega arith); rise = tt };
         records = record { is = each 2 (omega arith) (omega arith); rise = tt };
         lines = record { is = each 3 (omega arith) (omega arith); rise = tt };
         receipts = record { is = each 4 (omega arith) (omega arith); rise = tt };
         slips = record { is = each 5 (omega arith) (omega arith); rise = tt };
         slip_lines = record { is = each 6 (omega arith) (omega arith); rise = tt };
-        spans = record {
-          is = applied.others 12 (omega arith) (
-            omega arith,
-            (
-              omega arith,
-              (
-                omega arith,
-                (omega arith, (omega arith, tt)),
-              ),
-            ),
-          )
-              ∙ none;
-          rise = tt;
-        };
+        later = (refl, refl, refl);
       },
     )

@@ -120,7 +120,7 @@ unfolding understood everything
 line_by_text_is = refl
 
 abbrev pub insert_meta : List ℕ
-insert_meta = codes "INSERT INTO meta (one, version, next, society) VALUES (1, 2, 1, ?1)"
+insert_meta = codes "INSERT INTO meta (one, version, next, society) VALUES (1, 1, 1, ?1)"
 
 abbrev pub insert_batch : List ℕ
 insert_batch = codes "INSERT INTO batch (no, is_open) VALUES (?1, ?2)"
@@ -165,7 +165,7 @@ abbrev pub by_key : List (Term × Key)
 by_key = (col 1 0, ascending Binary) ∷ []
 
 pub insert_meta_is : (b : Bool) → command_of (understood (archive_schema b) insert_meta) ≡ Insert 0
-    (Values (lit (Int (pos 1)) ∷ lit Null ∷ lit (Int (pos 2)) ∷ lit (Int (pos 1)) ∷ col 0 0 ∷ []) 5)
+    (Values (lit (Int (pos 1)) ∷ lit Null ∷ lit (Int (pos 1)) ∷ lit (Int (pos 1)) ∷ col 0 0 ∷ []) 5)
 unfolding understood everything
 insert_meta_is b = refl
 

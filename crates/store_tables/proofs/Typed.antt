@@ -72,6 +72,8 @@ typed_next n rows t = record {
   slips = t.slips;
   slip_lines = t.slip_lines;
   spans = t.spans;
+  links = t.links;
+  soughts = t.soughts;
 }
 
 pub typed_batch : (n : ℕ) (is_open : Bool) → IsU32 n → (rows : Rows) → AreTyped rows
@@ -88,6 +90,8 @@ typed_batch n is_open low rows t =
       slips = t.slips;
       slip_lines = t.slip_lines;
       spans = t.spans;
+      links = t.links;
+      soughts = t.soughts;
     }
 
 closed_all : (n : ℕ) (bs : List BatchRow) → AllByRecursion (λ (b : BatchRow). IsU32 b.no) bs
@@ -111,6 +115,8 @@ typed_closed n rows t = record {
   slips = t.slips;
   slip_lines = t.slip_lines;
   spans = t.spans;
+  links = t.links;
+  soughts = t.soughts;
 }
 
 pub typed_less_batch : (n : ℕ) (rows : Rows) → AreTyped rows → AreTyped (without_batch_row n rows)
@@ -125,6 +131,8 @@ typed_less_batch n rows t = record {
   slips = t.slips;
   slip_lines = t.slip_lines;
   spans = t.spans;
+  links = t.links;
+  soughts = t.soughts;
 }
 
 pub typed_less_lines_from : (n at : ℕ) (rows : Rows) → AreTyped rows → AreTyped (without_lines_from n at rows)
@@ -139,6 +147,8 @@ typed_less_lines_from n at rows t = record {
   slips = t.slips;
   slip_lines = t.slip_lines;
   spans = t.spans;
+  links = t.links;
+  soughts = t.soughts;
 }
 
 pub typed_record : (n : ℕ) (kind : List ℕ) (batch : ℕ) → IsU32 n → IsU32 batch → (rows : Rows) → AreTyped rows
@@ -154,6 +164,8 @@ typed_record n kind batch low first rows t = record {
   slips = t.slips;
   slip_lines = t.slip_lines;
   spans = t.spans;
+  links = t.links;
+  soughts = t.soughts;
 }
 
 record_all : (n : ℕ) (kind : List ℕ) (batch : ℕ) → IsU32 batch → (rs : List RecordRow)
@@ -181,6 +193,8 @@ typed_record_at n kind batch low rows t = record {
   slips = t.slips;
   slip_lines = t.slip_lines;
   spans = t.spans;
+  links = t.links;
+  soughts = t.soughts;
 }
 
 pub typed_less_record : (n : ℕ) (rows : Rows) → AreTyped rows → AreTyped (without_record_row n rows)
@@ -195,6 +209,8 @@ typed_less_record n rows t = record {
   slips = t.slips;
   slip_lines = t.slip_lines;
   spans = t.spans;
+  links = t.links;
+  soughts = t.soughts;
 }
 
 pub typed_line : (n at : ℕ) (line : ℕ × Label) → IsU32 n → IsTypedLine line → (rows : Rows) → AreTyped rows
@@ -210,6 +226,8 @@ typed_line n at line low is rows t = record {
   slips = t.slips;
   slip_lines = t.slip_lines;
   spans = t.spans;
+  links = t.links;
+  soughts = t.soughts;
 }
 
 pub typed_less_lines : (n : ℕ) (rows : Rows) → AreTyped rows → AreTyped (without_lines n rows)
@@ -224,6 +242,8 @@ typed_less_lines n rows t = record {
   slips = t.slips;
   slip_lines = t.slip_lines;
   spans = t.spans;
+  links = t.links;
+  soughts = t.soughts;
 }
 
 pub typed_receipt : (token : List ℕ) (receipt : Receipt) → IsToken token → IsTypedReceipt receipt → (rows : Rows)
@@ -239,6 +259,8 @@ typed_receipt token receipt is kept rows t = record {
   slips = t.slips;
   slip_lines = t.slip_lines;
   spans = t.spans;
+  links = t.links;
+  soughts = t.soughts;
 }
 
 pub typed_slip : (n keep gone : ℕ) (is_undone : Bool) → IsU32 n → IsU32 keep → IsU32 gone → (rows : Rows)
@@ -255,6 +277,8 @@ typed_slip n keep gone is_undone a b c rows t = record {
       (a, b, c) t.slips;
   slip_lines = t.slip_lines;
   spans = t.spans;
+  links = t.links;
+  soughts = t.soughts;
 }
 
 undone_all : (n : ℕ) (ss : List SlipRow) → AllByRecursion IsTypedSlip ss → AllByRecursion IsTypedSlip
@@ -278,6 +302,8 @@ typed_undone n rows t = record {
   slips = undone_all n rows.slips t.slips;
   slip_lines = t.slip_lines;
   spans = t.spans;
+  links = t.links;
+  soughts = t.soughts;
 }
 
 pub typed_slip_line : (slip : ℕ) (is_new : Bool) (n at : ℕ) (line : ℕ × Label) → IsU32 slip → IsU32 n → IsTypedLine line
@@ -293,6 +319,8 @@ typed_slip_line slip is_new n at line a b is rows t = record {
   slips = t.slips;
   slip_lines = all_then _ rows.slip_lines _ t.slip_lines (a, b, is);
   spans = t.spans;
+  links = t.links;
+  soughts = t.soughts;
 }
 
 pub typed_less_slip_lines : (n : ℕ) (rows : Rows) → AreTyped rows → AreTyped (without_slip_lines n rows)
@@ -307,4 +335,6 @@ typed_less_slip_lines n rows t = record {
   slips = t.slips;
   slip_lines = kept_by _ _ rows.slip_lines t.slip_lines;
   spans = t.spans;
+  links = t.links;
+  soughts = t.soughts;
 }

@@ -73,7 +73,7 @@ use Rattle.store_tables.proofs.Statements.{
   becomes,
   no_work,
   others_of,
-  spans_on,
+  later_on,
   only_restricted,
   only_restricted_slips,
   truth_of,
@@ -134,7 +134,7 @@ updates_record old new n kind batch count b has h =
                   receipts = keeps_on _ _ _ (same 4 (omega arith) (omega arith)) was.receipts;
                   slips = keeps_on _ _ _ (same 5 (omega arith) (omega arith)) was.slips;
                   slip_lines = keeps_on _ _ _ (same 6 (omega arith) (omega arith)) was.slip_lines;
-                  spans = spans_on b rows db now edit applied (omega arith) was.spans;
+                  later = later_on b rows db now edit applied (omega arith) was.later;
                 }
             | inr (x, one, here) ↦
                 let single : read ≡ shown x ∷ [] = one_permutation _ read
@@ -157,7 +157,7 @@ updates_record old new n kind batch count b has h =
                   receipts = keeps_on _ _ _ (same 4 (omega arith) (omega arith)) was.receipts;
                   slips = keeps_on _ _ _ (same 5 (omega arith) (omega arith)) was.slips;
                   slip_lines = keeps_on _ _ _ (same 6 (omega arith) (omega arith)) was.slip_lines;
-                  spans = spans_on b rows db now edit applied (omega arith) was.spans;
+                  later = later_on b rows db now edit applied (omega arith) was.later;
                 }
           ]),
       λ rows was. elim (at_key key n rows.records was.records.rise) [
@@ -219,7 +219,7 @@ undoes_slip old new n count b has h =
                   slips = subst (λ xs. Keeps slip_values key xs (now 5)) (sym (none_changed key n g rows.slips none))
                       (keeps_on _ _ (now 5) applied.rows was.slips);
                   slip_lines = keeps_on _ _ _ (same 6 (omega arith) (omega arith)) was.slip_lines;
-                  spans = spans_on b rows db now edit applied (omega arith) was.spans;
+                  later = later_on b rows db now edit applied (omega arith) was.later;
                 }
             | inr (x, one, here) ↦
                 let single : read ≡ shown x ∷ [] = one_permutation _ read
@@ -247,7 +247,7 @@ undoes_slip old new n count b has h =
                   slips = keeps_on _ _ (now 5) (applied.rows ∙ row ∙ away)
                       (keeps_changed slip_values key (λ _. refl) n g x rows.slips (db 5) one here here was.slips);
                   slip_lines = keeps_on _ _ _ (same 6 (omega arith) (omega arith)) was.slip_lines;
-                  spans = spans_on b rows db now edit applied (omega arith) was.spans;
+                  later = later_on b rows db now edit applied (omega arith) was.later;
                 }
           ]),
       λ rows was. elim (at_key key n rows.slips was.slips.rise) [

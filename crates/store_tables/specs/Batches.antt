@@ -1,7 +1,7 @@
 -- The rows of one batch, as they are read, and to what rows belong.
 use Rattle.std.specs.Prelude.{ℕ, ◌≡◌, ◌==◌, true, List, length, map, filter}
 use Rattle.std.specs.List.{AllByRecursion, list_any}
-use Rattle.store_tables.specs.Rows.{Rows, BatchRow, RecordRow, LineRow, SpanRow}
+use Rattle.store_tables.specs.Rows.{Rows, BatchRow, RecordRow, LineRow, SpanRow, SoughtRow}
 
 -- the numbers of a batch, in order
 abbrev pub numbers_in : ℕ → Rows → List ℕ
@@ -11,7 +11,8 @@ numbers_in batch rows = map (λ (r : RecordRow). r.no) (filter (λ (r : RecordRo
 abbrev pub count_of_lines : ℕ → Rows → ℕ
 count_of_lines n rows = length (filter (λ (l : LineRow). l.no == n) rows.lines)
 
--- each line and each span is of a number that has a row in `record`, and each such row is of a batch that is there
+-- each line, each span and what each number is looked for by is of a number that has a row in `record`, and each such
+-- row is of a batch that is there
 pub record AreOwned (rows : Rows) : Type 0 where
   pub lines : AllByRecursion (λ (l : LineRow). list_any (λ (r : RecordRow). r.no == l.no) rows.records ≡ true)
       rows.lines
@@ -19,3 +20,5 @@ pub record AreOwned (rows : Rows) : Type 0 where
       rows.records
   pub spans : AllByRecursion (λ (s : SpanRow). list_any (λ (r : RecordRow). r.no == s.no) rows.records ≡ true)
       rows.spans
+  pub soughts : AllByRecursion (λ (s : SoughtRow). list_any (λ (r : RecordRow). r.no == s.no) rows.records ≡ true)
+      rows.soughts

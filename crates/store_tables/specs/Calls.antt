@@ -1,12 +1,13 @@
 -- What a call does to the tables, and what a crash may leave of them.
-use Rattle.std.specs.Prelude.{◌≡◌, true, false, IsTrue, [], Result, OnOk}
+use Rattle.std.specs.Prelude.{◌≡◌, true, false, IsTrue, List, [], Result, OnOk}
 use Rattle.std.specs.List.{AllByRecursion}
 use Rattle.sqlite.specs.Schema.{Schema}
 use Rattle.sqlite.specs.Table.{Table}
 use Rattle.sqlite.specs.Tree.{Trees}
+use Rattle.sqlite_catalog.specs.Change.{KeepsRows}
 use Rattle.sqlite_catalog.specs.Listing.{IsSound}
 use Rattle.sqlite.specs.State.{HasCleanDisk, State, Survives}
-use Rattle.store_tables.specs.Schema.{archive_schema, no_schema}
+use Rattle.store_tables.specs.Schema.{all_tables, archive_schema, first_and, no_schema}
 use Rattle.store_tables.specs.Reading.{AreTyped}
 use Rattle.store_tables.specs.Rows.{Rows, Holds}
 
@@ -88,6 +89,16 @@ pub record Built (s : State) (at : Schema) : Type 0 where
   pub schema : s.now.schema ≡ at
   pub sound : IsSound at s.now.trees
   pub empty : AllByRecursion (λ (t : Table). s.now.trees t.tree ≡ []) at.tables
+
+-- a transaction is open in which the tables of the first schema have what they had in `base`, and those that there are
+-- beside have no rows
+pub record Widened (base : Trees) (s : State) (more : List Table) : Type 0 where
+  pub is_open : IsTrue s.is_open
+  pub inside : IsTrue s.in_transaction
+  pub schema : s.now.schema ≡ first_and more
+  pub sound : IsSound (first_and more) s.now.trees
+  pub same : KeepsRows (all_tables false) base s.now.trees
+  pub empty : AllByRecursion (λ (t : Table). s.now.trees t.tree ≡ []) more
 
 -- calls in a transaction that make one schema of another, and commit nothing
 abbrev pub Builds : State → State → Schema → Schema → Type 0

@@ -2,7 +2,17 @@
 use Rattle.std.specs.Prelude.{ℕ, ◌≡◌, ◌==◌, ◌&&◌, Bool, false, List, [], ◌∷◌, map, filter, bytes_eq, Option, Some, None}
 use Rattle.stored_lines.specs.Line.{Label}
 use Rattle.receipts.specs.declared.answer.Receipt.{Receipt}
-use Rattle.store_tables.specs.Rows.{Rows, BatchRow, RecordRow, LineRow, ReceiptRow, SlipRow, SlipLineRow}
+use Rattle.store_tables.specs.Rows.{
+  Rows,
+  BatchRow,
+  RecordRow,
+  LineRow,
+  ReceiptRow,
+  SlipRow,
+  SlipLineRow,
+  LinkRow,
+  SoughtRow,
+}
 use Rattle.store_tables.specs.Reading.{read_record, read_receipt, read_slip_line}
 
 -- the one item of a list, where it has one
@@ -50,3 +60,16 @@ lines_saying_of text n rows = map (λ (l : LineRow). l.no)
 -- the numbers of the records of all lines that name a number
 abbrev pub lines_naming : ℕ → Rows → List ℕ
 lines_naming n rows = map (λ (l : LineRow). l.no) (filter (λ (l : LineRow). is_number n l.line.1.target) rows.lines)
+
+-- the pairs of a number that is named, in the order of the records that name it
+abbrev pub links_to : ℕ → Rows → List LinkRow
+links_to n rows = filter (λ (l : LinkRow). l.target == n) rows.links
+
+-- the numbers that are looked for by a text
+abbrev pub sought_by : List ℕ → Rows → List ℕ
+sought_by text rows = map (λ (s : SoughtRow). s.no) (filter (λ (s : SoughtRow). bytes_eq s.text text) rows.soughts)
+
+-- the same of those where a number goes with it too
+abbrev pub sought_by_of : List ℕ → ℕ → Rows → List ℕ
+sought_by_of text n rows = map (λ (s : SoughtRow). s.no)
+    (filter (λ (s : SoughtRow). bytes_eq s.text text && is_number n s.target) rows.soughts)

@@ -2,15 +2,18 @@
 use Rattle.std.specs.Prelude.{◌≡◌, true, false, List, [], ◌∷◌, ◌++◌, ℕ, codes, Ok, Err, Result, OnOk, IfErr}
 use Rattle.std.specs.List.{AllByRecursion}
 use Rattle.sqlite.specs.declared.error.Error.{Error}
+use Rattle.sqlite.specs.Given.{IsPlain}
 use Rattle.sqlite.specs.Listing.{understood}
 use Rattle.sqlite.specs.Schema.{Schema}
 use Rattle.sqlite.specs.State.{State, HasCleanDisk, IsNotRun, IsUnchanged, Survives}
 use Rattle.sqlite_resolve.specs.declared.compiled.Compiled.{Compiled}
 use Rattle.sqlite_resolve.specs.declared.error.CompileError.{CompileError}
+use Rattle.sqlite_resolve.specs.declared.error.CompileError.TheVariants.{NoSuchTable}
 use Rattle.sqlite_rules.specs.Lists.{Has}
 use Rattle.record_text.specs.declared.refusal.RefusalKind.{RefusalKind}
 use Rattle.record_text.specs.declared.refusal.RefusalKind.TheVariants.{Storage, NotAnArchive}
 use Rattle.store_tables.specs.Looking.{meta_query}
+use Rattle.store_tables.specs.Schema.{archive_schema}
 use Rattle.store_tables.specs.declared.version.Version.{Version}
 use Rattle.store_tables.specs.declared.version.Version.TheVariants.{First, Second}
 use Rattle.store_tables.specs.Telling.{lacks, tells_no_archive}
@@ -46,10 +49,25 @@ all_queries = meta_query ∷ record_queries ++ history_queries
 abbrev pub span_query : List ℕ
 span_query = codes "SELECT no, lo, hi FROM span ORDER BY no"
 
+abbrev pub link_query : List ℕ
+link_query = codes "SELECT id FROM link ORDER BY id"
+
+abbrev pub sought_query : List ℕ
+sought_query = codes "SELECT no, text, dst FROM sought ORDER BY no"
+
+-- the queries that read the tables which the second schema has beside the first one
+abbrev pub later_queries : List (List ℕ)
+later_queries = span_query ∷ link_query ∷ sought_query ∷ []
+
 -- the queries that read the tables of a version
 abbrev pub queries_of : Version → List (List ℕ)
 queries_of First = all_queries
-queries_of Second = all_queries ++ span_query ∷ []
+queries_of Second = all_queries ++ later_queries
+
+-- the text is of a table that the second schema alone has, and changes nothing
+abbrev pub IsOfSecond : List ℕ → Type 0
+IsOfSecond sql = IsPlain (understood (archive_schema true) sql)
+    × (understood (archive_schema false) sql ≡ Err NoSuchTable)
 
 -- the schema has all that the text names
 abbrev pub IsUnderstood : Schema → List ℕ → Type 0

@@ -1,6 +1,6 @@
 -- What the queries show of the rows: all but the keys that say nothing, the kinds, and the places of lines, which are
 -- in order.
-use Rattle.std.specs.Prelude.{ℕ, ℤ, Bool, true, List, map, length, ◌≡◌, ◌⊎◌, ◌<◌, ◌^◌, IfSome, FitsSigned}
+use Rattle.std.specs.Prelude.{ℕ, ℤ, Bool, true, List, map, length, ◌≡◌, ◌⊎◌, ◌<◌, ◌^◌, ◌/◌, ◌%◌, IfSome, FitsSigned}
 use Rattle.std.specs.Int.{w32}
 use Rattle.std.specs.List.{AllByRecursion}
 use Rattle.stored_lines.specs.Line.{Label}
@@ -16,6 +16,9 @@ use Rattle.store_tables.specs.Rows.{
   SlipRow,
   SlipLineRow,
   SpanRow,
+  LinkRow,
+  SoughtRow,
+  link_place,
   slip_line_of,
 }
 
@@ -43,6 +46,13 @@ read_receipt r = (r.token, r.receipt)
 
 abbrev pub read_slip_line : SlipLineRow → ℕ × (Bool × (ℕ × (ℕ × Label)))
 read_slip_line s = (s.slip, slip_line_of s)
+
+-- the pair at a place among all pairs of numbers of 32 bits
+abbrev pub pair_at : ℕ → LinkRow
+pair_at place = record { target = place / 2 ^ 32; no = place % 2 ^ 32 }
+
+abbrev pub read_link : LinkRow → LinkRow
+read_link l = pair_at (link_place l)
 
 abbrev pub read_of : Rows → ReadRows
 read_of rows = record {
@@ -80,8 +90,14 @@ IsDay day = FitsSigned w32 day
 abbrev pub IsTypedSpan : SpanRow → Type 0
 IsTypedSpan s = IsU32 s.no × IfSome s.lo IsDay × IfSome s.hi IsDay
 
+abbrev pub IsTypedLink : LinkRow → Type 0
+IsTypedLink l = IsU32 l.target × IsU32 l.no
+
+abbrev pub IsTypedSought : SoughtRow → Type 0
+IsTypedSought s = IsU32 s.no × IsText s.text × IfSome s.target IsU32
+
 -- each value of the rows is one of its type: numbers of 32 bits, texts, tags, tokens, digests of 32 bytes; and the
--- second version has spans
+-- second version has spans, links and what is looked for
 pub record AreTyped (rows : Rows) : Type 0 where
   pub version : IsVersion rows.version
   pub dated : rows.version ≡ 2 → rows.has_spans ≡ true
@@ -93,3 +109,5 @@ pub record AreTyped (rows : Rows) : Type 0 where
   pub slips : AllByRecursion IsTypedSlip rows.slips
   pub slip_lines : AllByRecursion (λ (s : SlipLineRow). IsU32 s.slip × IsU32 s.no × IsTypedLine s.line) rows.slip_lines
   pub spans : AllByRecursion IsTypedSpan rows.spans
+  pub links : AllByRecursion IsTypedLink rows.links
+  pub soughts : AllByRecursion IsTypedSought rows.soughts

@@ -4,6 +4,9 @@ use Rattle.std.specs.Prelude.{
   ◌==◌,
   ◌&&◌,
   ◌+◌,
+  ◌*◌,
+  ◌^◌,
+  ◌-ℤ◌,
   not,
   true,
   false,
@@ -25,7 +28,8 @@ use Rattle.std.specs.Prelude.{
   ℤ,
   pos,
 }
-use Rattle.std.specs.Ordering.{match_ordering, nat_cmp}
+use Rattle.std.specs.Ordering.{match_ordering, nat_cmp, ordering_then}
+use Rattle.std.specs.declared.cmp.Ordering.{Ordering}
 use Rattle.sqlite.specs.declared.types.Value.{Value}
 use Rattle.sqlite.specs.declared.types.Value.TheVariants.{Null, Int, Text as Words, Blob}
 use Rattle.sqlite.specs.Order.{Row}
@@ -76,8 +80,19 @@ pub record SpanRow : Type 0 where
   pub lo : Option ℤ
   pub hi : Option ℤ
 
--- the version that `meta` shows, whether the schema is the second one, which has spans, the next number, the society,
--- and the rows of each table in the order of their keys
+-- a number that a record names, and the record
+pub record LinkRow : Type 0 where
+  pub target : ℕ
+  pub no : ℕ
+
+-- what a record is looked for by: a text, and the number of another record where it goes with it
+pub record SoughtRow : Type 0 where
+  pub no : ℕ
+  pub text : List ℕ
+  pub target : Option ℕ
+
+-- the version that `meta` shows, whether the schema is the second one, which has spans, links and what is looked for,
+-- the next number, the society, and the rows of each table in the order of their keys
 pub record Rows : Type 0 where
   pub version : ℕ
   pub has_spans : Bool
@@ -90,6 +105,8 @@ pub record Rows : Type 0 where
   pub slips : List SlipRow
   pub slip_lines : List SlipLineRow
   pub spans : List SpanRow
+  pub links : List LinkRow
+  pub soughts : List SoughtRow
 
 -- ---- the values of a row: first its key, and again nothing in the key's own column
 abbrev pub number_or_null : Option ℕ → Value
@@ -140,16 +157,40 @@ slip_line_values s = Int (pos s.id) ∷ Null ∷ Int (pos s.slip) ∷ Int (pos (
 abbrev pub span_values : SpanRow → Row
 span_values s = Int (pos s.no) ∷ Null ∷ day_or_null s.lo ∷ day_or_null s.hi ∷ []
 
+-- a pair's place among all pairs of numbers of 32 bits
+abbrev pub pair_place : ℕ → ℕ → ℕ
+pair_place target n = target * 2 ^ 32 + n
+
+abbrev pub link_place : LinkRow → ℕ
+link_place l = pair_place l.target l.no
+
+-- the integer of 64 bits at a place of their order
+abbrev pub integer_at : ℕ → ℤ
+integer_at place = pos place -ℤ pos (2 ^ 63)
+
+abbrev pub link_values : LinkRow → Row
+link_values l = Int (integer_at (link_place l)) ∷ Null ∷ []
+
+abbrev pub sought_values : SoughtRow → Row
+sought_values s = Int (pos s.no) ∷ Null ∷ Words s.text ∷ number_or_null s.target ∷ []
+
 -- ---- that trees hold the rows
 -- the rows of a tree are those of the items, whose keys ascend
 pub record Keeps {X : Type 0} (values : X → Row) (key : X → ℕ) (xs : List X) (tree : List Row) : Type 0 where
   pub is : tree ≡ map values xs
   pub rise : IsAscending (λ a b. key a < key b) xs
 
--- the first schema has no spans
-abbrev pub HoldsSpans : Bool → List SpanRow → Trees → Type 0
-HoldsSpans false spans t = spans ≡ []
-HoldsSpans true spans t = Keeps span_values (λ (s : SpanRow). s.no) spans (t 12)
+-- the rows of the tables that the second schema has beside the first one
+pub record KeepsLater (spans : List SpanRow) (links : List LinkRow) (soughts : List SoughtRow) (t : Trees) :
+    Type 0 where
+  pub spans_kept : Keeps span_values (λ (s : SpanRow). s.no) spans (t 12)
+  pub links_kept : Keeps link_values link_place links (t 13)
+  pub soughts_kept : Keeps sought_values (λ (s : SoughtRow). s.no) soughts (t 14)
+
+-- the first schema has none of them
+abbrev pub HoldsLater : Bool → List SpanRow → List LinkRow → List SoughtRow → Trees → Type 0
+HoldsLater false spans links soughts t = (spans ≡ []) × (links ≡ []) × (soughts ≡ [])
+HoldsLater true spans links soughts t = KeepsLater spans links soughts t
 
 pub record Holds (rows : Rows) (t : Trees) : Type 0 where
   pub meta : t 0 ≡ meta_values rows ∷ []
@@ -159,7 +200,7 @@ pub record Holds (rows : Rows) (t : Trees) : Type 0 where
   pub receipts : Keeps receipt_values (λ (r : ReceiptRow). r.id) rows.receipts (t 4)
   pub slips : Keeps slip_values (λ (s : SlipRow). s.no) rows.slips (t 5)
   pub slip_lines : Keeps slip_line_values (λ (s : SlipLineRow). s.id) rows.slip_lines (t 6)
-  pub spans : HoldsSpans rows.has_spans rows.spans t
+  pub later : HoldsLater rows.has_spans rows.spans rows.links rows.soughts t
 
 -- ---- what one call makes of the rows
 -- the key of a row that gets the next one: one above the last
@@ -290,9 +331,38 @@ with_span n lo hi rows =
 abbrev pub without_span : ℕ → Rows → Rows
 without_span n rows = record rows { spans = filter (λ (s : SpanRow). not (s.no == n)) rows.spans }
 
--- ---- the second schema, made of the first one: its table has no rows yet; then `meta` shows its version
-abbrev pub with_span_table : Rows → Rows
-with_span_table rows = record rows { has_spans = true }
+-- pairs are in the order of the number that is named, and then in that of the record
+abbrev pub pair_cmp : LinkRow → LinkRow → Ordering
+pair_cmp l m = ordering_then (nat_cmp l.target m.target) (nat_cmp l.no m.no)
+
+-- a pair in this order, once
+abbrev pub put_pair : LinkRow → List LinkRow → List LinkRow
+put_pair l [] = l ∷ []
+put_pair l (m ∷ ms) = match_ordering (pair_cmp m l) (m ∷ put_pair l ms) (l ∷ ms) (l ∷ m ∷ ms)
+
+abbrev pub with_link : ℕ → ℕ → Rows → Rows
+with_link target n rows = record rows { links = put_pair (record { target = target; no = n }) rows.links }
+
+abbrev pub is_pair : ℕ → ℕ → LinkRow → Bool
+is_pair target n l = (l.target == target) && (l.no == n)
+
+abbrev pub without_link : ℕ → ℕ → Rows → Rows
+without_link target n rows = record rows { links = filter (λ l. not (is_pair target n l)) rows.links }
+
+-- what a number is looked for by, in place of what it was looked for by before
+abbrev pub with_sought : ℕ → List ℕ → Option ℕ → Rows → Rows
+with_sought n text target rows =
+    record rows {
+      soughts = put_by (λ (s : SoughtRow). s.no)
+          (record { no = n; text = text; target = target }) rows.soughts;
+    }
+
+abbrev pub without_sought : ℕ → Rows → Rows
+without_sought n rows = record rows { soughts = filter (λ (s : SoughtRow). not (s.no == n)) rows.soughts }
+
+-- ---- the second schema, made of the first one: its tables have no rows yet; then `meta` shows its version
+abbrev pub with_later_tables : Rows → Rows
+with_later_tables rows = record rows { has_spans = true }
 
 abbrev pub with_version : ℕ → Rows → Rows
 with_version version rows = record rows { version = version }
@@ -311,10 +381,16 @@ bare society = record {
   slips = [];
   slip_lines = [];
   spans = [];
+  links = [];
+  soughts = [];
 }
 
 abbrev pub nothing_yet : List ℕ → Rows
 nothing_yet society = with_batch 0 false (bare society)
+
+-- a new archive is one of the first version while it is made
+abbrev pub bare_first : List ℕ → Rows
+bare_first society = record (bare society) { version = 1; has_spans = false }
 
 -- ---- what is read of the rows: the stored lines of a number, and those of a slip, each with its side and its number
 abbrev pub lines_of : ℕ → Rows → List (ℕ × Label)

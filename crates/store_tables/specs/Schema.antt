@@ -125,10 +125,39 @@ spans = a_table (codes "span") 12 (codes "no")
     (a_column (codes "lo") Integer false ∷ a_column (codes "hi") Integer false ∷ [])
     (to_number_of (codes "record") 0 ∷ [])
 
+-- the pairs of a number that is named and a record that names it, each as one integer
+abbrev pub links : Table
+links = a_table (codes "link") 13 (codes "id") [] []
+
+-- what records are looked for by: a text, and the number of another record where it goes with it
+abbrev pub soughts : Table
+soughts = a_table (codes "sought") 14 (codes "no")
+    (a_column (codes "text") Text true ∷ a_column (codes "dst") Integer false ∷ [])
+    (to_number_of (codes "record") 0 ∷ [])
+
+-- records as they were before a request, under its token; nothing writes a row of it yet
+abbrev pub pasts : Table
+pasts = a_table (codes "past") 15 (codes "id")
+    (number (codes "no") ∷ a_column (codes "token") Text true ∷ a_column (codes "text") Text true ∷ []) []
+
+abbrev pub sought_by_text : Index
+sought_by_text = record {
+  name = codes "sought_by_text";
+  tree = 16;
+  table = 14;
+  columns = 2 ∷ 3 ∷ [];
+  order = record { digits = 0 };
+  is_unique = false;
+}
+
 -- what the second schema has beside the first one
 abbrev pub later_tables : Bool → List Table
 later_tables false = []
-later_tables true = spans ∷ []
+later_tables true = spans ∷ links ∷ soughts ∷ pasts ∷ []
+
+abbrev pub later_indexes : Bool → List Index
+later_indexes false = []
+later_indexes true = sought_by_text ∷ []
 
 abbrev pub all_tables : Bool → List Table
 all_tables has_spans = meta ∷ batches ∷ records ∷ lines ∷ receipts ∷ slips ∷ slip_lines ∷ later_tables has_spans
@@ -138,8 +167,15 @@ abbrev pub archive_schema : Bool → Schema
 archive_schema has_spans = record {
   tables = all_tables has_spans;
   indexes = line_by_record ∷ line_by_target ∷ receipt_by_token
-      ∷ slip_line_by_slip ∷ line_by_text ∷ [];
+      ∷ slip_line_by_slip ∷ line_by_text ∷ later_indexes has_spans;
   views = [];
+}
+
+-- the first schema with more tables
+abbrev pub first_and : List Table → Schema
+first_and more = record (archive_schema false) {
+  tables = meta ∷ batches ∷ records ∷ lines ∷ receipts ∷ slips ∷ slip_lines
+      ∷ more;
 }
 
 abbrev pub no_schema : Schema

@@ -15,10 +15,23 @@ use Rattle.store_tables.specs.Prepared.{
   receipt_query,
   slip_query,
   slip_line_query,
+  link_query,
+  sought_query,
   span_query,
 }
 use Rattle.store_tables.specs.Reading.{ReadRows, read_of}
-use Rattle.store_tables.specs.Rows.{BatchRow, Rows, SlipRow, SpanRow, day_or_null}
+use Rattle.store_tables.specs.Rows.{
+  BatchRow,
+  LinkRow,
+  Rows,
+  SlipRow,
+  SoughtRow,
+  SpanRow,
+  day_or_null,
+  integer_at,
+  link_place,
+  number_or_null,
+}
 
 -- ---- that a row shows an item
 -- the columns from a place on: a number is a flag, which is set where it is not 0
@@ -63,6 +76,14 @@ ShowsSlipLine row s = IsNumberAt row 0 s.0 × IsFlagAt row 1 s.1.0 × IsNumberAt
 abbrev pub ShowsSpan : Row → SpanRow → Type 0
 ShowsSpan row s = IsNumberAt row 0 s.no × (column row 1 ≡ day_or_null s.lo) × (column row 2 ≡ day_or_null s.hi)
 
+-- the integer of a pair
+abbrev pub ShowsLink : Row → LinkRow → Type 0
+ShowsLink row l = column row 0 ≡ Int (integer_at (link_place l))
+
+-- a number, what it is looked for by, and the number that may go with it
+abbrev pub ShowsSought : Row → SoughtRow → Type 0
+ShowsSought row s = IsNumberAt row 0 s.no × (column row 1 ≡ Words s.text) × (column row 2 ≡ number_or_null s.target)
+
 -- ---- what the queries show
 -- a query shows a row for each item, in their order
 abbrev pub ShowsEach : {Y : Type 0} → List ℕ → (Row → Y → Type 0) → State → State → List Y → Type 0
@@ -93,3 +114,9 @@ ShowsRows rows s = ShowsRead (read_of rows) s s
 -- whoever reads the spans is shown these, and leaves the tables as they are
 abbrev pub ShowsSpans : List SpanRow → State → Type 0
 ShowsSpans spans s = ShowsEach span_query ShowsSpan s s spans
+
+abbrev pub ShowsLinks : List LinkRow → State → Type 0
+ShowsLinks links s = ShowsEach link_query ShowsLink s s links
+
+abbrev pub ShowsSoughts : List SoughtRow → State → Type 0
+ShowsSoughts soughts s = ShowsEach sought_query ShowsSought s s soughts

@@ -11,9 +11,14 @@ use Rattle.store_tables.specs.Rows.{
   SlipRow,
   SlipLineRow,
   SpanRow,
+  LinkRow,
+  SoughtRow,
   day_or_null,
   flag,
+  integer_at,
   line_fields,
+  link_place,
+  number_or_null,
   receipt_fields,
 }
 
@@ -40,3 +45,9 @@ shown_slip_line s = Int (pos s.slip) ∷ Int (pos (flag s.is_new)) ∷ Int (pos 
 
 abbrev pub shown_span : SpanRow → Row
 shown_span s = Int (pos s.no) ∷ day_or_null s.lo ∷ day_or_null s.hi ∷ []
+
+abbrev pub shown_link : LinkRow → Row
+shown_link l = Int (integer_at (link_place l)) ∷ []
+
+abbrev pub shown_sought : SoughtRow → Row
+shown_sought s = Int (pos s.no) ∷ Words s.text ∷ number_or_null s.target ∷ []

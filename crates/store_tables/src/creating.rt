@@ -1,6 +1,6 @@
 //! A new archive.
 
-ghost use Rattle.std.specs.Prelude.{◌≡◌, ◌⊎◌, ℕ, true, false, OnOk};
+ghost use Rattle.std.specs.Prelude.{◌≡◌, ◌⊎◌, ℕ, false, OnOk};
 ghost use Rattle.sqlite.specs.State.{HasCleanDisk};
 ghost use Rattle.sqlite.specs.Held.{state};
 ghost use Rattle.sqlite.specs.Schema.{Schema};
@@ -9,12 +9,21 @@ ghost use Rattle.sqlite.specs.Tree.{Trees};
 ghost use Rattle.sqlite_schema.specs.declared.schema.Index.{Index};
 ghost use Rattle.sqlite_catalog.specs.Change.{created, indexed};
 ghost use Rattle.store_tables.specs.Schema.{archive_schema, no_schema, schema_4, schema_7};
-ghost use Rattle.store_tables.specs.Rows.{bare, nothing_yet};
+ghost use Rattle.store_tables.specs.Rows.{bare_first, nothing_yet, with_later_tables};
 ghost use Rattle.store_tables.specs.Creating.{IsCreate, IsCreateIndex};
-ghost use Rattle.store_tables.specs.Calls.{Builds, Built, Good, Inside, IsBlank, LeavesAsBefore, Settled, SettledBlank};
+ghost use Rattle.store_tables.specs.Calls.{
+  Builds,
+  Built,
+  Good,
+  Inside,
+  IsBlank,
+  LeavesAsBefore,
+  Settled,
+  SettledBlank,
+  WritesUndated,
+};
 
-use crate::rows;
-use crate::spans::CREATE_SPANS;
+use crate::{rows, spans};
 use record_text::Text;
 use sqlite::{Alter, Connection, Error, Transaction, params};
 
@@ -104,30 +113,20 @@ fn create_indexes<S: Alter>(tx: &mut Transaction<'_, S>) -> Result<(), Error>
 fn insert_meta<S: Alter>(tx: &mut Transaction<'_, S>, society: &Text) -> Result<(), Error>
     ensures same_reference { tx.new.conn.ghost_name ≡ tx.old.conn.ghost_name }
     ensures ok { HasCleanDisk (state S.Store tx.new.conn.now)
-        → OnOk result (Built (state S.Store tx.old.conn.now) (archive_schema true)
-        → Inside (state S.Store tx.new.conn.now) (bare society.now)
+        → OnOk result (Built (state S.Store tx.old.conn.now) (archive_schema false)
+        → Inside (state S.Store tx.new.conn.now) (bare_first society.now)
         × ((state S.Store tx.new.conn.now).committed ≡ (state S.Store tx.old.conn.now).committed)) }
     ensures survives { LeavesAsBefore (state S.Store tx.old.conn.now) (state S.Store tx.new.conn.now) }
 {
     tx.execute(
-        "INSERT INTO meta (one, version, next, society) VALUES (1, 2, 1, ?1)",
+        "INSERT INTO meta (one, version, next, society) VALUES (1, 1, 1, ?1)",
         params![society.as_str()],
     )?;
     Ok(())
 }
 
-/// The table of spans, which comes last, as it does in an archive of the first schema that is made anew.
-fn create_span_table<S: Alter>(tx: &mut Transaction<'_, S>) -> Result<(), Error>
-    ensures same_reference { tx.new.conn.ghost_name ≡ tx.old.conn.ghost_name }
-    ensures ok { HasCleanDisk (state S.Store tx.new.conn.now)
-        → OnOk result (Builds (state S.Store tx.old.conn.now) (state S.Store tx.new.conn.now) (archive_schema false)
-        (archive_schema true)) }
-    ensures survives { LeavesAsBefore (state S.Store tx.old.conn.now) (state S.Store tx.new.conn.now) }
-{
-    create_table(tx, CREATE_SPANS)
-}
-
-/// The indexes, the table of spans, and what a new archive holds.
+/// The indexes, what a new archive holds, and what makes it one of the second version: all as it is done to an archive
+/// of the first version that is made anew.
 fn fill<S: Alter>(tx: &mut Transaction<'_, S>, society: &Text) -> Result<(), Error>
     ensures same_reference { tx.new.conn.ghost_name ≡ tx.old.conn.ghost_name }
     ensures ok { HasCleanDisk (state S.Store tx.new.conn.now)
@@ -137,9 +136,34 @@ fn fill<S: Alter>(tx: &mut Transaction<'_, S>, society: &Text) -> Result<(), Err
     ensures survives { LeavesAsBefore (state S.Store tx.old.conn.now) (state S.Store tx.new.conn.now) }
 {
     create_indexes(tx)?;
-    create_span_table(tx)?;
     insert_meta(tx, society)?;
-    rows::insert_batch(tx, 0, false)
+    rows::insert_batch(tx, 0, false)?;
+    create_later_tables(tx)?;
+    spans::set_version(tx)
+}
+
+/// The tables that the second schema has beside the first one, without rows, in an archive of the first schema.
+pub fn create_later_tables<S: Alter>(tx: &mut Transaction<'_, S>) -> Result<(), Error>
+    ensures same_reference { tx.new.conn.ghost_name ≡ tx.old.conn.ghost_name }
+    ensures ok { WritesUndated (state S.Store tx.old.conn.now) (state S.Store tx.new.conn.now)
+        result with_later_tables }
+    ensures survives { LeavesAsBefore (state S.Store tx.old.conn.now) (state S.Store tx.new.conn.now) }
+{
+    tx.execute(
+        "CREATE TABLE span (no INTEGER PRIMARY KEY REFERENCES record (no) ON DELETE RESTRICT, lo INTEGER, hi INTEGER) STRICT",
+        &[],
+    )?;
+    tx.execute("CREATE TABLE link (id INTEGER PRIMARY KEY) STRICT", &[])?;
+    tx.execute(
+        "CREATE TABLE sought (no INTEGER PRIMARY KEY REFERENCES record (no) ON DELETE RESTRICT, text TEXT NOT NULL, dst INTEGER) STRICT",
+        &[],
+    )?;
+    tx.execute(
+        "CREATE TABLE past (id INTEGER PRIMARY KEY, no INTEGER NOT NULL, token TEXT NOT NULL, text TEXT NOT NULL) STRICT",
+        &[],
+    )?;
+    tx.execute("CREATE INDEX sought_by_text ON sought (text, dst)", &[])?;
+    Ok(())
 }
 
 /// All tables and indexes, and what a new archive holds.

@@ -7,17 +7,21 @@ mod creating;
 pub mod keyed;
 pub mod laws;
 pub mod lines;
+pub mod links;
+mod pairs;
 mod reading;
 pub mod records;
 pub mod rows;
+pub mod soughts;
 pub mod spans;
 mod stored;
 mod typing;
 mod version;
 
-pub use creating::create;
+pub use creating::{create, create_later_tables};
 pub use reading::{read_batches, read_rows, society};
 pub use stored::{
-    BatchRow, LineRow, ReceiptRow, RecordRow, SlipLineRow, SlipRow, SpanRow, StoredRows,
+    BatchRow, LineRow, LinkRow, ReceiptRow, RecordRow, SlipLineRow, SlipRow, SoughtRow, SpanRow,
+    StoredRows,
 };
 pub use version::{Version, check_tables, check_version};

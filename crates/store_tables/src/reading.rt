@@ -15,6 +15,7 @@ ghost use Rattle.store_tables.specs.Reading.{read_of, read_record, read_line, re
 ghost use Rattle.store_tables.specs.Rows.{Rows};
 ghost use Rattle.store_tables.specs.Schema.{archive_schema};
 ghost use Rattle.store_tables.specs.Prepared.{
+  IsOfSecond,
   batch_query,
   record_query,
   line_query,
@@ -324,6 +325,57 @@ pub(crate) fn ask<S: Alter>(
     ensures clean { HasCleanDisk (state S.Store conn.new) → HasCleanDisk (state S.Store conn.old) }
     ensures survives { Survives (state S.Store conn.old) (state S.Store conn.new)
         (CommitsShowing sql.now (bound params.now) (state S.Store conn.old)) }
+    ensures ended { conn.new.in_transaction ≡ false }
+{
+    conn.query_all(sql, params)
+}
+
+/// All that a query shows of a table that the second schema alone has, with the program's types.
+pub(crate) fn read_later<T: FromRow, S: Alter>(
+    alloc: Global,
+    conn: &mut Connection<S>,
+    sql: &str,
+    params: &[ValueRef<'_>],
+) -> Result<Vec<T>, RefusalKind>
+    requires autocommit { conn.old.in_transaction ≡ false }
+    requires later { IsOfSecond sql.now }
+    ensures read { HasCleanDisk (state S.Store conn.new) → IfOk result (λ items.
+        (shown : List (List Value)) × Shown sql.now (bound params.now) (state S.Store conn.old)
+        (state S.Store conn.new) shown × EachWith T.reads_as shown items.items) }
+    ensures refused { HasCleanDisk (state S.Store conn.new) → IfErr result (λ kind. IsFailure kind ⊎
+        ((shown : List (List Value)) × Shown sql.now (bound params.now) (state S.Store conn.old)
+        (state S.Store conn.new) shown × ¬ (AllByRecursion T.is_readable shown))) }
+    ensures same { HasCleanDisk (state S.Store conn.new)
+        → IfOk result (λ _. (rows : Rows) → Settled (state S.Store conn.old) rows
+        → Settled (state S.Store conn.new) rows) }
+    ensures crash { HasCleanDisk (state S.Store conn.new) → (rows : Rows) → Settled (state S.Store conn.old) rows
+        → LeavesOnly (state S.Store conn.new) rows }
+    ensures clean { HasCleanDisk (state S.Store conn.new) → HasCleanDisk (state S.Store conn.old) }
+    ensures ended { conn.new.in_transaction ≡ false }
+{
+    match ask_later(conn, sql, params) {
+        Ok(rows) => from_rows(alloc, rows),
+        Err(_) => Err(RefusalKind::Storage),
+    }
+}
+
+/// All rows that such a query shows.
+fn ask_later<S: Alter>(
+    conn: &mut Connection<S>,
+    sql: &str,
+    params: &[ValueRef<'_>],
+) -> Result<Vec<Row>, Error>
+    requires autocommit { conn.old.in_transaction ≡ false }
+    requires later { IsOfSecond sql.now }
+    ensures shown { HasCleanDisk (state S.Store conn.new)
+        → IfOk result (λ rows. Shown sql.now (bound params.now) (state S.Store conn.old)
+        (state S.Store conn.new) rows.items) }
+    ensures same { HasCleanDisk (state S.Store conn.new)
+        → IfOk result (λ _. (rows : Rows) → Settled (state S.Store conn.old) rows
+        → Settled (state S.Store conn.new) rows) }
+    ensures crash { HasCleanDisk (state S.Store conn.new) → (rows : Rows) → Settled (state S.Store conn.old) rows
+        → LeavesOnly (state S.Store conn.new) rows }
+    ensures clean { HasCleanDisk (state S.Store conn.new) → HasCleanDisk (state S.Store conn.old) }
     ensures ended { conn.new.in_transaction ≡ false }
 {
     conn.query_all(sql, params)

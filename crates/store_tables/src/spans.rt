@@ -3,15 +3,15 @@
 ghost use Rattle.std.specs.Prelude.{◌≡◌, false, true, IfOk};
 ghost use Rattle.sqlite.specs.State.{HasCleanDisk};
 ghost use Rattle.sqlite.specs.Held.{state};
-ghost use Rattle.store_tables.specs.Calls.{LeavesAsBefore, WritesDated, WritesUndated};
+ghost use Rattle.store_tables.specs.Calls.{LeavesAsBefore, WritesDated};
 ghost use Rattle.store_tables.specs.Looking.{Looks};
 ghost use Rattle.store_tables.specs.Prepared.{span_query};
-ghost use Rattle.store_tables.specs.Rows.{with_span, with_span_table, with_version, without_span};
+ghost use Rattle.store_tables.specs.Rows.{with_span, with_version, without_span};
 ghost use Rattle.store_tables.specs.Schema.{archive_schema};
 ghost use Rattle.store_tables.specs.Showing.{ShowsEach, ShowsSpan};
 
+use crate::reading::read_later;
 use crate::stored::SpanRow;
-use crate::typing::from_rows;
 use record_text::RefusalKind;
 use sqlite::{Alter, Connection, Error, Transaction, params};
 use std::alloc::Global;
@@ -49,20 +49,6 @@ pub fn delete_span<S: Alter>(tx: &mut Transaction<'_, S>, number: u32) -> Result
     Ok(())
 }
 
-/// The table of spans, without rows, in an archive of the first schema.
-pub fn create_spans<S: Alter>(tx: &mut Transaction<'_, S>) -> Result<(), Error>
-    ensures same_reference { tx.new.conn.ghost_name ≡ tx.old.conn.ghost_name }
-    ensures ok { WritesUndated (state S.Store tx.old.conn.now) (state S.Store tx.new.conn.now) result with_span_table }
-    ensures survives { LeavesAsBefore (state S.Store tx.old.conn.now) (state S.Store tx.new.conn.now) }
-{
-    tx.execute(CREATE_SPANS, &[])?;
-    Ok(())
-}
-
-/// The text that makes the table of spans.
-pub(crate) const CREATE_SPANS: &str =
-    "CREATE TABLE span (no INTEGER PRIMARY KEY REFERENCES record (no) ON DELETE RESTRICT, lo INTEGER, hi INTEGER) STRICT";
-
 /// An archive with spans shows the version that this program writes.
 pub fn set_version<S: Alter>(tx: &mut Transaction<'_, S>) -> Result<(), Error>
     ensures same_reference { tx.new.conn.ghost_name ≡ tx.old.conn.ghost_name }
@@ -87,8 +73,5 @@ pub fn read_spans<S: Alter>(
         (state S.Store conn.new) items.items) }
     ensures ended { conn.new.in_transaction ≡ false }
 {
-    match conn.query_all(SELECT_SPANS, &[]) {
-        Ok(rows) => from_rows(alloc, rows),
-        Err(_) => Err(RefusalKind::Storage),
-    }
+    read_later(alloc, conn, SELECT_SPANS, &[])
 }

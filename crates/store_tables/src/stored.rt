@@ -1,6 +1,7 @@
 //! Rows as they are read, with the types of the program.
 
 use receipts::{Receipt, Token};
+use record_text::Text;
 use std::marker::Model;
 use stored_lines::StoredLine;
 
@@ -126,7 +127,38 @@ impl Model for SpanRow {
     ghost view = { λ a. record { no = a.number; lo = a.lo; hi = a.hi } };
 }
 
-/// All rows of an archive but its spans, in the order of their keys.
+/// A number that a record names, and the record.
+#[derive(Drop)]
+pub struct LinkRow {
+    pub target: u32,
+    pub number: u32,
+}
+
+impl Model for LinkRow {
+    ghost use Rattle.store_tables.specs.Rows as rows;
+
+    ghost Value = { rows.LinkRow };
+
+    ghost view = { λ a. record { target = a.target; no = a.number } };
+}
+
+/// What a record is looked for by: a text, and the number of another record where it goes with it.
+#[derive(Drop)]
+pub struct SoughtRow {
+    pub number: u32,
+    pub text: Text,
+    pub target: Option<u32>,
+}
+
+impl Model for SoughtRow {
+    ghost use Rattle.store_tables.specs.Rows as rows;
+
+    ghost Value = { rows.SoughtRow };
+
+    ghost view = { λ a. record { no = a.number; text = a.text; target = a.target } };
+}
+
+/// All rows of an archive but its spans, its links and what is looked for, in the order of their keys.
 #[derive(Drop)]
 pub struct StoredRows {
     pub next: u64,

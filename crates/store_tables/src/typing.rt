@@ -35,11 +35,14 @@ ghost use Rattle.store_tables.specs.Conversion.{
 ghost use Rattle.store_tables.specs.Reading.{
   IsU32,
   IsTypedLine,
+  IsTypedLink,
   IsTypedReceipt,
   IsTypedSlip,
+  IsTypedSought,
   IsTypedSpan,
   read_record,
   read_line,
+  read_link,
   read_receipt,
   read_slip_line,
 };
@@ -47,12 +50,14 @@ ghost use Rattle.store_tables.specs.Showing.{
   ShowsBatch,
   ShowsFields,
   ShowsLine,
+  ShowsLink,
   ShowsMeta,
   ShowsNumber,
   ShowsReceipt,
   ShowsRecord,
   ShowsSlip,
   ShowsSlipLine,
+  ShowsSought,
   ShowsSpan,
 };
 ghost use Rattle.store_tables.specs.Rows as rows;
@@ -62,13 +67,18 @@ ghost use Rattle.store_tables.specs.Shown.{
   shown_batch,
   shown_record,
   shown_line,
+  shown_link,
   shown_receipt,
   shown_slip,
   shown_slip_line,
+  shown_sought,
   shown_span,
 };
 
-use crate::stored::{BatchRow, LineRow, ReceiptRow, RecordRow, SlipLineRow, SlipRow, SpanRow};
+use crate::pairs::pair_of;
+use crate::stored::{
+    BatchRow, LineRow, LinkRow, ReceiptRow, RecordRow, SlipLineRow, SlipRow, SoughtRow, SpanRow,
+};
 use receipts::{Answer, Receipt, Token};
 use record_text::{RefusalKind, Tag, Text};
 use sqlite::types::FromSql;
@@ -337,6 +347,30 @@ impl FromRow for SpanRow {
             number: value(row, 0)?,
             lo: value(row, 1)?,
             hi: value(row, 2)?,
+        })
+    }
+}
+
+impl FromRow for LinkRow {
+    ghost reads_as = { IsReadAs shown_link read_link ShowsLink };
+
+    ghost is_readable = { ShowsTyped shown_link IsTypedLink };
+
+    fn from_row(row: &Row) -> Result<LinkRow, RefusalKind> {
+        Ok(pair_of(value(row, 0)?))
+    }
+}
+
+impl FromRow for SoughtRow {
+    ghost reads_as = { IsReadAs shown_sought (λ (s : rows.SoughtRow). s) ShowsSought };
+
+    ghost is_readable = { ShowsTyped shown_sought IsTypedSought };
+
+    fn from_row(row: &Row) -> Result<SoughtRow, RefusalKind> {
+        Ok(SoughtRow {
+            number: value(row, 0)?,
+            text: text_at(row, 1)?,
+            target: value(row, 2)?,
         })
     }
 }

@@ -14,16 +14,25 @@ ghost use Rattle.store_tables.specs.Looking.{
   IsRefusedStore,
   version_number,
 };
-ghost use Rattle.store_tables.specs.Prepared.{PreparesAll, all_queries, queries_of, history_queries, record_queries};
+ghost use Rattle.store_tables.specs.Prepared.{
+  PreparesAll,
+  all_queries,
+  queries_of,
+  history_queries,
+  later_queries,
+  record_queries,
+};
 ghost use Rattle.store_tables.specs.Reading.{IsVersion};
 ghost use Rattle.store_tables.specs.Rows.{Rows};
 ghost use Rattle.store_tables.specs.Shown.{shown_meta};
 ghost use Rattle.store_tables.specs.Telling.{tells_no_archive};
 
+use crate::links::SELECT_LINKS;
 use crate::reading::{
     SELECT_BATCHES, SELECT_LINES, SELECT_META, SELECT_RECEIPTS, SELECT_RECORDS, SELECT_SLIP_LINES,
     SELECT_SLIPS, ask,
 };
+use crate::soughts::SELECT_SOUGHTS;
 use crate::spans::SELECT_SPANS;
 use record_text::RefusalKind;
 use sqlite::{Alter, Connection, Error, ErrorCode, Row};
@@ -94,7 +103,7 @@ pub fn check_tables<S: Alter>(conn: &mut Connection<S>, version: Version) -> Res
     prepare_all(conn)?;
     match version {
         Version::First => Ok(()),
-        Version::Second => prepare(conn, SELECT_SPANS),
+        Version::Second => prepare_later(conn),
     }
 }
 
@@ -126,6 +135,16 @@ fn prepare_history<S: Alter>(conn: &mut Connection<S>) -> Result<(), RefusalKind
     prepare(conn, SELECT_RECEIPTS)?;
     prepare(conn, SELECT_SLIPS)?;
     prepare(conn, SELECT_SLIP_LINES)
+}
+
+fn prepare_later<S: Alter>(conn: &mut Connection<S>) -> Result<(), RefusalKind>
+    requires autocommit { conn.old.in_transaction ≡ false }
+    ensures told { PreparesAll later_queries (state S.Store conn.old) (state S.Store conn.new) result }
+    ensures ended { conn.new.in_transaction ≡ false }
+{
+    prepare(conn, SELECT_SPANS)?;
+    prepare(conn, SELECT_LINKS)?;
+    prepare(conn, SELECT_SOUGHTS)
 }
 
 /// Whether a query can be prepared.

@@ -2,6 +2,7 @@
 
 from __future__ import annotations
 
+from beside import LATER, link_of
 from table import again, entries, merging, order, worked
 from table.making import (
     FAMILY,
@@ -25,6 +26,9 @@ STORE = ask("! store,Lee", "ok")
 
 # Persons 1 and 2, family 3 and event 4, in files too.
 STORED = [STORE, *FAMILY]
+
+# An archive becomes one of the first version.
+FIRST = "UPDATE meta SET version = 1" + "".join(f"; DROP TABLE {name}" for name in LATER)
 
 META = "CREATE TABLE meta (one INTEGER PRIMARY KEY, version INTEGER, next INTEGER, society TEXT)"
 
@@ -54,8 +58,12 @@ def spoils(statements: str, *told: str | int):
 
 
 def lines(*values: str) -> str:
-    """Statements that put lines behind those that are there, each as number, place, depth, tag, text and target."""
-    return "; INSERT INTO line (no, pos, depth, tag, text, dst) VALUES " + ", ".join(f"({one})" for one in values)
+    """Statements that put lines behind those that are there, each as number, place, depth, tag, text and target, and
+    the links of those that name a number."""
+    put = "; INSERT INTO line (no, pos, depth, tag, text, dst) VALUES " + ", ".join(f"({one})" for one in values)
+    ends = [(one.split(", ")[0], one.split(", ")[-1]) for one in values]
+    keys = [link_of(int(number), int(named)) for number, named in ends if named != "NULL"]
+    return put + "".join(f"; INSERT OR IGNORE INTO link VALUES ({key})" for key in keys)
 
 
 def with_made(statements: str, request: tuple[str | int, ...], *told: str | int):
@@ -76,7 +84,7 @@ ENTRY = "INSERT INTO record VALUES (6, 'entry', 0); UPDATE meta SET next = 7" + 
     "6, 5, 1, 'mention', 'Ann', 2",
     "6, 6, 2, 'role', 'buried', NULL",
     "6, 7, 2, 'reason', '', NULL",
-)
+) + "; INSERT INTO sought VALUES (6, '1 f. 3', 5)"
 NO_ENTRY = ENTRY + "; UPDATE line SET text = 'widow' WHERE tag = 'role'"
 OTHER = "INSERT INTO record VALUES (6, 'other', 0); UPDATE meta SET next = 7" + lines("6, 0, 0, 'other', NULL, NULL")
 OF_ITSELF = OTHER + lines("6, 1, 1, 'NOTE', NULL, 6")
@@ -351,9 +359,11 @@ SCENARIOS = OTHERS + (
         STORED,
         spoils("", "ok", "ok", "ok", "ok"),
         spoils("UPDATE meta SET version = 3", "unadopted", 83),
-        spoils("UPDATE meta SET version = 1; DROP TABLE span", "ok", "ok", "ok", "ok"),
-        spoils("UPDATE meta SET version = 1; DROP TABLE span; DELETE FROM line", "unadopted", 40),
+        spoils(FIRST, "ok", "ok", "ok", "ok"),
+        spoils(FIRST + "; DELETE FROM line", "unadopted", 40),
         spoils("DROP TABLE span", "unadopted", 82),
+        spoils("DROP TABLE link", "unadopted", 82),
+        spoils("DROP TABLE sought", "unadopted", 82),
         spoils("DELETE FROM meta", "unadopted", 82),
         spoils("DROP TABLE receipt", "unadopted", 82),
         spoils("DELETE FROM line", 40, 40, 40, "ok"),

@@ -69,7 +69,10 @@ fn insert_if<S: Alter>(
 }
 
 /// Takes the spans of these numbers out. They go before the rows in `record`, which they are of.
-pub fn remove_spans<S: Alter>(tx: &mut Transaction<'_, S>, numbers: &[u32]) -> Result<(), Error>
+pub(crate) fn remove_spans<S: Alter>(
+    tx: &mut Transaction<'_, S>,
+    numbers: &[u32],
+) -> Result<(), Error>
     ensures same_reference { tx.new.conn.ghost_name ≡ tx.old.conn.ghost_name }
     ensures ok { WritesDated (state S.Store tx.old.conn.now) (state S.Store tx.new.conn.now)
         result (without_all_spans numbers.now) }

@@ -2,16 +2,16 @@ use Rattle.sqlite.specs.Held.{state}
 use Rattle.archive_audits.proofs.Shown.{shown_at}
 use Rattle.archive_audits.proofs.reading.read_tables.Goals as goal
 
-pub returns-in_err-spans-clause-kept : goal.returns-in_err-spans-clause-kept
-returns-in_err-spans-clause-kept g c clean = record {
-  crash = c.in_err-spans.ensures.looks.crash clean;
-  clean = c.in_err-spans.ensures.looks.clean clean;
+pub returns-in_err-beside-clause-kept : goal.returns-in_err-beside-clause-kept
+returns-in_err-beside-clause-kept g c clean = record {
+  crash = c.in_err-beside.ensures.looks.crash clean;
+  clean = c.in_err-beside.ensures.looks.clean clean;
 }
 
 pub returns-in_err-held-clause-kept : goal.returns-in_err-held-clause-kept
 returns-in_err-held-clause-kept g c clean =
     let read = c.in_err-held.ensures in
-    let looks = c.in_ok-spans.ensures.looks in
+    let looks = c.in_ok-beside.ensures.looks in
     record {
       crash = λ rows was. read.crash clean rows (looks.same (read.clean clean) rows was);
       clean = looks.clean (read.clean clean);
@@ -20,13 +20,13 @@ returns-in_err-held-clause-kept g c clean =
 pub returns-clause-shown : goal.returns-clause-shown
 returns-clause-shown g c clean has =
     let read = c.in_ok-held.ensures in
-    shown_at (state g.S.Store c.args.conn.now) (state g.S.Store c.read_spans.new.conn) c.in_ok-spans.spans.items
-    c.in_ok-held.held has (c.in_ok-spans.ensures.shown (read.clean clean) has) (read.shown clean)
+    shown_at (state g.S.Store c.args.conn.now) (state g.S.Store c.read_beside.new.conn) c.in_ok-beside.beside
+    c.in_ok-held.held (c.in_ok-beside.ensures.shown (read.clean clean) has) (read.shown clean)
 
 pub returns-clause-kept : goal.returns-clause-kept
 returns-clause-kept g c clean =
     let read = c.in_ok-held.ensures in
-    let looks = c.in_ok-spans.ensures.looks in
+    let looks = c.in_ok-beside.ensures.looks in
     record {
       crash = λ rows was. read.crash clean rows (looks.same (read.clean clean) rows was);
       clean = looks.clean (read.clean clean);

@@ -24,11 +24,11 @@ returns-in_err-slips-clause-refused c =
     c.in_ok-slip_groups.ensures (rw (← c.deref-3.ensures.value) bad) content means) c.in_err-slips.ensures.refused)
 
 pub returns-clause-read : goal.returns-clause-read
-returns-clause-read c = λ rows content same none means.
+returns-clause-read c = λ rows content same none nothing means.
     let found : Renewal = record { records = c.in_ok-records.records.items; slips = c.in_ok-slips.slips.items } in
     renewed rows found
     (read_by rows _ (same ∙ sym c.read.view_is) (set.contains nat_cmp c.in_ok-closed.closed)
     (group_at c.in_ok-groups.groups) (slip_group_at c.in_ok-slip_groups.slip_groups)
     (rw (← c.deref.ensures.value) c.in_ok-closed.ensures) c.in_ok-groups.ensures c.in_ok-slip_groups.ensures found
     (rw (← c.deref-2.ensures.value) c.in_ok-records.ensures.read)
-    (rw (← c.deref-3.ensures.value) c.in_ok-slips.ensures.read)) none content means
+    (rw (← c.deref-3.ensures.value) c.in_ok-slips.ensures.read)) none nothing content means

@@ -1,7 +1,7 @@
 use Rattle.std.proofs.Common.{inl, inr, sym}
 use Rattle.std.proofs.lemmas.Result.{err_from_is_err_and}
 use Rattle.sqlite.specs.Held.{state}
-use Rattle.old_rows.proofs.Settling.{left, no_spans}
+use Rattle.old_rows.proofs.Settling.{left, no_soughts, no_spans}
 use Rattle.old_rows.proofs.renewing.renew.Goals as goal
 use Rattle.list_laws.proofs.Outcomes.{if_err}
 
@@ -24,7 +24,7 @@ returns-in-Ok-clause-done g c clean = λ rows content was means.
     let before = c.in-Ok.ensures.clean clean in (
       _,
       c.in_ok-renewal.ensures.read rows content (sym (looks.read before rows was))
-          (no_spans rows _ was.good means.1.has_spans) means,
+          (no_spans rows _ was.good means.1.has_spans) (no_soughts rows _ was.good means.1.has_spans) means,
       c.in-Ok.ensures.done clean rows means.1.has_spans (looks.same before rows was),
     )
 
@@ -34,7 +34,7 @@ returns-in-Ok-clause-crash g c clean = λ rows content was means.
     let before = c.in-Ok.ensures.clean clean in
     left (state g.S.Store c.commit_renewal.new.conn) rows _ content
     (c.in_ok-renewal.ensures.read rows content (sym (looks.read before rows was))
-    (no_spans rows _ was.good means.1.has_spans) means)
+    (no_spans rows _ was.good means.1.has_spans) (no_soughts rows _ was.good means.1.has_spans) means)
     (c.in-Ok.ensures.crash clean rows means.1.has_spans (looks.same before rows was))
 
 pub returns-clause-crash : goal.returns-clause-crash
@@ -43,5 +43,5 @@ returns-clause-crash g c clean = λ rows content was means.
     let before = c.in-Err.ensures.clean clean in
     left (state g.S.Store c.commit_renewal.new.conn) rows _ content
     (c.in_ok-renewal.ensures.read rows content (sym (looks.read before rows was))
-    (no_spans rows _ was.good means.1.has_spans) means)
+    (no_spans rows _ was.good means.1.has_spans) (no_soughts rows _ was.good means.1.has_spans) means)
     (c.in-Err.ensures.crash clean rows means.1.has_spans (looks.same before rows was))

@@ -1,4 +1,4 @@
--- The table and the version, the records, and then the slips.
+-- The tables and the version, the records, and then the slips.
 use Rattle.std.proofs.Common.{arith}
 use Rattle.old_rows.specs.Renewing.{with_records_anew, with_slips_anew}
 use Rattle.old_rows.proofs.Steps.{renewed}
@@ -12,7 +12,7 @@ returns-clause-ok g c clean =
     (omega (arith, c.write_slips.ensures.survives.clean))) in
     let two = c.in_ok-set_version.ensures.ok
     (omega (arith, c.write_records.ensures.survives.clean, c.write_slips.ensures.survives.clean)) in
-    let one = c.in_ok-create_spans.ensures.ok
+    let one = c.in_ok-create_later_tables.ensures.ok
     (omega (
       arith,
       c.set_version.ensures.survives.clean,

@@ -2,16 +2,16 @@ use Rattle.std.proofs.Common.{rules, false, true}
 use Rattle.sqlite.specs.Held.{state}
 use Rattle.sqlite.specs.State.{Shows}
 use Rattle.store_tables.specs.Calls.{FollowsDated}
-use Rattle.store_rows.specs.Spans.{without_all_spans}
+use Rattle.store_rows.specs.Spans.{without_all_of}
 use Rattle.staging.proofs.Commits.{settles_dated}
 use Rattle.staging.proofs.clearing.clear_spans.Goals as goal
 
 pub returns-clause-done : goal.returns-clause-done
 returns-clause-done g c clean rows was dated =
     let old = state g.S.Store c.args.conn.now in
-    let mid = state g.S.Store c.remove_spans.new.tx.conn.now in
+    let mid = state g.S.Store c.remove_all_of.new.tx.conn.now in
     let new = state g.S.Store c.conn-2-1.given.0 in
-    let follows : FollowsDated (record old { in_transaction = true }) mid (without_all_spans c.args.numbers.now) =
+    let follows : FollowsDated (record old { in_transaction = true }) mid (without_all_of c.args.numbers.now) =
     search rules in
     let shows : Shows mid new mid.now mid.now false = search rules in
-    settles_dated old mid new (without_all_spans c.args.numbers.now) rows follows shows was dated
+    settles_dated old mid new (without_all_of c.args.numbers.now) rows follows shows was dated

@@ -9,6 +9,6 @@ puts-preserved c =
 
 pub returns : goal.returns
 returns c batch drawn other =
-    all_counted batch c.args.puts.now c.args.spans.now drawn c.puts.put-index c.puts.count
-    c.saturating_add.result _ c.requires.dated other c.puts-test.false c.puts.invariant
-    c.saturating_add.ensures
+    all_counted batch c.args.puts.now c.args.later.now drawn c.puts.put-index c.puts.count
+    c.count_later.result _ c.requires.later other c.puts-test.false c.puts.invariant
+    c.count_later.ensures

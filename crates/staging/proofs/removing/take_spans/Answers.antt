@@ -2,15 +2,16 @@ use Rattle.std.proofs.Common.{◌≡◌, ◌++◌, [], refl, sym, ap, ◌∙◌,
 use Rattle.std.proofs.lemmas.List.{append-nil}
 use Rattle.sqlite.specs.Held.{state}
 use Rattle.store_tables.proofs.Queries.{only_committed}
+use Rattle.store_rows.specs.Spans.{without_all_of}
 use Rattle.staging.proofs.Cleared.{nothing_done}
-use Rattle.staging.proofs.Spans.{all_gone, more_gone, none_gone, part_leaves, undated_leaves}
+use Rattle.staging.proofs.Spans.{all_gone, all_leave, spans_go, more_gone, none_gone, part_leaves}
 use Rattle.staging.proofs.Thinned.{none_left}
 use Rattle.staging.proofs.removing.take_spans.Goals as goal
 
 pub spans-init : goal.spans-init
 spans-init g c = record {
   ended = c.requires.autocommit;
-  taken = ([], refl, none_gone (state g.S.Store c.args.conn.now));
+  taken = ([], refl, none_gone (λ n. n) without_all_of spans_go (state g.S.Store c.args.conn.now));
 }
 
 pub clear_spans-requires : goal.clear_spans-requires
@@ -26,8 +27,8 @@ spans-preserved g c =
         was.0 ++ c.split_at.result.0.now,
         was.1 ∙ ap (λ r. was.0 ++ r) c.split_at.ensures.by_index.0
             ∙ sym (append_assoc was.0 c.split_at.result.0.now c.split_at.result.1.now),
-        more_gone was.0 c.split_at.result.0.now (state g.S.Store c.args.conn.now) (state g.S.Store c.spans.conn)
-            (state g.S.Store c.clear_spans.new.conn) was.2 did.clean did.done,
+        more_gone (λ n. n) without_all_of spans_go was.0 c.split_at.result.0.now (state g.S.Store c.args.conn.now)
+            (state g.S.Store c.spans.conn) (state g.S.Store c.clear_spans.new.conn) was.2 did.clean did.done,
       );
     }
 
@@ -38,9 +39,9 @@ pub returns-in_err-clear_spans-clause-crash : goal.returns-in_err-clear_spans-cl
 returns-in_err-clear_spans-clause-crash g c =
     let did = c.in_err-clear_spans.ensures in
     let was = c.spans.invariant.taken in
-    part_leaves was.0 c.split_at.result.0.now (state g.S.Store c.args.conn.now) (state g.S.Store c.spans.conn)
-    (state g.S.Store c.clear_spans.new.conn) was.2 did.clean c.args.numbers.now c.split_at.result.1.now
-    (was.1 ∙ ap (λ r. was.0 ++ r) c.split_at.ensures.by_index.0) did.crash
+    part_leaves (λ n. n) without_all_of spans_go was.0 c.split_at.result.0.now (state g.S.Store c.args.conn.now)
+    (state g.S.Store c.spans.conn) (state g.S.Store c.clear_spans.new.conn) was.2 did.clean c.args.numbers.now
+    c.split_at.result.1.now (was.1 ∙ ap (λ r. was.0 ++ r) c.split_at.ensures.by_index.0) did.crash
 
 pub returns-in_err-clear_spans-clause-clean : goal.returns-in_err-clear_spans-clause-clean
 returns-in_err-clear_spans-clause-clean g c clean =
@@ -50,7 +51,8 @@ pub returns-clause-done : goal.returns-clause-done
 returns-clause-done g c =
     let was = c.spans.invariant.taken in
     let none : c.spans.rest.now ≡ [] = none_left c.spans.rest.now (search rules) in
-    all_gone c.args.numbers.now was.0 (state g.S.Store c.args.conn.now) (state g.S.Store c.spans.conn)
+    all_gone (λ n. n) without_all_of spans_go c.args.numbers.now was.0 (state g.S.Store c.args.conn.now)
+    (state g.S.Store c.spans.conn)
     (was.1 ∙ ap (λ r. was.0 ++ r) none ∙ append-nil was.0) was.2
 
 pub returns-clause-crash : goal.returns-clause-crash
@@ -58,7 +60,8 @@ returns-clause-crash g c clean rows was has aside =
     let so_far = c.spans.invariant.taken in
     let now = state g.S.Store c.spans.conn in
     let none : c.spans.rest.now ≡ [] = none_left c.spans.rest.now (search rules) in
-    let settled = all_gone c.args.numbers.now so_far.0 (state g.S.Store c.args.conn.now) now
+    let settled = all_gone (λ n. n) without_all_of spans_go c.args.numbers.now so_far.0
+    (state g.S.Store c.args.conn.now) now
     (so_far.1 ∙ ap (λ r. so_far.0 ++ r) none ∙ append-nil so_far.0) so_far.2 clean rows was has in
-    undated_leaves c.args.numbers.now now rows
+    all_leave (λ n. n) without_all_of spans_go c.args.numbers.now now rows
     (λ t may. only_committed now _ t settled (g.met.S.Store.settled c.spans.conn.store t settled.is_open may)) aside

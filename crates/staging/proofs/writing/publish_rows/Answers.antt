@@ -5,4 +5,4 @@ pub returns-clause-shallow : goal.returns-clause-shallow
 returns-clause-shallow g c =
     let import = c.import.inside in
     always c.publish.result (rw (← c.import.view_is)
-    (λ none. all_shallow import.batch import.changes.puts import.spans.items import.cursor c.import.invariant.1 none))
+    (λ none. all_shallow import.batch import.changes.puts import.later import.cursor c.import.invariant.1 none))

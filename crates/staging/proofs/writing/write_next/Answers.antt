@@ -1,7 +1,7 @@
 use Rattle.std.proofs.Common.{◌≡◌, length, get_or, subst}
 use Rattle.std.specs.Prelude.{IfSome}
 use Rattle.sqlite.specs.Held.{state}
-use Rattle.staging.proofs.Cursors.{first_behind, left_behind, next_is, of_any, past_all, within}
+use Rattle.staging.proofs.Cursors.{left_behind, line_written, next_is, past_all, within}
 use Rattle.staging.proofs.writing.write_next.Goals as goal
 
 pub returns-clause-ok : goal.returns-clause-ok
@@ -16,7 +16,7 @@ returns-clause-ok g c clean =
     let is = subst (λ o. IfSome o (λ x. x.now ≡ get_or ps cursor.done x.now)) c.in-Some-get.is
     c.get-2.ensures.lookup.1 in
     let low = (next_is ps cursor put.now c.requires.placed more is).0 in
-    of_any old new _ _ (first_behind c.args.batch ps c.args.spans.now cursor put.now past more is low)
+    line_written c.args.batch ps c.args.later.now cursor put.now past more is low old new
     (c.in_ok-write_line.ensures.ok clean)
 
 pub returns-clause-left : goal.returns-clause-left
@@ -29,5 +29,5 @@ returns-clause-left g c =
     let is = subst (λ o. IfSome o (λ x. x.now ≡ get_or ps cursor.done x.now)) c.in-Some-get.is
     c.get-2.ensures.lookup.1 in
     let low = (next_is ps cursor put.now c.requires.placed more is).0 in
-    left_behind c.args.batch ps c.args.spans.now cursor put.now past more is low c.go_on.new.self
+    left_behind c.args.batch ps c.args.later.now cursor put.now past more is low c.go_on.new.self
     c.write_line.new.lines.items (c.in_ok-write_line.ensures.made.0) c.in_ok-go_on.ensures

@@ -22,7 +22,8 @@ returns-in-Ok-Second-clause-takes g c clean =
     let after = c.remove_imports.ensures in
     let before = after.clean clean in
     let found = c.in-Ok-Second.ensures in
-    second_taken c.what_is_seen_means_the_same.ensures.means c.what_is_seen_means_the_same.ensures.spans
+    let alike = c.what_is_seen_means_the_same.ensures in
+    second_taken alike.means alike.spans alike.links alike.soughts
     (state g.S.Store c.args.conn.now) (state g.S.Store c.recognise.new.conn)
     (state g.S.Store c.remove_imports.new.conn) c.remove_imports.result (found.stays before) (after.clears clean)
     (λ rows was. found.version before rows was ∙ ap version_number c.in-Ok-Second.field-0-is)

@@ -7,47 +7,47 @@ use Rattle.store.proofs.deciding.decide_on.Goals as goal
 use Rattle.list_laws.proofs.Outcomes.{any_ok}
 
 pub returns-then-archive-clause-crash : goal.returns-then-archive-clause-crash
-returns-then-archive-clause-crash g c clean rows content was means shallow =
+returns-then-archive-clause-crash g c clean rows content was seen =
     let archive = c.args.archive.now in
     let old = state g.S.Store archive.conn in
-    let kept = kept_of rows content means shallow in
+    let kept = kept_of rows content seen in
     let shown = shown_of old archive.is_lost kept was
     (λ t l. only_committed old rows t was (g.met.S.Store.settled archive.conn.store t was.is_open l)) in
     ((c.decide-decided.ensures.decides clean).1 kept shown).0.crash
 
 pub returns-clause-crash : goal.returns-clause-crash
-returns-clause-crash g c clean rows content was means shallow =
+returns-clause-crash g c clean rows content was seen =
     let archive = c.args.archive.now in
     let old = state g.S.Store archive.conn in
-    let kept = kept_of rows content means shallow in
+    let kept = kept_of rows content seen in
     let shown = shown_of old archive.is_lost kept was
     (λ t l. only_committed old rows t was (g.met.S.Store.settled archive.conn.store t was.is_open l)) in
     ((c.decide-decided.ensures.decides clean).1 kept shown).0.crash
 
 pub returns-clause-decides : goal.returns-clause-decides
-returns-clause-decides g c clean rows content was means shallow =
+returns-clause-decides g c clean rows content was seen =
     let archive = c.args.archive.now in
     let old = state g.S.Store archive.conn in
-    let kept = kept_of rows content means shallow in
+    let kept = kept_of rows content seen in
     let shown = shown_of old archive.is_lost kept was
     (λ t l. only_committed old rows t was (g.met.S.Store.settled archive.conn.store t was.is_open l)) in
     ((c.decide-decided.ensures.decides clean).1 kept shown).1
 
 pub returns-clause-exact : goal.returns-clause-exact
-returns-clause-exact g c clean rows content was means shallow =
+returns-clause-exact g c clean rows content was seen =
     let archive = c.args.archive.now in
     let old = state g.S.Store archive.conn in
-    let kept = kept_of rows content means shallow in
+    let kept = kept_of rows content seen in
     let shown = shown_of old archive.is_lost kept was
     (λ t l. only_committed old rows t was (g.met.S.Store.settled archive.conn.store t was.is_open l)) in
     ((c.decide-decided.ensures.exact clean).1 kept shown).1
 
 -- while the archive is not lost no look has failed, and so none found rows that cannot be read
 pub returns-clause-readable : goal.returns-clause-readable
-returns-clause-readable g c clean rows content was means shallow =
+returns-clause-readable g c clean rows content was seen =
     let archive = c.args.archive.now in
     let old = state g.S.Store archive.conn in
-    let kept = kept_of rows content means shallow in
+    let kept = kept_of rows content seen in
     let shown = shown_of old archive.is_lost kept was
     (λ t l. only_committed old rows t was (g.met.S.Store.settled archive.conn.store t was.is_open l)) in
     let still = ((c.decide-decided.ensures.decides clean).1 kept shown).0 in
@@ -55,10 +55,10 @@ returns-clause-readable g c clean rows content was means shallow =
     (still.none c.if-archive.false) counted.0) c.decide-decided.ensures.counts.1
 
 pub returns-clause-same : goal.returns-clause-same
-returns-clause-same g c clean rows content was means shallow =
+returns-clause-same g c clean rows content was seen =
     let archive = c.args.archive.now in
     let old = state g.S.Store archive.conn in
-    let kept = kept_of rows content means shallow in
+    let kept = kept_of rows content seen in
     let shown = shown_of old archive.is_lost kept was
     (λ t l. only_committed old rows t was (g.met.S.Store.settled archive.conn.store t was.is_open l)) in
     let still = ((c.decide-decided.ensures.decides clean).1 kept shown).0 in

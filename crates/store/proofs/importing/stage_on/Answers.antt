@@ -11,20 +11,21 @@ pub returns-in-Ok-clause-staged : goal.returns-in-Ok-clause-staged
 returns-in-Ok-clause-staged g c clean society content r has =
     let import = c.args.import.now in
     let new = state g.S.Store c.stage.new.conn in
+    let did = c.in-Ok.ensures.staged clean has.0
+    (has_spans c.an_import_that_is_begun_is_in_no_view.ensures society content r import has.0 has.2) has.1 in
     subst (λ i. (still : HasImport society content r i new) × (still.2.before ≡ has.2.before))
     (sym c.in-Ok.ensures.left) (
       (
         with_staged (take 256 import.left) has.0,
-        c.in-Ok.ensures.staged clean has.0
-            (has_spans c.an_import_that_is_begun_is_in_no_view.ensures society content r import has.0 has.2) has.1,
-        stage_keeps c.a_stage_goes_on.ensures 256 society content r import has.0 has.2,
+        did.0,
+        stage_keeps c.a_stage_goes_on.ensures.anew 256 society content r import has.0 has.2 did.1,
       ),
       refl,
     )
 
 pub returns-in-Ok-clause-crash : goal.returns-in-Ok-clause-crash
 returns-in-Ok-clause-crash g c clean society content r has t l =
-    stage_leaves c.an_import_that_is_begun_is_in_no_view.ensures c.a_stage_goes_on.ensures 256 society content r
+    stage_leaves c.an_import_that_is_begun_is_in_no_view.ensures c.a_stage_goes_on.ensures.begun 256 society content r
     c.args.import.now has.0 (state g.S.Store c.stage.new.conn) has.2
     (c.in-Ok.ensures.crash clean has.0
     (has_spans c.an_import_that_is_begun_is_in_no_view.ensures society content r c.args.import.now has.0 has.2) has.1)
@@ -35,7 +36,7 @@ returns-in-Err-clause-crash g c clean society content r has t l =
     let after = c.refusal_after.ensures in
     let mid = state g.S.Store c.stage.new.conn in
     let before : HasCleanDisk mid = omega (arith, after.survives.clean, clean) in
-    stage_leaves c.an_import_that_is_begun_is_in_no_view.ensures c.a_stage_goes_on.ensures 256 society content r
+    stage_leaves c.an_import_that_is_begun_is_in_no_view.ensures c.a_stage_goes_on.ensures.begun 256 society content r
     c.args.import.now has.0 mid has.2
     (c.in-Err.ensures.crash before has.0
     (has_spans c.an_import_that_is_begun_is_in_no_view.ensures society content r c.args.import.now has.0 has.2) has.1) t

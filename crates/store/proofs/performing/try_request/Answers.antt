@@ -13,6 +13,7 @@ use Rattle.store.proofs.Committed.{
 }
 use Rattle.archive_state.specs.Changes.{Changes}
 use Rattle.store.specs.Calls.{AcknowledgedBy}
+use Rattle.store.proofs.Viewed.{seen_of}
 use Rattle.store.proofs.performing.try_request.Goals as goal
 
 -- the archive had the request, or has it now
@@ -23,10 +24,10 @@ returns-in-Ok-make_changes-clause-acknowledged g c clean society content rows wa
     let made = c.in-Ok-make_changes.ensures in
     let before = made.clean clean in
     let new = state g.S.Store c.make_changes.new.conn in
-    let decided = c.in-Ok.ensures.decides before rows content was keeps.means keeps.shallow in
+    let decided = c.in-Ok.ensures.decides before rows content was (seen_of keeps) in
     let words = c.in-Ok.ensures.words in
-    let exact = c.in-Ok.ensures.exact before rows content was keeps.means keeps.shallow in
-    let settled = (c.in-Ok.ensures.same before rows content was keeps.means keeps.shallow).0 in
+    let exact = c.in-Ok.ensures.exact before rows content was (seen_of keeps) in
+    let settled = (c.in-Ok.ensures.same before rows content was (seen_of keeps)).0 in
     subst (λ a. AcknowledgedBy society content rows r a new) (sym (ap (λ (x : Changes). x.answer) c.changes.view_is))
     (by_kept changes.kept
     (λ none. acknowledged_again society content rows r changes keeps decided words new exact none
@@ -39,16 +40,16 @@ returns-in-Ok-make_changes-clause-repeated g c clean society content rows was ke
     let made = c.in-Ok-make_changes.ensures in
     let before = made.clean clean in
     let none = writes_nothing content c.args.request.now c.in-Ok.changes
-    (c.in-Ok.ensures.exact before rows content was keeps.means keeps.shallow) kept in
+    (c.in-Ok.ensures.exact before rows content was (seen_of keeps)) kept in
     subst (λ h. LeavesOnly (state g.S.Store h) rows) (sym (made.again none))
-    (c.in-Ok.ensures.crash before rows content was keeps.means keeps.shallow)
+    (c.in-Ok.ensures.crash before rows content was (seen_of keeps))
 
 pub returns-in-Err-make_changes-clause-refused : goal.returns-in-Err-make_changes-clause-refused
 returns-in-Err-make_changes-clause-refused g c clean sure society content rows was keeps =
     let made = c.in-Err-make_changes.ensures in (
       want_refused content c.args.request.now c.in-Err-make_changes.kind made.refused sure,
       made.undone clean sure rows
-          (c.in-Ok.ensures.same (made.clean clean) rows content was keeps.means keeps.shallow).0,
+          (c.in-Ok.ensures.same (made.clean clean) rows content was (seen_of keeps)).0,
     )
 
 pub returns-in-Err-make_changes-clause-crash : goal.returns-in-Err-make_changes-clause-crash
@@ -56,40 +57,40 @@ returns-in-Err-make_changes-clause-crash g c clean society content rows was keep
     let made = c.in-Err-make_changes.ensures in
     let before = made.clean clean in
     done_or_not society content rows c.args.request.now c.in-Ok.changes keeps
-    (c.in-Ok.ensures.decides before rows content was keeps.means keeps.shallow) c.in-Ok.ensures.words
+    (c.in-Ok.ensures.decides before rows content was (seen_of keeps)) c.in-Ok.ensures.words
     (state g.S.Store c.make_changes.new.conn)
     (made.crash made.kept clean rows keeps.dated.has_spans
-    (c.in-Ok.ensures.same before rows content was keeps.means keeps.shallow).0)
+    (c.in-Ok.ensures.same before rows content was (seen_of keeps)).0)
 
 pub returns-in-Err-make_changes-clause-repeated : goal.returns-in-Err-make_changes-clause-repeated
 returns-in-Err-make_changes-clause-repeated g c clean society content rows was keeps kept =
     let made = c.in-Err-make_changes.ensures in
     absurd (made.kept (writes_nothing content c.args.request.now c.in-Ok.changes
-    (c.in-Ok.ensures.exact (made.clean clean) rows content was keeps.means keeps.shallow) kept))
+    (c.in-Ok.ensures.exact (made.clean clean) rows content was (seen_of keeps)) kept))
 
 -- nothing was decided, and nothing written
 pub returns-in-Err-clause-refused : goal.returns-in-Err-clause-refused
 returns-in-Err-clause-refused g c clean sure society content rows was keeps =
     let decided = c.in-Err.ensures in
     let e = c.in-Err.refusal in
-    let readable = decided.readable clean rows content was keeps.means keeps.shallow in (
+    let readable = decided.readable clean rows content was (seen_of keeps) in (
       (
         refl,
-        λ want. decided.decides clean rows content was keeps.means keeps.shallow
+        λ want. decided.decides clean rows content was (seen_of keeps)
             (no_stop e.kind want sure readable),
       ),
-      decided.crash clean rows content was keeps.means keeps.shallow,
+      decided.crash clean rows content was (seen_of keeps),
     )
 
 pub returns-in-Err-clause-crash : goal.returns-in-Err-clause-crash
 returns-in-Err-clause-crash g c clean society content rows was keeps =
     stays_same (state g.S.Store c.decide_on.new.archive.conn) society content rows c.args.request.now keeps
-    (c.in-Err.ensures.crash clean rows content was keeps.means keeps.shallow)
+    (c.in-Err.ensures.crash clean rows content was (seen_of keeps))
 
 pub returns-in-Err-clause-repeated : goal.returns-in-Err-clause-repeated
 returns-in-Err-clause-repeated g c clean society content rows was keeps kept =
-    c.in-Err.ensures.crash clean rows content was keeps.means keeps.shallow
+    c.in-Err.ensures.crash clean rows content was (seen_of keeps)
 
 pub returns-in-Ok-make_changes-clause-quiet : goal.returns-in-Ok-make_changes-clause-quiet
 returns-in-Ok-make_changes-clause-quiet g c clean society content rows was keeps =
-    (c.in-Ok.ensures.same (c.in-Ok-make_changes.ensures.clean clean) rows content was keeps.means keeps.shallow).1
+    (c.in-Ok.ensures.same (c.in-Ok-make_changes.ensures.clean clean) rows content was (seen_of keeps)).1

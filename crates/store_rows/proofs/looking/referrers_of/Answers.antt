@@ -1,21 +1,21 @@
-use Rattle.std.proofs.Common.{Err, inl, ap, ◌∙◌}
-use Rattle.std.proofs.lemmas.Result.{err_from_is_err_and}
-use Rattle.std.specs.List.{list_any}
-use Rattle.std.specs.Prelude.{◌==◌}
-use Rattle.store_tables.proofs.ReadingRows.{looks_then}
+use Rattle.std.proofs.Common.{◌≡◌, ◌<◌, ap, ◌∙◌}
+use Rattle.sqlite.specs.Tree.{IsAscending}
+use Rattle.store_tables.specs.Keyed.{links_to}
+use Rattle.store_tables.specs.Rows.{link_place}
+use Rattle.store_tables.proofs.Pairing.{links_rise}
+use Rattle.store_tables.proofs.ReadingRows.{looks_where}
+use Rattle.store_rows.specs.Links.{linked_naming}
 use Rattle.store_rows.proofs.Ascending.{same_referrers}
-use Rattle.store_rows.proofs.Seen.{sees_as, sees_with}
+use Rattle.store_rows.proofs.Found.{sees_after}
 use Rattle.store_rows.proofs.looking.referrers_of.Goals as goal
-
-pub returns-in_err-numbers-clause-sees : goal.returns-in_err-numbers-clause-sees
-returns-in_err-numbers-clause-sees g c =
-    let p = err_from_is_err_and c.from_residual-in_err-numbers.result c.from_residual-in_err-numbers.ensures.1 in
-    rw p.1 (sees_with (Err _) c.in_ok-lines.ensures.looks tt (λ rows is. inl (inl p.2)))
 
 pub returns-clause-sees : goal.returns-clause-sees
 returns-clause-sees g c =
-    sees_as c.recorded.result
-    (λ rows found is content means. is.1 ∙ same_referrers rows content c.args.number c.in_ok-numbers.numbers means
-    c.recorded.ensures.ordered
-    (λ m. c.in_ok-numbers.ensures m ∙ ap (list_any (λ k. k == m)) (c.deref.ensures.value ∙ is.0)))
-    (looks_then c.in_ok-lines.ensures.looks c.recorded.ensures.looks)
+    let n = c.args.number in
+    sees_after c.naming_of.result
+    (λ rows content found was keeps is. is ∙ ap (linked_naming n content) was.0
+    ∙ same_referrers rows content n keeps was.1)
+    (looks_where {Q = λ rows items. (items.items ≡ links_to n rows)
+    × IsAscending (λ a b. link_place a < link_place b) rows.links} _
+    (λ rows was items is. (is, links_rise rows _ was.good.holds)) c.in_ok-links.ensures.looks)
+    (rw (c.deref.ensures.value) at c.naming_of.ensures.sees)

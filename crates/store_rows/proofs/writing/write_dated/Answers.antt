@@ -1,4 +1,4 @@
--- The spans of what is taken out, the changes, and the spans of what is put.
+-- What goes with what is taken out, the changes, and what goes with what is put.
 use Rattle.std.proofs.Common.{arith}
 use Rattle.archive_state.specs.Changes.{Changes}
 use Rattle.store_rows.proofs.Dated.{dated_all}
@@ -15,9 +15,9 @@ returns-clause-ok g c clean =
       kept = inside.kept;
       slip = inside.slip;
     } in
-    let last = rw c.deref-2.ensures.value at (c.put_spans.ensures.ok clean) in
+    let last = rw c.deref-2.ensures.value at (c.put_all_of.ensures.ok clean) in
     let two = rw (← c.changes.view_is) at (c.in_ok-write_all.ensures.ok
-    (omega (arith, c.put_spans.ensures.survives.clean))) in
-    let one = rw c.deref.ensures.value at (c.in_ok-remove_spans.ensures.ok
-    (omega (arith, c.write_all.ensures.survives.clean, c.put_spans.ensures.survives.clean))) in
-    rw (← c.changes.view_is) (dated_all c.put_spans.result _ _ _ _ changes one two last)
+    (omega (arith, c.put_all_of.ensures.survives.clean))) in
+    let one = rw c.deref.ensures.value at (c.in_ok-remove_all_of.ensures.ok
+    (omega (arith, c.write_all.ensures.survives.clean, c.put_all_of.ensures.survives.clean))) in
+    rw (← c.changes.view_is) (dated_all c.put_all_of.result _ _ _ _ changes one two last)

@@ -1,6 +1,7 @@
 use Rattle.sqlite.specs.Held.{state}
 use Rattle.store_tables.specs.Rows.{without_span}
-use Rattle.store_tables.proofs.SpanStatements.{followed_dated, deletes_span}
+use Rattle.store_tables.proofs.LaterStatements.{followed_dated}
+use Rattle.store_tables.proofs.SpanStatements.{deletes_span}
 use Rattle.store_tables.proofs.SpanTyped.{typed_less_span}
 use Rattle.store_tables.proofs.spans.delete_span.Goals as goal
 

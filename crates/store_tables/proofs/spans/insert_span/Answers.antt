@@ -4,7 +4,8 @@ use Rattle.sqlite.specs.State.{ExecutesInside}
 use Rattle.sqlite.specs.declared.types.Value.TheVariants.{Int}
 use Rattle.store_tables.specs.Reading.{IsDay, IsU32}
 use Rattle.store_tables.specs.Rows.{day_or_null, with_span}
-use Rattle.store_tables.proofs.SpanStatements.{day_bound, followed_dated, inserts_span}
+use Rattle.store_tables.proofs.LaterStatements.{followed_dated}
+use Rattle.store_tables.proofs.SpanStatements.{day_bound, inserts_span}
 use Rattle.store_tables.proofs.SpanTexts.{insert_span}
 use Rattle.store_tables.proofs.SpanTyped.{typed_span}
 use Rattle.store_tables.proofs.spans.insert_span.Goals as goal

@@ -1,6 +1,7 @@
 use Rattle.sqlite.specs.Held.{state}
 use Rattle.store_tables.specs.Rows.{with_version}
-use Rattle.store_tables.proofs.SpanStatements.{followed_dated, sets_version}
+use Rattle.store_tables.proofs.LaterStatements.{followed_dated}
+use Rattle.store_tables.proofs.SpanStatements.{sets_version}
 use Rattle.store_tables.proofs.SpanTyped.{typed_second}
 use Rattle.store_tables.proofs.spans.set_version.Goals as goal
 

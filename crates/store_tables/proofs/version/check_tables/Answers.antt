@@ -1,13 +1,15 @@
-use Rattle.std.proofs.Common.{rules, ◌≡◌, Bool, true, false, List, ℕ, [], ◌∷◌, ◌∙◌, ap, sym, subst}
+use Rattle.std.proofs.Common.{rules, ◌≡◌, Bool, true, false, List, ℕ, [], ◌∙◌, ap, sym, subst}
 use Rattle.std.specs.List.{AllByRecursion}
 use Rattle.sqlite.specs.Held.{state}
 use Rattle.sqlite.specs.Listing.{understood}
 use Rattle.sqlite.proofs.Callers.{IsPlain}
 use Rattle.store_tables.specs.Looking.{version_number}
-use Rattle.store_tables.specs.Prepared.{PreparesAll, all_queries, queries_of, span_query}
+use Rattle.store_tables.specs.Prepared.{PreparesAll, all_queries, later_queries, queries_of}
 use Rattle.store_tables.specs.Schema.{archive_schema}
 use Rattle.store_tables.specs.declared.version.Version.TheVariants.{Second}
 use Rattle.store_tables.proofs.Preparing.{looks_prepared, prepared_lost, prepared_then}
+use Rattle.store_tables.proofs.LinkTexts.{select_links_plain}
+use Rattle.store_tables.proofs.SoughtTexts.{select_soughts_plain}
 use Rattle.store_tables.proofs.SpanTexts.{select_spans_plain}
 use Rattle.store_tables.proofs.Texts.{
   select_meta_plain,
@@ -38,9 +40,9 @@ all_plain b = (
   ),
 )
 
-all_and_spans_plain : (b : Bool) → b ≡ true → ArePlain b (queries_of Second)
-all_and_spans_plain false none = absurd cc
-all_and_spans_plain true dated =
+all_and_later_plain : (b : Bool) → b ≡ true → ArePlain b (queries_of Second)
+all_and_later_plain false none = absurd cc
+all_and_later_plain true dated =
     let them = all_plain true in (
       them.0,
       (
@@ -53,7 +55,7 @@ all_and_spans_plain true dated =
               them.1.1.1.1.0,
               (
                 them.1.1.1.1.1.0,
-                (them.1.1.1.1.1.1.0, (select_spans_plain, tt)),
+                (them.1.1.1.1.1.1.0, (select_spans_plain, (select_links_plain, (select_soughts_plain, tt)))),
               ),
             ),
           ),
@@ -77,13 +79,13 @@ returns-in-First-clause-looks g c rows was is =
 pub returns-in-Second-clause-told : goal.returns-in-Second-clause-told
 returns-in-Second-clause-told g c =
     subst (λ version. PreparesAll (queries_of version) (state g.S.Store c.args.conn.now)
-    (state g.S.Store c.prepare.new.conn) c.prepare.result) (sym c.in-Second.is)
-    (prepared_then all_queries (span_query ∷ []) c.in_ok-prepare_all.ensures.told c.prepare.ensures.told)
+    (state g.S.Store c.prepare_later.new.conn) c.prepare_later.result) (sym c.in-Second.is)
+    (prepared_then all_queries later_queries c.in_ok-prepare_all.ensures.told c.prepare_later.ensures.told)
 
 pub returns-in-Second-clause-looks : goal.returns-in-Second-clause-looks
 returns-in-Second-clause-looks g c rows was is =
     looks_prepared (queries_of Second) rows.has_spans
-    (all_and_spans_plain rows.has_spans (was.good.typed.dated (is ∙ ap version_number c.in-Second.is)))
-    (state g.S.Store c.args.conn.now) (state g.S.Store c.prepare.new.conn) was.schema c.prepare.result
+    (all_and_later_plain rows.has_spans (was.good.typed.dated (is ∙ ap version_number c.in-Second.is)))
+    (state g.S.Store c.args.conn.now) (state g.S.Store c.prepare_later.new.conn) was.schema c.prepare_later.result
     (λ is_open t. g.met.S.Store.settled c.args.conn.now.store t is_open)
-    (prepared_then all_queries (span_query ∷ []) c.in_ok-prepare_all.ensures.told c.prepare.ensures.told)
+    (prepared_then all_queries later_queries c.in_ok-prepare_all.ensures.told c.prepare_later.ensures.told)

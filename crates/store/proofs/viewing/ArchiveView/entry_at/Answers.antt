@@ -5,7 +5,8 @@ use Rattle.sqlite.specs.Held.{state}
 use Rattle.sqlite.specs.State.{HasCleanDisk}
 use Rattle.sqlite.specs.Tree.{Trees}
 use Rattle.archive_state.specs.Content.{Content}
-use Rattle.store.proofs.Viewed.{err_shown, lost_shown, ok_shown}
+use Rattle.store_rows.specs.Sought.{KeepsSought}
+use Rattle.store.proofs.Viewed.{err_shown, lost_shown, ok_shown_by, refused_by}
 use Rattle.store.proofs.viewing.ArchiveView.entry_at.Goals as goal
 
 pub returns-then-self-clause-shows : goal.returns-then-self-clause-shows
@@ -22,10 +23,10 @@ returns-then-self-clause-shows g c clean =
 pub returns-in-Ok-clause-shows : goal.returns-in-Ok-clause-shows
 returns-in-Ok-clause-shows g c clean =
     let was = c.args.self.now in
-    ok_shown (λ (x : Content). IsLowest
+    ok_shown_by KeepsSought (λ (x : Content). IsLowest
     (λ n. IsEntryAt x.records c.args.source c.args.kind c.args.page.now c.args.item n))
     (state g.S.Store was.conn) (state g.S.Store c.entry_at.new.conn) was.is_lost was.failures c.in-Ok.found
-    c.if-self.false c.in-Ok.ensures.sees clean
+    c.if-self.false (λ rows x seen. seen.soughts) c.in-Ok.ensures.sees clean
 
 pub returns-in-Err-clause-shows : goal.returns-in-Err-clause-shows
 returns-in-Err-clause-shows g c clean =
@@ -40,5 +41,8 @@ returns-in-Err-clause-shows g c clean =
     err_shown (λ (x : Content). IsLowest
     (λ n. IsEntryAt x.records c.args.source c.args.kind c.args.page.now c.args.item n))
     (state g.S.Store was.conn) mid new was.is_lost now.is_lost was.failures now.failures c.in-Err.refusal
-    c.fail-in-Err.result c.if-self.false c.in-Err.ensures.sees before left
+    c.fail-in-Err.result c.if-self.false
+    (refused_by KeepsSought (λ (x : Content). IsLowest
+    (λ n. IsEntryAt x.records c.args.source c.args.kind c.args.page.now c.args.item n))
+    (state g.S.Store was.conn) mid c.in-Err.refusal c.in-Err.ensures.sees) before left
     (after.settled clean) after.same after.lost after.passed

@@ -4,7 +4,8 @@ use Rattle.sqlite.specs.Held.{state}
 use Rattle.sqlite.specs.State.{HasCleanDisk}
 use Rattle.sqlite.specs.Tree.{Trees}
 use Rattle.archive_state.specs.Content.{Content}
-use Rattle.store.proofs.Viewed.{err_shown, lost_shown, ok_shown}
+use Rattle.store_rows.specs.Links.{KeepsLinks}
+use Rattle.store.proofs.Viewed.{err_shown, lost_shown, ok_shown_by, refused_by}
 use Rattle.store.proofs.viewing.ArchiveView.referrers.Goals as goal
 
 pub returns-then-self-clause-shows : goal.returns-then-self-clause-shows
@@ -21,9 +22,9 @@ returns-then-self-clause-shows g c clean =
 pub returns-in-Ok-clause-shows : goal.returns-in-Ok-clause-shows
 returns-in-Ok-clause-shows g c clean =
     let was = c.args.self.now in
-    ok_shown (λ (x : Content) found. found.items ≡ referrers x c.args.number)
+    ok_shown_by KeepsLinks (λ (x : Content) found. found.items ≡ referrers x c.args.number)
     (state g.S.Store was.conn) (state g.S.Store c.referrers_of.new.conn) was.is_lost was.failures c.in-Ok.found
-    c.if-self.false c.in-Ok.ensures.sees clean
+    c.if-self.false (λ rows x seen. seen.links) c.in-Ok.ensures.sees clean
 
 pub returns-in-Err-clause-shows : goal.returns-in-Err-clause-shows
 returns-in-Err-clause-shows g c clean =
@@ -37,5 +38,7 @@ returns-in-Err-clause-shows g c clean =
     [ inl left ↦ left | inr none ↦ absurd none ] in
     err_shown (λ (x : Content) found. found.items ≡ referrers x c.args.number)
     (state g.S.Store was.conn) mid new was.is_lost now.is_lost was.failures now.failures c.in-Err.kind
-    c.fail-in-Err.result c.if-self.false c.in-Err.ensures.sees before left
+    c.fail-in-Err.result c.if-self.false
+    (refused_by KeepsLinks (λ (x : Content) found. found.items ≡ referrers x c.args.number)
+    (state g.S.Store was.conn) mid c.in-Err.kind c.in-Err.ensures.sees) before left
     (after.settled clean) after.same after.lost after.passed

@@ -1,0 +1,97 @@
+-- What a statement makes of the tables that the second schema has beside the first one.
+use Rattle.std.proofs.Common.{
+  ◌≡◌,
+  ℕ,
+  ◌<◌,
+  ◌≢◌,
+  List,
+  Bool,
+  true,
+  false,
+  Ok,
+  sym,
+  ap,
+  subst,
+  ◌∙◌,
+  arith,
+}
+use Rattle.sqlite.specs.Order.{Row}
+use Rattle.sqlite.specs.Tree.{Trees}
+use Rattle.sqlite_catalog.specs.Listing.{IsSound}
+use Rattle.sqlite_rules.specs.Edit.{Edit, Applies}
+use Rattle.sqlite_schema.specs.declared.schema.Keys.TheVariants.{Enforced}
+use Rattle.sqlite.specs.State.{State, Executes, ExecutesInside}
+use Rattle.store_tables.specs.Calls.{FollowsDated}
+use Rattle.store_tables.specs.Reading.{AreTyped}
+use Rattle.store_tables.specs.Schema.{archive_schema}
+use Rattle.store_tables.specs.Rows.{Rows, SpanRow, LinkRow, SoughtRow, Holds, HoldsLater, KeepsLater}
+use Rattle.store_tables.proofs.Coded.{keeps_on}
+use Rattle.store_tables.proofs.Statements.{no_late_index, others_of}
+
+-- what a statement makes of tables that have spans
+pub record BecomesDated (old new : State) (f : Rows → Rows) : Type 0 where
+  pub schema : new.now.schema ≡ archive_schema true
+  pub sound : IsSound (archive_schema true) new.now.trees
+  pub same : (rows : Rows) → (f rows).has_spans ≡ rows.has_spans
+  pub holds : (rows : Rows) → rows.has_spans ≡ true → AreTyped rows → Holds rows old.now.trees
+      → Holds (f rows) new.now.trees
+
+-- one statement in a transaction
+pub followed_dated : (sql : List ℕ) (params : Row) (old new : State) (count : ℕ) (f : Rows → Rows)
+    → (old.now.schema ≡ archive_schema true → Executes sql params old new (Ok count) → BecomesDated old new f)
+    → ((rows : Rows) → rows.has_spans ≡ true → AreTyped rows → AreTyped (f rows))
+    → ExecutesInside 0 sql params old new (Ok count) → FollowsDated old new f
+followed_dated sql params old new count f means typed ran rows dated was =
+    let did = means (was.schema ∙ ap archive_schema dated) ran.0 in
+    let same : true ≡ (f rows).has_spans = sym (did.same rows ∙ dated) in (
+      record {
+        is_open = ran.1.is_open;
+        inside = ran.1.mode;
+        schema = did.schema ∙ ap archive_schema same;
+        good = record {
+          sound = subst (λ b. IsSound (archive_schema b) new.now.trees) same did.sound;
+          holds = did.holds rows dated was.good.typed was.good.holds;
+          typed = typed rows dated was.good.typed;
+        };
+      },
+      ran.1.committed_is,
+    )
+
+-- ---- these tables, where they are
+pub of_second : (b : Bool) (spans : List SpanRow) (links : List LinkRow) (soughts : List SoughtRow) (t : Trees)
+    → b ≡ true → HoldsLater b spans links soughts t → KeepsLater spans links soughts t
+of_second true spans links soughts t e h = h
+of_second false spans links soughts t e h = absurd cc
+
+in_second : (b : Bool) (spans : List SpanRow) (links : List LinkRow) (soughts : List SoughtRow) (t : Trees)
+    → b ≡ true → KeepsLater spans links soughts t → HoldsLater b spans links soughts t
+in_second true spans links soughts t e h = h
+in_second false spans links soughts t e h = absurd cc
+
+-- what is kept of them in an archive of the second schema
+pub kept_of : (rows : Rows) (t : Trees) → rows.has_spans ≡ true → Holds rows t
+    → KeepsLater rows.spans rows.links rows.soughts t
+kept_of rows t dated was = of_second rows.has_spans rows.spans rows.links rows.soughts t dated was.later
+
+-- a change of one of them leaves the tables of the first schema
+pub beside : (rows : Rows) (spans : List SpanRow) (links : List LinkRow) (soughts : List SoughtRow) (old new : Trees)
+    (edit : Edit) → Applies (archive_schema true) Enforced old edit new → 11 < edit.table.tree
+    → rows.has_spans ≡ true → KeepsLater spans links soughts new → Holds rows old
+    → Holds (record rows { spans = spans; links = links; soughts = soughts }) new
+beside rows spans links soughts old new edit a high dated kept was =
+    let same = others_of true old new edit a in
+    record {
+      meta = same 0 (omega arith) (omega (arith, high)) ∙ was.meta;
+      batches = keeps_on _ _ _ (same 1 (omega arith) (omega (arith, high))) was.batches;
+      records = keeps_on _ _ _ (same 2 (omega arith) (omega (arith, high))) was.records;
+      lines = keeps_on _ _ _ (same 3 (omega arith) (omega (arith, high))) was.lines;
+      receipts = keeps_on _ _ _ (same 4 (omega arith) (omega (arith, high))) was.receipts;
+      slips = keeps_on _ _ _ (same 5 (omega arith) (omega (arith, high))) was.slips;
+      slip_lines = keeps_on _ _ _ (same 6 (omega arith) (omega (arith, high))) was.slip_lines;
+      later = in_second rows.has_spans spans links soughts new dated kept;
+    }
+
+-- each of these tables but the one that is changed is as it was
+pub late_same : (old new : Trees) (edit : Edit) → Applies (archive_schema true) Enforced old edit new → (t : ℕ)
+    → 11 < t → t < 16 → t ≢ edit.table.tree → new t ≡ old t
+late_same old new edit a t high low off = a.others t off (no_late_index true t high low)

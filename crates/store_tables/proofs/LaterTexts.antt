@@ -1,0 +1,72 @@
+-- What makes the tables that the second schema has beside the first one, each by its text.
+use Rattle.std.proofs.Common.{◌≡◌, List, ℕ, [], ◌∷◌, codes, Ok, refl}
+use Rattle.sqlite.specs.Compile.{index_defined_by, table_defined_by}
+use Rattle.sqlite_tied.specs.Compute.{everything}
+use Rattle.sqlite.specs.Listing.{understood}
+use Rattle.store_tables.specs.Creating.{IsCreate, IsCreateIndex}
+use Rattle.store_tables.specs.Schema.{first_and, links, pasts, sought_by_text, soughts, spans}
+
+abbrev pub create_spans : List ℕ
+create_spans = codes
+    "CREATE TABLE span (no INTEGER PRIMARY KEY REFERENCES record (no) ON DELETE RESTRICT, lo INTEGER, hi INTEGER) STRICT"
+
+abbrev pub create_links : List ℕ
+create_links = codes "CREATE TABLE link (id INTEGER PRIMARY KEY) STRICT"
+
+abbrev pub create_soughts : List ℕ
+create_soughts = codes
+    "CREATE TABLE sought (no INTEGER PRIMARY KEY REFERENCES record (no) ON DELETE RESTRICT, text TEXT NOT NULL, dst INTEGER) STRICT"
+
+abbrev pub create_pasts : List ℕ
+create_pasts = codes
+    "CREATE TABLE past (id INTEGER PRIMARY KEY, no INTEGER NOT NULL, token TEXT NOT NULL, text TEXT NOT NULL) STRICT"
+
+abbrev pub create_sought_by_text : List ℕ
+create_sought_by_text = codes "CREATE INDEX sought_by_text ON sought (text, dst)"
+
+spans_is : (table_defined_by create_spans ≡ Ok (record spans { tree = 0 }))
+unfolding understood everything
+spans_is = refl
+
+links_is : (table_defined_by create_links ≡ Ok (record links { tree = 0 }))
+unfolding understood everything
+links_is = refl
+
+soughts_is : (table_defined_by create_soughts ≡ Ok (record soughts { tree = 0 }))
+unfolding understood everything
+soughts_is = refl
+
+pasts_is : (table_defined_by create_pasts ≡ Ok (record pasts { tree = 0 }))
+unfolding understood everything
+pasts_is = refl
+
+sought_by_text_is : (index_defined_by soughts create_sought_by_text ≡ Ok (record sought_by_text { tree = 0 }))
+unfolding understood everything
+sought_by_text_is = refl
+
+pub makes_spans : IsCreate (first_and []) create_spans (record spans { tree = 0 })
+unfolding understood everything
+makes_spans = record { command = refl; whole = refl; plain = (refl, refl); defined = spans_is; counts = refl }
+
+pub makes_links : IsCreate (first_and (spans ∷ [])) create_links (record links { tree = 0 })
+unfolding understood everything
+makes_links = record { command = refl; whole = refl; plain = (refl, refl); defined = links_is; counts = refl }
+
+pub makes_soughts : IsCreate (first_and (spans ∷ links ∷ [])) create_soughts (record soughts { tree = 0 })
+unfolding understood everything
+makes_soughts = record { command = refl; whole = refl; plain = (refl, refl); defined = soughts_is; counts = refl }
+
+pub makes_pasts : IsCreate (first_and (spans ∷ links ∷ soughts ∷ [])) create_pasts (record pasts { tree = 0 })
+unfolding understood everything
+makes_pasts = record { command = refl; whole = refl; plain = (refl, refl); defined = pasts_is; counts = refl }
+
+pub makes_sought_by_text : IsCreateIndex (first_and (spans ∷ links ∷ soughts ∷ pasts ∷ [])) create_sought_by_text 9
+    soughts (record sought_by_text { tree = 0 })
+unfolding understood everything
+makes_sought_by_text = record {
+  command = refl;
+  whole = refl;
+  plain = (refl, refl);
+  listed = refl;
+  defined = sought_by_text_is;
+}

@@ -1,0 +1,37 @@
+use Rattle.std.proofs.Common.{arith, ◌∙◌}
+use Rattle.sqlite.specs.Held.{state}
+use Rattle.sqlite.specs.State.{HasCleanDisk}
+use Rattle.store_tables.proofs.Widening.{
+  adds_links,
+  adds_pasts,
+  adds_soughts,
+  adds_spans,
+  all_widened,
+  not_widened,
+}
+use Rattle.store_tables.proofs.creating.create_later_tables.Goals as goal
+
+pub returns-clause-ok : goal.returns-clause-ok
+returns-clause-ok g c clean rows undated inside =
+    let began = state g.S.Store c.args.tx.now.conn.now in
+    let base = began.now.trees in
+    let one = state g.S.Store c.execute.new.self.conn.now in
+    let two = state g.S.Store c.execute-2.new.self.conn.now in
+    let three = state g.S.Store c.execute-3.new.self.conn.now in
+    let four = state g.S.Store c.execute-4.new.self.conn.now in
+    let last = state g.S.Store c.execute-5.new.self.conn.now in
+    let clean_four : HasCleanDisk four = omega (arith, clean, c.execute-5.ensures.survives.clean) in
+    let clean_three : HasCleanDisk three = omega (arith, clean_four, c.execute-4.ensures.survives.clean) in
+    let clean_two : HasCleanDisk two = omega (arith, clean_three, c.execute-3.ensures.survives.clean) in
+    let clean_one : HasCleanDisk one = omega (arith, clean_two, c.execute-2.ensures.survives.clean) in
+    let spans = adds_spans base began one c.in_ok-execute.field-0
+    (c.in_ok-execute.ensures.runs clean_one inside.inside) (not_widened began rows undated inside) in
+    let links = adds_links base one two c.in_ok-execute-2.field-0
+    (c.in_ok-execute-2.ensures.runs clean_two spans.0.inside) spans.0 in
+    let soughts = adds_soughts base two three c.in_ok-execute-3.field-0
+    (c.in_ok-execute-3.ensures.runs clean_three links.0.inside) links.0 in
+    let pasts = adds_pasts base three four c.in_ok-execute-4.field-0
+    (c.in_ok-execute-4.ensures.runs clean_four soughts.0.inside) soughts.0 in
+    let all = all_widened began four last rows c.in_ok-execute-5.field-0 undated inside pasts.0
+    (c.in_ok-execute-5.ensures.runs clean pasts.0.inside) in
+    (all.0, all.1 ∙ pasts.1 ∙ soughts.1 ∙ links.1 ∙ spans.1)
