@@ -36,6 +36,7 @@ import memory  # noqa: E402
 import merges  # noqa: E402
 import properties  # noqa: E402
 import refusals  # noqa: E402
+import releases  # noqa: E402
 import rooms  # noqa: E402
 import scripts  # noqa: E402
 import sheet_commands  # noqa: E402
@@ -74,6 +75,7 @@ PARTS = (
     untouched,
     visits,
     scripts,
+    releases,
     documents,
     refusals,
     files,
