@@ -43,12 +43,16 @@ def left_by_its_reader(words) -> bytes:
     return got
 
 
+SPARE = 2  # lists of buffers that the kit's SQLite keeps for later rows; where one can't grow, the buffer is made anew
+
+
 def each_growth_refused(at, *calls):
     """Each call with one growth of its memory refused: 1, or 80 where the database wanted it, after a beginning of
-    what it writes otherwise."""
+    what it writes otherwise; or nothing is missing, at no more growths than there are lists that are only to save
+    time."""
     library = built(at.path)
     for call in calls:
-        whole = call()
+        whole, unharmed = call(), 0
         for number in apart():
             mark = os.path.join(at.path, "mark")
             got = call(env=refusing(number, library, mark))
@@ -57,5 +61,9 @@ def each_growth_refused(at, *calls):
                 demand(number > 100, f"it has only {number} growths")
                 break
             os.remove(mark)
+            unharmed += got == whole
             is_told = got.status == 1 and got.err in (refused(1).err, refused(80).err)
-            demand(is_told and whole.out.startswith(got.out), f"growth {number}: {got}")
+            demand(
+                is_told and whole.out.startswith(got.out) or got == whole and unharmed <= SPARE,
+                f"growth {number}: {got}",
+            )
