@@ -1,6 +1,6 @@
 """What a package has: each file by its name below the folder that it is installed in, and where it comes from.
 
-The tarball has these files under one folder, and is unpacked into /usr/local; the Debian package has them under /usr,
+The tarball has these files under one folder, and is unpacked into /opt; the Debian package has them under /usr,
 as that system wants them: the manual compressed, the licence by its name there, and a changelog in its form.
 """
 

@@ -57,7 +57,7 @@ def a_citation_of_a_person(tools):
 
 
 def rows_that_mean_nothing(tools):
-    """Rows of `past`, and links that no record has: nothing is told of them, and nothing else is read."""
+    """Rows of `past`, and links that no record has: nothing is reported of them, and nothing else is read."""
     with Audited(tools) as at:
         exported = at.of_pairs().export()
         with Tables(at.file) as tables:

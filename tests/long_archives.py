@@ -119,7 +119,7 @@ def archive_of(program, seed, batches):
 
 
 def said(outcome):
-    """What is compared of a run: not how much it read of what a refusal leaves unread, nor what is told of its rows. Of
+    """What is compared of a run: not how much it read of what a refusal leaves unread, nor what it reports of rows. Of
     words that are refused (status 2) each program tells in its own way."""
     told = [line for line in outcome.err.splitlines() if not line.startswith(b"row ")]
     return outcome.out, [] if outcome.status == 2 else told, outcome.status

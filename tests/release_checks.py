@@ -73,7 +73,7 @@ def checked(folder):
 
 
 def with_a_file_twice(copy):
-    """The tarball with an executable behind the one that is right, as whoever unpacks it would get it."""
+    """The tarball with an executable after the one that is right, as whoever unpacks it would get it."""
     top = unpacked(copy, TARBALL)
     folder, name = os.path.split(top)
     of(copy, "tar", "-C", folder, *OF_ROOT, "-cf", "out/twice.tar", name)

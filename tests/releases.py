@@ -107,7 +107,7 @@ def what_dpkg_is_told(copy):
     demand(re.fullmatch(r"libc6 \(>= 2\.\d+(\.\d+)?\)", fields["Depends"]) is not None, f"Depends: {fields['Depends']}")
     told = copy.path("..", "told")
     of(copy, "dpkg-deb", "--control", DEB, told)
-    demand(sorted(os.listdir(told)) == ["control", "md5sums"], f"dpkg is told {os.listdir(told)}")
+    demand(sorted(os.listdir(told)) == ["control", "md5sums"], f"dpkg gets {os.listdir(told)}")
     top = os.path.dirname(unpacked(copy, DEB))
     expect(run(("md5sum", "--check", "--quiet", "--strict", os.path.join(told, "md5sums")), cwd=top), written(b""))
     with open(os.path.join(told, "md5sums"), encoding="utf-8") as file:
@@ -230,7 +230,7 @@ def no_note_of_a_gate_that_failed(folder):
 
 
 def links_of_packaged_documents():
-    """They lead to documents of the package; those to the source's are told by name in IN_THE_SOURCE."""
+    """They lead to documents of the package; those to the source's are named in IN_THE_SOURCE."""
     for name in (*DOCUMENTS, "samples/README.md"):
         with open(os.path.join(ROOT, name), encoding="utf-8") as file:
             links = [link.partition("#")[0] for link in LINK.findall(CODE.sub("", file.read()))]
@@ -297,4 +297,4 @@ def cases(tools: Tools):
         test = functools.partial(refused, spoil=spoil, why=why)
         yield Case(f"releases: refused {spoil.__name__.replace('_', ' ')}", functools.partial(in_a_folder, test))
     yield Case("releases: links of packaged documents lead to documents", links_of_packaged_documents)
-    yield Case("releases: the version is told alike", functools.partial(the_version_is_told_alike, tools))
+    yield Case("releases: the version is the same everywhere", functools.partial(the_version_is_told_alike, tools))
